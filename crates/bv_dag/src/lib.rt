@@ -1,0 +1,16 @@
+//! Terms over bit-vectors, each built of earlier ones, and what they are worth.
+#![tactic(auto)]
+
+mod graph;
+pub mod laws;
+mod nodes;
+mod query;
+mod words;
+
+pub use graph::Dag;
+pub use nodes::{BinaryOp, Comparison, Node};
+pub use query::Query;
+pub use words::Word;
+
+#[cfg(test)]
+mod tests;

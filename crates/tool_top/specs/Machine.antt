@@ -1,0 +1,179 @@
+-- The machine under test, one assignment of the input bytes at a time (RISC-V unprivileged manual, "RV32I Base Integer
+-- Instruction Set"). It knows numbers and plain memory only. Each further instruction is a further case of `execute`.
+use Rattle.std.specs.Prelude.{◌≡◌, ℕ, zero, suc, ◌+◌, ◌-◌, ◌*◌, ◌/◌, ◌%◌, ◌^◌, ◌==◌, ◌<◌, ◌&&◌, ◌||◌, Bool, true, false, min, nat_lt, nat_le, if◌then◌else◌, List, [], ◌∷◌, ◌++◌, All, length, map, drop, replicate, slice_index, slice_set, Option, Some, None, is_some, Result, Ok, Err}
+use Rattle.std.specs.List.{list_all}
+use Rattle.std.specs.Option.{ok_or}
+use Rattle.tool_top.specs.Instructions.{instr}
+use Rattle.tool_top.specs.declared.instr.Instr.{Instr}
+use Rattle.tool_top.specs.declared.instr.Instr.TheVariants.{Lui, Lbu, Addi, Beq, Ecall}
+use Rattle.tool_top.specs.declared.region.Region.{Region}
+use Rattle.tool_top.specs.declared.ends.Trap.{Trap}
+use Rattle.tool_top.specs.declared.ends.Trap.TheVariants.{Illegal, FetchMisaligned, FetchAccess, LoadAccess, Call}
+use Rattle.tool_top.specs.declared.ends.End.{End}
+use Rattle.tool_top.specs.declared.ends.End.TheVariants.{Exit, Trapped}
+use Rattle.tool_top.specs.declared.ends.PathStep.{PathStep}
+use Rattle.tool_top.specs.declared.ends.PathStep.TheVariants.{Taken, NotTaken}
+
+-- What a program's file puts into memory.
+pub record Image : Type 0 where
+  pub entry : ℕ
+  -- the flags of each page of 256 bytes that is mapped: 1 it can be executed, 2 written, 4 read
+  pub flags : ℕ → Option ℕ
+  -- the byte at each address of a mapped page
+  pub byte : ℕ → ℕ
+
+abbrev pub count_of : List Region → ℕ
+count_of [] = 0
+count_of (r ∷ rs) = r.count + count_of rs
+
+-- one byte for each place of the regions
+abbrev pub IsAssignment : List Region → List ℕ → Type 0
+IsAssignment regions input = (length input ≡ count_of regions) × All (λ b. b < 256) input
+
+-- memory with the input bytes in the regions, in their order
+abbrev pub placed : List Region → List ℕ → (ℕ → ℕ) → ℕ → ℕ
+placed [] input byte = byte
+placed (r ∷ rs) input byte =
+    placed rs (drop r.count input) (λ x. if nat_le r.start x && nat_lt x (r.start + r.count) then slice_index input (x - r.start) else byte x)
+
+pub record State : Type 0 where
+  pub pc : ℕ
+  -- x0 to x31
+  pub registers : List ℕ
+  pub flags : ℕ → Option ℕ
+  pub byte : ℕ → ℕ
+  -- the bytes written so far
+  pub output : List ℕ
+  -- what each conditional branch so far did
+  pub path : List PathStep
+
+-- all registers are 0 but the stack pointer, x2
+abbrev pub first_registers : List ℕ
+first_registers = slice_set (replicate 32 0) 2 0x7FFFFFF0
+
+-- the state in which the run of an assignment begins
+abbrev pub first_state : Image → List Region → List ℕ → State
+first_state image regions input = record {
+  pc = image.entry;
+  registers = first_registers;
+  flags = image.flags;
+  byte = placed regions input image.byte;
+  output = [];
+  path = [];
+}
+
+-- the sum modulo 2 ^ 32
+abbrev pub sum32 : ℕ → ℕ → ℕ
+sum32 a b = (a + b) % 2 ^ 32
+
+-- x0 is never written, so that it reads 0
+abbrev pub written : List ℕ → ℕ → ℕ → List ℕ
+written registers rd value = if rd == 0 then registers else slice_set registers rd value
+
+abbrev pub x : State → ℕ → ℕ
+x s r = slice_index s.registers r
+
+abbrev pub is_mapped : State → ℕ → Bool
+is_mapped s address = is_some (s.flags (address / 256))
+
+abbrev pub can_execute : Option ℕ → Bool
+can_execute None = false
+can_execute (Some flags) = flags % 2 == 1
+
+-- the word at an address, low byte first
+abbrev pub word_at : (ℕ → ℕ) → ℕ → ℕ
+word_at byte address = byte address + 2 ^ 8 * byte (address + 1) + 2 ^ 16 * byte (address + 2) + 2 ^ 24 * byte (address + 3)
+
+-- the instruction at an address, or why there is none: alignment is tested first, and then the page
+unfoldable pub fetch : (ℕ → Option ℕ) → (ℕ → ℕ) → ℕ → Result Instr Trap
+fetch flags byte pc =
+    if pc % 4 == 0 then (if can_execute (flags (pc / 256)) then ok_or (instr (word_at byte pc)) Illegal else Err FetchAccess)
+    else Err FetchMisaligned
+
+-- what an instruction leads to
+pub data Outcome : Type 0 where
+  Running : State → Outcome
+  Ended : End → State → Outcome
+
+-- a trapped instruction writes nothing
+abbrev pub trapped : Trap → State → Outcome
+trapped trap s = Ended (Trapped trap) s
+
+-- at the next instruction, with these registers
+abbrev pub onward : State → List ℕ → State
+onward s registers = record s { pc = sum32 s.pc 4; registers = registers }
+
+abbrev pub load_byte : State → ℕ → ℕ → Outcome
+load_byte s rd address = if is_mapped s address then Running (onward s (written s.registers rd (s.byte address))) else trapped LoadAccess s
+
+-- to a target, which may be no multiple of 4
+abbrev pub jump : State → ℕ → Outcome
+jump s target = if target % 4 == 0 then Running (record s { pc = target }) else trapped FetchMisaligned s
+
+abbrev pub noted : State → PathStep → State
+noted s step = record s { path = s.path ++ step ∷ [] }
+
+-- the path is noted before a trap of the target
+abbrev pub branch : State → Bool → ℕ → Outcome
+branch s true target = jump (noted s Taken) target
+branch s false target = Running (onward (noted s NotTaken) s.registers)
+
+-- so many addresses from one on
+unfoldable pub addresses : ℕ → ℕ → List ℕ
+addresses start zero = []
+addresses start (suc count) = start ∷ addresses (sum32 start 1) count
+
+-- the first 4096 bytes at most are written, and their number is answered in a0
+unfoldable pub write : State → (file start count : ℕ) → Outcome
+write s file start count =
+    let bytes = addresses start (min count 4096) in
+    if file == 1 || file == 2 then
+    (if list_all (is_mapped s) bytes then Running (onward (record s { output = s.output ++ map s.byte bytes }) (written s.registers 10 (min count 4096)))
+    else trapped LoadAccess s)
+    else trapped Call s
+
+-- the call that a7 names: 93 exits with the low byte of a0, 64 writes
+abbrev pub call : State → ℕ → Outcome
+call s a7 =
+    if a7 == 93 then Ended (Exit (x s 10 % 256)) s
+    else (if a7 == 64 then write s (x s 10) (x s 11) (x s 12) else trapped Call s)
+
+-- one equation for each instruction
+abbrev pub execute : State → Instr → Outcome
+execute s (Lui rd upper) = Running (onward s (written s.registers rd upper))
+execute s (Lbu rd rs1 offset) = load_byte s rd (sum32 (x s rs1) offset)
+execute s (Addi rd rs1 immediate) = Running (onward s (written s.registers rd (sum32 (x s rs1) immediate)))
+execute s (Beq rs1 rs2 offset) = branch s (x s rs1 == x s rs2) (sum32 s.pc offset)
+execute s Ecall = call s (x s 17)
+
+abbrev pub execute_fetched : State → Result Instr Trap → Outcome
+execute_fetched s (Ok instruction) = execute s instruction
+execute_fetched s (Err trap) = trapped trap s
+
+-- one step
+unfoldable pub next : State → Outcome
+next s = execute_fetched s (fetch s.flags s.byte s.pc)
+
+-- a run: where it is, how it ended if it did, and the steps made, the ending one included
+pub record Run : Type 0 where
+  pub state : State
+  pub end : Option End
+  pub steps : ℕ
+
+abbrev pub after_outcome : ℕ → Outcome → Run
+after_outcome steps (Running s) = record { state = s; end = None; steps = steps }
+after_outcome steps (Ended end s) = record { state = s; end = Some end; steps = steps }
+
+-- one step more, unless the run has ended
+abbrev pub continued : Run → Option End → Run
+continued r None = after_outcome (r.steps + 1) (next r.state)
+continued r (Some end) = r
+
+-- at most so many steps from a state
+unfoldable pub run_from : State → ℕ → Run
+run_from s zero = record { state = s; end = None; steps = 0 }
+run_from s (suc most) = let r = run_from s most in continued r r.end
+
+-- the run of an assignment, at most so many steps
+abbrev pub run : Image → List Region → List ℕ → ℕ → Run
+run image regions input most = run_from (first_state image regions input) most

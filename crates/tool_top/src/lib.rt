@@ -1,0 +1,22 @@
+//! The top call of the tool.
+#![tactic(auto)]
+
+mod ends;
+mod fork;
+mod instr;
+mod leaf;
+mod part;
+mod program;
+mod region;
+mod report;
+mod test_text;
+
+pub use ends::{Choice, End, PathStep, Trap};
+pub use fork::explore;
+pub use instr::{Instr, Register};
+pub use leaf::{Leaf, LeafEnd};
+pub use part::LeafPart;
+pub use program::{Program, read_program};
+pub use region::Region;
+pub use report::{Report, make_report};
+pub use test_text::Test;
