@@ -1,6 +1,7 @@
 //! The top call of the tool.
 #![tactic(auto)]
 
+mod build;
 mod ends;
 mod fork;
 mod instr;
@@ -9,6 +10,7 @@ mod part;
 mod program;
 mod region;
 mod report;
+mod symbolic;
 mod test_text;
 
 pub use ends::{Choice, End, PathStep, Trap};

@@ -1,0 +1,51 @@
+-- What stays where the terms of a symbolic run grow.
+use Rattle.std.proofs.Common.{◌≡◌, ℕ, ◌+◌, ◌<◌, ◌≤◌, Bool, true, false, ◌&&◌, List, [], ◌∷◌, ◌++◌, get_or, length, map, refl, sym, ap, ◌∙◌, arith}
+use Rattle.std.specs.Prelude.{◌==◌, All}
+use Rattle.std.specs.List.{list_all}
+use Rattle.std.proofs.lemmas.List.Elements.{All-head, All-tail}
+use Rattle.bv_dag.specs.Graphs.{Graph, number_of, width_of}
+use Rattle.bv_dag.specs.Queries.{AreBits, Condition, holds}
+use Rattle.bv_dag.proofs.Fitting.{has_place}
+use Rattle.tool_top.specs.Symbolic.{Grows, IsWide, worth_of}
+use Rattle.tool_top.specs.declared.symbolic.Value.{Value}
+use Rattle.tool_top.specs.declared.symbolic.Value.TheVariants.{Number, Term}
+
+-- what has a width is there
+pub there : (g : Graph) (id w : ℕ) → width_of g id ≡ w → 0 < w → id < length g.nodes
+there g id w is some = has_place g.nodes id (omega (arith, is, some))
+
+pub worth_of-grown : (g h : Graph) (input : List ℕ) (v : Value) → Grows g h → IsWide g v → worth_of h input v ≡ worth_of g input v
+worth_of-grown g h input (Number n) grows wide = refl
+worth_of-grown g h input (Term id) grows wide = grows.same_number id (there g id 32 wide (omega arith)) input
+
+pub IsWide-grown : (g h : Graph) (v : Value) → Grows g h → IsWide g v → IsWide h v
+IsWide-grown g h (Number n) grows wide = wide
+IsWide-grown g h (Term id) grows wide = grows.same_width id (there g id 32 wide (omega arith)) ∙ wide
+
+pub map-grown : (g h : Graph) (input : List ℕ) (vs : List Value) → Grows g h → All (IsWide g) vs → map (worth_of h input) vs ≡ map (worth_of g input) vs
+map-grown g h input [] grows wide = refl
+map-grown g h input (v ∷ vs) grows wide =
+    cc (worth_of-grown g h input v grows (All-head (IsWide g) v vs wide), map-grown g h input vs grows (All-tail (IsWide g) v vs wide))
+
+pub bit_width-grown : (g h : Graph) (id w : ℕ) → Grows g h → width_of g id ≡ w → 0 < w → width_of h id ≡ w
+bit_width-grown g h id w grows is some = grows.same_width id (there g id w is some) ∙ is
+
+pub number_of-grown : (g h : Graph) (id w : ℕ) (input : List ℕ) → Grows g h → width_of g id ≡ w → 0 < w → number_of h id input ≡ number_of g id input
+number_of-grown g h id w input grows is some = grows.same_number id (there g id w is some) input
+
+pub AreBits-grown : (g h : Graph) (ids : List ℕ) → Grows g h → AreBits g ids → AreBits h ids
+AreBits-grown g h ids grows bits k d below = bit_width-grown g h (get_or ids k d) 1 grows (bits k d below) (omega arith)
+
+ones-grown : (g h : Graph) (input ids : List ℕ) → Grows g h → AreBits g ids → list_all (λ id. number_of h id input == 1) ids ≡ list_all (λ id. number_of g id input == 1) ids
+ones-grown g h input [] grows bits = refl
+ones-grown g h input (id ∷ ids) grows bits =
+    let first : width_of g id ≡ 1 = All-head (λ i. width_of g i ≡ 1) id ids bits in
+    let same : number_of h id input ≡ number_of g id input = number_of-grown g h id 1 input grows first (omega arith) in
+    let rest : list_all (λ i. number_of h i input == 1) ids ≡ list_all (λ i. number_of g i input == 1) ids = ones-grown g h input ids grows (All-tail (λ i. width_of g i ≡ 1) id ids bits) in
+    ap (λ n. (n == 1) && list_all (λ i. number_of h i input == 1) ids) same ∙ ap (λ b. (number_of g id input == 1) && b) rest
+
+-- the condition is met where it was
+pub holds-grown : (g h : Graph) (ids input : List ℕ) → Grows g h → AreBits g ids → holds (record { graph = h; asserted = ids }) input ≡ holds (record { graph = g; asserted = ids }) input
+holds-grown g h ids input grows bits =
+    ap (λ n. (length input == n) && list_all (λ id. number_of h id input == 1) ids) grows.same_inputs
+    ∙ ap (λ b. (length input == g.inputs) && b) (ones-grown g h input ids grows bits)

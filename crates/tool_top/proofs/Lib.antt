@@ -1,0 +1,4 @@
+pub mod Growing
+pub mod Stepping
+pub mod Grown
+pub mod Opening

@@ -1,0 +1,156 @@
+-- What a symbolic run stands for. Only private functions speak of this: no promise of the tool does.
+use Rattle.std.specs.Prelude.{◌≡◌, ◌≢◌, ℕ, ◌+◌, ◌-◌, ◌*◌, ◌/◌, ◌%◌, ◌^◌, ◌==◌, ◌<◌, ◌≤◌, ◌⊎◌, Bool, true, false, if◌then◌else◌, List, [], ◌∷◌, ◌++◌, All, length, map, slice_index_or, slice_set, Some, None, IsTrue, count_by}
+use Rattle.bv_dag.specs.Graphs.{Graph, IsDag, number_of, width_of}
+use Rattle.bv_dag.specs.Queries.{Condition, AreBits, holds}
+use Rattle.tool_io.specs.Told.{IsPrefix}
+use Rattle.tool_top.specs.Machine.{Image, State, Run, IsAssignment, run, placed, next, branch, is_mapped, sum32}
+use Rattle.tool_top.specs.Leaves.{Leaf, covers, EndsAs, IsFaithful, AreRanked, most_steps}
+use Rattle.tool_top.specs.Programs.{code_start, data_start, regions}
+use Rattle.tool_top.specs.Reports.{Part, IsTestable, EndsByByte}
+use Rattle.tool_top.specs.declared.ends.End.{End}
+use Rattle.tool_top.specs.declared.ends.End.TheVariants.{Exit, Trapped}
+use Rattle.tool_top.specs.declared.ends.PathStep.{PathStep}
+use Rattle.tool_top.specs.declared.ends.PathStep.TheVariants.{Taken, NotTaken}
+use Rattle.tool_top.specs.declared.ends.Choice.{Choice}
+use Rattle.tool_top.specs.declared.ends.Choice.TheVariants.{No, Yes}
+use Rattle.tool_top.specs.declared.leaf.LeafEnd.{LeafEnd}
+use Rattle.tool_top.specs.declared.leaf.LeafEnd.TheVariants.{Exits, Traps}
+use Rattle.tool_top.specs.declared.symbolic.Value.{Value}
+use Rattle.tool_top.specs.declared.symbolic.Value.TheVariants.{Number, Term}
+
+pub record Symbolic : Type 0 where
+  pub pc : ℕ
+  pub registers : List Value
+  pub terms : Graph
+  pub condition : List ℕ
+  pub path : List PathStep
+  pub choices : List Choice
+  pub steps : ℕ
+  pub sample : ℕ
+
+abbrev pub value_at : List Value → ℕ → Value
+value_at registers r = slice_index_or registers r (Number 0)
+
+abbrev pub set_value : List Value → ℕ → Value → List Value
+set_value registers rd value = if rd == 0 then registers else slice_set registers rd value
+
+-- what a value is worth on an assignment
+abbrev pub worth_of : Graph → List ℕ → Value → ℕ
+worth_of terms input (Number n) = n
+worth_of terms input (Term id) = number_of terms id input
+
+-- the condition, as a query
+abbrev pub condition_of : Symbolic → Condition
+condition_of s = record { graph = s.terms; asserted = s.condition }
+
+-- the assignment meets the condition
+abbrev pub meets : Symbolic → List ℕ → Bool
+meets s input = holds (condition_of s) input
+
+-- the state of the machine that it stands for on an assignment
+abbrev pub concrete : Image → Symbolic → List ℕ → State
+concrete image s input = record {
+  pc = s.pc;
+  registers = map (worth_of s.terms input) s.registers;
+  flags = image.flags;
+  byte = placed regions input image.byte;
+  output = [];
+  path = s.path;
+}
+
+-- a number of 32 bits, or a term of them
+abbrev pub IsWide : Graph → Value → Type 0
+IsWide terms (Number n) = n < 2 ^ 32
+IsWide terms (Term id) = width_of terms id ≡ 32
+
+abbrev pub IsNumber : Value → Type 0
+IsNumber (Number n) = Unit {0}
+IsNumber (Term id) = ⊥
+
+-- the graph has become longer, and what was there is as it was
+pub record Grows (old new : Graph) : Type 0 where
+  pub dag : IsDag new
+  pub same_inputs : new.inputs ≡ old.inputs
+  pub longer : length old.nodes ≤ length new.nodes
+  pub same_width : (id : ℕ) → id < length old.nodes → width_of new id ≡ width_of old id
+  pub same_number : (id : ℕ) → id < length old.nodes → (input : List ℕ) → number_of new id input ≡ number_of old id input
+
+-- a symbolic run of the programs that are taken is all right, wherever it is: every register but x7 is a number, and x17 is 0 or 93
+pub record IsOpen (image : Image) (s : Symbolic) : Type 0 where
+  pub dag : IsDag s.terms
+  pub one_input : s.terms.inputs ≡ 1
+  pub all_registers : length s.registers ≡ 32
+  pub wide : All (IsWide s.terms) s.registers
+  pub known : (r : ℕ) → r ≢ 7 → IsNumber (value_at s.registers r)
+  pub zero : value_at s.registers 0 ≡ Number 0
+  pub number_of_call : (value_at s.registers 17 ≡ Number 0) ⊎ (value_at s.registers 17 ≡ Number 93)
+  pub bits : AreBits s.terms s.condition
+  pub aligned : s.pc % 4 ≡ 0
+  pub place : code_start + 4 * s.steps ≤ s.pc
+  pub few : s.steps ≤ 1024
+  pub sampled : (s.sample < 256) × (meets s (s.sample ∷ []) ≡ true)
+  pub sound : (input : List ℕ) → IsAssignment regions input → meets s input ≡ true →
+      run image regions input s.steps ≡ record { state = concrete image s input; end = None; steps = s.steps }
+
+-- one step on, with a register written
+abbrev pub onward_to : Symbolic → Graph → ℕ → Value → Symbolic
+onward_to s terms rd value = record s {
+  pc = sum32 s.pc 4;
+  registers = set_value s.registers rd value;
+  terms = terms;
+  steps = s.steps + 1;
+}
+
+abbrev pub step_of : Bool → PathStep
+step_of true = Taken
+step_of false = NotTaken
+
+abbrev pub target_of : Bool → ℕ → ℕ → ℕ
+target_of true pc target = target
+target_of false pc target = sum32 pc 4
+
+-- one step on, along one side of a branch
+abbrev pub branched : Symbolic → Bool → ℕ → Symbolic
+branched s taken target = record s {
+  pc = target_of taken s.pc target;
+  path = s.path ++ step_of taken ∷ [];
+  steps = s.steps + 1;
+}
+
+-- on one side of a fork, where this term is to be 1 too
+abbrev pub narrowed : Symbolic → Choice → ℕ → ℕ → Symbolic
+narrowed s choice term sample = record s {
+  condition = s.condition ++ term ∷ [];
+  choices = s.choices ++ choice ∷ [];
+  sample = sample;
+}
+
+-- it is on the same side of every fork, and stands for the same assignments
+pub record IsSame (old new : Symbolic) : Type 0 where
+  pub same_choices : new.choices ≡ old.choices
+  pub same_cover : (input : List ℕ) → IsAssignment regions input → meets new input ≡ meets old input
+
+-- its next instruction is a conditional branch forward to this target, which is taken where this term is 1
+pub record IsBranch (image : Image) (s : Symbolic) (term target : ℕ) : Type 0 where
+  pub bit : width_of s.terms term ≡ 1
+  pub in_code : s.pc < data_start
+  pub forward : s.pc + 4 ≤ target
+  pub target_aligned : target % 4 ≡ 0
+  pub branches : (input : List ℕ) → IsAssignment regions input → meets s input ≡ true →
+      next (concrete image s input) ≡ branch (concrete image s input) (number_of s.terms term input == 1) target
+
+-- how the end of a leaf is on an assignment
+abbrev pub end_of : Graph → List ℕ → LeafEnd → End
+end_of terms input (Exits status) = Exit (number_of terms status input)
+end_of terms input (Traps trap) = Trapped trap
+
+-- all its runs have ended so, in the step made last
+pub record IsEnding (image : Image) (s : Symbolic) (end : LeafEnd) : Type 0 where
+  pub dag : IsDag s.terms
+  pub one_input : s.terms.inputs ≡ 1
+  pub bits : AreBits s.terms s.condition
+  pub sampled : (s.sample < 256) × (meets s (s.sample ∷ []) ≡ true)
+  pub within : s.steps ≤ most_steps
+  pub byte_end : EndsByByte s.terms end
+  pub ends : (input : List ℕ) → IsAssignment regions input → meets s input ≡ true →
+      EndsAs (run image regions input s.steps) s.steps s.path (end_of s.terms input end) []
