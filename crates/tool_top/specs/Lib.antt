@@ -5,3 +5,4 @@ pub mod LeafText
 pub mod Tests
 pub mod Programs
 pub mod Reports
+pub mod Tame
