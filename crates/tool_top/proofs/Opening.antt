@@ -63,30 +63,30 @@ call-set rs rd v there exits old =
 pub open_onward : (image : Image) (s : Symbolic) (g : Graph) (rd : ℕ) (v : Value) → IsOpen image s → Grows s.terms g → IsWide g v → rd < 32 → (rd ≢ 7 → IsNumber v) → (rd ≡ 17 → v ≡ Number 93) → s.pc < data_start
     → ((input : List ℕ) → IsAssignment regions input → meets s input ≡ true → next (concrete image s input) ≡ Running (onward (concrete image s input) (written (map (worth_of s.terms input) s.registers) rd (worth_of g input v))))
     → IsOpen image (onward_to s g rd v)
-open_onward image s g rd v open grows wide below known exits in_code does =
-    let there : rd < length s.registers = omega (arith, below, open.all_registers) in record {
+open_onward image s g rd v was grows wide below known exits in_code does =
+    let there : rd < length s.registers = omega (arith, below, was.all_registers) in record {
       dag = grows.dag;
-      one_input = grows.same_inputs ∙ open.one_input;
-      all_registers = length-set_value s.registers rd v ∙ open.all_registers;
-      wide = All-set_value (IsWide g) s.registers rd v wide (λ k d within. IsWide-grown s.terms g (get_or s.registers k d) grows (open.wide k d within));
-      known = λ r other. known-set s.registers rd v r there known open.known other;
-      zero = zero-set s.registers rd v there open.zero;
-      number_of_call = call-set s.registers rd v there exits open.number_of_call;
-      bits = AreBits-grown s.terms g s.condition grows open.bits;
-      aligned = omega (arith, in_code, open.aligned);
-      place = omega (arith, in_code, open.place);
-      few = omega (arith, in_code, open.place);
-      sampled = (open.sampled.0, holds-grown s.terms g s.condition (s.sample ∷ []) grows open.bits ∙ open.sampled.1);
+      one_input = grows.same_inputs ∙ was.one_input;
+      all_registers = length-set_value s.registers rd v ∙ was.all_registers;
+      wide = All-set_value (IsWide g) s.registers rd v wide (λ k d within. IsWide-grown s.terms g (get_or s.registers k d) grows (was.wide k d within));
+      known = λ r other. known-set s.registers rd v r there known was.known other;
+      zero = zero-set s.registers rd v there was.zero;
+      number_of_call = call-set s.registers rd v there exits was.number_of_call;
+      bits = AreBits-grown s.terms g s.condition grows was.bits;
+      aligned = omega (arith, in_code, was.aligned);
+      place = omega (arith, in_code, was.place);
+      few = omega (arith, in_code, was.place);
+      sampled = (was.sampled.0, holds-grown s.terms g s.condition (s.sample ∷ []) grows was.bits ∙ was.sampled.1);
       sound = λ input assigned meeting.
-          let met : meets s input ≡ true = sym (holds-grown s.terms g s.condition input grows open.bits) ∙ meeting in
+          let met : meets s input ≡ true = sym (holds-grown s.terms g s.condition input grows was.bits) ∙ meeting in
           let same : written (map (worth_of s.terms input) s.registers) rd (worth_of g input v) ≡ map (worth_of g input) (set_value s.registers rd v)
-          = ap (λ rs. written rs rd (worth_of g input v)) (sym (map-grown s.terms g input s.registers grows open.wide)) ∙ sym (map-set_value (worth_of g input) s.registers rd v) in
-          run_on image regions input s.steps (concrete image s input) (concrete image (onward_to s g rd v) input) (open.sound input assigned met)
+          = ap (λ rs. written rs rd (worth_of g input v)) (sym (map-grown s.terms g input s.registers grows was.wide)) ∙ sym (map-set_value (worth_of g input) s.registers rd v) in
+          run_on image regions input s.steps (concrete image s input) (concrete image (onward_to s g rd v) input) (was.sound input assigned met)
           (does input assigned met ∙ ap (λ rs. Running (onward (concrete image s input) rs)) same);
     }
 
 pub same_onward : (image : Image) (s : Symbolic) (g : Graph) (rd : ℕ) (v : Value) → IsOpen image s → Grows s.terms g → IsSame s (onward_to s g rd v)
-same_onward image s g rd v open grows = record {
+same_onward image s g rd v was grows = record {
   same_choices = refl;
-  same_cover = λ input assigned. holds-grown s.terms g s.condition input grows open.bits;
+  same_cover = λ input assigned. holds-grown s.terms g s.condition input grows was.bits;
 }

@@ -15,7 +15,7 @@ mod test_text;
 
 pub use ends::{Choice, End, PathStep, Trap};
 pub use fork::explore;
-pub use instr::{Instr, Register};
+pub use instr::{Instr, Register, decode};
 pub use leaf::{Leaf, LeafEnd};
 pub use part::LeafPart;
 pub use program::{Program, read_program};

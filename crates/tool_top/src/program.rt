@@ -1,10 +1,34 @@
 //! The programs that are taken.
 
-ghost use Rattle.std.specs.Prelude.{◌≡◌, List, ℕ, IfOk, IfSome, IfNone};
-ghost use Rattle.tool_top.specs.Programs.{IsProgram};
+ghost use Rattle.std.specs.Prelude.{◌≡◌, ◌≤◌, ◌<◌, ◌+◌, ◌%◌, ◌/◌, ◌*◌, ◌^◌, List, ℕ, length, slice_index, IfOk, IfSome, IfNone, IsOk, IsTrue};
+ghost use Rattle.tool_top.specs.Instructions.{instr};
+ghost use Rattle.tool_top.specs.Machine.{word_at, can_execute, fetch};
+ghost use Rattle.tool_top.specs.Programs.{IsProgram, flags_of, image_of, code_start, data_start};
+ghost use Rattle.tool_top.specs.Tame.{IsTame};
 
+use crate::ends::Trap;
+use crate::instr::{Instr, decode};
 use std::alloc::{AllocError as NoMemory, Global};
 use std::marker::Model;
+
+/// How many bytes a page has.
+const PAGE: u32 = 256;
+
+/// Where the code begins, and a program with it.
+const CODE_START: u32 = 0x0001_0000;
+
+/// Where the 512 bytes of data begin.
+const DATA_START: u32 = 0x0001_1000;
+
+/// The first and the last page of the stack.
+const FIRST_STACK_PAGE: u32 = 0x007F_FF00;
+
+const LAST_STACK_PAGE: u32 = 0x007F_FFFF;
+
+/// The flags of code, which can be read and executed, and of data, which can be read and written.
+const CODE_FLAGS: u8 = 5;
+
+const DATA_FLAGS: u8 = 6;
 
 /// The words of a program that has the shape.
 #[derive(Debug, Drop)]
@@ -21,6 +45,98 @@ impl Model for Program {
     ghost view = { λ p. p.words.items };
 
     ghost invariant = { λ p. HasShape p.words.items };
+}
+
+impl Program {
+    /// The first page behind the code.
+    fn code_end(&self) -> u32
+        ensures value { result ≡ (code_start + 4 * length self.now + 255) / 256 }
+        ensures at_most { result ≤ data_start / 256 }
+    {
+        (CODE_START + 4 * self.words.len() as u32).div_ceil(PAGE)
+    }
+
+    /// Whether a page can be executed: those of the code can.
+    #[tactic(auto, using(crate::proofs::Fetching::executed))]
+    fn can_execute(&self, page: u32) -> bool
+        ensures value { result ≡ can_execute (flags_of (length self.now) page) }
+        ensures within { IsTrue result → (code_start / 256 ≤ page) × (page < data_start / 256) }
+    {
+        CODE_START / PAGE <= page && page < self.code_end()
+    }
+
+    /// The flags of a page of 256 bytes, if it is mapped: 1 it can be executed, 2 written, 4 read.
+    pub fn flags(&self, page: u32) -> Option<u8>
+        ensures { result ≡ flags_of (length self.now) page }
+    {
+        if CODE_START / PAGE <= page && page < self.code_end() {
+            Some(CODE_FLAGS)
+        } else if DATA_START / PAGE <= page && page < DATA_START / PAGE + 2 {
+            Some(DATA_FLAGS)
+        } else if FIRST_STACK_PAGE <= page && page <= LAST_STACK_PAGE {
+            Some(DATA_FLAGS)
+        } else {
+            None
+        }
+    }
+
+    /// The byte at an address of a mapped page: 0 where no code stands.
+    #[tactic(auto, using(crate::proofs::CodeBytes::image_byte))]
+    pub fn byte(&self, address: u32) -> u8
+        ensures { result ≡ (image_of self.now).byte address }
+    {
+        if address < CODE_START {
+            return 0;
+        }
+        let offset = address - CODE_START;
+        byte_of(
+            word_or_zero(self.words.as_slice(), (offset / 4) as usize),
+            offset % 4,
+        )
+    }
+
+    /// The instruction at an address from the code on.
+    #[tactic(auto, using(crate::proofs::CodeBytes::word_in_image, crate::proofs::Fetching::tame))]
+    fn instruction(&self, pc: u32) -> Option<Instr>
+        requires start { code_start ≤ pc }
+        requires aligned { pc % 4 ≡ 0 }
+        ensures value { result ≡ instr (word_at (image_of self.now).byte pc) }
+        ensures tame { IfSome result (IsTame pc) }
+    {
+        let place = (pc - CODE_START) / 4;
+        decode(word_or_zero(self.words.as_slice(), place as usize))
+    }
+
+    /// The instruction at an address, or why there is none.
+    #[tactic(auto, unfolding(crate::specs::Machine::fetch))]
+    pub fn fetch(&self, pc: u32) -> Result<Instr, Trap>
+        ensures value { result ≡ fetch (image_of self.now).flags (image_of self.now).byte pc }
+        ensures in_code { IsOk result → (code_start ≤ pc) × (pc < data_start) }
+        ensures tame { IfOk result (IsTame pc) }
+    {
+        if pc % 4 != 0 {
+            return Err(Trap::FetchMisaligned);
+        }
+        if !self.can_execute(pc / PAGE) {
+            return Err(Trap::FetchAccess);
+        }
+        self.instruction(pc).ok_or(Trap::Illegal)
+    }
+}
+
+/// The word at a place, or the 0 that stands behind the last one.
+fn word_or_zero(words: &[u32], place: usize) -> u32
+    ensures { result ≡ slice_index words.now place }
+{
+    words.get(place).copied().unwrap_or(0)
+}
+
+/// A byte of a word, the low one first.
+fn byte_of(word: u32, place: u32) -> u8
+    requires { place < 4 }
+    ensures { result ≡ word / 2 ^ (8 * place) % 256 }
+{
+    ((word >> (8 * place)) & 0xFF) as u8
 }
 
 /// The program of a file, if its bytes are one that is taken.
