@@ -5,8 +5,5 @@ pub mod LeafText
 pub mod Tests
 pub mod Programs
 pub mod Reports
-<<<<<<< HEAD
 pub mod Symbolic
-=======
 pub mod Tame
->>>>>>> 203f9279183ab13f35ecdef4aca9ddad2a050637

@@ -113,6 +113,7 @@ impl Program {
         ensures value { result ≡ fetch (image_of self.now).flags (image_of self.now).byte pc }
         ensures in_code { IsOk result → (code_start ≤ pc) × (pc < data_start) }
         ensures tame { IfOk result (IsTame pc) }
+        ensures few_words { length self.now ≤ 1024 }
     {
         if pc % 4 != 0 {
             return Err(Trap::FetchMisaligned);
