@@ -1,6 +1,6 @@
 -- What stays where the terms of a symbolic run grow.
 use Rattle.std.proofs.Common.{◌≡◌, ℕ, ◌+◌, ◌<◌, ◌≤◌, Bool, true, false, ◌&&◌, List, [], ◌∷◌, ◌++◌, get_or, length, map, refl, sym, ap, ◌∙◌, arith}
-use Rattle.std.specs.Prelude.{◌==◌, All}
+use Rattle.std.specs.Prelude.{◌==◌, All, Result, Ok, Err, IfOk, if◌then◌else◌}
 use Rattle.std.specs.List.{list_all}
 use Rattle.std.proofs.lemmas.List.Elements.{All-head, All-tail}
 use Rattle.bv_dag.specs.Graphs.{Graph, number_of, width_of}
@@ -49,3 +49,14 @@ pub holds-grown : (g h : Graph) (ids input : List ℕ) → Grows g h → AreBits
 holds-grown g h ids input grows bits =
     ap (λ n. (length input == n) && list_all (λ id. number_of h id input == 1) ids) grows.same_inputs
     ∙ ap (λ b. (length input == g.inputs) && b) (ones-grown g h input ids grows bits)
+
+-- whether two values are equal, over terms that grew twice
+pub equal-grown : {E : Type 0} (f g h k : Graph) (u v : Value) (left right : ℕ) (r : Result ℕ E) → Grows f g → Grows g h → IsWide f v → width_of g left ≡ 32
+    → ((input : List ℕ) → number_of g left input ≡ worth_of f input u) → ((input : List ℕ) → number_of h right input ≡ worth_of g input v)
+    → IfOk r (λ id. (input : List ℕ) → number_of k id input ≡ (if number_of h left input == number_of h right input then 1 else 0))
+    → IfOk r (λ id. (input : List ℕ) → number_of k id input ≡ (if worth_of f input u == worth_of f input v then 1 else 0))
+equal-grown f g h k u v left right (Err e) first second wide width is_left is_right same = tt
+equal-grown f g h k u v left right (Ok id) first second wide width is_left is_right same = λ input.
+    same input
+    ∙ ap (λ n. if n == number_of h right input then 1 else 0) (number_of-grown g h left 32 input second width (omega arith) ∙ is_left input)
+    ∙ ap (λ n. if worth_of f input u == n then 1 else 0) (is_right input ∙ worth_of-grown f g input v first wide)

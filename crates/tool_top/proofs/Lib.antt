@@ -4,3 +4,6 @@ pub mod Grown
 pub mod Opening
 pub mod CodeBytes
 pub mod Fetching
+pub mod Forking
+pub mod Executing
+pub mod Branching

@@ -15,7 +15,7 @@ use Rattle.tool_top.proofs.Grown.{map-grown, IsWide-grown, AreBits-grown, holds-
 use Rattle.tool_top.proofs.Stepping.{run_on}
 
 not_zero : (n : ℕ) → (n == 0) ≡ false → n ≢ 0
-not_zero n no is = search rules
+not_zero n unequal is = search rules
 
 value_at-test : (rs : List Value) (rd : ℕ) (v : Value) (r : ℕ) (b : Bool) → (rd == 0) ≡ b → rd < length rs → (value_at (if b then rs else set rs rd v) r ≡ value_at rs r) ⊎ ((r ≡ rd) × (rd ≢ 0) × (value_at (if b then rs else set rs rd v) r ≡ v))
 value_at-test rs rd v r true is there = inl refl

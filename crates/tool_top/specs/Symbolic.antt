@@ -15,6 +15,9 @@ use Rattle.tool_top.specs.declared.ends.Choice.{Choice}
 use Rattle.tool_top.specs.declared.ends.Choice.TheVariants.{No, Yes}
 use Rattle.tool_top.specs.declared.leaf.LeafEnd.{LeafEnd}
 use Rattle.tool_top.specs.declared.leaf.LeafEnd.TheVariants.{Exits, Traps}
+use Rattle.tool_top.specs.declared.ends.Trap.TheVariants.{Call}
+use Rattle.tool_top.specs.declared.symbolic.Step.{Step}
+use Rattle.tool_top.specs.declared.symbolic.Step.TheVariants.{Running, Branch, Ended}
 use Rattle.tool_top.specs.declared.symbolic.Value.{Value}
 use Rattle.tool_top.specs.declared.symbolic.Value.TheVariants.{Number, Term}
 
@@ -92,6 +95,10 @@ pub record IsOpen (image : Image) (s : Symbolic) : Type 0 where
   pub sound : (input : List ℕ) → IsAssignment regions input → meets s input ≡ true →
       run image regions input s.steps ≡ record { state = concrete image s input; end = None; steps = s.steps }
 
+-- with more terms
+abbrev pub with_terms : Symbolic → Graph → Symbolic
+with_terms s terms = record s { terms = terms }
+
 -- one step on, with a register written
 abbrev pub onward_to : Symbolic → Graph → ℕ → Value → Symbolic
 onward_to s terms rd value = record s {
@@ -133,6 +140,7 @@ pub record IsSame (old new : Symbolic) : Type 0 where
 -- its next instruction is a conditional branch forward to this target, which is taken where this term is 1
 pub record IsBranch (image : Image) (s : Symbolic) (term target : ℕ) : Type 0 where
   pub bit : width_of s.terms term ≡ 1
+  pub small : (input : List ℕ) → number_of s.terms term input ≤ 1
   pub in_code : s.pc < data_start
   pub forward : s.pc + 4 ≤ target
   pub target_aligned : target % 4 ≡ 0
@@ -154,3 +162,15 @@ pub record IsEnding (image : Image) (s : Symbolic) (end : LeafEnd) : Type 0 wher
   pub byte_end : EndsByByte s.terms end
   pub ends : (input : List ℕ) → IsAssignment regions input → meets s input ≡ true →
       EndsAs (run image regions input s.steps) s.steps s.path (end_of s.terms input end) []
+
+-- what one instruction leads to: it has gone on, it is at a branch that was not yet carried out, or all its runs have ended
+abbrev pub Stepped : Image → Symbolic → Symbolic → Step → Type 0
+Stepped image old new Running = IsOpen image new × IsSame old new × (old.pc < new.pc)
+Stepped image old new (Branch term target) = IsOpen image new × IsSame old new × (new.pc ≡ old.pc) × IsBranch image new term target
+Stepped image old new (Ended end) = IsEnding image new end × IsSame old new
+
+-- how a call ends the runs: with the low byte of x10, or as a call that there isn't
+abbrev pub EndsCall : Symbolic → Graph → LeafEnd → Type 0
+EndsCall s terms (Exits status) = (value_at s.registers 17 ≡ Number 93) × (width_of terms status ≡ 8)
+    × ((input : List ℕ) → number_of terms status input ≡ worth_of s.terms input (value_at s.registers 10) % 256)
+EndsCall s terms (Traps trap) = (value_at s.registers 17 ≢ Number 93) × (trap ≡ Call)

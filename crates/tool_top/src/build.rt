@@ -91,6 +91,20 @@ pub fn low_byte(terms: &mut Dag, operand: usize) -> Result<usize, NoMemory>
     )
 }
 
+/// The lowest byte of a register's value.
+pub fn byte_of(terms: &mut Dag, value: Value) -> Result<usize, NoMemory>
+    requires dag { IsDag terms.old }
+    requires wide { IsWide terms.old value }
+    ensures grows { OnOk result (Grows terms.old terms.new) }
+    ensures width { IfOk result (λ id. width_of terms.new id ≡ 8) }
+    ensures number { IfOk result (λ id. (input : List ℕ) → number_of terms.new id input ≡ worth_of terms.old input value % 256) }
+{
+    match value {
+        Value::Number(value) => number(terms, 8, u64::from(value % 256)),
+        Value::Term(id) => low_byte(terms, id),
+    }
+}
+
 /// An input byte, in 32 bits.
 #[tactic(auto, unfolding(bv_dag::specs::BitVectors::zero_extend))]
 pub fn input_byte(terms: &mut Dag, place: usize) -> Result<usize, NoMemory>

@@ -3,7 +3,7 @@
 ghost use Rattle.std.specs.Prelude.{◌≡◌, ◌≤◌, ◌<◌, ◌+◌, ◌%◌, ◌/◌, ◌*◌, ◌^◌, List, ℕ, length, slice_index, IfOk, IfSome, IfNone, IsOk, IsTrue};
 ghost use Rattle.tool_top.specs.Instructions.{instr};
 ghost use Rattle.tool_top.specs.Machine.{word_at, can_execute, fetch};
-ghost use Rattle.tool_top.specs.Programs.{IsProgram, flags_of, image_of, code_start, data_start};
+ghost use Rattle.tool_top.specs.Programs.{HasShape, IsProgram, flags_of, image_of, code_start, data_start};
 ghost use Rattle.tool_top.specs.Tame.{IsTame};
 
 use crate::ends::Trap;
@@ -48,6 +48,14 @@ impl Model for Program {
 }
 
 impl Program {
+    /// The words, from the entry on.
+    pub fn words(&self) -> &[u32]
+        ensures value { result.now ≡ self.now }
+        ensures shape { HasShape self.now }
+    {
+        self.words.as_slice()
+    }
+
     /// The first page behind the code.
     fn code_end(&self) -> u32
         ensures value { result ≡ (code_start + 4 * length self.now + 255) / 256 }
@@ -113,7 +121,6 @@ impl Program {
         ensures value { result ≡ fetch (image_of self.now).flags (image_of self.now).byte pc }
         ensures in_code { IsOk result → (code_start ≤ pc) × (pc < data_start) }
         ensures tame { IfOk result (IsTame pc) }
-        ensures few_words { length self.now ≤ 1024 }
     {
         if pc % 4 != 0 {
             return Err(Trap::FetchMisaligned);
