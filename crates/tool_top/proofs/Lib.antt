@@ -1,2 +1,3 @@
 pub mod CodeBytes
 pub mod Fetching
+pub mod Taken

@@ -9,6 +9,8 @@ mod part;
 mod program;
 mod region;
 mod report;
+mod row_file;
+mod shape;
 mod test_text;
 
 pub use ends::{Choice, End, PathStep, Trap};
