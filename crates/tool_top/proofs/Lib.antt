@@ -1,3 +1,4 @@
 pub mod CodeBytes
 pub mod Fetching
+pub mod Files
 pub mod Taken
