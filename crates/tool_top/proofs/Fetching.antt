@@ -1,7 +1,6 @@
-use Rattle.std.proofs.Common.{◌≡◌, ℕ, zero, suc, ◌+◌, ◌-◌, ◌*◌, ◌/◌, ◌%◌, ◌^◌, ◌<◌, ◌≤◌, ◌&&◌, Bool, true, false, cond, List, [], ◌∷◌, All, length, drop, get_or, nat_le, nat_lt, ap, ◌∙◌, sym, refl, inl, inr, subst, arith, Option, Some, None, IfSome}
+use Rattle.std.proofs.Common.{◌≡◌, ℕ, zero, suc, ◌+◌, ◌-◌, ◌*◌, ◌/◌, ◌%◌, ◌≤◌, ◌&&◌, Bool, true, false, cond, List, length, drop, get_or, nat_le, nat_lt, ap, ◌∙◌, refl, inl, inr, subst, arith, Option, Some, None, IfSome}
 use Rattle.std.proofs.lemmas.Bool.{cases_lt}
 use Rattle.std.proofs.lemmas.List.{get_or_past, get_or-drop, length-drop}
-use Rattle.std.proofs.lemmas.List.Elements.{All-get_or}
 use Rattle.tool_top.specs.Instructions.{instr, bits}
 use Rattle.tool_top.specs.Machine.{can_execute}
 use Rattle.tool_top.specs.Programs.{HasShape, code_start, IsAllowed, flags_of}

@@ -7,3 +7,5 @@ pub mod Fetching
 pub mod Forking
 pub mod Executing
 pub mod Branching
+pub mod Files
+pub mod Taken

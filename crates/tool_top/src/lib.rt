@@ -11,6 +11,8 @@ mod program;
 mod region;
 mod report;
 mod symbolic;
+mod row_file;
+mod shape;
 mod test_text;
 
 pub use ends::{Choice, End, PathStep, Trap};

@@ -8,27 +8,23 @@ ghost use Rattle.tool_top.specs.Tame.{IsTame};
 
 use crate::ends::Trap;
 use crate::instr::{Instr, decode};
+use crate::row_file::{
+    CODE_FLAGS, CODE_OFFSET, CODE_START, DATA_FLAGS, DATA_START, read_words, row_file,
+};
+use crate::shape::{MOST_WORDS, has_shape};
 use std::alloc::{AllocError as NoMemory, Global};
 use std::marker::Model;
 
 /// How many bytes a page has.
 const PAGE: u32 = 256;
 
-/// Where the code begins, and a program with it.
-const CODE_START: u32 = 0x0001_0000;
-
-/// Where the 512 bytes of data begin.
-const DATA_START: u32 = 0x0001_1000;
-
 /// The first and the last page of the stack.
 const FIRST_STACK_PAGE: u32 = 0x007F_FF00;
 
 const LAST_STACK_PAGE: u32 = 0x007F_FFFF;
 
-/// The flags of code, which can be read and executed, and of data, which can be read and written.
-const CODE_FLAGS: u8 = 5;
-
-const DATA_FLAGS: u8 = 6;
+/// The length of the longest file of a program.
+const LONGEST_FILE: usize = CODE_OFFSET + 4 * MOST_WORDS;
 
 /// The words of a program that has the shape.
 #[derive(Debug, Drop)]
@@ -148,9 +144,20 @@ fn byte_of(word: u32, place: u32) -> u8
 }
 
 /// The program of a file, if its bytes are one that is taken.
-pub fn read_program(_alloc: Global, _bytes: &[u8]) -> Result<Option<Program>, NoMemory>
-    ensures taken { IfOk result (λ found. IfSome found (λ words. IsProgram _bytes.now words)) }
-    ensures refused { IfOk result (λ found. IfNone found ((words : List ℕ) → ¬ IsProgram _bytes.now words)) }
+pub fn read_program(alloc: Global, bytes: &[u8]) -> Result<Option<Program>, NoMemory>
+    ensures taken { IfOk result (λ found. IfSome found (λ words. IsProgram bytes.now words)) }
+    ensures refused { IfOk result (λ found. IfNone found ((words : List ℕ) → ¬ IsProgram bytes.now words)) }
 {
-    Err(NoMemory)
+    if bytes.len() < CODE_OFFSET || LONGEST_FILE < bytes.len() {
+        return Ok(None);
+    }
+    let words = read_words(alloc, &bytes[CODE_OFFSET..])?;
+    if !has_shape(&words) {
+        return Ok(None);
+    }
+    let file = row_file(alloc, &words)?;
+    if file.as_slice() != bytes {
+        return Ok(None);
+    }
+    Ok(Some(Program { words }))
 }
