@@ -82,3 +82,10 @@ stepped_call image s g (Traps trap) was grows ends does =
     stepped_end image s g (Traps trap) was grows tt (λ input assigned.
     does input assigned ∙ ap (call (concrete image s input)) (x-number image s input 17 0 (other_call s (was.known 17 (λ h. cc)) was.number_of_call ends.0))
     ∙ ap (λ t. Ended (Trapped t) (concrete image s input)) (sym ends.1))
+
+-- The sum of x0 and 93.
+pub sum-exit : (image : Image) (s : Symbolic) (rs1 immediate n : ℕ) → IsOpen image s → rs1 ≡ 0 → value_at s.registers rs1 ≡ Number n → immediate ≡ 93 → sum32 n immediate ≡ 93
+sum-exit image s rs1 immediate n was zero is exit =
+    let none : Number n ≡ Number 0 = sym is ∙ ap (value_at s.registers) zero ∙ was.zero in
+    let same : n ≡ 0 = cc in
+    rw (same, exit) refl

@@ -4,7 +4,8 @@ use Rattle.std.specs.Prelude.{Option, None, Some, Result, Ok, Err, ◌==◌, All
 use Rattle.std.proofs.lemmas.Bool.Decides.{nat_tests}
 use Rattle.tool_top.specs.Machine.{Image, State, Run, Outcome, Running, Ended, IsAssignment, run, run_from, first_state, continued, after_outcome, next, execute, execute_fetched, fetch, placed, word_at, can_execute}
 use Rattle.tool_top.specs.Leaves.{EndsAs}
-use Rattle.tool_top.specs.Programs.{regions, data_start, code_start, flags_of}
+use Rattle.tool_top.specs.Programs.{regions, data_start, code_start, flags_of, image_of}
+use Rattle.tool_top.specs.Symbolic.{Symbolic, concrete}
 use Rattle.tool_top.specs.Instructions.{instr}
 use Rattle.std.specs.Option.{ok_or}
 use Rattle.tool_top.specs.declared.ends.Trap.TheVariants.{Illegal, FetchAccess, FetchMisaligned}
@@ -74,3 +75,10 @@ fetch-placed words byte input pc few aligned =
     ap (λ r. if pc % 4 == 0 then r else Err FetchMisaligned)
     (same_fetch (can_execute (flags_of words (pc / 256))) byte (placed regions input byte) pc
     (λ runs. word_at-placed byte input pc (omega (arith, executable_below words (pc / 256) few runs))))
+
+-- The instruction that is fetched is carried out, or the run ends with the trap.
+pub next_fetched : (words : List ℕ) (s : Symbolic) (input : List ℕ) (i : Instr) → length words ≤ 1024 → s.pc % 4 ≡ 0 → fetch (image_of words).flags (image_of words).byte s.pc ≡ Ok i → next (concrete (image_of words) s input) ≡ execute (concrete (image_of words) s input) i
+next_fetched words s input i few aligned h = next_executes (concrete (image_of words) s input) i (fetch-placed (length words) (image_of words).byte input s.pc few aligned ∙ h)
+
+pub next_refused : (words : List ℕ) (s : Symbolic) (input : List ℕ) (trap : Trap) → length words ≤ 1024 → s.pc % 4 ≡ 0 → fetch (image_of words).flags (image_of words).byte s.pc ≡ Err trap → next (concrete (image_of words) s input) ≡ Ended (Trapped trap) (concrete (image_of words) s input)
+next_refused words s input trap few aligned h = next_traps (concrete (image_of words) s input) trap (fetch-placed (length words) (image_of words).byte input s.pc few aligned ∙ h)

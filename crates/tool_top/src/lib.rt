@@ -10,6 +10,7 @@ mod part;
 mod program;
 mod region;
 mod report;
+mod step;
 mod symbolic;
 mod row_file;
 mod shape;

@@ -16,7 +16,7 @@ use std::alloc::{AllocError as NoMemory, Global};
 use std::marker::Model;
 
 /// How many bytes a page has.
-const PAGE: u32 = 256;
+pub const PAGE: u32 = 256;
 
 /// The first and the last page of the stack.
 const FIRST_STACK_PAGE: u32 = 0x007F_FF00;
