@@ -24,7 +24,6 @@ all_ones_test b f xs h = same_test b _
     (λ all. h.1 (λ k d below. true_eq _ _ (AllPass-from_list_all (λ id. f id == 1) xs all k d below)))
 
 -- a condition holds on enough bytes where its terms are all ones
-pub holds_by_ones : (condition : Condition) (input : List ℕ) (b : Bool) → length input ≡ condition.graph.inputs → (IsTrue b ↔ All (λ id. number_of condition.graph id input ≡ 1) condition.asserted) → b ≡ holds condition input
+pub holds_by_ones : (condition : Condition) (input : List ℕ) (b : Bool) → length input ≡ condition.graph.inputs → b ≡ list_all (λ id. number_of condition.graph id input == 1) condition.asserted → b ≡ holds condition input
 holds_by_ones condition input b each h =
-    all_ones_test b (λ id. number_of condition.graph id input) condition.asserted h
-    ∙ ap (λ t. t && list_all (λ id. number_of condition.graph id input == 1) condition.asserted) (sym (eq_true _ _ each))
+    h ∙ ap (λ t. t && list_all (λ id. number_of condition.graph id input == 1) condition.asserted) (sym (eq_true _ _ each))

@@ -9,7 +9,7 @@ mod words;
 
 pub use graph::Dag;
 pub use nodes::{BinaryOp, Comparison, Node};
-pub use query::Query;
+pub use query::{Query, are_ones};
 pub use words::Word;
 
 #[cfg(test)]

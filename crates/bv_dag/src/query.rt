@@ -1,6 +1,7 @@
 //! A condition on input bytes.
 
-ghost use Rattle.std.specs.Prelude.{◌≡◌, ◌↔◌, ◌<◌, ◌++◌, ◌∷◌, [], IsTrue, IfOk, OnOk, OnErr, All, length};
+ghost use Rattle.std.specs.Prelude.{◌≡◌, ◌==◌, ◌↔◌, ◌<◌, ◌++◌, ◌∷◌, [], IsTrue, IfOk, OnOk, OnErr, All, length};
+ghost use Rattle.std.specs.List.{list_all};
 ghost use Rattle.bv_dag.specs.Nodes.{word_at};
 ghost use Rattle.bv_dag.specs.Queries.{AreBits};
 
@@ -28,12 +29,20 @@ impl Model for Query {
     ghost invariant = { λ q. AreBits q.dag q.asserted.items };
 }
 
-/// Whether the words at these places are all 1.
-fn are_ones(words: &[Word], ids: &[usize]) -> bool
+// Whether the words at these places are all 1.
+fn each_is_one(words: &[Word], ids: &[usize]) -> bool
     requires { All (λ id. id < length words.now) ids.now }
     ensures { IsTrue result ↔ All (λ id. (word_at words.now id).number ≡ 1) ids.now }
 {
     ids.iter().all(|id| words[*id].number() == 1)
+}
+
+/// Whether the words at these places are all 1.
+pub fn are_ones(words: &[Word], ids: &[usize]) -> bool
+    requires { All (λ id. id < length words.now) ids.now }
+    ensures { result ≡ list_all (λ id. (word_at words.now id).number == 1) ids.now }
+{
+    each_is_one(words, ids)
 }
 
 impl Query {

@@ -9,3 +9,4 @@ pub mod Executing
 pub mod Branching
 pub mod Files
 pub mod Taken
+pub mod Asking

@@ -1,5 +1,5 @@
 -- What a symbolic run stands for. Only private functions speak of this: no promise of the tool does.
-use Rattle.std.specs.Prelude.{◌≡◌, ◌≢◌, ℕ, ◌+◌, ◌-◌, ◌*◌, ◌/◌, ◌%◌, ◌^◌, ◌==◌, ◌<◌, ◌≤◌, ◌⊎◌, Bool, true, false, if◌then◌else◌, List, [], ◌∷◌, ◌++◌, All, length, map, slice_index_or, slice_set, Some, None, IsTrue, count_by}
+use Rattle.std.specs.Prelude.{◌≡◌, ◌≢◌, ℕ, ◌+◌, ◌-◌, ◌*◌, ◌/◌, ◌%◌, ◌^◌, ◌==◌, ◌<◌, ◌≤◌, ◌⊎◌, ◌&&◌, not, Bool, true, false, if◌then◌else◌, List, [], ◌∷◌, ◌++◌, All, length, map, slice_index_or, slice_set, Some, None, IsTrue, count_by}
 use Rattle.bv_dag.specs.Graphs.{Graph, IsDag, number_of, width_of}
 use Rattle.bv_dag.specs.Queries.{Condition, AreBits, holds}
 use Rattle.tool_io.specs.Told.{IsPrefix}
@@ -162,6 +162,47 @@ pub record IsEnding (image : Image) (s : Symbolic) (end : LeafEnd) : Type 0 wher
   pub byte_end : EndsByByte s.terms end
   pub ends : (input : List ℕ) → IsAssignment regions input → meets s input ≡ true →
       EndsAs (run image regions input s.steps) s.steps s.path (end_of s.terms input end) []
+
+-- the term is 1, or it isn't
+abbrev pub is_side : Bool → ℕ → Bool
+is_side true number = number == 1
+is_side false number = not (number == 1)
+
+-- the assignment meets the condition, and is on this side of the term
+abbrev pub answers : Graph → List ℕ → ℕ → Bool → List ℕ → Bool
+answers terms condition term side input = holds (record { graph = terms; asserted = condition }) input && is_side side (number_of terms term input)
+
+abbrev pub one_if : Bool → ℕ
+one_if true = 1
+one_if false = 0
+
+-- two runs further on, on the two sides of a fork: what the one before stood for, each assignment in one of them
+pub record IsSplit (image : Image) (s no_side yes_side : Symbolic) : Type 0 where
+  pub no_open : IsOpen image no_side
+  pub yes_open : IsOpen image yes_side
+  pub no_choices : no_side.choices ≡ s.choices ++ No ∷ []
+  pub yes_choices : yes_side.choices ≡ s.choices ++ Yes ∷ []
+  pub in_code : s.pc < data_start
+  pub no_later : s.pc < no_side.pc
+  pub yes_later : s.pc < yes_side.pc
+  pub parted : (input : List ℕ) → IsAssignment regions input → one_if (meets no_side input) + one_if (meets yes_side input) ≡ one_if (meets s input)
+
+-- a leaf of all that the run stood for
+pub record IsFinished (image : Image) (s : Symbolic) (part : Part) : Type 0 where
+  pub same_choices : part.leaf.choices ≡ s.choices
+  pub same_cover : (input : List ℕ) → IsAssignment regions input → covers part.leaf input ≡ meets s input
+  pub faithful : IsFaithful image regions part.leaf
+  pub sampled : IsAssignment regions part.sample × IsTrue (covers part.leaf part.sample)
+  pub testable : IsTestable part
+
+-- the leaves under a run, by rank: each assignment that it stands for is covered by exactly one, and no other by any
+pub record AreUnder (image : Image) (s : Symbolic) (parts : List Part) : Type 0 where
+  pub counted : (input : List ℕ) → IsAssignment regions input → count_by (λ (p : Part). covers p.leaf input) parts ≡ one_if (meets s input)
+  pub faithful : All (λ (p : Part). IsFaithful image regions p.leaf) parts
+  pub sampled : All (λ (p : Part). IsAssignment regions p.sample × IsTrue (covers p.leaf p.sample)) parts
+  pub testable : All IsTestable parts
+  pub below : All (λ (p : Part). IsPrefix s.choices p.leaf.choices) parts
+  pub ranked : AreRanked (map (λ (p : Part). p.leaf) parts)
 
 -- what one instruction leads to: it has gone on, it is at a branch that was not yet carried out, or all its runs have ended
 abbrev pub Stepped : Image → Symbolic → Symbolic → Step → Type 0

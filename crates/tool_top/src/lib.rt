@@ -8,6 +8,7 @@ mod instr;
 mod leaf;
 mod part;
 mod program;
+mod question;
 mod region;
 mod report;
 mod step;
