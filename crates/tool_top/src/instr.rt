@@ -155,3 +155,59 @@ pub fn decode(word: u32) -> Option<Instr>
         _ => None,
     }
 }
+
+#[cfg(test)]
+mod tests {
+    use super::*;
+
+    #[test]
+    fn decodes(rt: HostRuntime) {
+        let zero = Register::new(0);
+        let x5 = Register::new(5);
+        let x6 = Register::new(6);
+        let x7 = Register::new(7);
+        assert_eq!(rt;
+            decode(0x0001_12B7),
+            Some(Instr::Lui {
+                rd: x5,
+                upper: 0x0001_1000
+            })
+        );
+        assert_eq!(rt;
+            decode(0x0002_C383),
+            Some(Instr::Lbu {
+                rd: x7,
+                rs1: x5,
+                offset: 0
+            })
+        );
+        assert_eq!(rt;
+            decode(0x0410_0313),
+            Some(Instr::Addi {
+                rd: x6,
+                rs1: zero,
+                immediate: 0x41
+            })
+        );
+        assert_eq!(rt;
+            decode(0x0063_8663),
+            Some(Instr::Beq {
+                rs1: x7,
+                rs2: x6,
+                offset: 12
+            })
+        );
+        assert_eq!(rt;
+            decode(0xFE00_0EE3),
+            Some(Instr::Beq {
+                rs1: zero,
+                rs2: zero,
+                offset: 0xFFFF_FFFC
+            })
+        );
+        assert_eq!(rt; decode(0x0000_0073), Some(Instr::Ecall));
+        assert_eq!(rt; decode(0x0010_0073), None);
+        assert_eq!(rt; decode(0), None);
+        assert_eq!(rt; decode(0xFFFF_FFFF), None);
+    }
+}

@@ -18,9 +18,10 @@ use std::marker::Model;
 /// How many bytes a page has.
 pub const PAGE: u32 = 256;
 
-/// The first and the last page of the stack.
+/// The first page of the stack.
 const FIRST_STACK_PAGE: u32 = 0x007F_FF00;
 
+/// The last page of the stack.
 const LAST_STACK_PAGE: u32 = 0x007F_FFFF;
 
 /// The length of the longest file of a program.
@@ -70,10 +71,11 @@ impl Program {
     }
 
     /// The flags of a page of 256 bytes, if it is mapped: 1 it can be executed, 2 written, 4 read.
+    #[tactic(auto, using(crate::proofs::Fetching::executed))]
     pub fn flags(&self, page: u32) -> Option<u8>
         ensures { result ≡ flags_of (length self.now) page }
     {
-        if CODE_START / PAGE <= page && page < self.code_end() {
+        if self.can_execute(page) {
             Some(CODE_FLAGS)
         } else if DATA_START / PAGE <= page && page < DATA_START / PAGE + 2 {
             Some(DATA_FLAGS)
@@ -160,4 +162,58 @@ pub fn read_program(alloc: Global, bytes: &[u8]) -> Result<Option<Program>, NoMe
         return Ok(None);
     }
     Ok(Some(Program { words }))
+}
+
+#[cfg(test)]
+mod tests {
+    use super::*;
+    use std::test::Fail;
+
+    /// Exits with status 7, and reads no input byte.
+    const CONSTANT: [u32; 3] = [0x0070_0513, 0x05D0_0893, 0x0000_0073];
+
+    /// Exits with status 1 where the input byte is `A`, else with status 0.
+    const BRANCHING: [u32; 9] = [
+        0x0001_12B7,
+        0x0002_C383,
+        0x0410_0313,
+        0x0063_8663,
+        0x05D0_0893,
+        0x0000_0073,
+        0x0010_0513,
+        0x05D0_0893,
+        0x0000_0073,
+    ];
+
+    #[test]
+    fn a_file_without_the_shape(rt: HostRuntime) -> Result<(), Fail> {
+        let file = row_file(rt.alloc(), &CONSTANT)?;
+        assert_eq!(rt; file.len(), 128);
+        assert_eq!(rt;
+            &file.as_slice()[116..120],
+            [0x13, 0x05, 0x70, 0x00].as_slice()
+        );
+        assert!(rt; read_program(rt.alloc(), file.as_slice())?.is_none());
+        Ok(())
+    }
+
+    #[test]
+    fn a_program(rt: HostRuntime) -> Result<(), Fail> {
+        let file = row_file(rt.alloc(), &BRANCHING)?;
+        let found = read_program(rt.alloc(), file.as_slice())?;
+        let program = found.ok_or("no program")?;
+        assert_eq!(rt; program.words.as_slice(), BRANCHING.as_slice());
+        assert_eq!(rt; program.fetch(0x0001_0014), Ok(Instr::Ecall));
+        assert_eq!(rt; program.fetch(0x0001_0024), Err(Trap::Illegal));
+        assert_eq!(rt; program.fetch(0x0001_0100), Err(Trap::FetchAccess));
+        Ok(())
+    }
+
+    #[test]
+    fn a_byte_more(rt: HostRuntime) -> Result<(), Fail> {
+        let mut bytes = row_file(rt.alloc(), &BRANCHING)?.into_vec();
+        bytes.push(0)?;
+        assert!(rt; read_program(rt.alloc(), &bytes)?.is_none());
+        Ok(())
+    }
 }

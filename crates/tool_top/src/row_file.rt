@@ -19,9 +19,10 @@ pub const DATA_START: u32 = 0x0001_1000;
 /// How many bytes of data there are.
 const DATA_SIZE: u32 = 512;
 
-/// The flags of code, which can be read and executed, and of data, which can be read and written.
+/// The flags of code, which can be read and executed.
 pub const CODE_FLAGS: u8 = 5;
 
+/// The flags of data, which can be read and written.
 pub const DATA_FLAGS: u8 = 6;
 
 /// The ELF header (Tool Interface Standard, "ELF Header"), one row for each group of its fields.

@@ -6,9 +6,10 @@ ghost use Rattle.tool_top.specs.Programs.{IsAllowed, HasShape};
 
 use crate::instr::{Instr, decode};
 
-/// The first two words: LUI x5, 0x11000 and LBU x7, 0(x5), which load the input byte.
+/// The first word, LUI x5, 0x11000: x5 points to the input byte.
 const FIRST: u32 = 0x0001_12B7;
 
+/// The second word, LBU x7, 0(x5): x7 is the input byte.
 const SECOND: u32 = 0x0002_C383;
 
 /// The most words of a program.
