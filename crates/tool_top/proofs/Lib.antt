@@ -10,3 +10,4 @@ pub mod Branching
 pub mod Files
 pub mod Taken
 pub mod Asking
+pub mod Splitting

@@ -7,3 +7,4 @@ pub mod Programs
 pub mod Reports
 pub mod Symbolic
 pub mod Tame
+pub mod Forks

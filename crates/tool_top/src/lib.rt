@@ -13,12 +13,13 @@ mod region;
 mod report;
 mod step;
 mod symbolic;
+mod walk;
 mod row_file;
 mod shape;
 mod test_text;
 
 pub use ends::{Choice, End, PathStep, Trap};
-pub use fork::explore;
+pub use walk::explore;
 pub use instr::{Instr, Register, decode};
 pub use leaf::{Leaf, LeafEnd};
 pub use part::LeafPart;

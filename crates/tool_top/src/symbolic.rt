@@ -1,16 +1,18 @@
 //! A symbolic run: its numbers and terms stand for one run of the machine for each assignment that meets its condition.
 
-ghost use Rattle.std.specs.Prelude.{◌≡◌, ◌==◌, ◌+◌, ◌<◌, ◌^◌, ℕ, List, All, length, slice_index, IfOk, OnOk, if◌then◌else◌};
+ghost use Rattle.std.specs.Prelude.{◌≡◌, ◌==◌, ◌+◌, ◌-◌, ◌%◌, ◌<◌, ◌^◌, ℕ, true, false, List, [], ◌∷◌, All, length, slice_index, IfOk, OnOk, IfSome, IfNone, if◌then◌else◌};
 ghost use Rattle.bv_dag.specs.Graphs.{IsDag, width_of, number_of};
-ghost use Rattle.tool_top.specs.Symbolic.{set_value, value_at, worth_of, with_terms, onward_to, branched, Grows, IsNumber, IsWide, EndsCall};
+ghost use Rattle.bv_dag.specs.Queries.{AreBits};
+ghost use Rattle.tool_top.specs.Symbolic.{set_value, value_at, worth_of, with_terms, onward_to, branched, narrowed, Grows, IsNumber, IsWide, EndsCall, answers};
 ghost use Rattle.tool_top.specs.declared.symbolic.Value.TheVariants.{Number};
 
 use crate::build;
 use crate::ends::{Choice, PathStep, Trap};
 use crate::instr::Register;
 use crate::leaf::LeafEnd;
+use crate::question::find_byte;
 use bv_dag::Dag;
-use std::alloc::AllocError as NoMemory;
+use std::alloc::{AllocError as NoMemory, Global};
 use std::marker::Model;
 
 /// The number of the call that exits, in a7.
@@ -36,7 +38,7 @@ pub enum Step {
 }
 
 /// A symbolic run, somewhere before its end.
-#[derive(Clone, Debug, Drop)]
+#[derive(Debug, Drop)]
 pub struct State {
     pub pc: u32,
     /// x0 to x31.
@@ -71,6 +73,22 @@ impl Model for State {
 }
 
 impl State {
+    /// An equal one; a change in one changes nothing in the other.
+    pub fn share(&self) -> Result<State, NoMemory>
+        ensures { IfOk result (λ other. other ≡ self.now) }
+    {
+        Ok(State {
+            pc: self.pc,
+            registers: self.registers.clone()?,
+            terms: self.terms.clone()?,
+            condition: self.condition.clone()?,
+            path: self.path.clone()?,
+            choices: self.choices.clone()?,
+            steps: self.steps,
+            sample: self.sample,
+        })
+    }
+
     /// What a register holds.
     pub fn value(&self, register: Register) -> Value
         requires { length self.now.registers ≡ 32 }
@@ -161,6 +179,39 @@ impl State {
         build::equality(&mut self.terms, left, right)
     }
 
+    /// The other bit of a term of one.
+    pub fn negation(&mut self, bit: usize) -> Result<usize, NoMemory>
+        requires dag { IsDag self.old.terms }
+        requires bit { width_of self.old.terms bit ≡ 1 }
+        ensures terms { self.new ≡ with_terms self.old self.new.terms }
+        ensures grows { OnOk result (Grows self.old.terms self.new.terms) }
+        ensures width { IfOk result (λ id. width_of self.new.terms id ≡ 1) }
+        ensures number { IfOk result (λ id. (input : List ℕ) → number_of self.new.terms id input ≡ 1 - number_of self.old.terms bit input) }
+    {
+        build::negation(&mut self.terms, bit)
+    }
+
+    /// Whether a term of one bit is 1 on the sample.
+    pub fn sample_side(&self, alloc: Global, term: usize) -> Result<bool, NoMemory>
+        requires one_input { self.now.terms.inputs ≡ 1 }
+        requires bit { width_of self.now.terms term ≡ 1 }
+        ensures { IfOk result (λ side. side ≡ (number_of self.now.terms term (self.now.sample ∷ []) == 1)) }
+    {
+        let number = self.terms.eval(alloc, term, &[self.sample])?;
+        Ok(number == 1)
+    }
+
+    /// A byte that meets the condition and is on this side of the term, if there is one.
+    pub fn byte_on_side(&self, alloc: Global, term: usize, side: bool) -> Result<Option<u8>, NoMemory>
+        requires one_input { self.now.terms.inputs ≡ 1 }
+        requires bits { AreBits self.now.terms self.now.condition }
+        requires bit { width_of self.now.terms term ≡ 1 }
+        ensures found { IfOk result (λ found. IfSome found (λ byte. answers self.now.terms self.now.condition term side (byte ∷ []) ≡ true)) }
+        ensures none { IfOk result (λ found. IfNone found ((byte : ℕ) → byte < 256 → answers self.now.terms self.now.condition term side (byte ∷ []) ≡ false)) }
+    {
+        find_byte(alloc, &self.terms, &self.condition, term, side)
+    }
+
     /// How a call ends the runs.
     pub fn call(&mut self) -> Result<LeafEnd, NoMemory>
         requires dag { IsDag self.old.terms }
@@ -176,5 +227,15 @@ impl State {
         let value = self.value(Register::new(10));
         let status = build::byte_of(&mut self.terms, value)?;
         Ok(LeafEnd::Exits { status })
+    }
+
+    /// Narrows to one side of a fork, on which this term of one bit is 1.
+    pub fn narrow(&mut self, choice: Choice, term: usize, sample: u8) -> Result<(), NoMemory>
+        ensures { OnOk result (self.new ≡ narrowed self.old choice term sample) }
+    {
+        self.condition.push(term)?;
+        self.choices.push(choice)?;
+        self.sample = sample;
+        Ok(())
     }
 }
