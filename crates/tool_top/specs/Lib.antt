@@ -8,3 +8,4 @@ pub mod Reports
 pub mod Symbolic
 pub mod Tame
 pub mod Forks
+pub mod Work

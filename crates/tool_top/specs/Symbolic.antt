@@ -187,6 +187,13 @@ pub record IsSplit (image : Image) (s no_side yes_side : Symbolic) : Type 0 wher
   pub yes_later : s.pc < yes_side.pc
   pub parted : (input : List ℕ) → IsAssignment regions input → one_if (meets no_side input) + one_if (meets yes_side input) ≡ one_if (meets s input)
 
+-- the leaf of a run whose runs have all ended so, with its sample
+abbrev pub leaf_of : Symbolic → LeafEnd → Part
+leaf_of s end = record {
+  leaf = record { choices = s.choices; path = s.path; steps = s.steps; end = end; condition = condition_of s; outputs = [] };
+  sample = s.sample ∷ [];
+}
+
 -- a leaf of all that the run stood for
 pub record IsFinished (image : Image) (s : Symbolic) (part : Part) : Type 0 where
   pub same_choices : part.leaf.choices ≡ s.choices

@@ -14,6 +14,7 @@ mod report;
 mod step;
 mod symbolic;
 mod walk;
+mod work;
 mod row_file;
 mod shape;
 mod test_text;
