@@ -5,3 +5,7 @@ pub mod LeafText
 pub mod Tests
 pub mod Programs
 pub mod Reports
+pub mod Job
+pub mod Plan
+pub mod Answer
+pub mod Words
