@@ -11,3 +11,6 @@ pub mod Files
 pub mod Taken
 pub mod Asking
 pub mod Splitting
+pub mod Endings
+pub mod Plans
+pub mod Explored

@@ -9,3 +9,7 @@ pub mod Symbolic
 pub mod Tame
 pub mod Forks
 pub mod Work
+pub mod Job
+pub mod Plan
+pub mod Answer
+pub mod Words

@@ -6,6 +6,7 @@ use Rattle.tool_top.specs.Machine.{Image, IsAssignment}
 use Rattle.tool_top.specs.Leaves.{Leaf, covers, worth, end_on, IsFaithful, IsExactCover, AreRanked}
 use Rattle.tool_top.specs.LeafText.{leaf_text}
 use Rattle.tool_top.specs.Tests.{Test, IsRun, test_text}
+use Rattle.tool_top.specs.Programs.{image_of, regions}
 use Rattle.tool_top.specs.declared.region.Region.{Region}
 use Rattle.tool_top.specs.declared.leaf.LeafEnd.{LeafEnd}
 use Rattle.tool_top.specs.declared.leaf.LeafEnd.TheVariants.{Exits, Traps}
@@ -25,6 +26,13 @@ AreFaithful image regions entries = All (IsFaithful image regions) (leaves_of en
 -- the test behind each leaf is a run of that leaf
 abbrev pub AreRuns : Image → List Region → List Entry → Type 0
 AreRuns image regions entries = (rank : ℕ) (e : Entry) → slice_get entries rank ≡ Some e → IsRun image regions e.leaf rank e.test
+
+-- all of the claims, for a program of these words
+pub record IsReport (words : List ℕ) (entries : List Entry) : Type 0 where
+  pub exact_cover : IsExactCover regions (leaves_of entries)
+  pub faithful : AreFaithful (image_of words) regions entries
+  pub runs : AreRuns (image_of words) regions entries
+  pub ranked : AreRanked (leaves_of entries)
 
 -- a number in six digits, or in more where it has more
 abbrev pub six_digits : ℕ → List ℕ
@@ -90,3 +98,10 @@ pub record IsExplored (image : Image) (regions : List Region) (parts : List Part
   pub sampled : All (λ (p : Part). IsAssignment regions p.sample × IsTrue (covers p.leaf p.sample)) parts
   pub testable : All IsTestable parts
   pub ranked : AreRanked (map (λ (p : Part). p.leaf) parts)
+
+-- these files and this text are the report, in the folder `out`, of entries for which all of the claims hold
+pub record IsReportOf (out words : List ℕ) (puts : List Put) (text : List ℕ) : Type 0 where
+  pub entries : List Entry
+  pub claims : IsReport words entries
+  pub files : puts ≡ files_of out entries
+  pub summary : text ≡ summary_of entries

@@ -2,11 +2,13 @@
 #![tactic(auto)]
 
 mod build;
+mod carry;
 mod ends;
 mod fork;
 mod instr;
 mod leaf;
 mod part;
+mod plan;
 mod program;
 mod question;
 mod region;
@@ -17,7 +19,10 @@ mod walk;
 mod work;
 mod row_file;
 mod shape;
+mod run;
 mod test_text;
+mod verdict;
+mod words;
 
 pub use ends::{Choice, End, PathStep, Trap};
 pub use walk::explore;
@@ -27,4 +32,8 @@ pub use part::LeafPart;
 pub use program::{Program, read_program};
 pub use region::Region;
 pub use report::{Report, make_report};
+pub use run::run_tool;
 pub use test_text::Test;
+
+#[cfg(test)]
+mod tests;

@@ -1,0 +1,110 @@
+-- How a run of the tool may end, why, and what stands then.
+use Rattle.std.specs.Prelude.{◌≡◌, ◌≢◌, ℕ, ◌⊎◌, List, [], take, Option, None, Some, IfSome}
+use Rattle.std.specs.Option.{option_map}
+use Rattle.tool_io.specs.Told.{Told, Seen, Put, after, Gives, IsPrefix, IsCutShort, puts_since, said_since, told_held}
+use Rattle.tool_io.specs.Causes.{Rose}
+use Rattle.tool_top.specs.Job.{Job, Explore, names_of}
+use Rattle.tool_top.specs.Plan.{Plan, IsPlan, no_memory, most_bytes}
+use Rattle.tool_top.specs.Programs.{IsProgram}
+use Rattle.tool_top.specs.Reports.{Entry, files_of, summary_of}
+use Rattle.tool_top.specs.declared.verdict.Verdict.{Verdict}
+use Rattle.tool_top.specs.declared.verdict.Verdict.TheVariants.{Done, NoJob, Refused, ReadFault}
+use Rattle.tool_top.specs.declared.verdict.Ending.{Ending}
+use Rattle.tool_top.specs.declared.verdict.Ending.TheVariants.{Planned, WriteFault, NoMemory}
+
+-- the exit statuses
+abbrev pub verdict_status : Verdict → ℕ
+verdict_status Done = 0
+verdict_status NoJob = 2
+verdict_status Refused = 3
+verdict_status ReadFault = 5
+
+abbrev pub status_of : Ending → ℕ
+status_of (Planned verdict) = verdict_status verdict
+status_of WriteFault = 6
+status_of NoMemory = 8
+
+-- all was put and the text was said; unless it is done, only a beginning where the count of write faults rose
+pub record IsCarriedOut (old new : Seen) (verdict : Verdict) (puts : List Put) (text : List ℕ) (names : List (List ℕ)) : Type 0 where
+  pub said : List ℕ
+  pub begins : IsPrefix said text
+  pub whole : (said ≡ text) ⊎ (Rose old.writes new.writes × (verdict ≢ Done))
+  pub changes : new.told ≡ after old.told (record { names = names; puts = puts; said = said })
+
+-- the first files were put, the last maybe cut short; a beginning of the text was said where all were put, and else nothing
+pub record IsCutByFault (old new : Seen) (whole : List Put) (text : List ℕ) (names : List (List ℕ)) : Type 0 where
+  pub puts : List Put
+  pub said : List ℕ
+  pub files : IsCutShort puts whole
+  pub begins : IsPrefix said text
+  pub in_order : (said ≡ []) ⊎ (puts ≡ whole)
+  pub changes : new.told ≡ after old.told (record { names = names; puts = puts; said = said })
+
+-- the first files were put, each whole, and a beginning of this text was said
+pub record IsLeft (old new : Seen) (whole : List Put) (text : List ℕ) (names : List (List ℕ)) : Type 0 where
+  pub puts : List Put
+  pub said : List ℕ
+  pub files : IsPrefix puts whole
+  pub begins : IsPrefix said text
+  pub changes : new.told ≡ after old.told (record { names = names; puts = puts; said = said })
+
+-- a plan of the job was carried out
+pub record IsAnswered (old new : Seen) (job : Option Job) (verdict : Verdict) : Type 0 where
+  pub plan : Plan
+  pub is : plan.verdict ≡ verdict
+  pub planned : IsPlan old new job plan
+  pub out : IsCarriedOut old new verdict plan.puts plan.text plan.names
+
+-- carrying a plan of the job out was cut by a fault, and the plan is one that is done:
+-- any other verdict stands even where saying its line failed
+pub record IsFaulted (old new : Seen) (job : Option Job) : Type 0 where
+  pub plan : Plan
+  pub rose : Rose old.writes new.writes
+  pub only_done : plan.verdict ≡ Done
+  pub planned : IsPlan old new job plan
+  pub out : IsCutByFault old new plan.puts plan.text plan.names
+
+-- memory was refused while the job's names were read, or while a plan was carried out
+pub record IsWanting (old new : Seen) (job : Option Job) : Type 0 where
+  pub names : List (List ℕ)
+  pub whole : List Put
+  pub reading : IsPrefix names (names_of job)
+  pub writing : (whole ≡ []) ⊎ ((plan : Plan) × IsPlan old new job plan × (plan.puts ≡ whole) × (plan.names ≡ names))
+  pub out : IsLeft old new whole no_memory names
+
+-- why a run of this job ended so, and what stands then
+abbrev pub Answered : Seen → Seen → Option Job → Ending → Type 0
+Answered old new job (Planned verdict) = IsAnswered old new job verdict
+Answered old new job WriteFault = IsFaulted old new job
+Answered old new job NoMemory = IsWanting old new job
+
+-- The claims are facts of entries, that is, of leaves and their tests, and of the words of the program.
+-- The words are those of the file that the program's name gave. The entries are the ones that were written:
+-- where the object tells its files, the files put are their texts, one for each leaf and each test, and no others;
+-- where it tells what was said, the line said is their summary. The claim holds of these words and entries.
+pub record IsWritten (old new : Told) (program out : List ℕ) (Claim : List ℕ → List Entry → Type 0) : Type 0 where
+  pub words : List ℕ
+  pub entries : List Entry
+  pub bytes : List ℕ
+  pub given : Gives old program most_bytes bytes
+  pub taken : IsProgram bytes words
+  pub files : IfSome (puts_since old new) (λ puts. puts ≡ files_of out entries)
+  pub summary : IfSome (said_since old new) (λ said. said ≡ summary_of entries)
+  pub claim : Claim words entries
+
+-- there is a job, and the claim holds of what was written for it
+abbrev pub OnWritten : Told → Told → Option Job → (List ℕ → List Entry → Type 0) → Type 0
+OnWritten old new None Claim = ⊥
+OnWritten old new (Some (Explore program out)) Claim = IsWritten old new program out Claim
+
+-- there is a job, and the bytes that its program's name gives are the file of no program that is taken
+abbrev pub HoldsNoProgram : Told → Option Job → Type 0
+HoldsNoProgram told None = ⊥
+HoldsNoProgram told (Some (Explore program out)) =
+    (bytes : List ℕ) × Gives told program most_bytes bytes × ((words : List ℕ) → ¬ IsProgram bytes words)
+
+-- there is a job, and it is told that its program's name holds the file of a program that is taken
+abbrev pub HoldsProgram : Told → Option Job → Type 0
+HoldsProgram told None = ⊥
+HoldsProgram told (Some (Explore program out)) =
+    (bytes words : List ℕ) × (option_map (take most_bytes) (told_held told program) ≡ Some bytes) × IsProgram bytes words

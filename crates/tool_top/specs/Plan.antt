@@ -1,0 +1,85 @@
+-- What the tool means to put and say for a job.
+use Rattle.std.specs.Prelude.{◌≡◌, ℕ, ◌⊎◌, List, [], ◌∷◌, ◌++◌, Option, None, Some, codes}
+use Rattle.tool_io.specs.Told.{Told, Seen, Put, after, Gives, IsPrefix}
+use Rattle.tool_io.specs.Causes.{Rose}
+use Rattle.tool_top.specs.Job.{Job, Explore, names_of}
+use Rattle.tool_top.specs.Programs.{IsProgram}
+use Rattle.tool_top.specs.Reports.{IsReportOf}
+use Rattle.tool_top.specs.declared.verdict.Verdict.{Verdict}
+use Rattle.tool_top.specs.declared.verdict.Verdict.TheVariants.{Done, NoJob, Refused, ReadFault}
+
+-- the names that were read, and what is to be put and said
+pub record Plan : Type 0 where
+  pub verdict : Verdict
+  pub names : List (List ℕ)
+  pub puts : List Put
+  pub text : List ℕ
+
+-- The texts.
+abbrev pub usage : List ℕ
+usage =
+    codes "usage: rvklee explore [--steps N] [--targets N] [--conflicts N] [--workers N] PROGRAM OUT INPUT..\n"
+    ++ codes "       rvklee replay PROGRAM TEST\n"
+    ++ codes "       rvklee bench NUMBER WORKERS OUT\n"
+
+abbrev pub refused_line : List ℕ
+refused_line = codes "program refused 19 Later\n"
+
+abbrev pub read_fault : List ℕ
+read_fault = codes "read fault\n"
+
+abbrev pub no_memory : List ℕ
+no_memory = codes "no memory\n"
+
+-- the most bytes of a file that are read
+abbrev pub most_bytes : ℕ
+most_bytes = 1048577
+
+-- a text is said, and no file is put
+abbrev pub says_only : Verdict → List (List ℕ) → List ℕ → Plan
+says_only verdict names text = record { verdict = verdict; names = names; puts = []; text = text }
+
+-- the bytes are the file of a program that is taken, and its report is put into `out`
+pub record IsReported (out bytes : List ℕ) (verdict : Verdict) (puts : List Put) (text : List ℕ) : Type 0 where
+  pub words : List ℕ
+  pub taken : IsProgram bytes words
+  pub done : verdict ≡ Done
+  pub report : IsReportOf out words puts text
+
+-- the bytes are the file of no program that is taken, and that is said
+pub record IsRefusal (bytes : List ℕ) (verdict : Verdict) (puts : List Put) (text : List ℕ) : Type 0 where
+  pub none : (words : List ℕ) → ¬ IsProgram bytes words
+  pub refused : verdict ≡ Refused
+  pub no_files : puts ≡ []
+  pub line : text ≡ refused_line
+
+-- what is put and said for the bytes of a program's file
+abbrev pub Treats : (out bytes : List ℕ) → Verdict → List Put → List ℕ → Type 0
+Treats out bytes verdict puts text = IsReported out bytes verdict puts text ⊎ IsRefusal bytes verdict puts text
+
+-- what is meant, where all that the job reads was read
+abbrev pub Means : Told → Option Job → Plan → Type 0
+Means told None plan = plan ≡ says_only NoJob [] usage
+Means told (Some (Explore program out)) plan =
+    (bytes : List ℕ) × Gives told program most_bytes bytes
+    × (plan.names ≡ program ∷ []) × Treats out bytes plan.verdict plan.puts plan.text
+
+-- a read failed, of the names from the first on
+abbrev pub IsReadFault : Option Job → Plan → Type 0
+IsReadFault job plan = IsPrefix plan.names (names_of job) × (plan ≡ says_only ReadFault plan.names read_fault)
+
+-- the plan of a job, for the bytes that its names give
+abbrev pub IsPlan : Seen → Seen → Option Job → Plan → Type 0
+IsPlan old new job plan = Means old.told job plan ⊎ (Rose old.reads new.reads × IsReadFault job plan)
+
+-- some names of the job were read, from the first on, and nothing else was done
+pub record OnlyReads (old new : Seen) (job : Option Job) : Type 0 where
+  pub names : List (List ℕ)
+  pub begins : IsPrefix names (names_of job)
+  pub changes : new.told ≡ after old.told (record { names = names; puts = []; said = [] })
+
+-- a plan was made, and nothing was done but to read its names
+pub record IsPlanned (old new : Seen) (job : Option Job) (verdict : Verdict) (puts : List Put) (text : List ℕ) : Type 0 where
+  pub names : List (List ℕ)
+  pub plan : IsPlan old new job (record { verdict = verdict; names = names; puts = puts; text = text })
+  pub changes : new.told ≡ after old.told (record { names = names; puts = []; said = [] })

@@ -1,0 +1,91 @@
+//! The top call: all that the tool does, for the words of a command line.
+
+ghost use Rattle.std.specs.Prelude.{◌≡◌, ◌≢◌, ◌⊎◌, None, IfSome, map, string_bytes};
+ghost use Rattle.tool_io.specs.Told.{names_since, IsPrefix};
+ghost use Rattle.tool_io.specs.Causes.{Rose};
+ghost use Rattle.tool_top.specs.Job.{job_of, names_of};
+ghost use Rattle.tool_top.specs.Programs.{image_of, regions};
+ghost use Rattle.tool_top.specs.Leaves.{IsExactCover, AreRanked};
+ghost use Rattle.tool_top.specs.Reports.{IsReport, AreFaithful, AreRuns, leaves_of};
+ghost use Rattle.tool_top.specs.Answer.{Answered, IsAnswered, IsFaulted, IsWanting, OnWritten, HoldsProgram, HoldsNoProgram};
+
+use crate::carry::{carry_out, say_no_memory};
+use crate::plan::make_plan;
+use crate::verdict::{Ending, Verdict};
+use std::alloc::Global;
+use std::sync::Wait;
+use std::thread::Threads;
+use tool_io::{Fault, Files};
+use work_gate::Gate;
+
+fn run_words<F: Files>(alloc: Global, words: &[String], files: &mut F) -> Ending
+    ensures { Answered (F.seen files.old) (F.seen files.new) (job_of (map string_bytes words.now)) result }
+{
+    match make_plan(alloc, words, files) {
+        Ok(plan) => match carry_out(files, &plan) {
+            Ok(()) => Ending::Planned(plan.verdict),
+            Err(Fault::Failed) => Ending::WriteFault,
+            Err(Fault::NoMemory) => {
+                say_no_memory(files);
+                Ending::NoMemory
+            }
+        },
+        Err(_) => {
+            say_no_memory(files);
+            Ending::NoMemory
+        }
+    }
+}
+
+/// Does all that the tool does, and answers its status.
+pub fn run_tool<R: Threads + Wait + Sync, F: Files, G: Gate + Sync>(
+    rt: &R,
+    alloc: Global,
+    words: &[String],
+    files: &mut F,
+    gate: &G,
+) -> u8
+    // What was done with each status, and for which plan of the job.
+    ensures done { result ≡ 0 → IsAnswered (F.seen files.old) (F.seen files.new) (job_of (map string_bytes words.now)) Verdict.Done }
+    ensures no_job { result ≡ 2 → IsAnswered (F.seen files.old) (F.seen files.new) (job_of (map string_bytes words.now)) Verdict.NoJob }
+    ensures refused { result ≡ 3 → IsAnswered (F.seen files.old) (F.seen files.new) (job_of (map string_bytes words.now)) Verdict.Refused }
+    ensures read_fault { result ≡ 5 → IsAnswered (F.seen files.old) (F.seen files.new) (job_of (map string_bytes words.now)) Verdict.ReadFault }
+    ensures write_fault { result ≡ 6 → IsFaulted (F.seen files.old) (F.seen files.new) (job_of (map string_bytes words.now)) }
+    ensures no_memory { result ≡ 8 → IsWanting (F.seen files.old) (F.seen files.new) (job_of (map string_bytes words.now)) }
+
+    // No other status is answered, and each only where it has its cause.
+    ensures only { (result ≡ 0) ⊎ (result ≡ 2) ⊎ (result ≡ 3) ⊎ (result ≡ 5) ⊎ (result ≡ 6) ⊎ (result ≡ 8) }
+    ensures no_job_where { result ≡ 2 → job_of (map string_bytes words.now) ≡ None }
+    ensures refused_where { result ≡ 3 → HoldsNoProgram (F.seen files.old).told (job_of (map string_bytes words.now)) }
+    ensures read_where { result ≡ 5 → Rose (F.seen files.old).reads (F.seen files.new).reads }
+    ensures write_job { result ≡ 6 → job_of (map string_bytes words.now) ≢ None }
+    ensures write_where { result ≡ 6 → Rose (F.seen files.old).writes (F.seen files.new).writes }
+
+    // Where the object tells them, the names read are those of the job, from the first on.
+    ensures names { IfSome (names_since (F.seen files.old).told (F.seen files.new).told)
+        (λ names. IsPrefix names (names_of (job_of (map string_bytes words.now)))) }
+
+    // Where it is done: each assignment of the input bytes meets the condition of exactly one leaf that was written,
+    ensures exact_cover { result ≡ 0 → OnWritten (F.seen files.old).told (F.seen files.new).told (job_of (map string_bytes words.now))
+        (λ words entries. IsExactCover regions (leaves_of entries)) }
+    // and its run has the path, the end, the output and the steps of that leaf,
+    ensures faithful { result ≡ 0 → OnWritten (F.seen files.old).told (F.seen files.new).told (job_of (map string_bytes words.now))
+        (λ words entries. AreFaithful (image_of words) regions entries) }
+    // each test is a run of its leaf,
+    ensures tests_are_runs { result ≡ 0 → OnWritten (F.seen files.old).told (F.seen files.new).told (job_of (map string_bytes words.now))
+        (λ words entries. AreRuns (image_of words) regions entries) }
+    // the leaves stand in the order of their choices,
+    ensures by_rank { result ≡ 0 → OnWritten (F.seen files.old).told (F.seen files.new).told (job_of (map string_bytes words.now))
+        (λ words entries. AreRanked (leaves_of entries)) }
+    // and all of this holds of one report, whose files are those that were put, and whose summary is the line that was said.
+    ensures files_and_summary { result ≡ 0 → OnWritten (F.seen files.old).told (F.seen files.new).told (job_of (map string_bytes words.now))
+        IsReport }
+
+    // A program that is taken is explored to the end, unless memory is refused.
+    ensures complete { HoldsProgram (F.seen files.old).told (job_of (map string_bytes words.now))
+        → ¬ Rose (F.seen files.old).reads (F.seen files.new).reads
+        → ¬ Rose (F.seen files.old).writes (F.seen files.new).writes
+        → (result ≡ 0) ⊎ (result ≡ 8) }
+{
+    run_words(alloc, words, files).status()
+}

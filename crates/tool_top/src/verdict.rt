@@ -1,0 +1,42 @@
+//! How a run of the tool ends.
+
+ghost use Rattle.std.specs.Prelude.{◌≡◌};
+
+/// What a run is to answer, where nothing stops it.
+#[derive(Clone, Copy, Debug, PartialEq, Eq)]
+pub enum Verdict {
+    Done,
+    /// The words ask for nothing that the tool does.
+    NoJob,
+    /// The program is none that is taken.
+    Refused,
+    /// A name could not be read.
+    ReadFault,
+}
+
+/// How a run ended.
+#[derive(Clone, Copy, Debug, PartialEq, Eq)]
+pub enum Ending {
+    Planned(Verdict),
+    /// A file could not be put, or the line of a run that is done not said.
+    WriteFault,
+    NoMemory,
+}
+
+impl Ending {
+    ghost use Rattle.tool_top.specs.Answer.{status_of};
+
+    /// The exit status.
+    pub fn status(self) -> u8
+        ensures { result ≡ status_of self }
+    {
+        match self {
+            Ending::Planned(Verdict::Done) => 0,
+            Ending::Planned(Verdict::NoJob) => 2,
+            Ending::Planned(Verdict::Refused) => 3,
+            Ending::Planned(Verdict::ReadFault) => 5,
+            Ending::WriteFault => 6,
+            Ending::NoMemory => 8,
+        }
+    }
+}
