@@ -5,6 +5,8 @@ mod ends;
 mod fork;
 mod instr;
 mod leaf;
+mod names;
+mod node_text;
 mod part;
 mod program;
 mod region;
