@@ -5,6 +5,7 @@ mod ends;
 mod fork;
 mod instr;
 mod leaf;
+mod leaf_text;
 mod names;
 mod node_text;
 mod part;
