@@ -155,7 +155,10 @@ fn write_counts(
 ) -> Result<(), NoMemory>
     ensures { OnOk result (string_bytes text.new ≡ string_bytes text.old ++ counts_lines inputs nodes outputs) }
 {
-    write!(text, "; inputs {inputs}\n; nodes {nodes}\n; outputs {outputs}\n")
+    write!(
+        text,
+        "; inputs {inputs}\n; nodes {nodes}\n; outputs {outputs}\n"
+    )
 }
 
 /// Appends what the leaf is: its kind, choices, path, steps and end, and how much follows.

@@ -18,6 +18,7 @@ pub use ends::{Choice, End, PathStep, Trap};
 pub use fork::explore;
 pub use instr::{Instr, Register};
 pub use leaf::{Leaf, LeafEnd};
+pub use leaf_text::print_leaf;
 pub use part::LeafPart;
 pub use program::{Program, read_program};
 pub use region::Region;

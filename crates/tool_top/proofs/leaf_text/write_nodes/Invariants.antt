@@ -8,4 +8,4 @@ abbrev pub invariant-loop-id : goal.invariant-loop-id
 invariant-loop-id l =
     string_bytes l.text
     ≡ string_bytes l.initial.text
-        ++ flat_map (λ (id, node). node_line id (width_of l.dag id) node) (enumerate_from 0 (take l.id l.dag.nodes))
+    ++ flat_map (λ (id, node). node_line id (width_of l.dag id) node) (enumerate_from 0 (take l.id l.dag.nodes))
