@@ -1,2 +1,3 @@
 pub mod TextLines
 pub mod LeafInParts
+pub mod RegionTexts

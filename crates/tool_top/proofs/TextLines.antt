@@ -60,3 +60,7 @@ numbered_step f xs i d start before after h e more =
 -- one text behind another, and one more
 pub joined : (old a b new newer : List ℕ) → new ≡ old ++ a → newer ≡ new ++ b → newer ≡ old ++ (a ++ b)
 joined old a b new newer e more = more ∙ ap (λ text. text ++ b) e ∙ append_assoc old a b
+
+-- the same where three texts come at once
+pub joined_three : (old a b c d new newer : List ℕ) → new ≡ old ++ a → newer ≡ new ++ (b ++ c ++ d) → newer ≡ old ++ (a ++ b ++ c ++ d)
+joined_three old a b c d new newer e more = more ∙ ap (λ text. text ++ (b ++ c ++ d)) e ∙ simp append_assoc

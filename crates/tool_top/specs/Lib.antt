@@ -4,5 +4,6 @@ pub mod Leaves
 pub mod LeafText
 pub mod LeafParts
 pub mod Tests
+pub mod TestParts
 pub mod Programs
 pub mod Reports

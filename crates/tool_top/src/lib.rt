@@ -23,4 +23,4 @@ pub use part::LeafPart;
 pub use program::{Program, read_program};
 pub use region::Region;
 pub use report::{Report, make_report};
-pub use test_text::Test;
+pub use test_text::{Test, write_test};
