@@ -1,3 +1,4 @@
 pub mod TextLines
 pub mod LeafInParts
 pub mod RegionTexts
+pub mod SampleWords

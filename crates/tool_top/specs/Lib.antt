@@ -7,3 +7,4 @@ pub mod Tests
 pub mod TestParts
 pub mod Programs
 pub mod Reports
+pub mod Samples

@@ -12,6 +12,7 @@ mod part;
 mod program;
 mod region;
 mod report;
+mod sample_test;
 mod test_text;
 
 pub use ends::{Choice, End, PathStep, Trap};
