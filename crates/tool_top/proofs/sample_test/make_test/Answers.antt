@@ -13,7 +13,7 @@ end_among-requires c =
     let sample : c.as_slice-sample.result.now ≡ part.sample = c.as_slice-sample.ensures ∙ ap (λ (p : Part). p.sample) c.part.view_is in
     let dag : c.dag.result.now ≡ graph = c.dag.ensures ∙ ap (λ (l : Leaf). l.condition.graph) c.leaf.view_is ∙ ap (λ (p : Part). p.leaf.condition.graph) c.part.view_is in
     let words : c.in_ok-words.words.items ≡ values part.sample graph.nodes =
-        c.in_ok-words.ensures ∙ ap (λ s. values s c.dag.result.now.nodes) sample ∙ ap (λ (g : Graph). values part.sample g.nodes) dag in
+    c.in_ok-words.ensures ∙ ap (λ s. values s c.dag.result.now.nodes) sample ∙ ap (λ (g : Graph). values part.sample g.nodes) dag in
     let end : c.leaf.inside.end ≡ part.leaf.end = ap (λ (l : Leaf). l.end) c.leaf.view_is ∙ ap (λ (p : Part). p.leaf.end) c.part.view_is in
     byte_end graph part.sample part.leaf.end _ _ (c.deref-2.ensures.value ∙ words) end c.requires.byte_end
 
@@ -24,6 +24,6 @@ bytes_at-requires c =
     let sample : c.as_slice-sample.result.now ≡ part.sample = c.as_slice-sample.ensures ∙ ap (λ (p : Part). p.sample) c.part.view_is in
     let dag : c.dag.result.now ≡ graph = c.dag.ensures ∙ ap (λ (l : Leaf). l.condition.graph) c.leaf.view_is ∙ ap (λ (p : Part). p.leaf.condition.graph) c.part.view_is in
     let words : c.in_ok-words.words.items ≡ values part.sample graph.nodes =
-        c.in_ok-words.ensures ∙ ap (λ s. values s c.dag.result.now.nodes) sample ∙ ap (λ (g : Graph). values part.sample g.nodes) dag in
+    c.in_ok-words.ensures ∙ ap (λ s. values s c.dag.result.now.nodes) sample ∙ ap (λ (g : Graph). values part.sample g.nodes) dag in
     let outputs : c.deref-4.result.now ≡ part.leaf.outputs = c.deref-4.ensures.value ∙ ap (λ (l : Leaf). l.outputs) c.leaf.view_is ∙ ap (λ (p : Part). p.leaf.outputs) c.part.view_is in
     byte_words graph part.sample part.leaf.outputs _ _ (c.deref-3.ensures.value ∙ words) outputs c.requires.byte_outputs
