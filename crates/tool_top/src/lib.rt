@@ -25,3 +25,6 @@ pub use program::{Program, read_program};
 pub use region::Region;
 pub use report::{Report, make_report};
 pub use test_text::{Test, write_test};
+
+#[cfg(test)]
+mod tests;
