@@ -1,7 +1,5 @@
-use Rattle.std.proofs.Common.{◌≡◌, ◌∙◌, ℕ, ◌<◌, ◌⊎◌, inl, inr, List, get_or, length, map, ap, refl, sym, subst, arith}
+use Rattle.std.proofs.Common.{◌≡◌, ◌∙◌, ℕ, List, get_or, ap, sym, subst}
 use Rattle.std.specs.List.{All}
-use Rattle.std.proofs.lemmas.Bool.{cases_lt}
-use Rattle.std.proofs.lemmas.List.{get_or_past}
 use Rattle.bv_dag.specs.BitVectors.{BitVector}
 use Rattle.bv_dag.specs.Graphs.{Graph, width_of}
 use Rattle.bv_dag.specs.Nodes.{values, word_at}
@@ -10,14 +8,6 @@ use Rattle.tool_top.specs.Reports.{EndsByByte}
 use Rattle.tool_top.specs.Samples.{IsByteEnd}
 use Rattle.tool_top.specs.declared.leaf.LeafEnd.{LeafEnd}
 use Rattle.tool_top.specs.declared.leaf.LeafEnd.TheVariants.{Exits, Traps}
-
--- a word that has bits is there
-pub word_there : (words : List BitVector) (id : ℕ) → (word_at words id).width ≡ 8 → id < length words
-word_there words id h =
-    elim (cases_lt id (length words)) [
-      | inl l ↦ l
-      | inr l ↦ absurd (omega (arith, h, ap (λ (s : BitVector). s.width) (get_or_past words id (record { width = 0; number = 0 }) l)))
-    ]
 
 -- a word is as wide as its term
 pub width_of_word : (graph : Graph) (input : List ℕ) (id : ℕ) → (word_at (values input graph.nodes) id).width ≡ width_of graph id

@@ -1,5 +1,5 @@
 -- How a run ends whose terms are worth given words.
-use Rattle.std.specs.Prelude.{◌≡◌, ℕ, List}
+use Rattle.std.specs.Prelude.{◌≡◌, List}
 use Rattle.bv_dag.specs.BitVectors.{BitVector}
 use Rattle.bv_dag.specs.Nodes.{word_at}
 use Rattle.tool_top.specs.declared.ends.End.{End}

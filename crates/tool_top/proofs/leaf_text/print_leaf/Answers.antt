@@ -1,7 +1,7 @@
 use Rattle.std.proofs.Common.{◌≡◌, ◌∙◌, ◌++◌, ℕ, ap, Vec, Global, codes, string_bytes}
 use Rattle.std.specs.List.{flat_map}
 use Rattle.tool_top.specs.Leaves.{Leaf}
-use Rattle.tool_top.specs.LeafText.{leaf_text, assert_line}
+use Rattle.tool_top.specs.LeafText.{assert_line}
 use Rattle.tool_top.specs.LeafParts.{comments, definitions}
 use Rattle.tool_top.proofs.TextLines.{joined}
 use Rattle.tool_top.proofs.LeafInParts.{leaf_in_parts}

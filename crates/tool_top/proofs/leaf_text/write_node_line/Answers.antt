@@ -1,4 +1,4 @@
-use Rattle.std.proofs.Common.{◌≡◌, ◌∙◌, ◌++◌, ap, append_assoc, codes}
+use Rattle.std.proofs.Common.{◌∙◌, ◌++◌, ap, append_assoc, codes}
 use Rattle.tool_top.specs.LeafText.{node_text}
 use Rattle.tool_top.proofs.leaf_text.write_node_line.Goals as goal
 

@@ -1,8 +1,7 @@
-use Rattle.std.proofs.Common.{◌≡◌, ◌∙◌, ◌++◌, ℕ, length, codes, decimal, ap, sym, Vec, Global, append_assoc, string_bytes}
-use Rattle.std.specs.Prelude.{sum_by}
+use Rattle.std.proofs.Common.{◌≡◌, ◌∙◌, ◌++◌, ℕ, length, codes, decimal, ap, Vec, Global, string_bytes}
 use Rattle.tool_top.specs.Programs.{regions}
-use Rattle.tool_top.specs.Reports.{Part, Entry, entries_of}
-use Rattle.tool_top.proofs.Entries.{length-entries_of, sum_by-entries_of, summary_text}
+use Rattle.tool_top.specs.Reports.{entries_of}
+use Rattle.tool_top.proofs.Entries.{summary_text}
 use Rattle.tool_top.proofs.report.make_summary.Goals as goal
 
 pub returns : goal.returns

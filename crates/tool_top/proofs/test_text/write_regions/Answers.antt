@@ -1,5 +1,4 @@
 use Rattle.std.proofs.Common.{◌∙◌, ◌++◌, ap, string_bytes}
-use Rattle.tool_top.specs.Tests.{quoted, region_text}
 use Rattle.tool_top.proofs.TextLines.{joined}
 use Rattle.tool_top.proofs.RegionTexts.{regions_by_first}
 use Rattle.tool_top.proofs.test_text.write_regions.Goals as goal
