@@ -1,6 +1,6 @@
 //! The files of a report, and its summary.
 
-ghost use Rattle.std.specs.Prelude.{◌≡◌, All, IfOk, OnOk, OnErr, [], ◌∷◌, ◌++◌, codes, string_bytes, sum_by};
+ghost use Rattle.std.specs.Prelude.{◌≡◌, All, IfOk, OnOk, [], ◌∷◌, ◌++◌, codes, string_bytes, sum_by};
 ghost use Rattle.tool_top.specs.Programs.{regions};
 ghost use Rattle.tool_top.specs.Reports.{Part, IsTestable, entries_of, files_of, leaf_put, six_digits, summary_of, test_of, test_put};
 

@@ -1,7 +1,7 @@
 //! The test that the sample of a leaf makes.
 
-ghost use Rattle.std.specs.Prelude.{◌≡◌, All, IfOk, map};
-ghost use Rattle.bv_dag.specs.Nodes.{word_at};
+ghost use Rattle.std.specs.Prelude.{◌≡◌, All, IfOk, length, map};
+ghost use Rattle.bv_dag.specs.Nodes.{values, word_at};
 ghost use Rattle.tool_top.specs.Samples.{IsByteEnd, end_in};
 ghost use Rattle.tool_top.specs.Programs.{regions};
 ghost use Rattle.tool_top.specs.Reports.{IsTestable, test_of};
@@ -52,18 +52,26 @@ fn bytes_at(alloc: Global, words: &[Word], ids: &[usize]) -> Result<Vec<u8>, NoM
     Ok(bytes)
 }
 
+/// What the terms of the leaf are worth on the sample.
+fn words_on_sample(alloc: Global, part: &LeafPart) -> Result<Vec<Word>, NoMemory>
+    requires { length part.now.sample ≡ part.now.leaf.condition.graph.inputs }
+    ensures { IfOk result (λ words. words.items ≡ values part.now.sample part.now.leaf.condition.graph.nodes) }
+{
+    let dag = part.leaf.condition.dag();
+    dag.words(alloc, part.sample.as_slice())
+}
+
 /// The test of this rank that the sample of the part makes.
 pub fn make_test(alloc: Global, rank: usize, part: &LeafPart) -> Result<Test, NoMemory>
     requires { IsTestable part.now }
     ensures { IfOk result (λ test. test ≡ test_of regions rank part.now) }
 {
     let leaf = &part.leaf;
-    let sample = part.sample.as_slice();
-    let words = leaf.condition.dag().words(alloc, sample)?;
+    let words = words_on_sample(alloc, part)?;
     Ok(Test {
         leaf: rank,
         regions: Vec::from_slice(alloc, &[INPUT])?,
-        input: Bytes::from_vec(Vec::from_slice(alloc, sample)?),
+        input: Bytes::from_vec(Vec::from_slice(alloc, part.sample.as_slice())?),
         steps: leaf.steps,
         path: Vec::from_slice(alloc, &leaf.path)?,
         end: end_among(&words, leaf.end),

@@ -1,6 +1,4 @@
 use Rattle.std.proofs.Common.{◌≡◌, ◌∙◌, ap}
-use Rattle.bv_dag.specs.Graphs.{Graph}
-use Rattle.bv_dag.specs.Nodes.{values}
 use Rattle.tool_top.specs.Leaves.{Leaf}
 use Rattle.tool_top.specs.Reports.{Part}
 use Rattle.tool_top.proofs.SampleWords.{byte_end, byte_words}
@@ -9,21 +7,11 @@ use Rattle.tool_top.proofs.sample_test.make_test.Goals as goal
 pub end_among-requires : goal.end_among-requires
 end_among-requires c =
     let part = c.args.part.now in
-    let graph = part.leaf.condition.graph in
-    let sample : c.as_slice-sample.result.now ≡ part.sample = c.as_slice-sample.ensures ∙ ap (λ (p : Part). p.sample) c.part.view_is in
-    let dag : c.dag.result.now ≡ graph = c.dag.ensures ∙ ap (λ (l : Leaf). l.condition.graph) c.leaf.view_is ∙ ap (λ (p : Part). p.leaf.condition.graph) c.part.view_is in
-    let words : c.in_ok-words.words.items ≡ values part.sample graph.nodes =
-    c.in_ok-words.ensures ∙ ap (λ s. values s c.dag.result.now.nodes) sample ∙ ap (λ (g : Graph). values part.sample g.nodes) dag in
     let end : c.leaf.inside.end ≡ part.leaf.end = ap (λ (l : Leaf). l.end) c.leaf.view_is ∙ ap (λ (p : Part). p.leaf.end) c.part.view_is in
-    byte_end graph part.sample part.leaf.end _ _ (c.deref-2.ensures.value ∙ words) end c.requires.byte_end
+    byte_end part.leaf.condition.graph part.sample part.leaf.end _ _ (c.deref-2.ensures.value ∙ c.in_ok-words.ensures) end c.requires.byte_end
 
 pub bytes_at-requires : goal.bytes_at-requires
 bytes_at-requires c =
     let part = c.args.part.now in
-    let graph = part.leaf.condition.graph in
-    let sample : c.as_slice-sample.result.now ≡ part.sample = c.as_slice-sample.ensures ∙ ap (λ (p : Part). p.sample) c.part.view_is in
-    let dag : c.dag.result.now ≡ graph = c.dag.ensures ∙ ap (λ (l : Leaf). l.condition.graph) c.leaf.view_is ∙ ap (λ (p : Part). p.leaf.condition.graph) c.part.view_is in
-    let words : c.in_ok-words.words.items ≡ values part.sample graph.nodes =
-    c.in_ok-words.ensures ∙ ap (λ s. values s c.dag.result.now.nodes) sample ∙ ap (λ (g : Graph). values part.sample g.nodes) dag in
     let outputs : c.deref-4.result.now ≡ part.leaf.outputs = c.deref-4.ensures.value ∙ ap (λ (l : Leaf). l.outputs) c.leaf.view_is ∙ ap (λ (p : Part). p.leaf.outputs) c.part.view_is in
-    byte_words graph part.sample part.leaf.outputs _ _ (c.deref-3.ensures.value ∙ words) outputs c.requires.byte_outputs
+    byte_words part.leaf.condition.graph part.sample part.leaf.outputs _ _ (c.deref-3.ensures.value ∙ c.in_ok-words.ensures) outputs c.requires.byte_outputs
