@@ -14,3 +14,9 @@ pub mod Splitting
 pub mod Endings
 pub mod Plans
 pub mod Explored
+pub mod TextLines
+pub mod LeafInParts
+pub mod RegionTexts
+pub mod SampleWords
+pub mod SixDigits
+pub mod Entries

@@ -2,7 +2,9 @@ pub mod Instructions
 pub mod Machine
 pub mod Leaves
 pub mod LeafText
+pub mod LeafParts
 pub mod Tests
+pub mod TestParts
 pub mod Programs
 pub mod Reports
 pub mod Symbolic
@@ -13,3 +15,4 @@ pub mod Job
 pub mod Plan
 pub mod Answer
 pub mod Words
+pub mod Samples

@@ -5,7 +5,7 @@ ghost use Rattle.tool_top.specs.Job.{Explore, job_of};
 ghost use Rattle.tool_top.specs.Plan.{IsPlanned, OnlyReads, Treats};
 ghost use Rattle.tool_top.specs.Reports.{IsReportOf};
 
-use crate::fork::explore;
+use crate::walk::explore;
 use crate::program::{Program, read_program};
 use crate::report::make_report;
 use crate::verdict::Verdict;
