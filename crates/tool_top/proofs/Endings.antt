@@ -1,5 +1,5 @@
 -- A plan that was made, and then carried out.
-use Rattle.std.proofs.Common.{◌≡◌, ◌≢◌, ◌⊎◌, ℕ, List, [], ◌∷◌, inl, inr, refl, sym, ◌∙◌, ap, subst, take, arith}
+use Rattle.std.proofs.Common.{◌≡◌, ◌≢◌, ◌⊎◌, ℕ, List, [], inl, inr, refl, sym, ◌∙◌, ap, subst, take, arith}
 use Rattle.std.specs.Prelude.{Option, None, Some, IfSome, option_and_then}
 use Rattle.std.specs.Option.{option_map}
 use Rattle.tool_io.specs.Told.{Told, Seen, Put, Deeds, Gives, after, says, puts_all, IsPrefix, names_since}

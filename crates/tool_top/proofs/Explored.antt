@@ -1,13 +1,13 @@
 -- The report of the leaves that were found.
 use Rattle.std.proofs.Common.{◌≡◌, ℕ, zero, suc, ◌+◌, List, [], ◌∷◌, map, refl, sym, ◌∙◌, ap, subst, arith}
-use Rattle.std.specs.Prelude.{All, Option, None, Some, IsTrue, slice_get, get_or}
+use Rattle.std.specs.Prelude.{All, Some, IsTrue, slice_get}
 use Rattle.std.proofs.lemmas.List.Elements.{All-map}
 use Rattle.std.proofs.lemmas.Option.{slice_get_within, get_or_from_slice_get}
 use Rattle.tool_top.specs.Machine.{Image, IsAssignment}
 use Rattle.tool_top.specs.Leaves.{Leaf, covers, IsFaithful, IsExactCover, AreRanked}
 use Rattle.tool_top.specs.Programs.{image_of, regions}
 use Rattle.tool_top.specs.Reports.{Entry, Part, IsReport, IsExplored, entries_of, leaves_of, test_of}
-use Rattle.tool_top.specs.Tests.{Test, IsRun}
+use Rattle.tool_top.specs.Tests.{IsRun}
 use Rattle.tool_top.specs.declared.region.Region.{Region}
 
 -- the entry of a part that has this rank

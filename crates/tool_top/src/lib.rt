@@ -26,3 +26,6 @@ pub use region::Region;
 pub use report::{Report, make_report};
 pub use run::run_tool;
 pub use test_text::Test;
+
+#[cfg(test)]
+mod tests;

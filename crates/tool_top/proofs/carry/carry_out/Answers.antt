@@ -1,4 +1,4 @@
-use Rattle.std.proofs.Common.{[], Err, inl, inr, refl, ap}
+use Rattle.std.proofs.Common.{Err, inl, inr, refl, ap}
 use Rattle.tool_io.proofs.Counts.{rose_earlier}
 use Rattle.tool_io.proofs.Deeds.{then_says, IsPrefix-whole}
 use Rattle.tool_top.proofs.carry.carry_out.Goals as goal

@@ -1,4 +1,3 @@
-use Rattle.std.proofs.Common.{refl}
 use Rattle.tool_top.proofs.Explored.{explored_report}
 use Rattle.tool_top.proofs.plan.plan_report.Goals as goal
 
