@@ -2,6 +2,7 @@
 
 use crate::*;
 use std::alloc::Global;
+use std::fs;
 use std::sync::Wait;
 use std::test::Fail;
 use std::thread::Threads;
@@ -180,5 +181,14 @@ fn real_files_are_read_and_put(rt: HostRuntime) -> Result<(), Fail> {
         files.read("./test-000001.json", 1000)?.as_slice(),
         TEST_1.as_bytes()
     );
+    for name in [
+        "p.elf",
+        "leaf-000000.smt2",
+        "test-000000.json",
+        "leaf-000001.smt2",
+        "test-000001.json",
+    ] {
+        fs::remove_file(&rt, name)?;
+    }
     Ok(())
 }
