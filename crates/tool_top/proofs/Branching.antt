@@ -25,10 +25,6 @@ pub record IsForward (pc offset : ℕ) : Type 0 where
 pub forward_target : (pc offset : ℕ) → pc < data_start → pc % 4 ≡ 0 → 0 < offset → offset < 2 ^ 31 → offset % 4 ≡ 0 → IsForward pc offset
 forward_target pc offset below aligned some small aligned' = record { forward = omega arith; target_aligned = omega arith }
 
-later : (taken : Bool) (pc target : ℕ) → pc < data_start → pc + 4 ≤ target → pc < (if taken then target else sum32 pc 4)
-later true pc target below forward = omega arith
-later false pc target below forward = omega arith
-
 later_side : (s : Symbolic) (taken : Bool) (target : ℕ) → s.pc < data_start → s.pc + 4 ≤ target → s.pc < (branched s taken target).pc
 later_side s true target below forward = omega arith
 later_side s false target below forward = omega arith
@@ -40,7 +36,7 @@ pub stepped_side : (image : Image) (s : Symbolic) (taken : Bool) (target : ℕ) 
 stepped_side image s taken target was in_code forward aligned does =
     (open_branched image s taken target was in_code forward aligned does,
       record { same_choices = refl; same_cover = λ _ _. refl },
-      later_side s taken target in_code forward)
+      record { in_code = in_code; later = later_side s taken target in_code forward })
 
 -- Two numbers are compared.
 pub stepped_known : (image : Image) (s : Symbolic) (rs1 rs2 offset m n : ℕ) → IsOpen image s → value_at s.registers rs1 ≡ Number m → value_at s.registers rs2 ≡ Number n → s.pc < data_start → 0 < offset → offset < 2 ^ 31 → offset % 4 ≡ 0

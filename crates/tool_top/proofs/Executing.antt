@@ -36,7 +36,7 @@ pub stepped_onward : (image : Image) (s : Symbolic) (g : Graph) (rd : ℕ) (v : 
     → ((input : List ℕ) → IsAssignment regions input → meets s input ≡ true → next (concrete image s input) ≡ Running (onward (concrete image s input) (written (map (worth_of s.terms input) s.registers) rd (worth_of g input v))))
     → Stepped image s (onward_to s g rd v) stepped.Running
 stepped_onward image s g rd v was grows wide below known exits in_code does =
-    (open_onward image s g rd v was grows wide below known exits in_code does, same_onward image s g rd v was grows, omega (arith, in_code))
+    (open_onward image s g rd v was grows wide below known exits in_code does, same_onward image s g rd v was grows, record { in_code = in_code; later = omega (arith, in_code) })
 
 -- It is written with a number.
 pub stepped_number : (image : Image) (s : Symbolic) (rd n : ℕ) → IsOpen image s → n < 2 ^ 32 → rd < 32 → (rd ≡ 17 → n ≡ 93) → s.pc < data_start

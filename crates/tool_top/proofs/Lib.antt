@@ -20,3 +20,4 @@ pub mod RegionTexts
 pub mod SampleWords
 pub mod SixDigits
 pub mod Entries
+pub mod Finishing

@@ -137,6 +137,11 @@ pub record IsSame (old new : Symbolic) : Type 0 where
   pub same_choices : new.choices ≡ old.choices
   pub same_cover : (input : List ℕ) → IsAssignment regions input → meets new input ≡ meets old input
 
+-- an instruction of the code was carried out
+pub record IsFurther (old new : Symbolic) : Type 0 where
+  pub in_code : old.pc < data_start
+  pub later : old.pc < new.pc
+
 -- its next instruction is a conditional branch forward to this target, which is taken where this term is 1
 pub record IsBranch (image : Image) (s : Symbolic) (term target : ℕ) : Type 0 where
   pub bit : width_of s.terms term ≡ 1
@@ -213,7 +218,7 @@ pub record AreUnder (image : Image) (s : Symbolic) (parts : List Part) : Type 0 
 
 -- what one instruction leads to: it has gone on, it is at a branch that was not yet carried out, or all its runs have ended
 abbrev pub Stepped : Image → Symbolic → Symbolic → Step → Type 0
-Stepped image old new Running = IsOpen image new × IsSame old new × (old.pc < new.pc)
+Stepped image old new Running = IsOpen image new × IsSame old new × IsFurther old new
 Stepped image old new (Branch term target) = IsOpen image new × IsSame old new × (new.pc ≡ old.pc) × IsBranch image new term target
 Stepped image old new (Ended end) = IsEnding image new end × IsSame old new
 

@@ -1,5 +1,5 @@
-use Rattle.std.proofs.Common.{◌-◌, ◌^◌, ◌≤◌}
-use Rattle.tool_top.specs.Programs.{image_of}
+use Rattle.std.proofs.Common.{◌-◌, ◌≤◌}
+use Rattle.tool_top.specs.Programs.{image_of, data_start}
 use Rattle.tool_top.specs.Symbolic.{IsOpen, IsSame}
 use Rattle.tool_top.proofs.work.work.Given as goal
 
@@ -12,4 +12,4 @@ invariant-loop-state l = record {
 }
 
 abbrev pub decreases-loop-state : goal.decreases-loop-state
-decreases-loop-state l = 2 ^ 32 - l.state.pc
+decreases-loop-state l = data_start - l.state.pc
