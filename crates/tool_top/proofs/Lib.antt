@@ -21,3 +21,4 @@ pub mod SampleWords
 pub mod SixDigits
 pub mod Entries
 pub mod Finishing
+pub mod Walking

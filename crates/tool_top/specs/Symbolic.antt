@@ -1,5 +1,5 @@
 -- What a symbolic run stands for. Only private functions speak of this: no promise of the tool does.
-use Rattle.std.specs.Prelude.{◌≡◌, ◌≢◌, ℕ, ◌+◌, ◌-◌, ◌*◌, ◌/◌, ◌%◌, ◌^◌, ◌==◌, ◌<◌, ◌≤◌, ◌⊎◌, ◌&&◌, not, Bool, true, false, if◌then◌else◌, List, [], ◌∷◌, ◌++◌, All, length, map, slice_index_or, slice_set, Some, None, IsTrue, count_by}
+use Rattle.std.specs.Prelude.{◌≡◌, ◌≢◌, ℕ, ◌+◌, ◌-◌, ◌*◌, ◌/◌, ◌%◌, ◌^◌, ◌==◌, ◌<◌, ◌≤◌, ◌⊎◌, ◌&&◌, not, Bool, true, false, if◌then◌else◌, List, [], ◌∷◌, ◌++◌, All, length, map, replicate, slice_index_or, slice_set, Some, None, IsTrue, count_by}
 use Rattle.bv_dag.specs.Graphs.{Graph, IsDag, number_of, width_of}
 use Rattle.bv_dag.specs.Queries.{Condition, AreBits, holds}
 use Rattle.tool_io.specs.Told.{IsPrefix}
@@ -215,6 +215,25 @@ pub record AreUnder (image : Image) (s : Symbolic) (parts : List Part) : Type 0 
   pub testable : All IsTestable parts
   pub below : All (λ (p : Part). IsPrefix s.choices p.leaf.choices) parts
   pub ranked : AreRanked (map (λ (p : Part). p.leaf) parts)
+
+-- the leaves under a run stand behind those that there were
+pub record AddsLeaves (image : Image) (s : Symbolic) (old new : List Part) : Type 0 where
+  pub found : List Part
+  pub added : new ≡ old ++ found
+  pub under : AreUnder image s found
+
+-- the run of all assignments, before its first step
+abbrev pub first_run : Symbolic
+first_run = record {
+  pc = code_start;
+  registers = slice_set (replicate 32 (Number 0)) 2 (Number 0x7FFFFFF0);
+  terms = record { inputs = 1; nodes = [] };
+  condition = [];
+  path = [];
+  choices = [];
+  steps = 0;
+  sample = 0;
+}
 
 -- what one instruction leads to: it has gone on, it is at a branch that was not yet carried out, or all its runs have ended
 abbrev pub Stepped : Image → Symbolic → Symbolic → Step → Type 0
