@@ -22,3 +22,4 @@ pub mod SixDigits
 pub mod Entries
 pub mod Finishing
 pub mod Walking
+pub mod FirstRun
