@@ -1,19 +1,16 @@
 -- A conditional branch of a symbolic run, and a load.
-use Rattle.std.proofs.Common.{◌≡◌, ◌≢◌, ℕ, ◌+◌, ◌-◌, ◌*◌, ◌/◌, ◌%◌, ◌^◌, ◌<◌, ◌≤◌, Bool, true, false, ◌&&◌, List, [], ◌∷◌, ◌++◌, get_or, length, map, refl, sym, ap, subst, ◌∙◌, arith, rules}
-use Rattle.std.specs.Prelude.{Option, None, Some, All, if◌then◌else◌, ◌==◌, nat_le, nat_lt, is_some, slice_index}
+use Rattle.std.proofs.Common.{◌≡◌, ◌≢◌, ℕ, ◌+◌, ◌-◌, ◌/◌, ◌%◌, ◌^◌, ◌<◌, ◌≤◌, Bool, true, false, ◌&&◌, List, map, refl, sym, ap, ◌∙◌, arith}
+use Rattle.std.specs.Prelude.{Option, None, Some, if◌then◌else◌, ◌==◌, nat_le, nat_lt, is_some, slice_index}
 use Rattle.std.proofs.lemmas.Bool.Decides.{nat_tests}
 use Rattle.bv_dag.specs.Graphs.{Graph, number_of, width_of}
-use Rattle.tool_top.specs.Machine.{Image, State, Outcome, Running, Ended, IsAssignment, placed, next, branch, load_byte, onward, written, trapped, x, sum32, is_mapped}
-use Rattle.tool_top.specs.Programs.{regions, data_start, code_start}
-use Rattle.tool_top.specs.Symbolic.{Symbolic, Grows, IsWide, worth_of, value_at, concrete, meets, with_terms, onward_to, branched, IsOpen, IsSame, IsBranch, Stepped}
+use Rattle.tool_top.specs.Machine.{Image, State, Running, IsAssignment, placed, next, branch, load_byte, onward, written, trapped, x, sum32}
+use Rattle.tool_top.specs.Programs.{regions, data_start}
+use Rattle.tool_top.specs.Symbolic.{Symbolic, Grows, IsWide, worth_of, value_at, concrete, meets, with_terms, onward_to, branched, IsOpen, Stepped}
 use Rattle.tool_top.specs.declared.symbolic.Step.TheVariants as stepped
 use Rattle.tool_top.specs.declared.symbolic.Value.{Value}
-use Rattle.tool_top.specs.declared.symbolic.Value.TheVariants.{Number, Term}
+use Rattle.tool_top.specs.declared.symbolic.Value.TheVariants.{Number}
 use Rattle.tool_top.specs.declared.leaf.LeafEnd.TheVariants.{Traps}
-use Rattle.tool_top.specs.declared.ends.End.TheVariants.{Trapped}
 use Rattle.tool_top.specs.declared.ends.Trap.TheVariants.{LoadAccess}
-use Rattle.tool_top.proofs.Growing.{Grows-none}
-use Rattle.tool_top.proofs.Grown.{holds-grown, map-grown}
 use Rattle.tool_top.proofs.Forking.{open_grown, same_grown, open_branched, concrete-grown}
 use Rattle.tool_top.proofs.Executing.{x-concrete, x-number, stepped_onward, stepped_number, stepped_trap}
 
@@ -33,10 +30,11 @@ later_side s false target below forward = omega arith
 pub stepped_side : (image : Image) (s : Symbolic) (taken : Bool) (target : ℕ) → IsOpen image s → s.pc < data_start → s.pc + 4 ≤ target → target % 4 ≡ 0
     → ((input : List ℕ) → IsAssignment regions input → meets s input ≡ true → next (concrete image s input) ≡ branch (concrete image s input) taken target)
     → Stepped image s (branched s taken target) stepped.Running
-stepped_side image s taken target was in_code forward aligned does =
-    (open_branched image s taken target was in_code forward aligned does,
-      record { same_choices = refl; same_cover = λ _ _. refl },
-      record { in_code = in_code; later = later_side s taken target in_code forward })
+stepped_side image s taken target was in_code forward aligned does = (
+  open_branched image s taken target was in_code forward aligned does,
+  record { same_choices = refl; same_cover = λ _ _. refl },
+  record { in_code = in_code; later = later_side s taken target in_code forward },
+)
 
 -- Two numbers are compared.
 pub stepped_known : (image : Image) (s : Symbolic) (rs1 rs2 offset m n : ℕ) → IsOpen image s → value_at s.registers rs1 ≡ Number m → value_at s.registers rs2 ≡ Number n → s.pc < data_start → 0 < offset → offset < 2 ^ 31 → offset % 4 ≡ 0
@@ -63,22 +61,26 @@ pub stepped_branch : (image : Image) (s : Symbolic) (g : Graph) (rs1 rs2 offset 
     → ((input : List ℕ) → IsAssignment regions input → next (concrete image s input) ≡ branch (concrete image s input) (x (concrete image s input) rs1 == x (concrete image s input) rs2) (sum32 s.pc offset))
     → Stepped image s (with_terms s g) (stepped.Branch term (sum32 s.pc offset))
 stepped_branch image s g rs1 rs2 offset term was grows bit in_code some small aligned tells does =
-    let goes : IsForward s.pc offset = forward_target s.pc offset in_code was.aligned some small aligned in
-    (open_grown image s g was grows, same_grown image s g was grows, refl, record {
-      bit = bit;
-      small = λ input. rw (tells input) (bit_small _);
-      in_code = in_code;
-      forward = goes.forward;
-      target_aligned = goes.target_aligned;
-      branches = λ input assigned meeting.
-          ap next (concrete-grown image s g input was grows)
-          ∙ does input assigned
-          ∙ ap (λ k. branch (concrete image s input) (k == x (concrete image s input) rs2) (sum32 s.pc offset)) (x-concrete image s input rs1)
-          ∙ ap (λ k. branch (concrete image s input) (worth_of s.terms input (value_at s.registers rs1) == k) (sum32 s.pc offset)) (x-concrete image s input rs2)
-          ∙ ap (λ t. branch (concrete image s input) t (sum32 s.pc offset)) (sym (bit_test (worth_of s.terms input (value_at s.registers rs1) == worth_of s.terms input (value_at s.registers rs2))))
-          ∙ ap (λ n. branch (concrete image s input) (n == 1) (sum32 s.pc offset)) (sym (tells input))
-          ∙ ap (λ t. branch t (number_of g term input == 1) (sum32 s.pc offset)) (sym (concrete-grown image s g input was grows));
-    })
+    let goes : IsForward s.pc offset = forward_target s.pc offset in_code was.aligned some small aligned in (
+      open_grown image s g was grows,
+      same_grown image s g was grows,
+      refl,
+      record {
+        bit = bit;
+        small = λ input. rw (tells input) (bit_small _);
+        in_code = in_code;
+        forward = goes.forward;
+        target_aligned = goes.target_aligned;
+        branches = λ input assigned meeting.
+            ap next (concrete-grown image s g input was grows)
+            ∙ does input assigned
+            ∙ ap (λ k. branch (concrete image s input) (k == x (concrete image s input) rs2) (sum32 s.pc offset)) (x-concrete image s input rs1)
+            ∙ ap (λ k. branch (concrete image s input) (worth_of s.terms input (value_at s.registers rs1) == k) (sum32 s.pc offset)) (x-concrete image s input rs2)
+            ∙ ap (λ t. branch (concrete image s input) t (sum32 s.pc offset)) (sym (bit_test (worth_of s.terms input (value_at s.registers rs1) == worth_of s.terms input (value_at s.registers rs2))))
+            ∙ ap (λ n. branch (concrete image s input) (n == 1) (sum32 s.pc offset)) (sym (tells input))
+            ∙ ap (λ t. branch t (number_of g term input == 1) (sum32 s.pc offset)) (sym (concrete-grown image s g input was grows));
+      },
+    )
 
 -- A load: from no mapped page, of the input byte, and of another byte.
 mapped : (o : Option ℕ) (s : State) (rd address : ℕ) → s.flags (address / 256) ≡ o → load_byte s rd address ≡ (if is_some o then Running (onward s (written s.registers rd (s.byte address))) else trapped LoadAccess s)

@@ -1,28 +1,22 @@
 -- What each instruction leads a symbolic run to, as the machine has it.
-use Rattle.std.proofs.Common.{◌≡◌, ◌≢◌, ℕ, ◌+◌, ◌-◌, ◌*◌, ◌/◌, ◌%◌, ◌^◌, ◌<◌, ◌≤◌, ◌⊎◌, inl, inr, Bool, true, false, ◌&&◌, List, [], ◌∷◌, ◌++◌, get_or, length, map, refl, sym, ap, subst, ◌∙◌, arith, rules}
-use Rattle.std.specs.Prelude.{Option, None, Some, All, if◌then◌else◌, ◌==◌, nat_le, nat_lt, is_some, slice_index}
+use Rattle.std.proofs.Common.{◌≡◌, ◌≢◌, ℕ, ◌+◌, ◌%◌, ◌^◌, ◌<◌, ◌⊎◌, inl, inr, true, List, [], ◌∷◌, map, refl, sym, ap, ◌∙◌, arith}
 use Rattle.std.proofs.Math.ListN as lists
-use Rattle.std.proofs.lemmas.Bool.Decides.{nat_tests}
-use Rattle.bv_dag.specs.Graphs.{Graph, number_of, width_of}
-use Rattle.tool_top.specs.Machine.{Image, State, Outcome, Running, Ended, IsAssignment, run, placed, next, execute, fetch, branch, call, load_byte, onward, written, trapped, x, sum32, is_mapped}
-use Rattle.tool_top.specs.Leaves.{EndsAs}
-use Rattle.tool_top.specs.Programs.{regions, data_start, code_start}
+use Rattle.bv_dag.specs.Graphs.{Graph}
+use Rattle.tool_top.specs.Machine.{Image, Running, Ended, IsAssignment, next, call, onward, written, x, sum32}
+use Rattle.tool_top.specs.Programs.{regions, data_start}
 use Rattle.tool_top.specs.Reports.{EndsByByte}
-use Rattle.tool_top.specs.Symbolic.{Symbolic, Grows, IsWide, IsNumber, worth_of, value_at, concrete, meets, with_terms, onward_to, branched, end_of, IsOpen, IsSame, IsBranch, IsEnding, Stepped, EndsCall}
+use Rattle.tool_top.specs.Symbolic.{Symbolic, Grows, IsWide, IsNumber, worth_of, value_at, concrete, meets, with_terms, onward_to, end_of, IsOpen, Stepped, EndsCall}
 use Rattle.tool_top.specs.declared.symbolic.Step.TheVariants as stepped
 use Rattle.tool_top.specs.declared.symbolic.Value.{Value}
-use Rattle.tool_top.specs.declared.symbolic.Value.TheVariants.{Number, Term}
+use Rattle.tool_top.specs.declared.symbolic.Value.TheVariants.{Number}
 use Rattle.tool_top.specs.declared.leaf.LeafEnd.{LeafEnd}
 use Rattle.tool_top.specs.declared.leaf.LeafEnd.TheVariants.{Exits, Traps}
-use Rattle.tool_top.specs.declared.ends.End.{End}
 use Rattle.tool_top.specs.declared.ends.End.TheVariants.{Exit, Trapped}
 use Rattle.tool_top.specs.declared.ends.Trap.{Trap}
-use Rattle.tool_top.specs.declared.ends.Trap.TheVariants.{Call, LoadAccess}
 use Rattle.tool_top.proofs.Growing.{Grows-none}
-use Rattle.tool_top.proofs.Grown.{AreBits-grown, holds-grown, map-grown}
+use Rattle.tool_top.proofs.Grown.{AreBits-grown, holds-grown}
 use Rattle.tool_top.proofs.Stepping.{run_ends}
 use Rattle.tool_top.proofs.Opening.{open_onward, same_onward}
-use Rattle.tool_top.proofs.Forking.{open_grown, same_grown, open_branched, concrete-grown}
 
 -- What a register of the machine has is what its value is worth.
 pub x-concrete : (image : Image) (s : Symbolic) (input : List ℕ) (r : ℕ) → x (concrete image s input) r ≡ worth_of s.terms input (value_at s.registers r)
@@ -49,17 +43,20 @@ stepped_number image s rd n was small below exits in_code does =
 pub stepped_end : (image : Image) (s : Symbolic) (g : Graph) (end : LeafEnd) → IsOpen image s → Grows s.terms g → EndsByByte g end
     → ((input : List ℕ) → IsAssignment regions input → next (concrete image s input) ≡ Ended (end_of g input end) (concrete image s input))
     → Stepped image s (record (with_terms s g) { steps = s.steps + 1 }) (stepped.Ended end)
-stepped_end image s g end was grows byte does = (record {
-  dag = grows.dag;
-  one_input = grows.same_inputs ∙ was.one_input;
-  bits = AreBits-grown s.terms g s.condition grows was.bits;
-  sampled = (was.sampled.0, holds-grown s.terms g s.condition (s.sample ∷ []) grows was.bits ∙ was.sampled.1);
-  within = omega (arith, was.few);
-  byte_end = byte;
-  ends = λ input assigned meeting.
-      run_ends image regions input s.steps (concrete image s input) (concrete image s input) (end_of g input end)
-      (was.sound input assigned (sym (holds-grown s.terms g s.condition input grows was.bits) ∙ meeting)) (does input assigned);
-}, record { same_choices = refl; same_cover = λ input assigned. holds-grown s.terms g s.condition input grows was.bits })
+stepped_end image s g end was grows byte does = (
+  record {
+    dag = grows.dag;
+    one_input = grows.same_inputs ∙ was.one_input;
+    bits = AreBits-grown s.terms g s.condition grows was.bits;
+    sampled = (was.sampled.0, holds-grown s.terms g s.condition (s.sample ∷ []) grows was.bits ∙ was.sampled.1);
+    within = omega (arith, was.few);
+    byte_end = byte;
+    ends = λ input assigned meeting.
+        run_ends image regions input s.steps (concrete image s input) (concrete image s input) (end_of g input end)
+        (was.sound input assigned (sym (holds-grown s.terms g s.condition input grows was.bits) ∙ meeting)) (does input assigned);
+  },
+  record { same_choices = refl; same_cover = λ input assigned. holds-grown s.terms g s.condition input grows was.bits },
+)
 
 pub stepped_trap : (image : Image) (s : Symbolic) (trap : Trap) → IsOpen image s
     → ((input : List ℕ) → IsAssignment regions input → next (concrete image s input) ≡ Ended (Trapped trap) (concrete image s input))

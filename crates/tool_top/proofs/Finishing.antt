@@ -1,13 +1,11 @@
 -- What becomes of a symbolic run, from what its steps do.
-use Rattle.std.proofs.Common.{◌≡◌, ℕ, ◌+◌, ◌<◌, ◌≤◌, Bool, true, false, List, [], ◌∷◌, ◌++◌, length, refl, sym, ap, subst, ◌∙◌, arith}
-use Rattle.std.specs.Prelude.{All, IsTrue}
+use Rattle.std.proofs.Common.{◌≡◌, ℕ, ◌<◌, ◌≤◌, List, [], ◌∷◌, ◌++◌, refl, sym, ap, subst, ◌∙◌, arith}
 use Rattle.std.proofs.lemmas.List.Elements.{All-nil, All-cons}
-use Rattle.bv_dag.specs.Graphs.{Graph, width_of}
-use Rattle.tool_top.specs.Machine.{Image, IsAssignment, run}
-use Rattle.tool_top.specs.Leaves.{Leaf, covers, worth, end_on, EndsAs, IsFaithful}
-use Rattle.tool_top.specs.Programs.{regions, data_start}
-use Rattle.tool_top.specs.Reports.{Part, IsTestable}
-use Rattle.tool_top.specs.Symbolic.{Symbolic, condition_of, meets, end_of, leaf_of, IsSame, IsSplit, IsEnding, IsFinished, one_if}
+use Rattle.bv_dag.specs.Graphs.{width_of}
+use Rattle.tool_top.specs.Machine.{Image, run}
+use Rattle.tool_top.specs.Leaves.{Leaf, end_on, EndsAs, IsFaithful}
+use Rattle.tool_top.specs.Programs.{regions}
+use Rattle.tool_top.specs.Symbolic.{Symbolic, end_of, leaf_of, IsSame, IsSplit, IsEnding, IsFinished, one_if}
 use Rattle.tool_top.specs.declared.ends.Choice.TheVariants.{No, Yes}
 use Rattle.tool_top.specs.declared.leaf.LeafEnd.{LeafEnd}
 use Rattle.tool_top.specs.declared.leaf.LeafEnd.TheVariants.{Exits, Traps}

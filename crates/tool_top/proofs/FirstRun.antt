@@ -1,18 +1,17 @@
 -- The run of all assignments, before its first step.
-use Rattle.std.proofs.Common.{◌≡◌, ◌≢◌, ℕ, ◌+◌, ◌*◌, ◌%◌, ◌^◌, ◌<◌, ◌≤◌, Bool, true, false, cond, ◌&&◌, List, [], ◌∷◌, ◌++◌, get_or, set, length, map, refl, sym, ap, subst, ◌∙◌, arith, inl, inr}
-use Rattle.std.specs.Prelude.{All, replicate, None, count_by, sum_by, IsTrue, ◌==◌}
+use Rattle.std.proofs.Common.{◌≡◌, ℕ, ◌+◌, true, cond, ◌&&◌, List, [], ◌∷◌, length, map, refl, sym, ap, subst, ◌∙◌, arith, inl, inr}
+use Rattle.std.specs.Prelude.{All, replicate, count_by, ◌==◌}
 use Rattle.std.proofs.lemmas.Bool.{cases_lt}
-use Rattle.std.proofs.lemmas.Bool.Decides.{nat_tests}
 use Rattle.std.proofs.lemmas.List.{get_or_past}
 use Rattle.std.proofs.lemmas.List.Sums.{sum_by-cons}
 use Rattle.std.proofs.lemmas.List.Elements.{All-nil, All-set, All-replicate}
-use Rattle.bv_dag.specs.Graphs.{Graph, width_of}
+use Rattle.bv_dag.specs.Graphs.{width_of}
 use Rattle.bv_dag.proofs.Fitting.{IsDag-none}
-use Rattle.tool_top.specs.Machine.{Image, IsAssignment, run_from, first_state}
-use Rattle.tool_top.specs.Leaves.{Leaf, covers, IsExactCover}
-use Rattle.tool_top.specs.Programs.{image_of, regions, code_start}
+use Rattle.tool_top.specs.Machine.{IsAssignment, run_from}
+use Rattle.tool_top.specs.Leaves.{Leaf, covers}
+use Rattle.tool_top.specs.Programs.{image_of, regions}
 use Rattle.tool_top.specs.Reports.{Part, IsExplored}
-use Rattle.tool_top.specs.Symbolic.{Symbolic, IsWide, IsNumber, value_at, concrete, meets, first_run, one_if, IsOpen, AreUnder, AddsLeaves}
+use Rattle.tool_top.specs.Symbolic.{IsWide, IsNumber, value_at, meets, first_run, one_if, IsOpen, AreUnder, AddsLeaves}
 use Rattle.tool_top.specs.declared.symbolic.Value.{Value}
 use Rattle.tool_top.specs.declared.symbolic.Value.TheVariants.{Number}
 

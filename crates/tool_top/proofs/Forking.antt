@@ -1,18 +1,18 @@
 -- A symbolic run at a branch: its terms grow, it is narrowed to one side, and it goes on along that side.
-use Rattle.std.proofs.Common.{◌≡◌, ℕ, ◌+◌, ◌-◌, ◌*◌, ◌%◌, ◌^◌, ◌<◌, ◌≤◌, Bool, true, false, ◌&&◌, List, [], ◌∷◌, ◌++◌, get_or, length, map, refl, sym, ap, subst, ◌∙◌, arith}
-use Rattle.std.specs.Prelude.{None, All, if◌then◌else◌, ◌==◌}
+use Rattle.std.proofs.Common.{◌≡◌, ℕ, ◌+◌, ◌*◌, ◌%◌, ◌<◌, ◌≤◌, Bool, true, false, ◌&&◌, List, [], ◌∷◌, get_or, length, refl, sym, ap, ◌∙◌, arith}
+use Rattle.std.specs.Prelude.{None, if◌then◌else◌, ◌==◌}
 use Rattle.std.specs.List.{list_all}
 use Rattle.std.proofs.lemmas.Bool.Decides.{nat_tests}
 use Rattle.std.proofs.lemmas.List.Elements.{All-push}
 use Rattle.std.proofs.lemmas.List.Folds.{list_all-append}
 use Rattle.bv_dag.specs.Graphs.{Graph, number_of, width_of}
-use Rattle.tool_top.specs.Machine.{Image, State, Running, IsAssignment, run, placed, next, branch, jump, noted, trapped, sum32}
+use Rattle.tool_top.specs.Machine.{Image, State, Running, IsAssignment, next, branch, jump, noted, trapped}
 use Rattle.tool_top.specs.Programs.{regions, data_start, code_start}
-use Rattle.tool_top.specs.Symbolic.{Symbolic, Grows, IsWide, worth_of, concrete, meets, with_terms, branched, narrowed, step_of, target_of, IsOpen, IsSame, IsBranch}
+use Rattle.tool_top.specs.Symbolic.{Symbolic, Grows, concrete, meets, with_terms, branched, narrowed, target_of, IsOpen, IsSame, IsBranch}
 use Rattle.tool_top.specs.declared.ends.Choice.{Choice}
 use Rattle.tool_top.specs.declared.ends.Trap.TheVariants.{FetchMisaligned}
-use Rattle.tool_top.specs.declared.ends.PathStep.TheVariants.{Taken, NotTaken}
-use Rattle.tool_top.proofs.Grown.{map-grown, IsWide-grown, AreBits-grown, bit_width-grown, number_of-grown, there, holds-grown}
+use Rattle.tool_top.specs.declared.ends.PathStep.TheVariants.{Taken}
+use Rattle.tool_top.proofs.Grown.{map-grown, IsWide-grown, AreBits-grown, bit_width-grown, number_of-grown, holds-grown}
 use Rattle.tool_top.proofs.Stepping.{run_on}
 
 -- More terms.

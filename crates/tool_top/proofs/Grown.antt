@@ -1,10 +1,10 @@
 -- What stays where the terms of a symbolic run grow.
-use Rattle.std.proofs.Common.{◌≡◌, ℕ, ◌+◌, ◌<◌, ◌≤◌, Bool, true, false, ◌&&◌, List, [], ◌∷◌, ◌++◌, get_or, length, map, refl, sym, ap, ◌∙◌, arith}
+use Rattle.std.proofs.Common.{◌≡◌, ℕ, ◌<◌, ◌&&◌, List, [], ◌∷◌, get_or, length, map, refl, ap, ◌∙◌, arith}
 use Rattle.std.specs.Prelude.{◌==◌, All, Result, Ok, Err, IfOk, if◌then◌else◌}
 use Rattle.std.specs.List.{list_all}
 use Rattle.std.proofs.lemmas.List.Elements.{All-head, All-tail}
 use Rattle.bv_dag.specs.Graphs.{Graph, number_of, width_of}
-use Rattle.bv_dag.specs.Queries.{AreBits, Condition, holds}
+use Rattle.bv_dag.specs.Queries.{AreBits, holds}
 use Rattle.bv_dag.proofs.Fitting.{has_place}
 use Rattle.tool_top.specs.Symbolic.{Grows, IsWide, worth_of}
 use Rattle.tool_top.specs.declared.symbolic.Value.{Value}

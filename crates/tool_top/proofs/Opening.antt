@@ -1,16 +1,15 @@
 -- A symbolic run goes on: it stays one, and stands for the runs of the machine one step on.
-use Rattle.std.proofs.Common.{◌≡◌, ◌≢◌, ℕ, ◌+◌, ◌-◌, ◌*◌, ◌%◌, ◌^◌, ◌<◌, ◌≤◌, ◌⊎◌, inl, inr, Bool, true, false, ◌&&◌, List, [], ◌∷◌, ◌++◌, get_or, set, length, map, refl, sym, ap, subst, ◌∙◌, arith, length-append, rules}
-use Rattle.std.specs.Prelude.{None, All, if◌then◌else◌, ◌==◌}
-use Rattle.std.specs.List.{list_all}
+use Rattle.std.proofs.Common.{◌≡◌, ◌≢◌, ℕ, ◌<◌, ◌⊎◌, inl, inr, Bool, true, false, List, [], ◌∷◌, get_or, set, length, map, refl, sym, ap, ◌∙◌, arith, rules}
+use Rattle.std.specs.Prelude.{All, if◌then◌else◌, ◌==◌}
 use Rattle.std.proofs.lemmas.Bool.{cases_eq}
 use Rattle.std.proofs.lemmas.List.{map-set, length-set, get_or-set_same, get_or-set_other}
 use Rattle.std.proofs.lemmas.List.Elements.{All-set}
-use Rattle.bv_dag.specs.Graphs.{Graph, number_of, width_of}
-use Rattle.tool_top.specs.Machine.{Image, State, Running, IsAssignment, run, placed, next, branch, jump, noted, onward, written, sum32}
-use Rattle.tool_top.specs.Programs.{regions, data_start, code_start}
-use Rattle.tool_top.specs.Symbolic.{Symbolic, Grows, IsWide, IsNumber, worth_of, value_at, set_value, concrete, meets, condition_of, onward_to, branched, narrowed, step_of, target_of, IsOpen, IsSame, IsBranch}
+use Rattle.bv_dag.specs.Graphs.{Graph}
+use Rattle.tool_top.specs.Machine.{Image, Running, IsAssignment, next, onward, written}
+use Rattle.tool_top.specs.Programs.{regions, data_start}
+use Rattle.tool_top.specs.Symbolic.{Symbolic, Grows, IsWide, IsNumber, worth_of, value_at, set_value, concrete, meets, onward_to, IsOpen, IsSame}
 use Rattle.tool_top.specs.declared.symbolic.Value.{Value}
-use Rattle.tool_top.specs.declared.symbolic.Value.TheVariants.{Number, Term}
+use Rattle.tool_top.specs.declared.symbolic.Value.TheVariants.{Number}
 use Rattle.tool_top.proofs.Grown.{map-grown, IsWide-grown, AreBits-grown, holds-grown}
 use Rattle.tool_top.proofs.Stepping.{run_on}
 

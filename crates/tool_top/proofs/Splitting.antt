@@ -1,11 +1,11 @@
 -- A symbolic run goes on along one side of a branch, or along both.
-use Rattle.std.proofs.Common.{◌≡◌, ℕ, zero, suc, ◌+◌, ◌-◌, ◌*◌, ◌%◌, ◌^◌, ◌<◌, ◌≤◌, Bool, true, false, ◌&&◌, List, [], ◌∷◌, ◌++◌, get_or, length, refl, sym, ap, subst, ◌∙◌, arith}
-use Rattle.std.specs.Prelude.{All, if◌then◌else◌, ◌==◌, not}
+use Rattle.std.proofs.Common.{◌≡◌, ℕ, zero, suc, ◌+◌, ◌-◌, ◌<◌, ◌≤◌, Bool, true, false, ◌&&◌, List, [], ◌∷◌, refl, sym, ap, ◌∙◌, arith}
+use Rattle.std.specs.Prelude.{◌==◌, not}
 use Rattle.std.proofs.lemmas.Bool.Decides.{nat_tests}
 use Rattle.bv_dag.specs.Graphs.{Graph, number_of, width_of}
-use Rattle.tool_top.specs.Machine.{Image, IsAssignment, next, branch}
+use Rattle.tool_top.specs.Machine.{Image, IsAssignment, branch}
 use Rattle.tool_top.specs.Programs.{regions, data_start}
-use Rattle.tool_top.specs.Symbolic.{Symbolic, Grows, concrete, meets, with_terms, branched, narrowed, is_side, answers, one_if, IsOpen, IsSame, IsBranch, IsSplit}
+use Rattle.tool_top.specs.Symbolic.{Symbolic, Grows, concrete, meets, with_terms, branched, narrowed, is_side, answers, one_if, IsOpen, IsBranch, IsSplit}
 use Rattle.tool_top.specs.declared.ends.Choice.TheVariants.{No, Yes}
 use Rattle.tool_top.proofs.Grown.{holds-grown, number_of-grown}
 use Rattle.tool_top.proofs.Forking.{open_grown, branch_grown, open_narrowed, open_branched, meets-narrowed}
@@ -114,8 +114,8 @@ split image s g term negated target no_sample yes_sample was at grows bit tells 
   parted = λ input assigned.
       let no_met : meets (narrowed (with_terms s g) No negated no_sample) input ≡ (meets s input && (1 - number_of s.terms term input == 1))
       = meets-narrowed (with_terms s g) No negated no_sample input
-          ∙ ap (λ b. b && (number_of g negated input == 1)) (holds-grown s.terms g s.condition input grows was.bits)
-          ∙ ap (λ n. meets s input && (n == 1)) (tells input) in
+      ∙ ap (λ b. b && (number_of g negated input == 1)) (holds-grown s.terms g s.condition input grows was.bits)
+      ∙ ap (λ n. meets s input && (n == 1)) (tells input) in
       ap (λ b. one_if b + one_if (meets (narrowed s Yes term yes_sample) input)) no_met
       ∙ ap (λ b. one_if (meets s input && (1 - number_of s.terms term input == 1)) + one_if b) (meets-narrowed s Yes term yes_sample input)
       ∙ one_of_two (meets s input) (number_of s.terms term input) (at.small input);

@@ -1,10 +1,10 @@
 -- One step more of a run, and what stands for it.
-use Rattle.std.proofs.Common.{◌≡◌, ◌≢◌, ℕ, ◌+◌, ◌-◌, ◌*◌, ◌/◌, ◌%◌, ◌^◌, ◌<◌, ◌≤◌, suc, Bool, true, false, ◌&&◌, List, [], ◌∷◌, ◌++◌, get_or, set, length, map, refl, sym, ap, subst, ◌∙◌, arith, add-one, rules}
-use Rattle.std.specs.Prelude.{Option, None, Some, Result, Ok, Err, ◌==◌, All, if◌then◌else◌, nat_lt, nat_le, slice_index}
+use Rattle.std.proofs.Common.{◌≡◌, ℕ, ◌+◌, ◌-◌, ◌/◌, ◌%◌, ◌<◌, ◌≤◌, Bool, true, false, ◌&&◌, List, length, refl, sym, ap, subst, ◌∙◌, arith, add-one}
+use Rattle.std.specs.Prelude.{None, Some, Ok, Err, ◌==◌, if◌then◌else◌, nat_lt, nat_le, slice_index}
 use Rattle.std.proofs.lemmas.Bool.Decides.{nat_tests}
-use Rattle.tool_top.specs.Machine.{Image, State, Run, Outcome, Running, Ended, IsAssignment, run, run_from, first_state, continued, after_outcome, next, execute, execute_fetched, fetch, placed, word_at, can_execute}
+use Rattle.tool_top.specs.Machine.{Image, State, Run, Running, Ended, run, run_from, first_state, continued, after_outcome, next, execute, execute_fetched, fetch, placed, word_at, can_execute}
 use Rattle.tool_top.specs.Leaves.{EndsAs}
-use Rattle.tool_top.specs.Programs.{regions, data_start, code_start, flags_of, image_of}
+use Rattle.tool_top.specs.Programs.{regions, data_start, flags_of, image_of}
 use Rattle.tool_top.specs.Symbolic.{Symbolic, concrete}
 use Rattle.tool_top.specs.Instructions.{instr}
 use Rattle.std.specs.Option.{ok_or}

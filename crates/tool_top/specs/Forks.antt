@@ -8,4 +8,3 @@ use Rattle.tool_top.specs.declared.fork.Forked.TheVariants.{One, Both}
 abbrev pub IsForked : Image → Symbolic → Forked → Type 0
 IsForked image s (One onward) = IsOpen image onward × IsSame s onward × IsFurther s onward
 IsForked image s (Both no_side yes_side) = IsSplit image s no_side yes_side
-

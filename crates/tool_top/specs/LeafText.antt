@@ -1,5 +1,5 @@
 -- The text of a leaf, line by line, in SMT-LIB's logic QF_ABV (theories FixedSizeBitVectors and ArraysEx).
-use Rattle.std.specs.Prelude.{ℕ, suc, zero, ◌+◌, Bool, true, false, List, [], ◌∷◌, ◌++◌, length, codes, decimal}
+use Rattle.std.specs.Prelude.{ℕ, suc, zero, ◌+◌, Bool, true, false, List, [], ◌++◌, length, codes, decimal}
 use Rattle.std.specs.List.{flat_map, enumerate_from}
 use Rattle.bv_dag.specs.Graphs.{Graph, width_of}
 use Rattle.bv_dag.specs.declared.nodes.BinaryOp.{BinaryOp}

@@ -1,6 +1,6 @@
 -- The leaves of the fork tree: which assignments one covers, and what it says of their runs.
-use Rattle.std.specs.Prelude.{◌≡◌, ℕ, ◌≤◌, Bool, true, false, List, [], ◌∷◌, length, map, All, IsTrue, Option, Some, None, count_by}
-use Rattle.bv_dag.specs.Graphs.{Graph, number_of}
+use Rattle.std.specs.Prelude.{◌≡◌, ℕ, ◌≤◌, Bool, true, false, List, [], ◌∷◌, map, All, IsTrue, Some, count_by}
+use Rattle.bv_dag.specs.Graphs.{number_of}
 use Rattle.bv_dag.specs.Queries.{Condition, holds}
 use Rattle.tool_top.specs.Machine.{Image, Run, IsAssignment, run}
 use Rattle.tool_top.specs.declared.region.Region.{Region}

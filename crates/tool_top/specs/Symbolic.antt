@@ -1,10 +1,10 @@
 -- What a symbolic run stands for. Only private functions speak of this: no promise of the tool does.
-use Rattle.std.specs.Prelude.{◌≡◌, ◌≢◌, ℕ, ◌+◌, ◌-◌, ◌*◌, ◌/◌, ◌%◌, ◌^◌, ◌==◌, ◌<◌, ◌≤◌, ◌⊎◌, ◌&&◌, not, Bool, true, false, if◌then◌else◌, List, [], ◌∷◌, ◌++◌, All, length, map, replicate, slice_index_or, slice_set, Some, None, IsTrue, count_by}
+use Rattle.std.specs.Prelude.{◌≡◌, ◌≢◌, ℕ, ◌+◌, ◌*◌, ◌%◌, ◌^◌, ◌==◌, ◌<◌, ◌≤◌, ◌⊎◌, ◌&&◌, not, Bool, true, false, if◌then◌else◌, List, [], ◌∷◌, ◌++◌, All, length, map, replicate, slice_index_or, slice_set, None, IsTrue, count_by}
 use Rattle.bv_dag.specs.Graphs.{Graph, IsDag, number_of, width_of}
 use Rattle.bv_dag.specs.Queries.{Condition, AreBits, holds}
 use Rattle.tool_io.specs.Told.{IsPrefix}
-use Rattle.tool_top.specs.Machine.{Image, State, Run, IsAssignment, run, placed, next, branch, is_mapped, sum32}
-use Rattle.tool_top.specs.Leaves.{Leaf, covers, EndsAs, IsFaithful, AreRanked, most_steps}
+use Rattle.tool_top.specs.Machine.{Image, State, IsAssignment, run, placed, next, branch, sum32}
+use Rattle.tool_top.specs.Leaves.{covers, EndsAs, IsFaithful, AreRanked, most_steps}
 use Rattle.tool_top.specs.Programs.{code_start, data_start, regions}
 use Rattle.tool_top.specs.Reports.{Part, IsTestable, EndsByByte}
 use Rattle.tool_top.specs.declared.ends.End.{End}

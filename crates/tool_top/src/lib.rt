@@ -16,20 +16,19 @@ mod program;
 mod question;
 mod region;
 mod report;
-mod step;
-mod symbolic;
-mod walk;
-mod work;
 mod row_file;
-mod shape;
 mod run;
 mod sample_test;
+mod shape;
+mod step;
+mod symbolic;
 mod test_text;
 mod verdict;
+mod walk;
 mod words;
+mod work;
 
 pub use ends::{Choice, End, PathStep, Trap};
-pub use walk::explore;
 pub use instr::{Instr, Register, decode};
 pub use leaf::{Leaf, LeafEnd};
 pub use leaf_text::print_leaf;
@@ -39,6 +38,7 @@ pub use region::Region;
 pub use report::{Report, make_report};
 pub use run::run_tool;
 pub use test_text::{Test, write_test};
+pub use walk::explore;
 
 #[cfg(test)]
 mod tests;

@@ -5,10 +5,10 @@ ghost use Rattle.tool_top.specs.Job.{Explore, job_of};
 ghost use Rattle.tool_top.specs.Plan.{IsPlanned, OnlyReads, Treats};
 ghost use Rattle.tool_top.specs.Reports.{IsReportOf};
 
-use crate::walk::explore;
 use crate::program::{Program, read_program};
 use crate::report::make_report;
 use crate::verdict::Verdict;
+use crate::walk::explore;
 use crate::words::{Job, read_words};
 use std::alloc::{AllocError as NoMemory, Global};
 use tool_io::{Fault, Files, NamedFile};

@@ -30,10 +30,7 @@ pub enum Value {
 pub enum Step {
     Running,
     /// A conditional branch to `target`, which is taken where the term `condition` is 1. It is not yet carried out.
-    Branch {
-        condition: usize,
-        target: u32,
-    },
+    Branch { condition: usize, target: u32 },
     Ended(LeafEnd),
 }
 
@@ -136,8 +133,16 @@ impl State {
         requires { self.old.steps < 2 ^ 31 }
         ensures { OnOk result (self.new ≡ branched self.old taken target) }
     {
-        self.path.push(if taken { PathStep::Taken } else { PathStep::NotTaken })?;
-        self.pc = if taken { target } else { self.pc.wrapping_add(4) };
+        self.path.push(if taken {
+            PathStep::Taken
+        } else {
+            PathStep::NotTaken
+        })?;
+        self.pc = if taken {
+            target
+        } else {
+            self.pc.wrapping_add(4)
+        };
         self.steps += 1;
         Ok(())
     }
@@ -202,7 +207,12 @@ impl State {
     }
 
     /// A byte that meets the condition and is on this side of the term, if there is one.
-    pub fn byte_on_side(&self, alloc: Global, term: usize, side: bool) -> Result<Option<u8>, NoMemory>
+    pub fn byte_on_side(
+        &self,
+        alloc: Global,
+        term: usize,
+        side: bool,
+    ) -> Result<Option<u8>, NoMemory>
         requires one_input { self.now.terms.inputs ≡ 1 }
         requires bits { AreBits self.now.terms self.now.condition }
         requires bit { width_of self.now.terms term ≡ 1 }

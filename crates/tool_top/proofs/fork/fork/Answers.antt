@@ -1,5 +1,4 @@
 use Rattle.std.proofs.Common.{arith}
-use Rattle.tool_top.specs.Symbolic.{with_terms, branched, narrowed, IsSplit}
 use Rattle.tool_top.proofs.Splitting.{split}
 use Rattle.tool_top.proofs.fork.fork.Goals as goal
 

@@ -1,4 +1,4 @@
-use Rattle.std.proofs.Common.{◌≡◌, ◌∙◌, ap, arith}
+use Rattle.std.proofs.Common.{◌∙◌, ap, arith}
 use Rattle.tool_top.specs.Machine.{execute, onward, written, sum32, Running}
 use Rattle.tool_top.specs.Programs.{image_of}
 use Rattle.tool_top.specs.Symbolic.{concrete}

@@ -1,4 +1,4 @@
-use Rattle.std.proofs.Common.{◌≡◌, ◌∙◌, ap, sym, arith}
+use Rattle.std.proofs.Common.{◌∙◌, sym, arith}
 use Rattle.tool_top.proofs.Branching.{stepped_unmapped, stepped_input, stepped_load}
 use Rattle.tool_top.proofs.step.load.Goals as goal
 

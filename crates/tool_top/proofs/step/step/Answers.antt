@@ -1,4 +1,4 @@
-use Rattle.std.proofs.Common.{◌≡◌, ◌∙◌, ap, sym, Ok, Err}
+use Rattle.std.proofs.Common.{◌∙◌, ap, sym}
 use Rattle.tool_top.specs.Machine.{fetch}
 use Rattle.tool_top.specs.Programs.{image_of}
 use Rattle.tool_top.specs.Symbolic.{Symbolic}

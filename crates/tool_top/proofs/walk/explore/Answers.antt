@@ -1,6 +1,3 @@
-use Rattle.std.proofs.Common.{[]}
-use Rattle.tool_top.specs.Programs.{image_of}
-use Rattle.tool_top.specs.Symbolic.{first_run, AddsLeaves}
 use Rattle.tool_top.proofs.FirstRun.{open_first, explored_all}
 use Rattle.tool_top.proofs.walk.explore.Goals as goal
 

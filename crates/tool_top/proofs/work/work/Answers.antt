@@ -1,5 +1,5 @@
 use Rattle.std.proofs.Common.{arith}
-use Rattle.tool_top.proofs.Finishing.{IsSame-none, IsSame-trans, split_since, finished}
+use Rattle.tool_top.proofs.Finishing.{IsSame-trans, split_since, finished}
 use Rattle.tool_top.proofs.work.work.Goals as goal
 
 pub loop-state-smaller-in-Running : goal.loop-state-smaller-in-Running
