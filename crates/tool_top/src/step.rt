@@ -32,7 +32,7 @@ fn load(
 {
     let address = state.number(rs1).wrapping_add(offset);
     let Some(_flags) = program.flags(address / PAGE) else {
-        state.count_last();
+        state.count_step();
         return Ok(Step::Ended(LeafEnd::Traps(Trap::LoadAccess)));
     };
     if address == DATA_START {
@@ -98,7 +98,7 @@ fn execute(program: &Program, state: &mut State, instr: Instr) -> Result<Step, N
         Instr::Beq { rs1, rs2, offset } => compare(program, state, rs1, rs2, offset),
         Instr::Ecall => {
             let end = state.call()?;
-            state.count_last();
+            state.count_step();
             Ok(Step::Ended(end))
         }
     }
@@ -113,7 +113,7 @@ pub fn step(program: &Program, state: &mut State) -> Result<Step, NoMemory>
     match program.fetch(state.pc) {
         Ok(instr) => execute(program, state, instr),
         Err(trap) => {
-            state.count_last();
+            state.count_step();
             Ok(Step::Ended(LeafEnd::Traps(trap)))
         }
     }

@@ -125,7 +125,7 @@ impl State {
     {
         self.set(register, value);
         self.pc = self.pc.wrapping_add(4);
-        self.steps += 1;
+        self.count_step();
     }
 
     /// Goes on along one side of a branch.
@@ -143,12 +143,12 @@ impl State {
         } else {
             self.pc.wrapping_add(4)
         };
-        self.steps += 1;
+        self.count_step();
         Ok(())
     }
 
-    /// Counts a step that ends the run.
-    pub fn count_last(&mut self)
+    /// Counts a step.
+    pub fn count_step(&mut self)
         requires { self.old.steps < 2 ^ 31 }
         ensures { self.new ≡ record self.old { steps = self.old.steps + 1 } }
     {

@@ -25,6 +25,6 @@ returns-in-Addi c =
 
 pub returns-in_ok-end-in-Ecall : goal.returns-in_ok-end-in-Ecall
 returns-in_ok-end-in-Ecall c =
-    rw (c.count_last.ensures, c.in_ok-end-in-Ecall.ensures.terms)
+    rw (c.count_step.ensures, c.in_ok-end-in-Ecall.ensures.terms)
     (stepped_call _ c.args.state.now c.call.new.self.terms c.in_ok-end-in-Ecall.end c.requires.open c.in_ok-end-in-Ecall.ensures.grows c.in_ok-end-in-Ecall.ensures.end (λ input assigned.
     c.requires.executes input assigned ∙ ap (execute (concrete (image_of c.args.program.now) c.args.state.now input)) c.in-Ecall.is))

@@ -4,7 +4,7 @@ use Rattle.tool_top.proofs.step.load.Goals as goal
 
 pub returns-in_default : goal.returns-in_default
 returns-in_default c =
-    rw c.count_last.ensures
+    rw c.count_step.ensures
     (stepped_unmapped _ c.args.state.now c.args.rd c.args.rs1 c.args.offset c.number.result c.requires.open c.number.ensures (sym c.flags.ensures ∙ c.in_default.is) c.requires.loads)
 
 pub returns-then-address-eq-DATA_START : goal.returns-then-address-eq-DATA_START

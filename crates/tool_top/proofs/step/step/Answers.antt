@@ -15,7 +15,7 @@ execute-requires-clause-executes c = λ input assigned.
 pub returns-in-Err : goal.returns-in-Err
 returns-in-Err c =
     let pc = ap (λ (s : Symbolic). s.pc) c.state.view_is in
-    rw c.count_last.ensures
+    rw c.count_step.ensures
     (stepped_trap (image_of c.args.program.now) c.args.state.now c.in-Err.trap c.requires.open (λ input assigned.
     next_refused c.args.program.now c.args.state.now input c.in-Err.trap c.requires.few c.requires.open.aligned
     (ap (λ k. fetch (image_of c.args.program.now).flags (image_of c.args.program.now).byte k) (sym pc) ∙ sym c.fetch.ensures.value ∙ c.in-Err.is)))
