@@ -7,6 +7,8 @@ mod fields;
 mod instr;
 mod ops;
 mod register;
+#[cfg(test)]
+mod tests;
 
 pub use decoder::{decode, eight, listed};
 pub use ends::{End, PathStep, Trap};
