@@ -47,5 +47,6 @@ IsOneOfEight Fence = ⊥
 IsOneOfEight Ecall = Unit {0}
 IsOneOfEight Ebreak = ⊥
 
+-- whether an instruction is found, and is one of them
 abbrev pub IsEight : Option Instr → Type 0
-IsEight word = IsSomeAnd word IsOneOfEight
+IsEight found = IsSomeAnd found IsOneOfEight

@@ -1,6 +1,6 @@
 -- The instruction that a word is: RISC-V unprivileged manual, "RV32I Base Integer Instruction Set",
 -- "M Extension for Integer Multiplication and Division" and "RV32/64G Instruction Set Listings".
-use Rattle.std.specs.Prelude.{ℕ, ◌==◌, if◌then◌else◌, Option, Some, None}
+use Rattle.std.specs.Prelude.{ℕ, ◌<◌, ◌==◌, if◌then◌else◌, Option, Some, None}
 use Rattle.std.specs.Option.{option_map}
 use Rattle.rv_decode.specs.declared.instr.Instr.{Instr}
 use Rattle.rv_decode.specs.declared.instr.Instr.TheVariants.{Lui, Auipc, Jal, Jalr, Branch, Load, Store, Immediate, ShiftImmediate, Binary, Fence, Ecall, Ebreak}
@@ -57,3 +57,19 @@ instr word =
     if opcode word == 0b011_0011 then binary word else
     if opcode word == 0b000_1111 then fence word else
     if opcode word == 0b111_0011 then system word else None
+
+-- an instruction that shifts by a fixed amount shifts by less than 32
+abbrev pub ShiftsBelow32 : Instr → Type 0
+ShiftsBelow32 (Lui rd upper) = Unit {0}
+ShiftsBelow32 (Auipc rd upper) = Unit {0}
+ShiftsBelow32 (Jal rd offset) = Unit {0}
+ShiftsBelow32 (Jalr rd rs1 offset) = Unit {0}
+ShiftsBelow32 (Branch test rs1 rs2 offset) = Unit {0}
+ShiftsBelow32 (Load width rd rs1 offset) = Unit {0}
+ShiftsBelow32 (Store width rs1 rs2 offset) = Unit {0}
+ShiftsBelow32 (Immediate op rd rs1 immediate) = Unit {0}
+ShiftsBelow32 (ShiftImmediate op rd rs1 amount) = amount < 32
+ShiftsBelow32 (Binary op rd rs1 rs2) = Unit {0}
+ShiftsBelow32 Fence = Unit {0}
+ShiftsBelow32 Ecall = Unit {0}
+ShiftsBelow32 Ebreak = Unit {0}

@@ -1,7 +1,7 @@
 //! From words to instructions.
 
-ghost use Rattle.std.specs.Prelude.{◌≡◌, ◌↔◌, IsTrue, IsSome};
-ghost use Rattle.rv_decode.specs.Instructions.{instr, jalr, branch, load, store, immediate, shift_immediate, register_immediate, binary, fence, system};
+ghost use Rattle.std.specs.Prelude.{◌≡◌, ◌↔◌, IsTrue, IsSome, IfSome};
+ghost use Rattle.rv_decode.specs.Instructions.{instr, jalr, branch, load, store, immediate, shift_immediate, register_immediate, binary, fence, system, ShiftsBelow32};
 ghost use Rattle.rv_decode.specs.Eight.{IsEight, IsOneOfEight};
 
 use crate::fields;
@@ -69,7 +69,8 @@ fn immediate(word: u32) -> Option<Instr>
 }
 
 fn shift_immediate(word: u32) -> Option<Instr>
-    ensures { result ≡ shift_immediate word }
+    ensures value { result ≡ shift_immediate word }
+    ensures amount { IfSome result ShiftsBelow32 }
 {
     Some(Instr::ShiftImmediate {
         op: ops::shift_op(fields::funct3(word), fields::funct7(word))?,
@@ -81,7 +82,8 @@ fn shift_immediate(word: u32) -> Option<Instr>
 
 /// An operation on a register and an immediate, or a shift by a fixed amount.
 fn register_immediate(word: u32) -> Option<Instr>
-    ensures { result ≡ register_immediate word }
+    ensures value { result ≡ register_immediate word }
+    ensures amount { IfSome result ShiftsBelow32 }
 {
     match fields::funct3(word) {
         0b001 | 0b101 => shift_immediate(word),
@@ -124,7 +126,8 @@ fn system(word: u32) -> Option<Instr>
 
 /// The instruction that a word is, or `None` where it is none.
 pub fn decode(word: u32) -> Option<Instr>
-    ensures { result ≡ instr word }
+    ensures value { result ≡ instr word }
+    ensures amount { IfSome result ShiftsBelow32 }
 {
     match fields::opcode(word) {
         0b011_0111 => Some(Instr::Lui {

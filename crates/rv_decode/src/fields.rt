@@ -80,7 +80,8 @@ pub fn funct7(word: u32) -> u32
 
 /// The amount of a shift by a fixed amount.
 pub fn amount(word: u32) -> u32
-    ensures { result ≡ rs2 word }
+    ensures value { result ≡ rs2 word }
+    ensures below { result < 32 }
 {
     field(word, 20, 5)
 }
