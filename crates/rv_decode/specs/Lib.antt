@@ -1,0 +1,5 @@
+pub mod Fields
+pub mod Ops
+pub mod Instructions
+pub mod Eight
+pub mod Ends

@@ -1,0 +1,185 @@
+//! From words to instructions.
+
+ghost use Rattle.std.specs.Prelude.{◌≡◌, ◌↔◌, IsTrue, IsSome, IfSome};
+ghost use Rattle.rv_decode.specs.Instructions.{instr, jalr, branch, load, store, immediate, shift_immediate, register_immediate, binary, fence, system, ShiftsBelow32};
+ghost use Rattle.rv_decode.specs.Eight.{IsEight, IsOneOfEight};
+
+use crate::fields;
+use crate::instr::Instr;
+use crate::ops::{self, ImmediateOp, LoadWidth, Test};
+
+/// A JALR.
+fn jalr(word: u32) -> Option<Instr>
+    ensures { result ≡ jalr word }
+{
+    if fields::funct3(word) == 0b000 {
+        Some(Instr::Jalr {
+            rd: fields::rd(word),
+            rs1: fields::rs1(word),
+            offset: fields::i_immediate(word),
+        })
+    } else {
+        None
+    }
+}
+
+fn branch(word: u32) -> Option<Instr>
+    ensures { result ≡ branch word }
+{
+    Some(Instr::Branch {
+        test: ops::branch_test(fields::funct3(word))?,
+        rs1: fields::rs1(word),
+        rs2: fields::rs2(word),
+        offset: fields::b_immediate(word),
+    })
+}
+
+fn load(word: u32) -> Option<Instr>
+    ensures { result ≡ load word }
+{
+    Some(Instr::Load {
+        width: ops::load_width(fields::funct3(word))?,
+        rd: fields::rd(word),
+        rs1: fields::rs1(word),
+        offset: fields::i_immediate(word),
+    })
+}
+
+fn store(word: u32) -> Option<Instr>
+    ensures { result ≡ store word }
+{
+    Some(Instr::Store {
+        width: ops::store_width(fields::funct3(word))?,
+        rs1: fields::rs1(word),
+        rs2: fields::rs2(word),
+        offset: fields::s_immediate(word),
+    })
+}
+
+/// An operation on a register and an immediate that is no shift.
+fn immediate(word: u32) -> Option<Instr>
+    ensures { result ≡ immediate word }
+{
+    Some(Instr::Immediate {
+        op: ops::immediate_op(fields::funct3(word))?,
+        rd: fields::rd(word),
+        rs1: fields::rs1(word),
+        immediate: fields::i_immediate(word),
+    })
+}
+
+fn shift_immediate(word: u32) -> Option<Instr>
+    ensures value { result ≡ shift_immediate word }
+    ensures amount { IfSome result ShiftsBelow32 }
+{
+    Some(Instr::ShiftImmediate {
+        op: ops::shift_op(fields::funct3(word), fields::funct7(word))?,
+        rd: fields::rd(word),
+        rs1: fields::rs1(word),
+        amount: fields::amount(word),
+    })
+}
+
+/// An operation on a register and an immediate, or a shift by a fixed amount.
+fn register_immediate(word: u32) -> Option<Instr>
+    ensures value { result ≡ register_immediate word }
+    ensures amount { IfSome result ShiftsBelow32 }
+{
+    match fields::funct3(word) {
+        0b001 | 0b101 => shift_immediate(word),
+        _ => immediate(word),
+    }
+}
+
+/// An operation on two registers.
+fn binary(word: u32) -> Option<Instr>
+    ensures { result ≡ binary word }
+{
+    Some(Instr::Binary {
+        op: ops::register_op(fields::funct3(word), fields::funct7(word))?,
+        rd: fields::rd(word),
+        rs1: fields::rs1(word),
+        rs2: fields::rs2(word),
+    })
+}
+
+fn fence(word: u32) -> Option<Instr>
+    ensures { result ≡ fence word }
+{
+    if fields::funct3(word) == 0b000 {
+        Some(Instr::Fence)
+    } else {
+        None
+    }
+}
+
+/// An ECALL or an EBREAK.
+fn system(word: u32) -> Option<Instr>
+    ensures { result ≡ system word }
+{
+    match word {
+        0x0000_0073 => Some(Instr::Ecall),
+        0x0010_0073 => Some(Instr::Ebreak),
+        _ => None,
+    }
+}
+
+/// The instruction that a word is, or `None` where it is none.
+pub fn decode(word: u32) -> Option<Instr>
+    ensures value { result ≡ instr word }
+    ensures amount { IfSome result ShiftsBelow32 }
+{
+    match fields::opcode(word) {
+        0b011_0111 => Some(Instr::Lui {
+            rd: fields::rd(word),
+            upper: fields::u_immediate(word),
+        }),
+        0b001_0111 => Some(Instr::Auipc {
+            rd: fields::rd(word),
+            upper: fields::u_immediate(word),
+        }),
+        0b110_1111 => Some(Instr::Jal {
+            rd: fields::rd(word),
+            offset: fields::j_immediate(word),
+        }),
+        0b110_0111 => jalr(word),
+        0b110_0011 => branch(word),
+        0b000_0011 => load(word),
+        0b010_0011 => store(word),
+        0b001_0011 => register_immediate(word),
+        0b011_0011 => binary(word),
+        0b000_1111 => fence(word),
+        0b111_0011 => system(word),
+        _ => None,
+    }
+}
+
+/// Whether a word is an instruction.
+pub fn listed(word: u32) -> bool
+    ensures { IsTrue result ↔ IsSome (instr word) }
+{
+    decode(word).is_some()
+}
+
+/// Whether an instruction is one of LUI, JAL, BEQ, BNE, LBU, ADDI, SLTIU and ECALL.
+fn is_one_of_eight(instr: Instr) -> bool
+    ensures { IsTrue result ↔ IsOneOfEight instr }
+{
+    match instr {
+        Instr::Lui { .. } | Instr::Jal { .. } | Instr::Ecall => true,
+        Instr::Branch { test, .. } => matches!(test, Test::Beq | Test::Bne),
+        Instr::Load { width, .. } => matches!(width, LoadWidth::Lbu),
+        Instr::Immediate { op, .. } => matches!(op, ImmediateOp::Addi | ImmediateOp::Sltiu),
+        _ => false,
+    }
+}
+
+/// Whether a word is one of LUI, JAL, BEQ, BNE, LBU, ADDI, SLTIU and ECALL.
+pub fn eight(word: u32) -> bool
+    ensures { IsTrue result ↔ IsEight (instr word) }
+{
+    match decode(word) {
+        Some(instr) => is_one_of_eight(instr),
+        None => false,
+    }
+}
