@@ -3,14 +3,16 @@ use Rattle.std.proofs.Common.{◌≡◌, ◌≢◌, ℕ, ◌+◌, ◌-◌, ◌/�
 use Rattle.std.specs.Prelude.{Option, None, Some, if◌then◌else◌, ◌==◌, nat_le, nat_lt, is_some, slice_index}
 use Rattle.std.proofs.lemmas.Bool.Decides.{nat_tests}
 use Rattle.bv_dag.specs.Graphs.{Graph, number_of, width_of}
-use Rattle.tool_top.specs.Machine.{Image, State, Running, IsAssignment, placed, next, branch, load_byte, onward, written, trapped, x, sum32}
+use Rattle.tool_top.specs.Machine.{Image, State, Running, IsAssignment, placed, next, branch, load, onward, written, trapped, x}
+use Rattle.rv_decode.specs.declared.ops.LoadWidth.TheVariants.{Lbu}
+use Rattle.tool_top.specs.Arithmetic.{sum32}
 use Rattle.tool_top.specs.Programs.{regions, data_start}
 use Rattle.tool_top.specs.Symbolic.{Symbolic, Grows, IsWide, worth_of, value_at, concrete, meets, with_terms, onward_to, branched, IsOpen, Stepped}
 use Rattle.tool_top.specs.declared.symbolic.Step.TheVariants as stepped
 use Rattle.tool_top.specs.declared.symbolic.Value.{Value}
 use Rattle.tool_top.specs.declared.symbolic.Value.TheVariants.{Number}
 use Rattle.tool_top.specs.declared.leaf.LeafEnd.TheVariants.{Traps}
-use Rattle.tool_top.specs.declared.ends.Trap.TheVariants.{LoadAccess}
+use Rattle.rv_decode.specs.declared.ends.Trap.TheVariants.{LoadAccess}
 use Rattle.tool_top.proofs.Forking.{open_grown, same_grown, open_branched, concrete-grown}
 use Rattle.tool_top.proofs.Executing.{x-concrete, x-number, stepped_onward, stepped_number, stepped_trap}
 
@@ -83,16 +85,16 @@ stepped_branch image s g rs1 rs2 offset term was grows bit in_code some small al
     )
 
 -- A load: from no mapped page, of the input byte, and of another byte.
-mapped : (o : Option ℕ) (s : State) (rd address : ℕ) → s.flags (address / 256) ≡ o → load_byte s rd address ≡ (if is_some o then Running (onward s (written s.registers rd (s.byte address))) else trapped LoadAccess s)
+mapped : (o : Option ℕ) (s : State) (rd address : ℕ) → s.flags (address / 256) ≡ o → load s Lbu rd address ≡ (if is_some o then Running (onward s (written s.registers rd (s.byte address))) else trapped LoadAccess s)
 mapped o s rd address is = ap (λ f. if is_some f then Running (onward s (written s.registers rd (s.byte address))) else trapped LoadAccess s) is
 
 pub stepped_unmapped : (image : Image) (s : Symbolic) (rd rs1 offset n : ℕ) → IsOpen image s → value_at s.registers rs1 ≡ Number n → image.flags (sum32 n offset / 256) ≡ None
-    → ((input : List ℕ) → IsAssignment regions input → next (concrete image s input) ≡ load_byte (concrete image s input) rd (sum32 (x (concrete image s input) rs1) offset))
+    → ((input : List ℕ) → IsAssignment regions input → next (concrete image s input) ≡ load (concrete image s input) Lbu rd (sum32 (x (concrete image s input) rs1) offset))
     → Stepped image s (record s { steps = s.steps + 1 }) (stepped.Ended (Traps LoadAccess))
 stepped_unmapped image s rd rs1 offset n was is none does =
     stepped_trap image s LoadAccess was (λ input assigned.
     does input assigned
-    ∙ ap (λ k. load_byte (concrete image s input) rd (sum32 k offset)) (x-number image s input rs1 n is)
+    ∙ ap (λ k. load (concrete image s input) Lbu rd (sum32 k offset)) (x-number image s input rs1 n is)
     ∙ mapped None (concrete image s input) rd (sum32 n offset) none)
 
 placed-start : (byte : ℕ → ℕ) (input : List ℕ) → placed regions input byte data_start ≡ slice_index input 0
@@ -106,23 +108,23 @@ placed-other byte input address other = ap (λ t. if t then slice_index input (a
 
 pub stepped_input : (image : Image) (s : Symbolic) (g : Graph) (rd rs1 offset n flags : ℕ) (v : Value) → IsOpen image s → Grows s.terms g → IsWide g v → rd ≡ 7 → s.pc < data_start → value_at s.registers rs1 ≡ Number n → sum32 n offset ≡ data_start → image.flags (sum32 n offset / 256) ≡ Some flags
     → ((input : List ℕ) → worth_of g input v ≡ slice_index input 0)
-    → ((input : List ℕ) → IsAssignment regions input → next (concrete image s input) ≡ load_byte (concrete image s input) rd (sum32 (x (concrete image s input) rs1) offset))
+    → ((input : List ℕ) → IsAssignment regions input → next (concrete image s input) ≡ load (concrete image s input) Lbu rd (sum32 (x (concrete image s input) rs1) offset))
     → Stepped image s (onward_to s g rd v) stepped.Running
 stepped_input image s g rd rs1 offset n flags v was grows wide seven in_code is here some worth does =
     stepped_onward image s g rd v was grows wide (omega (arith, seven)) (λ other. absurd (other seven)) (λ call. absurd (omega (arith, seven, call))) in_code (λ input assigned _.
     does input assigned
-    ∙ ap (λ k. load_byte (concrete image s input) rd (sum32 k offset)) (x-number image s input rs1 n is)
+    ∙ ap (λ k. load (concrete image s input) Lbu rd (sum32 k offset)) (x-number image s input rs1 n is)
     ∙ mapped (Some flags) (concrete image s input) rd (sum32 n offset) some
     ∙ ap (λ b. Running (onward (concrete image s input) (written (map (worth_of s.terms input) s.registers) rd b)))
     (ap (placed regions input image.byte) here ∙ placed-start image.byte input ∙ sym (worth input)))
 
 pub stepped_load : (image : Image) (s : Symbolic) (rd rs1 offset n flags b : ℕ) → IsOpen image s → rd ≡ 7 → s.pc < data_start → value_at s.registers rs1 ≡ Number n → sum32 n offset ≢ data_start → image.flags (sum32 n offset / 256) ≡ Some flags → b ≡ image.byte (sum32 n offset) → b < 2 ^ 32
-    → ((input : List ℕ) → IsAssignment regions input → next (concrete image s input) ≡ load_byte (concrete image s input) rd (sum32 (x (concrete image s input) rs1) offset))
+    → ((input : List ℕ) → IsAssignment regions input → next (concrete image s input) ≡ load (concrete image s input) Lbu rd (sum32 (x (concrete image s input) rs1) offset))
     → Stepped image s (onward_to s s.terms rd (Number b)) stepped.Running
 stepped_load image s rd rs1 offset n flags b was seven in_code is other some byte small does =
     stepped_number image s rd b was small (omega (arith, seven)) (λ call. absurd (omega (arith, seven, call))) in_code (λ input assigned.
     does input assigned
-    ∙ ap (λ k. load_byte (concrete image s input) rd (sum32 k offset)) (x-number image s input rs1 n is)
+    ∙ ap (λ k. load (concrete image s input) Lbu rd (sum32 k offset)) (x-number image s input rs1 n is)
     ∙ mapped (Some flags) (concrete image s input) rd (sum32 n offset) some
     ∙ ap (λ b. Running (onward (concrete image s input) (written (map (worth_of s.terms input) s.registers) rd b)))
     (placed-other image.byte input (sum32 n offset) other ∙ sym byte))

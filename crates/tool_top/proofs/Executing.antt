@@ -2,7 +2,8 @@
 use Rattle.std.proofs.Common.{◌≡◌, ◌≢◌, ℕ, ◌+◌, ◌%◌, ◌^◌, ◌<◌, ◌⊎◌, inl, inr, true, List, [], ◌∷◌, map, refl, sym, ap, ◌∙◌, arith}
 use Rattle.std.proofs.Math.ListN as lists
 use Rattle.bv_dag.specs.Graphs.{Graph}
-use Rattle.tool_top.specs.Machine.{Image, Running, Ended, IsAssignment, next, call, onward, written, x, sum32}
+use Rattle.tool_top.specs.Arithmetic.{sum32}
+use Rattle.tool_top.specs.Machine.{Image, Running, Ended, IsAssignment, next, call, onward, written, x}
 use Rattle.tool_top.specs.Programs.{regions, data_start}
 use Rattle.tool_top.specs.Reports.{EndsByByte}
 use Rattle.tool_top.specs.Symbolic.{Symbolic, Grows, IsWide, IsNumber, worth_of, value_at, concrete, meets, with_terms, onward_to, end_of, IsOpen, Stepped, EndsCall}
@@ -11,8 +12,8 @@ use Rattle.tool_top.specs.declared.symbolic.Value.{Value}
 use Rattle.tool_top.specs.declared.symbolic.Value.TheVariants.{Number}
 use Rattle.tool_top.specs.declared.leaf.LeafEnd.{LeafEnd}
 use Rattle.tool_top.specs.declared.leaf.LeafEnd.TheVariants.{Exits, Traps}
-use Rattle.tool_top.specs.declared.ends.End.TheVariants.{Exit, Trapped}
-use Rattle.tool_top.specs.declared.ends.Trap.{Trap}
+use Rattle.rv_decode.specs.declared.ends.End.TheVariants.{Exit, Trapped}
+use Rattle.rv_decode.specs.declared.ends.Trap.{Trap}
 use Rattle.tool_top.proofs.Growing.{Grows-none}
 use Rattle.tool_top.proofs.Grown.{AreBits-grown, holds-grown}
 use Rattle.tool_top.proofs.Stepping.{run_ends}

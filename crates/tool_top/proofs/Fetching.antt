@@ -1,12 +1,13 @@
 use Rattle.std.proofs.Common.{◌≡◌, ℕ, zero, suc, ◌+◌, ◌-◌, ◌*◌, ◌/◌, ◌%◌, ◌≤◌, ◌&&◌, Bool, true, false, cond, List, length, drop, get_or, nat_le, nat_lt, ap, ◌∙◌, refl, inl, inr, subst, arith, Option, Some, None, IfSome}
 use Rattle.std.proofs.lemmas.Bool.{cases_lt}
 use Rattle.std.proofs.lemmas.List.{get_or_past, get_or-drop, length-drop}
-use Rattle.tool_top.specs.Instructions.{instr, bits}
+use Rattle.rv_decode.specs.Fields.{bits, u_immediate, i_immediate, sign_extended}
+use Rattle.rv_decode.specs.Instructions.{instr}
 use Rattle.tool_top.specs.Machine.{can_execute}
 use Rattle.tool_top.specs.Programs.{HasShape, code_start, IsAllowed, flags_of}
 use Rattle.tool_top.specs.Tame.{IsTame}
-use Rattle.tool_top.specs.declared.instr.Instr.{Instr}
-use Rattle.tool_top.specs.declared.instr.Instr.TheVariants.{Lui, Lbu, Addi, Beq, Ecall}
+use Rattle.rv_decode.specs.declared.instr.Instr.{Instr}
+use Rattle.rv_decode.specs.declared.instr.Instr.TheVariants.{Lui, Auipc, Jal, Jalr, Branch, Load, Store, Immediate, ShiftImmediate, Binary, Fence, Ecall, Ebreak}
 
 -- a word of zeros is no instruction
 pub zeros : instr 0 ≡ None
@@ -15,11 +16,19 @@ zeros = refl
 
 allowed_tame : (pc : ℕ) (o : Option Instr) → IsAllowed o → IfSome o (IsTame pc)
 allowed_tame pc None h = tt
-allowed_tame pc (Some (Lui rd upper)) h = absurd h
-allowed_tame pc (Some (Lbu rd rs1 offset)) h = absurd h
-allowed_tame pc (Some (Addi rd rs1 immediate)) h = h
-allowed_tame pc (Some (Beq rs1 rs2 offset)) h = h
+allowed_tame pc (Some (Immediate op rd rs1 immediate)) h = h
+allowed_tame pc (Some (Branch test rs1 rs2 offset)) h = h
 allowed_tame pc (Some Ecall) h = h
+allowed_tame pc (Some (Lui rd upper)) h = absurd h
+allowed_tame pc (Some (Auipc rd upper)) h = absurd h
+allowed_tame pc (Some (Jal rd offset)) h = absurd h
+allowed_tame pc (Some (Jalr rd rs1 offset)) h = absurd h
+allowed_tame pc (Some (Load width rd rs1 offset)) h = absurd h
+allowed_tame pc (Some (Store width rs1 rs2 offset)) h = absurd h
+allowed_tame pc (Some (ShiftImmediate op rd rs1 amount)) h = absurd h
+allowed_tame pc (Some (Binary op rd rs1 rs2)) h = absurd h
+allowed_tame pc (Some Fence) h = absurd h
+allowed_tame pc (Some Ebreak) h = absurd h
 
 other_tame : (words : List ℕ) (pc k : ℕ) → HasShape words → IfSome (instr (get_or words (suc (suc k)) 0)) (IsTame pc)
 other_tame words pc k shape = elim (cases_lt (suc (suc k)) (length words)) as (λ _. IfSome (instr (get_or words (suc (suc k)) 0)) (IsTame pc)) [
@@ -33,7 +42,7 @@ other_tame words pc k shape = elim (cases_lt (suc (suc k)) (length words)) as (�
 tame_at : (words : List ℕ) (pc k : ℕ) → HasShape words → pc ≡ code_start + 4 * k → IfSome (instr (get_or words k 0)) (IsTame pc)
 unfolding bits
 tame_at words pc zero shape e = rw shape.first (omega arith, refl)
-tame_at words pc (suc zero) shape e = rw shape.second (refl, refl)
+tame_at words pc (suc zero) shape e = rw shape.second (refl, refl, refl)
 tame_at words pc (suc (suc k)) shape e = other_tame words pc k shape
 
 -- the word at an address of the code is no instruction, or a tame one

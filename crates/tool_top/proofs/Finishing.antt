@@ -6,7 +6,7 @@ use Rattle.tool_top.specs.Machine.{Image, run}
 use Rattle.tool_top.specs.Leaves.{Leaf, end_on, EndsAs, IsFaithful}
 use Rattle.tool_top.specs.Programs.{regions}
 use Rattle.tool_top.specs.Symbolic.{Symbolic, end_of, leaf_of, IsSame, IsSplit, IsEnding, IsFinished, one_if}
-use Rattle.tool_top.specs.declared.ends.Choice.TheVariants.{No, Yes}
+use Rattle.tool_top.specs.declared.choice.Choice.TheVariants.{No, Yes}
 use Rattle.tool_top.specs.declared.leaf.LeafEnd.{LeafEnd}
 use Rattle.tool_top.specs.declared.leaf.LeafEnd.TheVariants.{Exits, Traps}
 

@@ -9,9 +9,9 @@ use Rattle.bv_dag.specs.Graphs.{Graph, number_of, width_of}
 use Rattle.tool_top.specs.Machine.{Image, State, Running, IsAssignment, next, branch, jump, noted, trapped}
 use Rattle.tool_top.specs.Programs.{regions, data_start, code_start}
 use Rattle.tool_top.specs.Symbolic.{Symbolic, Grows, concrete, meets, with_terms, branched, narrowed, target_of, IsOpen, IsSame, IsBranch}
-use Rattle.tool_top.specs.declared.ends.Choice.{Choice}
-use Rattle.tool_top.specs.declared.ends.Trap.TheVariants.{FetchMisaligned}
-use Rattle.tool_top.specs.declared.ends.PathStep.TheVariants.{Taken}
+use Rattle.tool_top.specs.declared.choice.Choice.{Choice}
+use Rattle.rv_decode.specs.declared.ends.Trap.TheVariants.{FetchMisaligned}
+use Rattle.rv_decode.specs.declared.ends.PathStep.TheVariants.{Taken}
 use Rattle.tool_top.proofs.Grown.{map-grown, IsWide-grown, AreBits-grown, bit_width-grown, number_of-grown, holds-grown}
 use Rattle.tool_top.proofs.Stepping.{run_on}
 

@@ -6,7 +6,7 @@ use Rattle.bv_dag.specs.Graphs.{Graph, number_of, width_of}
 use Rattle.tool_top.specs.Machine.{Image, IsAssignment, branch}
 use Rattle.tool_top.specs.Programs.{regions, data_start}
 use Rattle.tool_top.specs.Symbolic.{Symbolic, Grows, concrete, meets, with_terms, branched, narrowed, is_side, answers, one_if, IsOpen, IsBranch, IsSplit}
-use Rattle.tool_top.specs.declared.ends.Choice.TheVariants.{No, Yes}
+use Rattle.tool_top.specs.declared.choice.Choice.TheVariants.{No, Yes}
 use Rattle.tool_top.proofs.Grown.{holds-grown, number_of-grown}
 use Rattle.tool_top.proofs.Forking.{open_grown, branch_grown, open_narrowed, open_branched, meets-narrowed}
 

@@ -6,13 +6,13 @@ use Rattle.tool_top.specs.Machine.{Image, State, Run, Running, Ended, run, run_f
 use Rattle.tool_top.specs.Leaves.{EndsAs}
 use Rattle.tool_top.specs.Programs.{regions, data_start, flags_of, image_of}
 use Rattle.tool_top.specs.Symbolic.{Symbolic, concrete}
-use Rattle.tool_top.specs.Instructions.{instr}
+use Rattle.rv_decode.specs.Instructions.{instr}
 use Rattle.std.specs.Option.{ok_or}
-use Rattle.tool_top.specs.declared.ends.Trap.TheVariants.{Illegal, FetchAccess, FetchMisaligned}
-use Rattle.tool_top.specs.declared.instr.Instr.{Instr}
-use Rattle.tool_top.specs.declared.ends.Trap.{Trap}
-use Rattle.tool_top.specs.declared.ends.End.{End}
-use Rattle.tool_top.specs.declared.ends.End.TheVariants.{Trapped}
+use Rattle.rv_decode.specs.declared.ends.Trap.TheVariants.{Illegal, FetchAccess, FetchMisaligned}
+use Rattle.rv_decode.specs.declared.instr.Instr.{Instr}
+use Rattle.rv_decode.specs.declared.ends.Trap.{Trap}
+use Rattle.rv_decode.specs.declared.ends.End.{End}
+use Rattle.rv_decode.specs.declared.ends.End.TheVariants.{Trapped}
 use Rattle.tool_top.specs.declared.region.Region.{Region}
 
 -- one step more, of a run that has not ended

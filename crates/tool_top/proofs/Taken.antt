@@ -1,7 +1,7 @@
 use Rattle.std.proofs.Common.{◌≡◌, ℕ, ◌^◌, ◌<◌, ◌≤◌, Bool, List, All, IsTrue, Fits, w32, length, drop, get_or, sym, subst, arith}
 use Rattle.std.specs.Prelude.{◌↔◌}
 use Rattle.std.proofs.lemmas.List.Elements.{All-from_get_or}
-use Rattle.tool_top.specs.Instructions.{instr}
+use Rattle.rv_decode.specs.Instructions.{instr}
 use Rattle.tool_top.specs.Programs.{HasShape, IsAllowed}
 
 -- the test of the words behind the first two decides the shape, once the rest of it is known

@@ -10,8 +10,8 @@ use Rattle.tool_top.specs.Leaves.{Leaf, covers, precedes, IsFaithful, AreRanked}
 use Rattle.tool_top.specs.Programs.{regions}
 use Rattle.tool_top.specs.Reports.{Part, IsTestable}
 use Rattle.tool_top.specs.Symbolic.{Symbolic, meets, one_if, IsSplit, IsFinished, AreUnder, AddsLeaves}
-use Rattle.tool_top.specs.declared.ends.Choice.{Choice}
-use Rattle.tool_top.specs.declared.ends.Choice.TheVariants.{No, Yes}
+use Rattle.tool_top.specs.declared.choice.Choice.{Choice}
+use Rattle.tool_top.specs.declared.choice.Choice.TheVariants.{No, Yes}
 
 abbrev FaithfulPart : Image → Part → Type 0
 FaithfulPart image p = IsFaithful image regions p.leaf

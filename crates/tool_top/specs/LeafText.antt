@@ -1,5 +1,7 @@
 -- The text of a leaf, line by line, in SMT-LIB's logic QF_ABV (theories FixedSizeBitVectors and ArraysEx).
 use Rattle.std.specs.Prelude.{ℕ, suc, zero, ◌+◌, Bool, true, false, List, [], ◌++◌, length, codes, decimal}
+use Rattle.std.specs.Int.{to_be_bytes, w32}
+use Rattle.hex.specs.Hex.{encode_lower}
 use Rattle.std.specs.List.{flat_map, enumerate_from}
 use Rattle.bv_dag.specs.Graphs.{Graph, width_of}
 use Rattle.bv_dag.specs.declared.nodes.BinaryOp.{BinaryOp}
@@ -9,12 +11,11 @@ use Rattle.bv_dag.specs.declared.nodes.Comparison.TheVariants.{Ult, Slt, Eq}
 use Rattle.bv_dag.specs.declared.nodes.Node.{Node}
 use Rattle.bv_dag.specs.declared.nodes.Node.TheVariants.{Num, Input, Not, Neg, Binary, Compare, Ite, Extract, Extend, Concat}
 use Rattle.tool_top.specs.Leaves.{Leaf}
-use Rattle.tool_top.specs.declared.ends.Trap.{Trap}
-use Rattle.tool_top.specs.declared.ends.Trap.TheVariants.{Illegal, FetchMisaligned, FetchAccess, LoadMisaligned, LoadAccess, StoreMisaligned, StoreAccess, Break, Call}
-use Rattle.tool_top.specs.declared.ends.PathStep.{PathStep}
-use Rattle.tool_top.specs.declared.ends.PathStep.TheVariants.{Taken, NotTaken}
-use Rattle.tool_top.specs.declared.ends.Choice.{Choice}
-use Rattle.tool_top.specs.declared.ends.Choice.TheVariants.{No, Yes}
+use Rattle.rv_decode.specs.Ends.{trap_name}
+use Rattle.rv_decode.specs.declared.ends.PathStep.{PathStep}
+use Rattle.rv_decode.specs.declared.ends.PathStep.TheVariants.{Taken, NotTaken, Target}
+use Rattle.tool_top.specs.declared.choice.Choice.{Choice}
+use Rattle.tool_top.specs.declared.choice.Choice.TheVariants.{No, Yes}
 use Rattle.tool_top.specs.declared.leaf.LeafEnd.{LeafEnd}
 use Rattle.tool_top.specs.declared.leaf.LeafEnd.TheVariants.{Exits, Traps}
 
@@ -54,10 +55,15 @@ node_text (Extract high low a) = codes "((_ extract " ++ decimal high ++ codes "
 node_text (Extend by signed a) = codes "((_ " ++ extension_name signed ++ codes " " ++ decimal by ++ codes ") n" ++ decimal a ++ codes ")"
 node_text (Concat a b) = codes "(concat n" ++ decimal a ++ codes " n" ++ decimal b ++ codes ")"
 
+-- a number below 2 ^ 32 in eight hexadecimal digits
+abbrev pub eight_digits : ℕ → List ℕ
+eight_digits n = encode_lower (to_be_bytes w32 n)
+
 -- an entry of a path, and a choice
 abbrev pub step_text : PathStep → List ℕ
 step_text Taken = codes "T"
 step_text NotTaken = codes "N"
+step_text (Target target) = codes "@" ++ eight_digits target
 
 abbrev pub choice_text : Choice → List ℕ
 choice_text No = codes "N"
@@ -68,17 +74,6 @@ path_text path = flat_map step_text path
 
 abbrev pub choices_text : List Choice → List ℕ
 choices_text choices = flat_map choice_text choices
-
-abbrev pub trap_name : Trap → List ℕ
-trap_name Illegal = codes "Illegal"
-trap_name FetchMisaligned = codes "FetchMisaligned"
-trap_name FetchAccess = codes "FetchAccess"
-trap_name LoadMisaligned = codes "LoadMisaligned"
-trap_name LoadAccess = codes "LoadAccess"
-trap_name StoreMisaligned = codes "StoreMisaligned"
-trap_name StoreAccess = codes "StoreAccess"
-trap_name Break = codes "Break"
-trap_name Call = codes "Call"
 
 abbrev pub end_name : LeafEnd → List ℕ
 end_name (Exits status) = codes "exit"

@@ -4,11 +4,11 @@ use Rattle.bv_dag.specs.Graphs.{number_of}
 use Rattle.bv_dag.specs.Queries.{Condition, holds}
 use Rattle.tool_top.specs.Machine.{Image, Run, IsAssignment, run}
 use Rattle.tool_top.specs.declared.region.Region.{Region}
-use Rattle.tool_top.specs.declared.ends.End.{End}
-use Rattle.tool_top.specs.declared.ends.End.TheVariants.{Exit, Trapped}
-use Rattle.tool_top.specs.declared.ends.PathStep.{PathStep}
-use Rattle.tool_top.specs.declared.ends.Choice.{Choice}
-use Rattle.tool_top.specs.declared.ends.Choice.TheVariants.{No, Yes}
+use Rattle.rv_decode.specs.declared.ends.End.{End}
+use Rattle.rv_decode.specs.declared.ends.End.TheVariants.{Exit, Trapped}
+use Rattle.rv_decode.specs.declared.ends.PathStep.{PathStep}
+use Rattle.tool_top.specs.declared.choice.Choice.{Choice}
+use Rattle.tool_top.specs.declared.choice.Choice.TheVariants.{No, Yes}
 use Rattle.tool_top.specs.declared.leaf.LeafEnd.{LeafEnd}
 use Rattle.tool_top.specs.declared.leaf.LeafEnd.TheVariants.{Exits, Traps}
 

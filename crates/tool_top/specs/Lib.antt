@@ -1,4 +1,4 @@
-pub mod Instructions
+pub mod Arithmetic
 pub mod Machine
 pub mod Leaves
 pub mod LeafText

@@ -1,18 +1,24 @@
--- The machine under test, one assignment of the input bytes at a time (RISC-V unprivileged manual, "RV32I Base Integer
--- Instruction Set"). It knows numbers and plain memory only. Each further instruction is a further case of `execute`.
+-- The machine under test, one assignment of the input bytes at a time: RISC-V unprivileged manual, "RV32I Base Integer
+-- Instruction Set" and "M Extension for Integer Multiplication and Division". It knows numbers and plain memory only.
 use Rattle.std.specs.Prelude.{◌≡◌, ℕ, zero, suc, ◌+◌, ◌-◌, ◌*◌, ◌/◌, ◌%◌, ◌^◌, ◌==◌, ◌<◌, ◌&&◌, ◌||◌, Bool, true, false, min, nat_lt, nat_le, if◌then◌else◌, List, [], ◌∷◌, ◌++◌, All, length, map, drop, replicate, slice_index, slice_set, Option, Some, None, is_some, Result, Ok, Err}
 use Rattle.std.specs.List.{list_all}
 use Rattle.std.specs.Option.{ok_or}
-use Rattle.tool_top.specs.Instructions.{instr}
-use Rattle.tool_top.specs.declared.instr.Instr.{Instr}
-use Rattle.tool_top.specs.declared.instr.Instr.TheVariants.{Lui, Lbu, Addi, Beq, Ecall}
+use Rattle.rv_decode.specs.Fields.{sign_extended}
+use Rattle.rv_decode.specs.Instructions.{instr}
+use Rattle.rv_decode.specs.declared.instr.Instr.{Instr}
+use Rattle.rv_decode.specs.declared.instr.Instr.TheVariants.{Lui, Auipc, Jal, Jalr, Branch, Load, Store, Immediate, ShiftImmediate, Binary, Fence, Ecall, Ebreak}
+use Rattle.rv_decode.specs.declared.ops.LoadWidth.{LoadWidth}
+use Rattle.rv_decode.specs.declared.ops.LoadWidth.TheVariants.{Lb, Lh, Lw, Lbu, Lhu}
+use Rattle.rv_decode.specs.declared.ops.StoreWidth.{StoreWidth}
+use Rattle.rv_decode.specs.declared.ops.StoreWidth.TheVariants.{Sb, Sh, Sw}
+use Rattle.rv_decode.specs.declared.ends.Trap.{Trap}
+use Rattle.rv_decode.specs.declared.ends.Trap.TheVariants.{Illegal, FetchMisaligned, FetchAccess, LoadMisaligned, LoadAccess, StoreMisaligned, StoreAccess, Break, Call}
+use Rattle.rv_decode.specs.declared.ends.End.{End}
+use Rattle.rv_decode.specs.declared.ends.End.TheVariants.{Exit, Trapped}
+use Rattle.rv_decode.specs.declared.ends.PathStep.{PathStep}
+use Rattle.rv_decode.specs.declared.ends.PathStep.TheVariants.{Taken, NotTaken, Target}
+use Rattle.tool_top.specs.Arithmetic.{sum32, passes, with_immediate, shifted, combined}
 use Rattle.tool_top.specs.declared.region.Region.{Region}
-use Rattle.tool_top.specs.declared.ends.Trap.{Trap}
-use Rattle.tool_top.specs.declared.ends.Trap.TheVariants.{Illegal, FetchMisaligned, FetchAccess, LoadAccess, Call}
-use Rattle.tool_top.specs.declared.ends.End.{End}
-use Rattle.tool_top.specs.declared.ends.End.TheVariants.{Exit, Trapped}
-use Rattle.tool_top.specs.declared.ends.PathStep.{PathStep}
-use Rattle.tool_top.specs.declared.ends.PathStep.TheVariants.{Taken, NotTaken}
 
 -- What a program's file puts into memory.
 pub record Image : Type 0 where
@@ -44,7 +50,7 @@ pub record State : Type 0 where
   pub byte : ℕ → ℕ
   -- the bytes written so far
   pub output : List ℕ
-  -- what each conditional branch so far did
+  -- what each conditional branch so far did, and where each JALR went
   pub path : List PathStep
 
 -- all registers are 0 but the stack pointer, x2
@@ -62,10 +68,6 @@ first_state image regions input = record {
   path = [];
 }
 
--- the sum modulo 2 ^ 32
-abbrev pub sum32 : ℕ → ℕ → ℕ
-sum32 a b = (a + b) % 2 ^ 32
-
 -- x0 is never written, so that it reads 0
 abbrev pub written : List ℕ → ℕ → ℕ → List ℕ
 written registers rd value = if rd == 0 then registers else slice_set registers rd value
@@ -80,7 +82,14 @@ abbrev pub can_execute : Option ℕ → Bool
 can_execute None = false
 can_execute (Some flags) = flags % 2 == 1
 
--- the word at an address, low byte first
+abbrev pub can_write : Option ℕ → Bool
+can_write None = false
+can_write (Some flags) = flags / 2 % 2 == 1
+
+-- the half word and the word at an address, low byte first
+abbrev pub half_at : (ℕ → ℕ) → ℕ → ℕ
+half_at byte address = byte address + 2 ^ 8 * byte (address + 1)
+
 abbrev pub word_at : (ℕ → ℕ) → ℕ → ℕ
 word_at byte address = byte address + 2 ^ 8 * byte (address + 1) + 2 ^ 16 * byte (address + 2) + 2 ^ 24 * byte (address + 3)
 
@@ -103,8 +112,51 @@ trapped trap s = Ended (Trapped trap) s
 abbrev pub onward : State → List ℕ → State
 onward s registers = record s { pc = sum32 s.pc 4; registers = registers }
 
-abbrev pub load_byte : State → ℕ → ℕ → Outcome
-load_byte s rd address = if is_mapped s address then Running (onward s (written s.registers rd (s.byte address))) else trapped LoadAccess s
+-- at the next instruction, with a register written
+abbrev pub to_register : State → ℕ → ℕ → Outcome
+to_register s rd value = Running (onward s (written s.registers rd value))
+
+abbrev pub is_load_aligned : LoadWidth → ℕ → Bool
+is_load_aligned Lb address = true
+is_load_aligned Lh address = address % 2 == 0
+is_load_aligned Lw address = address % 4 == 0
+is_load_aligned Lbu address = true
+is_load_aligned Lhu address = address % 2 == 0
+
+abbrev pub loaded : LoadWidth → (ℕ → ℕ) → ℕ → ℕ
+loaded Lb byte address = sign_extended 8 (byte address)
+loaded Lh byte address = sign_extended 16 (half_at byte address)
+loaded Lw byte address = word_at byte address
+loaded Lbu byte address = byte address
+loaded Lhu byte address = half_at byte address
+
+-- alignment is tested before the page
+abbrev pub load : State → LoadWidth → ℕ → ℕ → Outcome
+load s width rd address =
+    if is_load_aligned width address then (if is_mapped s address then to_register s rd (loaded width s.byte address) else trapped LoadAccess s)
+    else trapped LoadMisaligned s
+
+abbrev pub is_store_aligned : StoreWidth → ℕ → Bool
+is_store_aligned Sb address = true
+is_store_aligned Sh address = address % 2 == 0
+is_store_aligned Sw address = address % 4 == 0
+
+-- the bytes that are stored, low byte first
+abbrev pub stored : StoreWidth → ℕ → List ℕ
+stored Sb value = value % 2 ^ 8 ∷ []
+stored Sh value = value % 2 ^ 8 ∷ value / 2 ^ 8 % 2 ^ 8 ∷ []
+stored Sw value = value % 2 ^ 8 ∷ value / 2 ^ 8 % 2 ^ 8 ∷ value / 2 ^ 16 % 2 ^ 8 ∷ value / 2 ^ 24 % 2 ^ 8 ∷ []
+
+-- memory with these bytes from an address on
+abbrev pub with_bytes : (ℕ → ℕ) → ℕ → List ℕ → ℕ → ℕ
+with_bytes byte address [] = byte
+with_bytes byte address (b ∷ bs) = with_bytes (λ at. if at == address then b else byte at) (address + 1) bs
+
+abbrev pub store : State → StoreWidth → ℕ → ℕ → Outcome
+store s width address value =
+    if is_store_aligned width address
+    then (if can_write (s.flags (address / 256)) then Running (onward (record s { byte = with_bytes s.byte address (stored width value) }) s.registers) else trapped StoreAccess s)
+    else trapped StoreMisaligned s
 
 -- to a target, which may be no multiple of 4
 abbrev pub jump : State → ℕ → Outcome
@@ -138,13 +190,33 @@ call s a7 =
     if a7 == 93 then Ended (Exit (x s 10 % 256)) s
     else (if a7 == 64 then write s (x s 10) (x s 11) (x s 12) else trapped Call s)
 
+-- to a target, and the next instruction's address into a register
+abbrev pub jump_and_link : State → ℕ → ℕ → Outcome
+jump_and_link s rd target = jump (record s { registers = written s.registers rd (sum32 s.pc 4) }) target
+
+-- the trap of a misaligned target writes nothing
+abbrev pub linked : State → ℕ → ℕ → Outcome
+linked s rd target = if target % 4 == 0 then jump_and_link s rd target else trapped FetchMisaligned s
+
+-- with the lowest bit cleared
+abbrev pub even : ℕ → ℕ
+even n = n / 2 * 2
+
 -- one equation for each instruction
 abbrev pub execute : State → Instr → Outcome
-execute s (Lui rd upper) = Running (onward s (written s.registers rd upper))
-execute s (Lbu rd rs1 offset) = load_byte s rd (sum32 (x s rs1) offset)
-execute s (Addi rd rs1 immediate) = Running (onward s (written s.registers rd (sum32 (x s rs1) immediate)))
-execute s (Beq rs1 rs2 offset) = branch s (x s rs1 == x s rs2) (sum32 s.pc offset)
+execute s (Lui rd upper) = to_register s rd upper
+execute s (Auipc rd upper) = to_register s rd (sum32 s.pc upper)
+execute s (Jal rd offset) = linked s rd (sum32 s.pc offset)
+execute s (Jalr rd rs1 offset) = let target = even (sum32 (x s rs1) offset) in linked (noted s (Target target)) rd target
+execute s (Branch test rs1 rs2 offset) = branch s (passes test (x s rs1) (x s rs2)) (sum32 s.pc offset)
+execute s (Load width rd rs1 offset) = load s width rd (sum32 (x s rs1) offset)
+execute s (Store width rs1 rs2 offset) = store s width (sum32 (x s rs1) offset) (x s rs2)
+execute s (Immediate op rd rs1 immediate) = to_register s rd (with_immediate op (x s rs1) immediate)
+execute s (ShiftImmediate op rd rs1 amount) = to_register s rd (shifted op (x s rs1) amount)
+execute s (Binary op rd rs1 rs2) = to_register s rd (combined op (x s rs1) (x s rs2))
+execute s Fence = Running (onward s s.registers)
 execute s Ecall = call s (x s 17)
+execute s Ebreak = trapped Break s
 
 abbrev pub execute_fetched : State → Result Instr Trap → Outcome
 execute_fetched s (Ok instruction) = execute s instruction

@@ -1,11 +1,13 @@
 -- The programs that are taken: files of one layout, whose words have one shape.
 use Rattle.std.specs.Prelude.{◌≡◌, ◌≢◌, ℕ, ◌+◌, ◌-◌, ◌*◌, ◌/◌, ◌%◌, ◌^◌, ◌<◌, ◌≤◌, ◌&&◌, nat_lt, nat_le, if◌then◌else◌, List, [], ◌∷◌, ◌++◌, All, length, drop, replicate, slice_index, Option, Some, None}
 use Rattle.std.specs.List.{flat_map}
-use Rattle.tool_top.specs.Instructions.{instr}
+use Rattle.rv_decode.specs.Instructions.{instr}
 use Rattle.tool_top.specs.Machine.{Image}
 use Rattle.tool_top.specs.declared.region.Region.{Region}
-use Rattle.tool_top.specs.declared.instr.Instr.{Instr}
-use Rattle.tool_top.specs.declared.instr.Instr.TheVariants.{Lui, Lbu, Addi, Beq, Ecall}
+use Rattle.rv_decode.specs.declared.instr.Instr.{Instr}
+use Rattle.rv_decode.specs.declared.instr.Instr.TheVariants.{Branch, Immediate, Ecall}
+use Rattle.rv_decode.specs.declared.ops.ImmediateOp.TheVariants.{Addi}
+use Rattle.rv_decode.specs.declared.ops.Test.TheVariants.{Beq}
 
 -- a number in two bytes and in four, low byte first
 abbrev pub half : ℕ → List ℕ
@@ -66,12 +68,10 @@ regions = record { start = data_start; count = 1 } ∷ []
 -- one of the instructions that may stand behind the first two: an ADDI of x0 to a register that isn't x7, to x17 of 93 alone;
 -- a BEQ that goes forward by a multiple of 4; an ECALL
 abbrev pub IsAllowed : Option Instr → Type 0
-IsAllowed (Some (Addi rd rs1 immediate)) = (rs1 ≡ 0) × (rd ≢ 7) × (rd ≡ 17 → immediate ≡ 93)
-IsAllowed (Some (Beq rs1 rs2 offset)) = (0 < offset) × (offset < 2 ^ 31) × (offset % 4 ≡ 0)
+IsAllowed (Some (Immediate op rd rs1 immediate)) = (op ≡ Addi) × (rs1 ≡ 0) × (rd ≢ 7) × (rd ≡ 17 → immediate ≡ 93)
+IsAllowed (Some (Branch test rs1 rs2 offset)) = (test ≡ Beq) × (0 < offset) × (offset < 2 ^ 31) × (offset % 4 ≡ 0)
 IsAllowed (Some Ecall) = Unit {0}
-IsAllowed (Some (Lui rd upper)) = ⊥
-IsAllowed (Some (Lbu rd rs1 offset)) = ⊥
-IsAllowed None = ⊥
+IsAllowed _ = ⊥
 
 -- two words that load the input byte into x7, and then words of the allowed instructions
 pub record HasShape (words : List ℕ) : Type 0 where

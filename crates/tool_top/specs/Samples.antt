@@ -2,8 +2,8 @@
 use Rattle.std.specs.Prelude.{◌≡◌, List}
 use Rattle.bv_dag.specs.BitVectors.{BitVector}
 use Rattle.bv_dag.specs.Nodes.{word_at}
-use Rattle.tool_top.specs.declared.ends.End.{End}
-use Rattle.tool_top.specs.declared.ends.End.TheVariants.{Exit, Trapped}
+use Rattle.rv_decode.specs.declared.ends.End.{End}
+use Rattle.rv_decode.specs.declared.ends.End.TheVariants.{Exit, Trapped}
 use Rattle.tool_top.specs.declared.leaf.LeafEnd.{LeafEnd}
 use Rattle.tool_top.specs.declared.leaf.LeafEnd.TheVariants.{Exits, Traps}
 

@@ -3,19 +3,20 @@ use Rattle.std.specs.Prelude.{◌≡◌, ◌≢◌, ℕ, ◌+◌, ◌*◌, ◌%�
 use Rattle.bv_dag.specs.Graphs.{Graph, IsDag, number_of, width_of}
 use Rattle.bv_dag.specs.Queries.{Condition, AreBits, holds}
 use Rattle.tool_io.specs.Told.{IsPrefix}
-use Rattle.tool_top.specs.Machine.{Image, State, IsAssignment, run, placed, next, branch, sum32}
+use Rattle.tool_top.specs.Arithmetic.{sum32}
+use Rattle.tool_top.specs.Machine.{Image, State, IsAssignment, run, placed, next, branch}
 use Rattle.tool_top.specs.Leaves.{covers, EndsAs, IsFaithful, AreRanked, most_steps}
 use Rattle.tool_top.specs.Programs.{code_start, data_start, regions}
 use Rattle.tool_top.specs.Reports.{Part, IsTestable, EndsByByte}
-use Rattle.tool_top.specs.declared.ends.End.{End}
-use Rattle.tool_top.specs.declared.ends.End.TheVariants.{Exit, Trapped}
-use Rattle.tool_top.specs.declared.ends.PathStep.{PathStep}
-use Rattle.tool_top.specs.declared.ends.PathStep.TheVariants.{Taken, NotTaken}
-use Rattle.tool_top.specs.declared.ends.Choice.{Choice}
-use Rattle.tool_top.specs.declared.ends.Choice.TheVariants.{No, Yes}
+use Rattle.rv_decode.specs.declared.ends.End.{End}
+use Rattle.rv_decode.specs.declared.ends.End.TheVariants.{Exit, Trapped}
+use Rattle.rv_decode.specs.declared.ends.PathStep.{PathStep}
+use Rattle.rv_decode.specs.declared.ends.PathStep.TheVariants.{Taken, NotTaken}
+use Rattle.tool_top.specs.declared.choice.Choice.{Choice}
+use Rattle.tool_top.specs.declared.choice.Choice.TheVariants.{No, Yes}
 use Rattle.tool_top.specs.declared.leaf.LeafEnd.{LeafEnd}
 use Rattle.tool_top.specs.declared.leaf.LeafEnd.TheVariants.{Exits, Traps}
-use Rattle.tool_top.specs.declared.ends.Trap.TheVariants.{Call}
+use Rattle.rv_decode.specs.declared.ends.Trap.TheVariants.{Call}
 use Rattle.tool_top.specs.declared.symbolic.Step.{Step}
 use Rattle.tool_top.specs.declared.symbolic.Step.TheVariants.{Running, Branch, Ended}
 use Rattle.tool_top.specs.declared.symbolic.Value.{Value}

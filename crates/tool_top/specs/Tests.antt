@@ -1,14 +1,14 @@
 -- A test: an assignment of the input bytes, and what the run of it does.
 use Rattle.std.specs.Prelude.{◌≡◌, ℕ, List, [], ◌∷◌, ◌++◌, IsTrue, codes, decimal}
-use Rattle.std.specs.Int.{to_be_bytes, w32}
 use Rattle.hex.specs.Hex.{encode_lower}
 use Rattle.tool_top.specs.Machine.{Image, IsAssignment, run}
 use Rattle.tool_top.specs.Leaves.{Leaf, covers, EndsAs}
-use Rattle.tool_top.specs.LeafText.{path_text, trap_name}
+use Rattle.tool_top.specs.LeafText.{path_text, eight_digits}
+use Rattle.rv_decode.specs.Ends.{trap_name}
 use Rattle.tool_top.specs.declared.region.Region.{Region}
-use Rattle.tool_top.specs.declared.ends.End.{End}
-use Rattle.tool_top.specs.declared.ends.End.TheVariants.{Exit, Trapped}
-use Rattle.tool_top.specs.declared.ends.PathStep.{PathStep}
+use Rattle.rv_decode.specs.declared.ends.End.{End}
+use Rattle.rv_decode.specs.declared.ends.End.TheVariants.{Exit, Trapped}
+use Rattle.rv_decode.specs.declared.ends.PathStep.{PathStep}
 
 pub record Test : Type 0 where
   -- the rank of its leaf
@@ -32,7 +32,7 @@ pub record IsRun (image : Image) (regions : List Region) (leaf : Leaf) (rank : �
 
 -- an address in eight digits, a colon, and how many bytes
 abbrev pub region_text : Region → List ℕ
-region_text region = encode_lower (to_be_bytes w32 region.start) ++ codes ":" ++ decimal region.count
+region_text region = eight_digits region.start ++ codes ":" ++ decimal region.count
 
 abbrev pub quoted : List ℕ → List ℕ
 quoted text = codes "\"" ++ text ++ codes "\""

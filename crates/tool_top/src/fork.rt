@@ -5,7 +5,7 @@ ghost use Rattle.tool_top.specs.Programs.{image_of};
 ghost use Rattle.tool_top.specs.Symbolic.{IsOpen, IsBranch, answers};
 ghost use Rattle.tool_top.specs.Forks.{IsForked};
 
-use crate::ends::Choice;
+use crate::choice::Choice;
 use crate::program::Program;
 use crate::symbolic::State;
 use std::alloc::{AllocError as NoMemory, Global};

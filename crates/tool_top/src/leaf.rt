@@ -2,7 +2,8 @@
 
 ghost use Rattle.std.specs.Prelude.{◌≡◌};
 
-use crate::ends::{Choice, PathStep, Trap};
+use crate::choice::Choice;
+use rv_decode::{PathStep, Trap};
 use bv_dag::Query;
 use std::marker::Model;
 

@@ -3,22 +3,37 @@
 ghost use Rattle.std.specs.Prelude.{◌≡◌, ◌++◌, OnOk, IfOk, string_bytes, length, codes};
 ghost use Rattle.std.specs.List.{flat_map};
 ghost use Rattle.tool_top.specs.LeafParts.{comments, definitions};
-ghost use Rattle.tool_top.specs.LeafText.{choices_line, path_line, path_text, choices_text, steps_line, end_line, end_name, counts_lines, input_line, input_lines, base_line, node_line, node_lines, status_line, output_line, output_lines, assert_line, leaf_text};
+ghost use Rattle.tool_top.specs.LeafText.{choices_line, path_line, path_text, step_text, choices_text, steps_line, end_line, end_name, counts_lines, input_line, input_lines, base_line, node_line, node_lines, status_line, output_line, output_lines, assert_line, leaf_text};
 
-use crate::ends::{Choice, PathStep};
+use crate::choice::Choice;
+use rv_decode::PathStep;
 use crate::leaf::{Leaf, LeafEnd};
-use crate::names::{letter_of_choice, letter_of_step, name_of_trap};
+use crate::names::letter_of_choice;
 use crate::node_text::write_node;
 use bv_dag::{Dag, Node};
 use std::alloc::{AllocError as NoMemory, Global};
 use tool_io::Bytes;
 
-/// Appends a letter for each entry of a path.
-pub fn write_path(text: &mut String, path: &[PathStep]) -> Result<(), NoMemory>
+/// Appends an entry of a path.
+fn write_step(alloc: Global, text: &mut String, step: PathStep) -> Result<(), NoMemory>
+    ensures { OnOk result (string_bytes text.new ≡ string_bytes text.old ++ step_text step) }
+{
+    match step {
+        PathStep::Taken => text.push_str("T"),
+        PathStep::NotTaken => text.push_str("N"),
+        PathStep::Target(target) => {
+            let digits = hex::encode(alloc, &target.to_be_bytes())?;
+            write!(text, "@{digits}")
+        }
+    }
+}
+
+/// Appends the entries of a path, with nothing between.
+pub fn write_path(alloc: Global, text: &mut String, path: &[PathStep]) -> Result<(), NoMemory>
     ensures { OnOk result (string_bytes text.new ≡ string_bytes text.old ++ path_text path.now) }
 {
     for step in path {
-        text.push_str(letter_of_step(*step))?;
+        write_step(alloc, text, *step)?;
     }
     Ok(())
 }
@@ -44,11 +59,11 @@ fn write_choices_line(text: &mut String, choices: &[Choice]) -> Result<(), NoMem
 }
 
 /// Appends the line of the path.
-fn write_path_line(text: &mut String, path: &[PathStep]) -> Result<(), NoMemory>
+fn write_path_line(alloc: Global, text: &mut String, path: &[PathStep]) -> Result<(), NoMemory>
     ensures { OnOk result (string_bytes text.new ≡ string_bytes text.old ++ path_line path.now) }
 {
     text.push_str("; path ")?;
-    write_path(text, path)?;
+    write_path(alloc, text, path)?;
     text.push_str(".\n")?;
     Ok(())
 }
@@ -59,7 +74,7 @@ fn name_of_end(end: LeafEnd) -> &'static str
 {
     match end {
         LeafEnd::Exits { .. } => "exit",
-        LeafEnd::Traps(trap) => name_of_trap(trap),
+        LeafEnd::Traps(trap) => trap.name(),
     }
 }
 
@@ -162,12 +177,12 @@ fn write_counts(
 }
 
 /// Appends what the leaf is: its kind, choices, path, steps and end, and how much follows.
-fn write_comments(text: &mut String, leaf: &Leaf) -> Result<(), NoMemory>
+fn write_comments(alloc: Global, text: &mut String, leaf: &Leaf) -> Result<(), NoMemory>
     ensures { OnOk result (string_bytes text.new ≡ string_bytes text.old ++ comments leaf.now) }
 {
     text.push_str("; rvklee leaf 1\n; kind finished\n")?;
     write_choices_line(text, &leaf.choices)?;
-    write_path_line(text, &leaf.path)?;
+    write_path_line(alloc, text, &leaf.path)?;
     write!(text, "; steps {}\n", leaf.steps)?;
     write!(text, "; end {}\n", name_of_end(leaf.end))?;
     let dag = leaf.condition.dag();
@@ -194,7 +209,7 @@ pub fn print_leaf(alloc: Global, leaf: &Leaf) -> Result<Bytes, NoMemory>
     ensures { IfOk result (λ text. text ≡ leaf_text leaf.now) }
 {
     let mut text = String::new(alloc);
-    write_comments(&mut text, leaf)?;
+    write_comments(alloc, &mut text, leaf)?;
     write_definitions(&mut text, leaf)?;
     write_asserted(&mut text, leaf.condition.asserted())?;
     text.push_str("(check-sat)\n(exit)\n")?;

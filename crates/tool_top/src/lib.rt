@@ -3,9 +3,8 @@
 
 mod build;
 mod carry;
-mod ends;
+mod choice;
 mod fork;
-mod instr;
 mod leaf;
 mod leaf_text;
 mod names;
@@ -28,8 +27,7 @@ mod walk;
 mod words;
 mod work;
 
-pub use ends::{Choice, End, PathStep, Trap};
-pub use instr::{Instr, Register, decode};
+pub use choice::Choice;
 pub use leaf::{Leaf, LeafEnd};
 pub use leaf_text::print_leaf;
 pub use part::LeafPart;

@@ -1,13 +1,12 @@
 //! The programs that are taken.
 
 ghost use Rattle.std.specs.Prelude.{◌≡◌, ◌≤◌, ◌<◌, ◌+◌, ◌%◌, ◌/◌, ◌*◌, ◌^◌, List, ℕ, length, slice_index, IfOk, IfSome, IfNone, IsOk, IsTrue};
-ghost use Rattle.tool_top.specs.Instructions.{instr};
+ghost use Rattle.rv_decode.specs.Instructions.{instr};
 ghost use Rattle.tool_top.specs.Machine.{word_at, can_execute, fetch};
 ghost use Rattle.tool_top.specs.Programs.{HasShape, IsProgram, flags_of, image_of, code_start, data_start};
 ghost use Rattle.tool_top.specs.Tame.{IsTame};
 
-use crate::ends::Trap;
-use crate::instr::{Instr, decode};
+use rv_decode::{Instr, Trap, decode};
 use crate::row_file::{
     CODE_FLAGS, CODE_OFFSET, CODE_START, DATA_FLAGS, DATA_START, read_words, row_file,
 };

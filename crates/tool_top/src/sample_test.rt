@@ -6,7 +6,7 @@ ghost use Rattle.tool_top.specs.Samples.{IsByteEnd, end_in};
 ghost use Rattle.tool_top.specs.Programs.{regions};
 ghost use Rattle.tool_top.specs.Reports.{IsTestable, test_of};
 
-use crate::ends::End;
+use rv_decode::End;
 use crate::leaf::LeafEnd;
 use crate::part::LeafPart;
 use crate::region::Region;

@@ -1,10 +1,10 @@
 //! The shape of the programs that are taken.
 
 ghost use Rattle.std.specs.Prelude.{◌≡◌, IsTrue, ◌↔◌, All};
-ghost use Rattle.tool_top.specs.Instructions.{instr};
+ghost use Rattle.rv_decode.specs.Instructions.{instr};
 ghost use Rattle.tool_top.specs.Programs.{IsAllowed, HasShape};
 
-use crate::instr::{Instr, decode};
+use rv_decode::{ImmediateOp, Instr, Test, decode};
 
 /// The first word, LUI x5, 0x11000: x5 points to the input byte.
 const FIRST: u32 = 0x0001_12B7;
@@ -20,12 +20,23 @@ fn is_allowed(instruction: Instr) -> bool
     ensures { IsTrue result ↔ IsAllowed (Some instruction) }
 {
     match instruction {
-        Instr::Addi { rd, rs1, immediate } => {
-            rs1.index() == 0 && rd.index() != 7 && (rd.index() != 17 || immediate == 93)
+        Instr::Immediate { op, rd, rs1, immediate } => {
+            op == ImmediateOp::Addi && rs1.index() == 0 && rd.index() != 7 && (rd.index() != 17 || immediate == 93)
         }
-        Instr::Beq { offset, .. } => 0 < offset && offset < 1 << 31 && offset % 4 == 0,
+        Instr::Branch { test, offset, .. } => {
+            test == Test::Beq && 0 < offset && offset < 1 << 31 && offset % 4 == 0
+        }
         Instr::Ecall => true,
-        Instr::Lui { .. } | Instr::Lbu { .. } => false,
+        Instr::Lui { .. }
+        | Instr::Auipc { .. }
+        | Instr::Jal { .. }
+        | Instr::Jalr { .. }
+        | Instr::Load { .. }
+        | Instr::Store { .. }
+        | Instr::ShiftImmediate { .. }
+        | Instr::Binary { .. }
+        | Instr::Fence
+        | Instr::Ebreak => false,
     }
 }
 

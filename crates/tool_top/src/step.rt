@@ -1,13 +1,15 @@
 //! One instruction of a symbolic run: the cases are those of the machine, over numbers and terms.
 
 ghost use Rattle.std.specs.Prelude.{◌≡◌, ◌≢◌, ◌≤◌, ◌<◌, ◌^◌, ◌%◌, ◌==◌, ℕ, List, length, IfOk};
-ghost use Rattle.tool_top.specs.Machine.{IsAssignment, next, execute, load_byte, branch, sum32, x};
+ghost use Rattle.rv_decode.specs.declared.ops.LoadWidth.TheVariants.{Lbu};
+ghost use Rattle.tool_top.specs.Arithmetic.{sum32};
+ghost use Rattle.tool_top.specs.Machine as machine;
+ghost use Rattle.tool_top.specs.Machine.{IsAssignment, next, execute, branch, x};
 ghost use Rattle.tool_top.specs.Programs.{image_of, regions, data_start};
 ghost use Rattle.tool_top.specs.Symbolic.{IsOpen, Stepped, concrete};
 ghost use Rattle.tool_top.specs.Tame.{IsTame};
 
-use crate::ends::Trap;
-use crate::instr::{Instr, Register};
+use rv_decode::{Instr, Register, Trap};
 use crate::leaf::LeafEnd;
 use crate::program::{PAGE, Program};
 use crate::row_file::DATA_START;
@@ -27,7 +29,7 @@ fn load(
     requires to { rd ≡ 7 }
     requires from { rs1 ≡ 5 }
     requires loads { (input : List ℕ) → IsAssignment regions input → next (concrete (image_of program.now) state.old input)
-        ≡ load_byte (concrete (image_of program.now) state.old input) rd (sum32 (x (concrete (image_of program.now) state.old input) rs1) offset) }
+        ≡ machine.load (concrete (image_of program.now) state.old input) Lbu rd (sum32 (x (concrete (image_of program.now) state.old input) rs1) offset) }
     ensures { IfOk result (Stepped (image_of program.now) state.old state.new) }
 {
     let address = state.number(rs1).wrapping_add(offset);
@@ -89,18 +91,26 @@ fn execute(program: &Program, state: &mut State, instr: Instr) -> Result<Step, N
             state.write(rd, Value::Number(upper));
             Ok(Step::Running)
         }
-        Instr::Lbu { rd, rs1, offset } => load(program, state, rd, rs1, offset),
-        Instr::Addi { rd, rs1, immediate } => {
+        Instr::Load { rd, rs1, offset, .. } => load(program, state, rd, rs1, offset),
+        Instr::Immediate { rd, rs1, immediate, .. } => {
             let sum = state.number(rs1).wrapping_add(immediate);
             state.write(rd, Value::Number(sum));
             Ok(Step::Running)
         }
-        Instr::Beq { rs1, rs2, offset } => compare(program, state, rs1, rs2, offset),
+        Instr::Branch { rs1, rs2, offset, .. } => compare(program, state, rs1, rs2, offset),
         Instr::Ecall => {
             let end = state.call()?;
             state.count_step();
             Ok(Step::Ended(end))
         }
+        Instr::Auipc { .. }
+        | Instr::Jal { .. }
+        | Instr::Jalr { .. }
+        | Instr::Store { .. }
+        | Instr::ShiftImmediate { .. }
+        | Instr::Binary { .. }
+        | Instr::Fence
+        | Instr::Ebreak => unreachable!(),
     }
 }
 

@@ -7,8 +7,9 @@ ghost use Rattle.tool_top.specs.Symbolic.{set_value, value_at, worth_of, with_te
 ghost use Rattle.tool_top.specs.declared.symbolic.Value.TheVariants.{Number};
 
 use crate::build;
-use crate::ends::{Choice, PathStep, Trap};
-use crate::instr::Register;
+use crate::choice::Choice;
+use rv_decode::{PathStep, Trap};
+use rv_decode::Register;
 use crate::leaf::LeafEnd;
 use crate::question::find_byte;
 use bv_dag::Dag;

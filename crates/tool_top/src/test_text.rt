@@ -6,9 +6,8 @@ ghost use Rattle.hex.specs.Hex.{encode_lower};
 ghost use Rattle.tool_top.specs.TestParts.{further_region};
 ghost use Rattle.tool_top.specs.Tests.{end_text, quoted, quoted_all, region_text, region_texts, test_text};
 
-use crate::ends::{End, PathStep};
+use rv_decode::{End, PathStep};
 use crate::leaf_text::write_path;
-use crate::names::name_of_trap;
 use crate::region::Region;
 use std::alloc::{AllocError as NoMemory, Global};
 use std::marker::Model;
@@ -51,7 +50,7 @@ fn write_end(text: &mut String, end: End) -> Result<(), NoMemory>
     match end {
         End::Exit(status) => write!(text, "exit {status}"),
         End::Trapped(trap) => {
-            let name = name_of_trap(trap);
+            let name = trap.name();
             write!(text, "trap {name}")
         }
     }
@@ -112,7 +111,7 @@ pub fn write_test(alloc: Global, test: &Test) -> Result<Bytes, NoMemory>
     write!(text, "\",\"leaf\":{},\"output\":\"", test.leaf)?;
     write_hex(alloc, &mut text, test.output.as_slice())?;
     text.push_str("\",\"path\":\"")?;
-    write_path(&mut text, &test.path)?;
+    write_path(alloc, &mut text, &test.path)?;
     text.push_str("\",\"regions\":[")?;
     write_regions(alloc, &mut text, &test.regions)?;
     write!(text, "],\"steps\":{}}}\n", test.steps)?;
