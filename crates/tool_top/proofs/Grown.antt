@@ -5,14 +5,10 @@ use Rattle.std.specs.List.{list_all}
 use Rattle.std.proofs.lemmas.List.Elements.{All-head, All-tail}
 use Rattle.bv_dag.specs.Graphs.{Graph, number_of, width_of}
 use Rattle.bv_dag.specs.Queries.{AreBits, holds}
-use Rattle.bv_dag.proofs.Fitting.{has_place}
+use Rattle.bv_dag.proofs.TermLaws.{there}
 use Rattle.tool_top.specs.Symbolic.{Grows, IsWide, worth_of}
 use Rattle.tool_top.specs.declared.symbolic.Value.{Value}
 use Rattle.tool_top.specs.declared.symbolic.Value.TheVariants.{Number, Term}
-
--- what has a width is there
-pub there : (g : Graph) (id w : ℕ) → width_of g id ≡ w → 0 < w → id < length g.nodes
-there g id w is some = has_place g.nodes id (omega (arith, is, some))
 
 pub worth_of-grown : (g h : Graph) (input : List ℕ) (v : Value) → Grows g h → IsWide g v → worth_of h input v ≡ worth_of g input v
 worth_of-grown g h input (Number n) grows wide = refl
