@@ -1,6 +1,8 @@
 -- A graph with one more node.
-use Rattle.std.proofs.Common.{◌≡◌, ℕ, ◌-◌, ◌^◌, List, [], ◌∷◌, length, refl, ap, ◌∙◌, arith, length-append}
+use Rattle.std.proofs.Common.{◌≡◌, ℕ, ◌-◌, ◌^◌, List, [], ◌∷◌, length, take, refl, sym, ap, ◌∙◌, arith, length-append}
 use Rattle.std.specs.Prelude.{Result, Ok, Err, OnOk, IfOk}
+use Rattle.std.proofs.lemmas.List.{take-take, take_all}
+use Rattle.std.proofs.Math.Seq.{take-append_seam}
 use Rattle.bv_dag.specs.BitVectors.{BitVector, bvnot}
 use Rattle.bv_dag.specs.Graphs.{Graph, IsDag, with_node, val, number_of, width_of}
 use Rattle.bv_dag.specs.Nodes.{Fits, node_value, node_width, widths_of}
@@ -13,18 +15,27 @@ Grows-with_node g n dag fits = record {
   dag = IsDag-with_node g n dag fits;
   same_inputs = refl;
   longer = omega (arith, length-append g.nodes (n ∷ []));
+  front = take-append_seam g.nodes (n ∷ []);
   same_width = λ id there. width_of-with_node g n id there;
   same_number = λ id there input. number_of-with_node g n id input there;
 }
 
 pub Grows-none : (g : Graph) → IsDag g → Grows g g
-Grows-none g dag = record { dag = dag; same_inputs = refl; longer = omega arith; same_width = λ _ _. refl; same_number = λ _ _ _. refl }
+Grows-none g dag = record {
+  dag = dag;
+  same_inputs = refl;
+  longer = omega arith;
+  front = take_all (length g.nodes) g.nodes (omega arith);
+  same_width = λ _ _. refl;
+  same_number = λ _ _ _. refl;
+}
 
 pub Grows-trans : (f g h : Graph) → Grows f g → Grows g h → Grows f h
 Grows-trans f g h first second = record {
   dag = second.dag;
   same_inputs = second.same_inputs ∙ first.same_inputs;
   longer = omega (arith, first.longer, second.longer);
+  front = sym (take-take (length f.nodes) (length g.nodes) h.nodes first.longer) ∙ ap (take (length f.nodes)) second.front ∙ first.front;
   same_width = λ id there. second.same_width id (omega (arith, there, first.longer)) ∙ first.same_width id there;
   same_number = λ id there input. second.same_number id (omega (arith, there, first.longer)) input ∙ first.same_number id there input;
 }
