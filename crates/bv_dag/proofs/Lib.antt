@@ -6,3 +6,4 @@ pub mod DagRules
 pub mod Same
 pub mod Meaning
 pub mod AllOnes
+pub mod TermLaws

@@ -1,6 +1,6 @@
 //! Terms in a row.
 
-ghost use Rattle.std.specs.Prelude.{◌≡◌, ◌↔◌, ◌<◌, ◌≤◌, [], IsTrue, IfOk, OnOk, OnErr, Some, length, slice_get};
+ghost use Rattle.std.specs.Prelude.{◌≡◌, ◌↔◌, ◌<◌, ◌≤◌, [], IsTrue, IfOk, OnOk, OnErr, Some, length, take, slice_get};
 ghost use Rattle.bv_dag.specs.Nodes.{Fits, values, widths_of};
 ghost use Rattle.bv_dag.specs.Graphs.{AllFit};
 
@@ -102,6 +102,14 @@ impl Dag {
         self.nodes.push(node)?;
         self.widths.push(width).unwrap();
         Ok(id)
+    }
+
+    /// Keeps the first `len` terms, or all where there are no more.
+    pub fn truncate(&mut self, len: usize)
+        ensures { self.new ≡ record { inputs = self.old.inputs; nodes = take len self.old.nodes } }
+    {
+        self.nodes.truncate(len);
+        self.widths.truncate(len);
     }
 
     #[tactic(auto, using(crate::proofs::DagRules::widths))]

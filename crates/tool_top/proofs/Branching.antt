@@ -66,7 +66,7 @@ stepped_branch image s g rs1 rs2 offset term was grows bit in_code some small al
     let goes : IsForward s.pc offset = forward_target s.pc offset in_code was.aligned some small aligned in (
       open_grown image s g was grows,
       same_grown image s g was grows,
-      refl,
+      record { same = refl; grows = grows },
       record {
         bit = bit;
         small = λ input. rw (tells input) (bit_small _);

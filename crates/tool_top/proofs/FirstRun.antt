@@ -6,7 +6,7 @@ use Rattle.std.proofs.lemmas.List.{get_or_past}
 use Rattle.std.proofs.lemmas.List.Sums.{sum_by-cons}
 use Rattle.std.proofs.lemmas.List.Elements.{All-nil, All-set, All-replicate}
 use Rattle.bv_dag.specs.Graphs.{width_of}
-use Rattle.bv_dag.proofs.Fitting.{IsDag-none}
+use Rattle.bv_dag.proofs.TermLaws.{IsDag-none}
 use Rattle.tool_top.specs.Machine.{IsAssignment, run_from}
 use Rattle.tool_top.specs.Leaves.{Leaf, covers}
 use Rattle.tool_top.specs.Programs.{image_of, regions}

@@ -1,18 +1,14 @@
 -- What stays where the terms of a symbolic run grow.
-use Rattle.std.proofs.Common.{◌≡◌, ℕ, ◌<◌, ◌&&◌, List, [], ◌∷◌, get_or, length, map, refl, ap, ◌∙◌, arith}
+use Rattle.std.proofs.Common.{◌≡◌, ℕ, ◌<◌, ◌&&◌, List, [], ◌∷◌, get_or, length, map, take, refl, ap, ◌∙◌, arith}
 use Rattle.std.specs.Prelude.{◌==◌, All, Result, Ok, Err, IfOk, if◌then◌else◌}
 use Rattle.std.specs.List.{list_all}
 use Rattle.std.proofs.lemmas.List.Elements.{All-head, All-tail}
 use Rattle.bv_dag.specs.Graphs.{Graph, number_of, width_of}
 use Rattle.bv_dag.specs.Queries.{AreBits, holds}
-use Rattle.bv_dag.proofs.Fitting.{has_place}
-use Rattle.tool_top.specs.Symbolic.{Grows, IsWide, worth_of}
+use Rattle.bv_dag.proofs.TermLaws.{there}
+use Rattle.tool_top.specs.Symbolic.{Symbolic, Grows, IsGrown, IsWide, worth_of, with_terms, front_of, cut_back}
 use Rattle.tool_top.specs.declared.symbolic.Value.{Value}
 use Rattle.tool_top.specs.declared.symbolic.Value.TheVariants.{Number, Term}
-
--- what has a width is there
-pub there : (g : Graph) (id w : ℕ) → width_of g id ≡ w → 0 < w → id < length g.nodes
-there g id w is some = has_place g.nodes id (omega (arith, is, some))
 
 pub worth_of-grown : (g h : Graph) (input : List ℕ) (v : Value) → Grows g h → IsWide g v → worth_of h input v ≡ worth_of g input v
 worth_of-grown g h input (Number n) grows wide = refl
@@ -60,3 +56,16 @@ equal-grown f g h k u v left right (Ok id) first second wide width is_left is_ri
     same input
     ∙ ap (λ n. if n == number_of h right input then 1 else 0) (number_of-grown g h left 32 input second width (omega arith) ∙ is_left input)
     ∙ ap (λ n. if worth_of f input u == n then 1 else 0) (is_right input ∙ worth_of-grown f g input v first wide)
+
+-- a run that has only more terms is where it was
+pub same_pc : (s t : Symbolic) → IsGrown s t → t.pc ≡ s.pc
+same_pc s t grown = ap (λ (r : Symbolic). r.pc) grown.same
+
+-- without them it is the run before
+front_before : (g h : Graph) (len : ℕ) → Grows g h → len ≡ length g.nodes → front_of h len ≡ g
+front_before g h len grows is =
+    ap {B = Graph} (λ n. record { inputs = n; nodes = take len h.nodes }) grows.same_inputs
+    ∙ ap {B = Graph} (λ ns. record { inputs = g.inputs; nodes = ns }) (ap (λ k. take k h.nodes) is ∙ grows.front)
+
+pub run_before : (s t : Symbolic) (len : ℕ) → IsGrown s t → len ≡ length s.terms.nodes → cut_back t len ≡ s
+run_before s t len grown is = ap (with_terms t) (front_before s.terms t.terms len grown.grows is) ∙ ap (λ (r : Symbolic). with_terms r s.terms) grown.same

@@ -1,20 +1,16 @@
-use Rattle.std.proofs.Common.{◌≡◌, ◌∙◌, ℕ, List, get_or, ap, sym, subst}
+use Rattle.std.proofs.Common.{◌≡◌, ◌∙◌, ℕ, List, get_or, sym, subst}
 use Rattle.std.specs.List.{All}
 use Rattle.bv_dag.specs.BitVectors.{BitVector}
 use Rattle.bv_dag.specs.Graphs.{Graph, width_of}
 use Rattle.bv_dag.specs.Nodes.{values, word_at}
-use Rattle.bv_dag.proofs.Values.{width-word_at, map-width-values}
+use Rattle.bv_dag.proofs.TermLaws.{width-val}
 use Rattle.tool_top.specs.Reports.{EndsByByte}
 use Rattle.tool_top.specs.Samples.{IsByteEnd}
 use Rattle.tool_top.specs.declared.leaf.LeafEnd.{LeafEnd}
 use Rattle.tool_top.specs.declared.leaf.LeafEnd.TheVariants.{Exits, Traps}
 
--- a word is as wide as its term
-pub width_of_word : (graph : Graph) (input : List ℕ) (id : ℕ) → (word_at (values input graph.nodes) id).width ≡ width_of graph id
-width_of_word graph input id = width-word_at (values input graph.nodes) id ∙ ap (λ ws. get_or ws id 0) (map-width-values input graph.nodes)
-
 byte_end_here : (graph : Graph) (input : List ℕ) (end : LeafEnd) → EndsByByte graph end → IsByteEnd (values input graph.nodes) end
-byte_end_here graph input (Exits status) h = width_of_word graph input status ∙ h
+byte_end_here graph input (Exits status) h = width-val graph status input ∙ h
 byte_end_here graph input (Traps trap) h = h
 
 -- a byte among the words ends it, if anything does
@@ -28,4 +24,4 @@ pub byte_words : (graph : Graph) (input : List ℕ) (ids : List ℕ) (words : Li
     words ≡ values input graph.nodes → same ≡ ids → All (λ id. width_of graph id ≡ 8) ids → All (λ id. (word_at words id).width ≡ 8) same
 byte_words graph input ids words same e e' h =
     subst (λ (ws : List BitVector). All (λ id. (word_at ws id).width ≡ 8) same) (sym e)
-    (subst (λ (ks : List ℕ). All (λ id. (word_at (values input graph.nodes) id).width ≡ 8) ks) (sym e') (λ k d below. width_of_word graph input (get_or ids k d) ∙ h k d below))
+    (subst (λ (ks : List ℕ). All (λ id. (word_at (values input graph.nodes) id).width ≡ 8) ks) (sym e') (λ k d below. width-val graph (get_or ids k d) input ∙ h k d below))

@@ -3,12 +3,12 @@ use Rattle.std.proofs.Common.{◌≡◌, ℕ, zero, suc, ◌+◌, ◌-◌, ◌<�
 use Rattle.std.specs.Prelude.{◌==◌, not}
 use Rattle.std.proofs.lemmas.Bool.Decides.{nat_tests}
 use Rattle.bv_dag.specs.Graphs.{Graph, number_of, width_of}
-use Rattle.tool_top.specs.Machine.{Image, IsAssignment, branch}
+use Rattle.tool_top.specs.Machine.{Image, IsAssignment, next, branch}
 use Rattle.tool_top.specs.Programs.{regions, data_start}
-use Rattle.tool_top.specs.Symbolic.{Symbolic, Grows, concrete, meets, with_terms, branched, narrowed, is_side, answers, one_if, IsOpen, IsBranch, IsSplit}
+use Rattle.tool_top.specs.Symbolic.{Symbolic, Grows, concrete, meets, with_terms, branched, narrowed, is_side, answers, one_if, IsOpen, IsSame, IsBranch, IsSplit}
 use Rattle.tool_top.specs.declared.choice.Choice.TheVariants.{No, Yes}
 use Rattle.tool_top.proofs.Grown.{holds-grown, number_of-grown}
-use Rattle.tool_top.proofs.Forking.{open_grown, branch_grown, open_narrowed, open_branched, meets-narrowed}
+use Rattle.tool_top.proofs.Forking.{concrete-grown, open_grown, branch_grown, open_narrowed, open_branched, meets-narrowed}
 
 -- An assignment is one byte.
 pub record IsByte (input : List ℕ) : Type 0 where
@@ -57,10 +57,22 @@ one_side s term side none input assigned meeting =
     let met : meets s (one.byte ∷ []) ≡ true = ap (meets s) (sym one.is) ∙ meeting in
     ap (λ i. number_of s.terms term i == 1) one.is ∙ other_side side (number_of s.terms term (one.byte ∷ [])) (second_false (meets s (one.byte ∷ [])) _ (none one.byte one.small) met)
 
-pub open_one : (image : Image) (s : Symbolic) (term target : ℕ) (side : Bool) → IsOpen image s → IsBranch image s term target → ((byte : ℕ) → byte < 256 → answers s.terms s.condition term (not side) (byte ∷ []) ≡ false) → IsOpen image (branched s side target)
-open_one image s term target side was at none =
+-- The run goes on along it without the terms that were made to ask.
+pub open_one : (image : Image) (s : Symbolic) (g : Graph) (term target : ℕ) (side : Bool) → IsOpen image s → Grows s.terms g → IsBranch image (with_terms s g) term target → ((byte : ℕ) → byte < 256 → answers g s.condition term (not side) (byte ∷ []) ≡ false) → IsOpen image (branched s side target)
+open_one image s g term target side was grows at none =
     open_branched image s side target was at.in_code at.forward at.target_aligned (λ input assigned meeting.
-    at.branches input assigned meeting ∙ ap (λ t. branch (concrete image s input) t target) (one_side s term side none input assigned meeting))
+    let met : meets (with_terms s g) input ≡ true = holds-grown s.terms g s.condition input grows was.bits ∙ meeting in
+    let same : concrete image (with_terms s g) input ≡ concrete image s input = concrete-grown image s g input was grows in
+    ap next (sym same)
+    ∙ at.branches input assigned met
+    ∙ ap (λ t. branch t (number_of g term input == 1) target) same
+    ∙ ap (λ t. branch (concrete image s input) t target) (one_side (with_terms s g) term side none input assigned met))
+
+pub same_one : (image : Image) (s : Symbolic) (g : Graph) (side : Bool) (target : ℕ) → IsOpen image s → Grows s.terms g → IsSame (with_terms s g) (branched s side target)
+same_one image s g side target was grows = record {
+  same_choices = refl;
+  same_cover = λ input assigned. sym (holds-grown s.terms g s.condition input grows was.bits);
+}
 
 pub later_one : (s : Symbolic) (side : Bool) (target : ℕ) → s.pc < data_start → s.pc + 4 ≤ target → s.pc < (branched s side target).pc
 later_one s true target below forward = omega arith

@@ -1,5 +1,5 @@
 -- What a symbolic run stands for. Only private functions speak of this: no promise of the tool does.
-use Rattle.std.specs.Prelude.{◌≡◌, ◌≢◌, ℕ, ◌+◌, ◌*◌, ◌%◌, ◌^◌, ◌==◌, ◌<◌, ◌≤◌, ◌⊎◌, ◌&&◌, not, Bool, true, false, if◌then◌else◌, List, [], ◌∷◌, ◌++◌, All, length, map, replicate, slice_index_or, slice_set, None, IsTrue, count_by}
+use Rattle.std.specs.Prelude.{◌≡◌, ◌≢◌, ℕ, ◌+◌, ◌*◌, ◌%◌, ◌^◌, ◌==◌, ◌<◌, ◌≤◌, ◌⊎◌, ◌&&◌, not, Bool, true, false, if◌then◌else◌, List, [], ◌∷◌, ◌++◌, All, length, map, take, replicate, slice_index_or, slice_set, None, IsTrue, count_by}
 use Rattle.bv_dag.specs.Graphs.{Graph, IsDag, number_of, width_of}
 use Rattle.bv_dag.specs.Queries.{Condition, AreBits, holds}
 use Rattle.tool_io.specs.Told.{IsPrefix}
@@ -76,6 +76,7 @@ pub record Grows (old new : Graph) : Type 0 where
   pub dag : IsDag new
   pub same_inputs : new.inputs ≡ old.inputs
   pub longer : length old.nodes ≤ length new.nodes
+  pub front : take (length old.nodes) new.nodes ≡ old.nodes
   pub same_width : (id : ℕ) → id < length old.nodes → width_of new id ≡ width_of old id
   pub same_number : (id : ℕ) → id < length old.nodes → (input : List ℕ) → number_of new id input ≡ number_of old id input
 
@@ -99,6 +100,19 @@ pub record IsOpen (image : Image) (s : Symbolic) : Type 0 where
 -- with more terms
 abbrev pub with_terms : Symbolic → Graph → Symbolic
 with_terms s terms = record s { terms = terms }
+
+-- the first terms alone
+abbrev pub front_of : Graph → ℕ → Graph
+front_of terms len = record { inputs = terms.inputs; nodes = take len terms.nodes }
+
+-- with the first terms alone
+abbrev pub cut_back : Symbolic → ℕ → Symbolic
+cut_back s len = with_terms s (front_of s.terms len)
+
+-- it is the same run, with more terms
+pub record IsGrown (old new : Symbolic) : Type 0 where
+  pub same : new ≡ with_terms old new.terms
+  pub grows : Grows old.terms new.terms
 
 -- one step on, with a register written
 abbrev pub onward_to : Symbolic → Graph → ℕ → Value → Symbolic
@@ -239,7 +253,7 @@ first_run = record {
 -- what one instruction leads to: it has gone on, it is at a branch that was not yet carried out, or all its runs have ended
 abbrev pub Stepped : Image → Symbolic → Symbolic → Step → Type 0
 Stepped image old new Running = IsOpen image new × IsSame old new × IsFurther old new
-Stepped image old new (Branch term target) = IsOpen image new × IsSame old new × (new.pc ≡ old.pc) × IsBranch image new term target
+Stepped image old new (Branch term target) = IsOpen image new × IsSame old new × IsGrown old new × IsBranch image new term target
 Stepped image old new (Ended end) = IsEnding image new end × IsSame old new
 
 -- how a call ends the runs: with the low byte of x10, or as a call that there isn't

@@ -3,7 +3,7 @@
 ghost use Rattle.std.specs.Prelude.{◌≡◌, ◌==◌, ◌+◌, ◌-◌, ◌%◌, ◌<◌, ◌^◌, ℕ, true, false, List, [], ◌∷◌, All, length, slice_index, IfOk, OnOk, IfSome, IfNone, if◌then◌else◌};
 ghost use Rattle.bv_dag.specs.Graphs.{IsDag, width_of, number_of};
 ghost use Rattle.bv_dag.specs.Queries.{AreBits};
-ghost use Rattle.tool_top.specs.Symbolic.{set_value, value_at, worth_of, with_terms, onward_to, branched, narrowed, Grows, IsNumber, IsWide, EndsCall, answers};
+ghost use Rattle.tool_top.specs.Symbolic.{set_value, value_at, worth_of, with_terms, cut_back, onward_to, branched, narrowed, Grows, IsNumber, IsWide, EndsCall, answers};
 ghost use Rattle.tool_top.specs.declared.symbolic.Value.TheVariants.{Number};
 
 use crate::build;
@@ -238,6 +238,13 @@ impl State {
         let value = self.value(Register::new(10));
         let status = build::byte_of(&mut self.terms, value)?;
         Ok(LeafEnd::Exits { status })
+    }
+
+    /// Keeps the first `len` terms. The caller sees to it that no register and no condition names another.
+    pub fn cut_back(&mut self, len: usize)
+        ensures { self.new ≡ cut_back self.old len }
+    {
+        self.terms.truncate(len);
     }
 
     /// Narrows to one side of a fork, on which this term of one bit is 1.

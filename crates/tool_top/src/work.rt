@@ -49,11 +49,12 @@ pub fn work(alloc: Global, program: &Program, state: State) -> Result<Parts, NoM
 {
     let mut state = state;
     loop {
+        let before = state.terms.len();
         match step(program, &mut state)? {
             Step::Running => {}
             Step::Ended(end) => return Ok(Parts::Finished(finish(alloc, state, end)?)),
             Step::Branch { condition, target } => {
-                match at_branch(alloc, program, state, condition, target)? {
+                match at_branch(alloc, program, state, before, condition, target)? {
                     Forked::One(onward) => state = onward,
                     Forked::Both { no, yes } => return Ok(Parts::Kids { no, yes }),
                 }

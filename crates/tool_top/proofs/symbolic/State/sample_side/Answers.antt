@@ -1,5 +1,5 @@
 use Rattle.std.proofs.Common.{arith}
-use Rattle.tool_top.proofs.Grown.{there}
+use Rattle.bv_dag.proofs.TermLaws.{there}
 use Rattle.tool_top.proofs.symbolic.State.sample_side.Goals as goal
 
 pub eval-requires-clause-there : goal.eval-requires-clause-there
