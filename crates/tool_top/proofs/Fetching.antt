@@ -1,7 +1,7 @@
 use Rattle.std.proofs.Common.{◌≡◌, ℕ, zero, suc, ◌+◌, ◌-◌, ◌*◌, ◌/◌, ◌%◌, ◌≤◌, ◌&&◌, Bool, true, false, cond, List, length, drop, get_or, nat_le, nat_lt, ap, ◌∙◌, refl, inl, inr, subst, arith, Option, Some, None, IfSome}
 use Rattle.std.proofs.lemmas.Bool.{cases_lt}
 use Rattle.std.proofs.lemmas.List.{get_or_past, get_or-drop, length-drop}
-use Rattle.rv_decode.specs.Fields.{bits, u_immediate, i_immediate, sign_extended}
+use Rattle.rv_decode.specs.Fields.{bits}
 use Rattle.rv_decode.specs.Instructions.{instr}
 use Rattle.tool_top.specs.Machine.{can_execute}
 use Rattle.tool_top.specs.Programs.{HasShape, code_start, IsAllowed, flags_of}

@@ -1,7 +1,6 @@
 -- What the instructions compute, on numbers below 2 ^ 32: RISC-V unprivileged manual, "Integer Computational Instructions"
 -- of RV32I, and "M Extension for Integer Multiplication and Division". Signed numbers are in two's complement.
 use Rattle.std.specs.Prelude.{ℕ, ◌+◌, ◌-◌, ◌*◌, ◌/◌, ◌%◌, ◌^◌, ◌==◌, Bool, true, false, not, nat_lt, nat_le, bit_and, bit_or, bit_xor, if◌then◌else◌}
-use Rattle.rv_decode.specs.Fields.{sign_extended}
 use Rattle.rv_decode.specs.declared.ops.Test.{Test}
 use Rattle.rv_decode.specs.declared.ops.Test.TheVariants.{Beq, Bne, Blt, Bge, Bltu, Bgeu}
 use Rattle.rv_decode.specs.declared.ops.ImmediateOp.{ImmediateOp}

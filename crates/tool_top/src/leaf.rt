@@ -3,8 +3,8 @@
 ghost use Rattle.std.specs.Prelude.{◌≡◌};
 
 use crate::choice::Choice;
-use rv_decode::{PathStep, Trap};
 use bv_dag::Query;
+use rv_decode::{PathStep, Trap};
 use std::marker::Model;
 
 /// How the runs of a leaf end.

@@ -6,11 +6,11 @@ ghost use Rattle.tool_top.specs.LeafParts.{comments, definitions};
 ghost use Rattle.tool_top.specs.LeafText.{choices_line, path_line, path_text, step_text, choices_text, steps_line, end_line, end_name, counts_lines, input_line, input_lines, base_line, node_line, node_lines, status_line, output_line, output_lines, assert_line, leaf_text};
 
 use crate::choice::Choice;
-use rv_decode::PathStep;
 use crate::leaf::{Leaf, LeafEnd};
 use crate::names::letter_of_choice;
 use crate::node_text::write_node;
 use bv_dag::{Dag, Node};
+use rv_decode::PathStep;
 use std::alloc::{AllocError as NoMemory, Global};
 use tool_io::Bytes;
 

@@ -6,11 +6,11 @@ ghost use Rattle.tool_top.specs.Machine.{word_at, can_execute, fetch};
 ghost use Rattle.tool_top.specs.Programs.{HasShape, IsProgram, flags_of, image_of, code_start, data_start};
 ghost use Rattle.tool_top.specs.Tame.{IsTame};
 
-use rv_decode::{Instr, Trap, decode};
 use crate::row_file::{
     CODE_FLAGS, CODE_OFFSET, CODE_START, DATA_FLAGS, DATA_START, read_words, row_file,
 };
 use crate::shape::{MOST_WORDS, has_shape};
+use rv_decode::{Instr, Trap, decode};
 use std::alloc::{AllocError as NoMemory, Global};
 use std::marker::Model;
 

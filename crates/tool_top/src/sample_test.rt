@@ -6,12 +6,12 @@ ghost use Rattle.tool_top.specs.Samples.{IsByteEnd, end_in};
 ghost use Rattle.tool_top.specs.Programs.{regions};
 ghost use Rattle.tool_top.specs.Reports.{IsTestable, test_of};
 
-use rv_decode::End;
 use crate::leaf::LeafEnd;
 use crate::part::LeafPart;
 use crate::region::Region;
 use crate::test_text::Test;
 use bv_dag::Word;
+use rv_decode::End;
 use std::alloc::{AllocError as NoMemory, Global};
 use tool_io::Bytes;
 

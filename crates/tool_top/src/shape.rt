@@ -20,8 +20,16 @@ fn is_allowed(instruction: Instr) -> bool
     ensures { IsTrue result ↔ IsAllowed (Some instruction) }
 {
     match instruction {
-        Instr::Immediate { op, rd, rs1, immediate } => {
-            op == ImmediateOp::Addi && rs1.index() == 0 && rd.index() != 7 && (rd.index() != 17 || immediate == 93)
+        Instr::Immediate {
+            op,
+            rd,
+            rs1,
+            immediate,
+        } => {
+            op == ImmediateOp::Addi
+                && rs1.index() == 0
+                && rd.index() != 7
+                && (rd.index() != 17 || immediate == 93)
         }
         Instr::Branch { test, offset, .. } => {
             test == Test::Beq && 0 < offset && offset < 1 << 31 && offset % 4 == 0

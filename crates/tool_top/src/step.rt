@@ -9,11 +9,11 @@ ghost use Rattle.tool_top.specs.Programs.{image_of, regions, data_start};
 ghost use Rattle.tool_top.specs.Symbolic.{IsOpen, Stepped, concrete};
 ghost use Rattle.tool_top.specs.Tame.{IsTame};
 
-use rv_decode::{Instr, Register, Trap};
 use crate::leaf::LeafEnd;
 use crate::program::{PAGE, Program};
 use crate::row_file::DATA_START;
 use crate::symbolic::{State, Step, Value};
+use rv_decode::{Instr, Register, Trap};
 use std::alloc::AllocError as NoMemory;
 
 // Loads a byte into x7, from an address that x5 and the offset give.
@@ -91,13 +91,28 @@ fn execute(program: &Program, state: &mut State, instr: Instr) -> Result<Step, N
             state.write(rd, Value::Number(upper));
             Ok(Step::Running)
         }
-        Instr::Load { rd, rs1, offset, .. } => load(program, state, rd, rs1, offset),
-        Instr::Immediate { rd, rs1, immediate, .. } => {
+        Instr::Load {
+            rd,
+            rs1,
+            offset,
+            ..
+        } => load(program, state, rd, rs1, offset),
+        Instr::Immediate {
+            rd,
+            rs1,
+            immediate,
+            ..
+        } => {
             let sum = state.number(rs1).wrapping_add(immediate);
             state.write(rd, Value::Number(sum));
             Ok(Step::Running)
         }
-        Instr::Branch { rs1, rs2, offset, .. } => compare(program, state, rs1, rs2, offset),
+        Instr::Branch {
+            rs1,
+            rs2,
+            offset,
+            ..
+        } => compare(program, state, rs1, rs2, offset),
         Instr::Ecall => {
             let end = state.call()?;
             state.count_step();

@@ -8,11 +8,10 @@ ghost use Rattle.tool_top.specs.declared.symbolic.Value.TheVariants.{Number};
 
 use crate::build;
 use crate::choice::Choice;
-use rv_decode::{PathStep, Trap};
-use rv_decode::Register;
 use crate::leaf::LeafEnd;
 use crate::question::find_byte;
 use bv_dag::Dag;
+use rv_decode::{PathStep, Register, Trap};
 use std::alloc::{AllocError as NoMemory, Global};
 use std::marker::Model;
 

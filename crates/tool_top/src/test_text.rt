@@ -6,9 +6,9 @@ ghost use Rattle.hex.specs.Hex.{encode_lower};
 ghost use Rattle.tool_top.specs.TestParts.{further_region};
 ghost use Rattle.tool_top.specs.Tests.{end_text, quoted, quoted_all, region_text, region_texts, test_text};
 
-use rv_decode::{End, PathStep};
 use crate::leaf_text::write_path;
 use crate::region::Region;
+use rv_decode::{End, PathStep};
 use std::alloc::{AllocError as NoMemory, Global};
 use std::marker::Model;
 use tool_io::Bytes;
