@@ -1,0 +1,4 @@
+pub mod Region
+pub mod Command
+pub mod Job
+pub mod Seen
