@@ -1,5 +1,5 @@
 -- The regions of input bytes, as words name them.
-use Rattle.std.specs.Prelude.{ℕ, Bool, List, [], ◌∷◌, ◌&&◌, ◌==◌, length, take, drop, nat_le, Option, None, Some, if◌then◌else◌, option_map, option_and_then, slice_get}
+use Rattle.std.specs.Prelude.{ℕ, Bool, List, [], ◌∷◌, ◌&&◌, ◌==◌, length, take, drop, nat_le, Option, None, Some, if◌then◌else◌, slice_index}
 use Rattle.std.specs.Char.{is_digit}
 use Rattle.std.specs.List.{list_all}
 use Rattle.std.specs.Str.Parse.{digits_value}
@@ -18,7 +18,7 @@ region_with _ _ = None
 
 -- the colon (58) stands after eight digits and before one to four
 abbrev pub has_colon : List ℕ → Bool
-has_colon word = nat_le 10 (length word) && nat_le (length word) 13 && bytes_eq (take 1 (drop 8 word)) (codes ":")
+has_colon word = nat_le 10 (length word) && nat_le (length word) 13 && slice_index word 8 == 58
 
 -- `hhhhhhhh:n`: eight hexadecimal digits of either case, a colon, one to four decimal digits
 unfoldable pub region_of : List ℕ → Option Region

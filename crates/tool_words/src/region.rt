@@ -10,15 +10,13 @@ use elf_load::Region;
 pub(crate) fn read_region(word: &str) -> Option<Region>
     ensures { result ≡ region_of word.now }
 {
-    let (start, rest) = word.as_bytes().split_at_checked(8)?;
-    let (colon, count) = rest.split_first()?;
-    if *colon != b':' || count.is_empty() || 4 < count.len() {
+    let word = word.as_bytes();
+    if word.len() < 10 || 13 < word.len() || word[8] != b':' {
         return None;
     }
-    Some(Region {
-        start: read_number(start, 16)?,
-        count: read_number(count, 10)?,
-    })
+    let start = read_number(&word[..8], 16)?;
+    let count = read_number(&word[9..], 10)?;
+    Some(Region { start, count })
 }
 
 /// The number that the digits write in the base, or none where one of them is no digit of it.
