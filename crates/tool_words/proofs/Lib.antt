@@ -1,2 +1,6 @@
 pub mod Numbers
 pub mod Adding
+pub mod Matching
+pub mod Reading
+pub mod Exploring
+pub mod Jobs

@@ -1,8 +1,7 @@
 -- What the words of the command line ask for.
-use Rattle.std.specs.Prelude.{ℕ, List, Option, None, Some, if◌then◌else◌, codes, option_and_then}
+use Rattle.std.specs.Prelude.{ℕ, List, [], ◌∷◌, Option, None, Some, if◌then◌else◌, codes, option_and_then}
 use Rattle.std.specs.Str.{bytes_eq}
-use Rattle.clap.specs.Walk.{is_empty}
-use Rattle.clap.specs.Words.{Row, all_of, fault_of, first_of, subcommand_of}
+use Rattle.clap.specs.Words.{Kinds, Row, all_of, fault_of, first_of, subcommand_of}
 use Rattle.elf_load.specs.declared.region.Region.{Region}
 use Rattle.tool_words.specs.Command.{rvklee_command}
 use Rattle.tool_words.specs.Region.{regions_of}
@@ -26,8 +25,13 @@ abbrev pub command_job : Option (List ℕ × List Row) → Option Job
 command_job None = None
 command_job (Some (name, rows)) = if bytes_eq name (codes "explore") then explore_job rows else None
 
--- the job of these words, of which the first is the tool's name: there is one where `clap` has no
--- fault to find in them, and each INPUT names a region
+-- no job where `clap` finds a fault, a call for help among them
+abbrev pub without_fault : Kinds → Option Job → Option Job
+without_fault [] job = job
+without_fault (fault ∷ faults) job = None
+
+-- the job of these words, of which the first is the tool's name: there is one where `clap` finds no
+-- fault in them, and each INPUT names a region
 unfoldable pub job_of : List (List ℕ) → Option Job
-job_of words = if is_empty (fault_of rvklee_command words)
-    then command_job (subcommand_of rvklee_command words) else None
+job_of words = without_fault (fault_of rvklee_command words)
+    (command_job (subcommand_of rvklee_command words))
