@@ -1,7 +1,6 @@
 -- What `clap` reads of a command, from what was added to it.
 use Rattle.std.proofs.Common.{◌≡◌, ◌∙◌, ap, ap₂, false, refl, Option, Some, None}
 use Rattle.std.specs.Prelude.{IsSomeAnd}
-use Rattle.clap.specs.Simple.{Shape, app_of_fields, on_top}
 use Rattle.clap.specs.Words.{AddsArg, AddsSubcommand, App, Rule, app_of, rule_of, with_rule, with_subcommand}
 use Rattle.clap.specs.declared.builder.arg.Arg.{Arg}
 use Rattle.clap.specs.declared.builder.command.Command.{Command}

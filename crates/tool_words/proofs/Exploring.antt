@@ -1,7 +1,7 @@
 -- The job of `explore`, from what the getters of clap's matches give.
-use Rattle.std.proofs.Common.{ℕ, List, ◌≡◌, ◌∙◌, sym, codes, refl, Option, Some, None, Result, Err, option_map}
+use Rattle.std.proofs.Common.{ℕ, List, ◌≡◌, codes, refl, Option, None, Result, Err, option_map}
 use Rattle.std.specs.Prelude.{option_and_then}
-use Rattle.clap.specs.Words.{first_value, matched_of, raw_values, rows_of, first_of, all_of}
+use Rattle.clap.specs.Words.{first_value, matched_of, raw_values, rows_of}
 use Rattle.clap.specs.declared.parser.matches.Found.{Found}
 use Rattle.clap.proofs.WalkLemmas.{first_value-rows, raw_values-rows}
 use Rattle.tool_words.specs.Job.{explore_job, explore_with}

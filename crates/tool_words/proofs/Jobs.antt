@@ -1,9 +1,9 @@
 -- The job of the words, from what `clap` answers.
-use Rattle.std.proofs.Common.{ℕ, List, [], ◌∷◌, ◌≡◌, ◌≢◌, ◌∙◌, sym, ap, codes, refl, Option, Some, None, true, false, Result, Ok, Err, map, option_map, Box, Global}
+use Rattle.std.proofs.Common.{ℕ, List, [], ◌∷◌, ◌≡◌, ◌≢◌, ◌∙◌, sym, ap, codes, refl, Option, Some, None, true, false, Err, option_map, Box, Global}
 use Rattle.std.specs.Str.{bytes_eq}
 use Rattle.clap.specs.Matches.{subcommand_name_of}
 use Rattle.clap.specs.Simple.{subcommand_rows}
-use Rattle.clap.specs.Words.{Kinds, Row, fault_of, kind_of, subcommand_of, subcommand_rows_of}
+use Rattle.clap.specs.Words.{Kinds, Row, fault_of, subcommand_of, subcommand_rows_of}
 use Rattle.clap.specs.declared.error.kind.ErrorKind.{ErrorKind}
 use Rattle.clap.specs.declared.error.kind.ErrorKind.TheVariants.{OutOfMemory}
 use Rattle.clap.specs.declared.parser.matches.ArgMatches.{ArgMatches}
@@ -13,7 +13,7 @@ use Rattle.clap.specs.declared.parser.matches.ArgMatches.TheViews.{out-SubComman
 use Rattle.clap.specs.declared.parser.matches.SubCommand.{SubCommand}
 use Rattle.std.specs.Box.{box_value}
 use Rattle.tool_words.specs.Seen.{IsRead, error_of}
-use Rattle.tool_words.specs.Job.{Job, command_job, explore_job, job_of}
+use Rattle.tool_words.specs.Job.{command_job, explore_job, job_of}
 
 pub job_taken : (words : List (List ℕ)) → fault_of rvklee_command words ≡ []
     → job_of words ≡ command_job (subcommand_of rvklee_command words)

@@ -1,5 +1,5 @@
 -- Numbers of at most eight digits in a base of at most 16.
-use Rattle.std.proofs.Common.{ℕ, Bool, List, [], ◌∷◌, ◌≡◌, ◌∙◌, ◌<◌, ◌≤◌, ◌+◌, ◌-◌, ◌*◌, ◌^◌, ◌&&◌, true, false, length, length-drop, take, take_all, drop, get_or, Option, Some, None, refl, rules, arith, ap, zero, suc}
+use Rattle.std.proofs.Common.{ℕ, List, [], ◌∷◌, ◌≡◌, ◌<◌, ◌≤◌, ◌+◌, ◌-◌, ◌*◌, ◌^◌, true, false, length, length-drop, take, take_all, drop, get_or, Option, Some, None, refl, rules, arith}
 use Rattle.std.specs.Char.{digit_value, is_digit}
 use Rattle.std.specs.List.{list_all}
 use Rattle.std.specs.Str.Parse.{AllDigits, digits_value}

@@ -1,5 +1,5 @@
 -- Reading the regions in turn.
-use Rattle.std.proofs.Common.{ℕ, zero, suc, List, [], ◌∷◌, ◌++◌, ◌≡◌, ◌∙◌, ◌<◌, ◌≤◌, ◌+◌, length, drop, map, Option, Some, None, refl, sym, ap, arith, option_map, slice_index_or, append-nil, append_assoc}
+use Rattle.std.proofs.Common.{ℕ, zero, suc, List, [], ◌∷◌, ◌++◌, ◌≡◌, ◌<◌, ◌≤◌, ◌+◌, length, drop, map, Option, Some, None, refl, ap, arith, option_map, slice_index_or, append-nil, append_assoc}
 use Rattle.std.proofs.Math.ListN.{drop_of_length-le}
 use Rattle.std.specs.Borrow.{Bor}
 use Rattle.elf_load.specs.declared.region.Region.{Region}

@@ -1,7 +1,5 @@
-use Rattle.std.proofs.Common.{rules, ◌≡◌, ◌∙◌, ap, ap₂, codes, false, Some}
-use Rattle.clap.specs.Lexer.{usize_max}
+use Rattle.std.proofs.Common.{◌∙◌, ap, ap₂}
 use Rattle.clap.specs.Words.{Rule, rule_of}
-use Rattle.tool_words.specs.Command.{required_word, required_words}
 use Rattle.tool_words.proofs.Adding.{only_value}
 use Rattle.tool_words.proofs.command.required_words.Goals as goal
 

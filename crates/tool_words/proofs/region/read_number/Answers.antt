@@ -1,4 +1,4 @@
-use Rattle.std.proofs.Common.{rules, arith, ◌≡◌, ◌≤◌, ◌<◌, get_or, length, ℕ}
+use Rattle.std.proofs.Common.{rules, arith, ◌<◌, get_or}
 use Rattle.std.specs.Char.{digit_value}
 use Rattle.std.proofs.lemmas.Int.Digits.{digits_more, digits_value_more}
 use Rattle.tool_words.proofs.Numbers.{number_absent, number_there, room}

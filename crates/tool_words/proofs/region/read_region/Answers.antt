@@ -1,4 +1,4 @@
-use Rattle.std.proofs.Common.{rules, ◌≡◌, ◌∙◌, true, take, drop, Some, None, sym}
+use Rattle.std.proofs.Common.{rules, ◌≡◌, true, take, drop, Some, None}
 use Rattle.tool_words.specs.Region.{has_colon, number_of, region_of}
 use Rattle.tool_words.proofs.Numbers.{region_there, to_end}
 use Rattle.tool_words.proofs.region.read_region.Goals as goal

@@ -1,6 +1,6 @@
-use Rattle.std.proofs.Common.{rules, ◌≡◌, ◌∙◌, ap, codes, option_map, map, None, Some, Err, refl}
-use Rattle.clap.specs.Words.{found_of, rows_of}
-use Rattle.tool_words.specs.Job.{explore_job, explore_with}
+use Rattle.std.proofs.Common.{rules, ◌≡◌, ◌∙◌, ap, option_map, map, Some, Err, refl}
+use Rattle.clap.specs.Words.{found_of}
+use Rattle.tool_words.specs.Job.{explore_with}
 use Rattle.tool_words.specs.Region.{regions_of}
 use Rattle.tool_words.specs.Seen.{job_seen}
 use Rattle.tool_words.proofs.Exploring.{explore_job_is, same_error}

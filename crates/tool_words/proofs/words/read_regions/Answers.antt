@@ -1,6 +1,5 @@
-use Rattle.std.proofs.Common.{rules, ◌≡◌, ◌∙◌, sym, Err, None}
+use Rattle.std.proofs.Common.{rules, ◌≡◌, sym, Err, None}
 use Rattle.tool_words.specs.declared.job.WordsError.TheVariants.{Usage}
-use Rattle.tool_words.specs.Region.{region_of}
 use Rattle.tool_words.proofs.Reading.{all_read, none_more, one_more}
 use Rattle.tool_words.proofs.words.read_regions.Goals as goal
 

@@ -1,6 +1,5 @@
-use Rattle.std.proofs.Common.{rules, ◌≡◌, ◌∙◌, map, string_bytes, Err}
+use Rattle.std.proofs.Common.{rules, ◌≡◌, map, string_bytes, Err}
 use Rattle.clap.specs.Words.{found_of, kind_of, rows_of}
-use Rattle.tool_words.specs.Job.{explore_job, job_of}
 use Rattle.tool_words.specs.Seen.{error_of, job_seen}
 use Rattle.tool_words.proofs.Jobs.{error_read, explore_named, job_refused, none_named, other_named}
 use Rattle.tool_words.proofs.words.read_words.Goals.{in_default-via-in-Some+else-eq, in_default-via-in_default}
