@@ -4,3 +4,4 @@ pub mod Matching
 pub mod Reading
 pub mod Exploring
 pub mod Jobs
+pub mod PlainWords

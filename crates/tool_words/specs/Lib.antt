@@ -2,3 +2,4 @@ pub mod Region
 pub mod Command
 pub mod Job
 pub mod Seen
+pub mod Plain

@@ -3,6 +3,7 @@
 
 mod command;
 mod job;
+pub mod laws;
 mod region;
 mod words;
 
