@@ -5,3 +5,4 @@ pub mod Reading
 pub mod Exploring
 pub mod Jobs
 pub mod PlainWords
+pub mod OtherWords

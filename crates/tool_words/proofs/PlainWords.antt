@@ -35,7 +35,7 @@ pass_one s w next word rest turn step passes = rw (turn, step) passes
 
 -- ---- a word without a hyphen
 
-no_dashes : (word : List ℕ) → has_no_hyphen word ≡ true → bytes_eq word (45 ∷ 45 ∷ []) ≡ false
+pub no_dashes : (word : List ℕ) → has_no_hyphen word ≡ true → bytes_eq word (45 ∷ 45 ∷ []) ≡ false
 no_dashes [] plain = refl
 no_dashes (x ∷ xs) plain = go (x == 45) refl plain
   where
@@ -43,7 +43,7 @@ no_dashes (x ∷ xs) plain = go (x == 45) refl plain
     go true is plain = cc
     go false is plain = rw is refl
 
-no_long : (word : List ℕ) → has_no_hyphen word ≡ true → long_of word ≡ None
+pub no_long : (word : List ℕ) → has_no_hyphen word ≡ true → long_of word ≡ None
 no_long [] plain = refl
 no_long (x ∷ xs) plain = go (x == 45) refl plain
   where
@@ -51,7 +51,7 @@ no_long (x ∷ xs) plain = go (x == 45) refl plain
     go true is plain = cc
     go false is plain = rw is refl
 
-no_short : (word : List ℕ) → has_no_hyphen word ≡ true → short_of word ≡ None
+pub no_short : (word : List ℕ) → has_no_hyphen word ≡ true → short_of word ≡ None
 no_short [] plain = refl
 no_short (x ∷ xs) plain = go (x == 45) refl plain
   where
@@ -84,7 +84,7 @@ plain_turn s held true position word plain = rw (no_dashes word plain, no_long w
 abbrev commands : List Shape
 commands = (built rvklee_command).subs
 
-abbrev leaf : Shape
+abbrev pub leaf : Shape
 leaf = unwrap_or (slice_get commands 0) (new_shape [])
 
 abbrev row : List ℕ → List (List ℕ) → Row
@@ -170,7 +170,7 @@ all_texts [] = refl
 all_texts (text ∷ values) = all_texts values
 
 -- the faults of `explore`, by those of its walk and by the end of it
-abbrev faults_after : Kinds → Walk → Kinds
+abbrev pub faults_after : Kinds → Walk → Kinds
 faults_after kinds w = or_else kinds (or_else [] (or_else (settle_fault leaf.rules leaf.args_override_self w.held)
     (or_else (defaults_fault (settled leaf.rules w.held).rows leaf.rules) (check_fault leaf (finished leaf.rules w.held) false))))
 
@@ -228,10 +228,10 @@ module _ (program out input : List ℕ) (inputs : List (List ℕ)) (plain : list
 
 -- ---- what `clap` makes of the words of rvklee
 
-abbrev top : Shape
+abbrev pub top : Shape
 top = (built rvklee_command).top
 
-abbrev names : Names
+abbrev pub names : Names
 names = names_of (built rvklee_command)
 
 enters : walked top.rules names (walk_from nothing_held) (codes "explore") ≡ record (walk_from nothing_held) { stopped = Some (codes "explore", []) }
@@ -245,16 +245,17 @@ top_passes : (rest : List (List ℕ)) → walk_fault top names (walk_from nothin
 unfolding rvklee_command explore_command walk_fault
 top_passes rest = ap (λ w. walk_fault top names w rest) enters ∙ stopped_fault top names (walk_from nothing_held) (codes "explore", []) rest
 
-abbrev faults_above : Kinds → Walk → Kinds
+abbrev pub faults_above : Kinds → Walk → Kinds
 faults_above kinds w = or_else kinds (or_else (entered_fault (built rvklee_command) w.stopped)
     (or_else (settle_fault top.rules top.args_override_self w.held)
     (or_else (defaults_fault (settled top.rules w.held).rows top.rules)
     (check_fault top (finished top.rules w.held) (is_some (entered (built rvklee_command) w.stopped))))))
 
-no_fault : (tool : List ℕ) (rest : List (List ℕ)) → level_fault leaf [] nothing_held rest false [] ≡ []
-    → fault_of rvklee_command (tool ∷ codes "explore" ∷ rest) ≡ []
+-- rvklee has the faults that `explore` has
+pub faults_below : (tool : List ℕ) (rest : List (List ℕ)) (faults : Kinds) → level_fault leaf [] nothing_held rest false [] ≡ faults
+    → fault_of rvklee_command (tool ∷ codes "explore" ∷ rest) ≡ or_else faults []
 unfolding rvklee_command explore_command defaults_fault
-no_fault tool rest below = ap₂ faults_above (top_passes rest) (stops rest) ∙ ap (λ kinds. or_else kinds []) below
+faults_below tool rest faults below = ap₂ faults_above (top_passes rest) (stops rest) ∙ ap (λ kinds. or_else kinds []) below
 
 found_below : (tool : List ℕ) (rest : List (List ℕ)) → subcommand_of rvklee_command (tool ∷ codes "explore" ∷ rest) ≡ Some (codes "explore", rows_after leaf.rules [] rest)
 unfolding rvklee_command explore_command
@@ -274,6 +275,6 @@ module _ (tool program out input : List ℕ) (inputs : List (List ℕ)) (plain :
 
   pub plain_job : job_of (tool ∷ codes "explore" ∷ program ∷ out ∷ input ∷ inputs) ≡ option_map (Explore program out) (regions_of (input ∷ inputs))
   unfolding job_of
-  plain_job = ap₂ (λ kinds found. without_fault kinds (command_job found)) (no_fault tool _ (level_passes program out input inputs plain room))
+  plain_job = ap₂ (λ kinds found. without_fault kinds (command_job found)) (faults_below tool _ [] (level_passes program out input inputs plain room))
       (found_below tool (program ∷ out ∷ input ∷ inputs) ∙ ap (λ rows. Some (codes "explore", rows)) (finds program out input inputs plain room))
       ∙ rows_job

@@ -1,6 +1,6 @@
 //! What holds of all command lines.
 
-ghost use Rattle.std.specs.Prelude.{◌≡◌, ◌∷◌, ◌<◌, ◌^◌, ℕ, List, codes, length, option_map, true};
+ghost use Rattle.std.specs.Prelude.{◌≡◌, ◌≢◌, ◌∷◌, None, ◌<◌, ◌^◌, ℕ, List, codes, length, option_map, true};
 ghost use Rattle.std.specs.List.{list_all};
 ghost use Rattle.tool_words.specs.Job.{Explore, job_of};
 ghost use Rattle.tool_words.specs.Plain.{has_no_hyphen};
@@ -14,4 +14,20 @@ pub fn plain_words_name_their_job()
         → length (input ∷ inputs) < 2 ^ 64
         → job_of (tool ∷ codes "explore" ∷ program ∷ out ∷ input ∷ inputs)
         ≡ option_map (Explore program out) (regions_of (input ∷ inputs)) }
+{}
+
+/// Words whose second is neither `explore` nor an option have no job: there is no other command, and
+/// `help` asks for help.
+pub fn other_commands_have_no_job()
+    ensures { (tool command : List ℕ) (rest : List (List ℕ)) → has_no_hyphen command ≡ true
+        → command ≢ codes "explore" → job_of (tool ∷ command ∷ rest) ≡ None }
+{}
+
+/// Words that ask for help or for the version have no job.
+pub fn calls_for_help_have_no_job()
+    ensures long { (tool : List ℕ) (rest : List (List ℕ)) → job_of (tool ∷ codes "--help" ∷ rest) ≡ None }
+    ensures short { (tool : List ℕ) (rest : List (List ℕ)) → job_of (tool ∷ codes "-h" ∷ rest) ≡ None }
+    ensures version { (tool : List ℕ) (rest : List (List ℕ)) → job_of (tool ∷ codes "--version" ∷ rest) ≡ None }
+    ensures explore { (tool : List ℕ) (rest : List (List ℕ))
+        → job_of (tool ∷ codes "explore" ∷ codes "--help" ∷ rest) ≡ None }
 {}
