@@ -1,8 +1,8 @@
 -- Words that have no job.
-use Rattle.std.proofs.Common.{ℕ, Bool, true, false, true≢false, List, [], ◌∷◌, ◌≡◌, ◌≢◌, ◌∙◌, sym, ap, codes, refl, None, Some}
+use Rattle.std.proofs.Common.{ℕ, Bool, true, false, List, [], ◌∷◌, ◌≡◌, ◌≢◌, sym, ap, codes, refl, None}
 use Rattle.std.specs.Str.{bytes_eq}
 use Rattle.std.proofs.lemmas.Slice.Eq.{bytes_eq-Decides}
-use Rattle.clap.specs.Faults.{level_fault, turn_fault, walk_fault}
+use Rattle.clap.specs.Faults.{turn_fault, walk_fault}
 use Rattle.clap.specs.Walk.{nothing_held, walk, walk_from, walked}
 use Rattle.clap.specs.Words.{Kinds, subcommand_of}
 use Rattle.clap.specs.Kinds.{or_else}

@@ -1,14 +1,14 @@
 -- What `clap` makes of a command line without options.
-use Rattle.std.proofs.Common.{ℕ, zero, suc, Bool, true, false, not, true≢false, List, [], ◌∷◌, ◌++◌, ◌≡◌, ◌∙◌, ◌<◌, ◌≤◌, ◌==◌, ◌&&◌, length, rules, ◌^◌, sym, ap, ap₂, codes, refl, arith, Option, Some, None, append-nil, append_assoc, nat_lt, option_map}
+use Rattle.std.proofs.Common.{ℕ, Bool, true, false, not, List, [], ◌∷◌, ◌++◌, ◌≡◌, ◌∙◌, ◌<◌, ◌≤◌, ◌==◌, ◌&&◌, length, rules, ◌^◌, sym, ap, ap₂, codes, refl, arith, Option, Some, None, append-nil, append_assoc, nat_lt, option_map}
 use Rattle.std.specs.Prelude.{fold, is_some, slice_get, unwrap_or}
 use Rattle.std.specs.List.{list_all}
 use Rattle.std.specs.Str.{bytes_eq}
 use Rattle.clap.specs.Lexer.{long_of, short_of, usize_max}
 use Rattle.clap.specs.Faults.{check_fault, defaults_fault, entered_fault, level_fault, settle_fault, step_fault, turn_fault, walk_fault}
 use Rattle.clap.specs.Kinds.{or_else, range_kinds, values_kinds}
-use Rattle.clap.specs.Simple.{Shape, built, entered, names_of, label_of, new_shape}
+use Rattle.clap.specs.Simple.{Shape, built, entered, names_of, new_shape}
 use Rattle.tool_words.specs.Command.{explore_command, rvklee_command}
-use Rattle.clap.specs.Walk.{Held, Names, finished, rows_after, settled, Text, Waiting, Walk, arg_by_index, idle, nothing_held, positional, to_positional, value, walk, walk_from, walked}
+use Rattle.clap.specs.Walk.{Held, Names, finished, rows_after, settled, Waiting, Walk, arg_by_index, idle, nothing_held, positional, to_positional, value, walk, walk_from, walked}
 use Rattle.clap.specs.Words.{Kinds, Row, Rule, fault_of, subcommand_of}
 use Rattle.clap.specs.declared.builder.value_parser.ValueParser.TheVariants as vp
 use Rattle.clap.specs.declared.parser.matches.ValueSource.TheVariants.{CommandLine}
