@@ -1,0 +1,37 @@
+-- What the words of the command line ask for.
+use Rattle.std.specs.Prelude.{ℕ, List, [], ◌∷◌, Option, None, Some, if◌then◌else◌, codes, option_and_then}
+use Rattle.std.specs.Str.{bytes_eq}
+use Rattle.clap.specs.Words.{Kinds, Row, all_of, fault_of, first_of, subcommand_of}
+use Rattle.elf_load.specs.declared.region.Region.{Region}
+use Rattle.tool_words.specs.Command.{rvklee_command}
+use Rattle.tool_words.specs.Region.{regions_of}
+
+pub data Job : Type 0 where
+  -- the leaves of a program's file, whose regions hold the input bytes, and their tests, are put into
+  -- the folder `out`
+  Explore : (program out : List ℕ) → (regions : List Region) → Job
+
+abbrev pub explore_with : Option (List ℕ) → Option (List ℕ) → Option (List Region) → Option Job
+explore_with (Some program) (Some out) (Some regions) = Some (Explore program out regions)
+explore_with _ _ _ = None
+
+-- the job of `explore`, from what `clap` finds for it
+unfoldable pub explore_job : List Row → Option Job
+explore_job rows = explore_with (first_of (codes "PROGRAM") rows) (first_of (codes "OUT") rows)
+    (option_and_then regions_of (all_of (codes "INPUT") rows))
+
+-- the job of the command that `clap` finds in the words
+abbrev pub command_job : Option (List ℕ × List Row) → Option Job
+command_job None = None
+command_job (Some (name, rows)) = if bytes_eq name (codes "explore") then explore_job rows else None
+
+-- no job where `clap` finds a fault, a call for help among them
+abbrev pub without_fault : Kinds → Option Job → Option Job
+without_fault [] job = job
+without_fault (fault ∷ faults) job = None
+
+-- the job of these words, of which the first is the tool's name: there is one where `clap` finds no
+-- fault in them, and each INPUT names a region
+unfoldable pub job_of : List (List ℕ) → Option Job
+job_of words = without_fault (fault_of rvklee_command words)
+    (command_job (subcommand_of rvklee_command words))

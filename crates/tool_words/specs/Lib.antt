@@ -1,0 +1,5 @@
+pub mod Region
+pub mod Command
+pub mod Job
+pub mod Seen
+pub mod Plain

@@ -1,0 +1,24 @@
+-- What the code reads, as the definitions have it.
+use Rattle.std.specs.Prelude.{◌≡◌, ⊤, Option, None, Some, Result, Ok, Err, string_bytes}
+use Rattle.clap.specs.declared.error.kind.ErrorKind.{ErrorKind}
+use Rattle.clap.specs.declared.error.kind.ErrorKind.TheVariants.{OutOfMemory}
+use Rattle.tool_words.specs.Job as spec
+use Rattle.tool_words.specs.declared.job.Job.{Job}
+use Rattle.tool_words.specs.declared.job.Job.TheVariants.{Explore}
+use Rattle.tool_words.specs.declared.job.WordsError.{WordsError}
+use Rattle.tool_words.specs.declared.job.WordsError.TheVariants.{Usage, NoMemory}
+
+-- the job, with its texts as lists of bytes
+abbrev pub job_seen : Job → spec.Job
+job_seen (Explore program out regions) = spec.Explore (string_bytes program) (string_bytes out) regions
+
+-- what stands for an error of `clap`'s
+abbrev pub error_of : ErrorKind → WordsError
+error_of OutOfMemory = NoMemory
+error_of _ = Usage
+
+-- a read gave just what the words say, or ran out of memory
+abbrev pub IsRead : {T V : Type 0} → (T → V) → Option V → Result T WordsError → Type 0
+IsRead seen said (Ok x) = said ≡ Some (seen x)
+IsRead seen said (Err Usage) = said ≡ None
+IsRead seen said (Err NoMemory) = ⊤

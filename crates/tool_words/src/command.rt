@@ -1,0 +1,45 @@
+//! The command line of rvklee, as `clap` is told of it.
+
+ghost use Rattle.std.specs.Prelude.{◌≡◌, IfOk, false};
+ghost use Rattle.clap.specs.Words.{app_of, rule_of};
+ghost use Rattle.clap.specs.declared.builder.command.Command.TheViews.{out-Command as fields_of};
+ghost use Rattle.tool_words.specs.Command.{explore_command, required_word, required_words, rvklee_command};
+
+use clap::{Arg, Command};
+use std::alloc::{AllocError as NoMemory, Global};
+
+/// `rvklee COMMAND ..`.
+pub(crate) fn rvklee<'a>(alloc: Global) -> Result<Command<'a>, NoMemory>
+    ensures { IfOk result (λ command. app_of command ≡ rvklee_command) }
+{
+    Command::new(alloc, "rvklee")
+        .subcommand_required(true)
+        .subcommand(explore(alloc)?)
+}
+
+/// `explore PROGRAM OUT INPUT..`.
+fn explore<'a>(alloc: Global) -> Result<Command<'a>, NoMemory>
+    ensures app { IfOk result (λ command. app_of command ≡ explore_command) }
+    ensures local { IfOk result (λ command. (fields_of command).has_globals ≡ false) }
+{
+    Command::new(alloc, "explore")
+        .arg(required_word(alloc, "PROGRAM"))?
+        .arg(required_word(alloc, "OUT"))?
+        .arg(required_words(alloc, "INPUT"))
+}
+
+/// A word that has to be given, by its place.
+fn required_word<'a>(alloc: Global, name: &'a str) -> Arg<'a>
+    ensures rule { rule_of result ≡ required_word name.entry.now }
+    ensures local { result.global ≡ false }
+{
+    Arg::new(alloc, name).required(true)
+}
+
+/// One such word or more.
+fn required_words<'a>(alloc: Global, name: &'a str) -> Arg<'a>
+    ensures rule { rule_of result ≡ required_words name.entry.now }
+    ensures local { result.global ≡ false }
+{
+    required_word(alloc, name).num_args(1..)
+}

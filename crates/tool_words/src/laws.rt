@@ -1,0 +1,33 @@
+//! What holds of all command lines.
+
+ghost use Rattle.std.specs.Prelude.{◌≡◌, ◌≢◌, ◌∷◌, None, ◌<◌, ◌^◌, ℕ, List, codes, length, option_map, true};
+ghost use Rattle.std.specs.List.{list_all};
+ghost use Rattle.tool_words.specs.Job.{Explore, job_of};
+ghost use Rattle.tool_words.specs.Plain.{has_no_hyphen};
+ghost use Rattle.tool_words.specs.Region.{regions_of};
+
+/// `explore` with a program, a folder and inputs has the job that these words name, where none of
+/// them begins with a hyphen.
+pub fn plain_words_name_their_job()
+    ensures { (tool program out input : List ℕ) (inputs : List (List ℕ))
+        → list_all has_no_hyphen (program ∷ out ∷ input ∷ inputs) ≡ true
+        → length (input ∷ inputs) < 2 ^ 64
+        → job_of (tool ∷ codes "explore" ∷ program ∷ out ∷ input ∷ inputs)
+        ≡ option_map (Explore program out) (regions_of (input ∷ inputs)) }
+{}
+
+/// Words whose second is neither `explore` nor an option have no job: there is no other command, and
+/// `help` asks for help.
+pub fn other_commands_have_no_job()
+    ensures { (tool command : List ℕ) (rest : List (List ℕ)) → has_no_hyphen command ≡ true
+        → command ≢ codes "explore" → job_of (tool ∷ command ∷ rest) ≡ None }
+{}
+
+/// Words that ask for help or for the version have no job.
+pub fn calls_for_help_have_no_job()
+    ensures long { (tool : List ℕ) (rest : List (List ℕ)) → job_of (tool ∷ codes "--help" ∷ rest) ≡ None }
+    ensures short { (tool : List ℕ) (rest : List (List ℕ)) → job_of (tool ∷ codes "-h" ∷ rest) ≡ None }
+    ensures version { (tool : List ℕ) (rest : List (List ℕ)) → job_of (tool ∷ codes "--version" ∷ rest) ≡ None }
+    ensures explore { (tool : List ℕ) (rest : List (List ℕ))
+        → job_of (tool ∷ codes "explore" ∷ codes "--help" ∷ rest) ≡ None }
+{}

@@ -1,0 +1,14 @@
+//! The words of rvklee's command line, and the job that they ask for.
+#![tactic(auto)]
+
+mod command;
+mod job;
+pub mod laws;
+mod region;
+mod words;
+
+pub use job::{Job, WordsError};
+pub use words::read_words;
+
+#[cfg(test)]
+mod tests;

@@ -1,0 +1,68 @@
+//! The words of the command line.
+
+ghost use Rattle.std.specs.Prelude.{◌≡◌, ◌≢◌, [], IfErr, IfOk, map, string_bytes};
+ghost use Rattle.clap.specs.Words.{fault_of, found_of, kind_of, rows_of, subcommand_of, subcommand_rows_of};
+ghost use Rattle.clap.specs.declared.error.kind.ErrorKind.TheVariants.{OutOfMemory};
+ghost use Rattle.tool_words.specs.Command.{rvklee_command};
+ghost use Rattle.tool_words.specs.Job.{explore_job, job_of};
+ghost use Rattle.tool_words.specs.Region.{regions_of};
+ghost use Rattle.tool_words.specs.Seen.{IsRead, job_seen};
+
+use crate::command::rvklee;
+use crate::job::{Job, WordsError};
+use crate::region::read_region;
+use clap::ArgMatches;
+use elf_load::Regions;
+use std::alloc::Global;
+
+/// The job that the words ask for, of which the first is the program's name.
+pub fn read_words(alloc: Global, words: &[String]) -> Result<Job, WordsError>
+    ensures { IsRead job_seen (job_of (map string_bytes words.now)) result }
+{
+    let matches = match_words(alloc, words)?;
+    match matches.subcommand() {
+        Some((name, found)) if name == "explore" => read_explore(alloc, found),
+        _ => Err(WordsError::Usage),
+    }
+}
+
+/// What `clap` finds in the words.
+fn match_words<'a>(alloc: Global, words: &'a [String]) -> Result<ArgMatches<'a>, clap::Error>
+    ensures takes { IfOk result (λ _. fault_of rvklee_command (map string_bytes words.now) ≡ []) }
+    ensures finds { IfOk result (λ matches. subcommand_rows_of matches
+        ≡ subcommand_of rvklee_command (map string_bytes words.now)) }
+    ensures refuses { IfErr result (λ error. kind_of error ≢ OutOfMemory
+        → fault_of rvklee_command (map string_bytes words.now) ≢ []) }
+{
+    rvklee(alloc)?.try_get_matches_from(words)
+}
+
+/// The job of `explore`, from what `clap` found for it.
+fn read_explore(alloc: Global, found: &ArgMatches<'_>) -> Result<Job, WordsError>
+    ensures { IsRead job_seen (explore_job (rows_of (found_of found.now))) result }
+{
+    let (Some(program), Some(out), Some(inputs)) = (
+        found.get_str("PROGRAM"),
+        found.get_str("OUT"),
+        found.get_raw("INPUT"),
+    ) else {
+        return Err(WordsError::Usage);
+    };
+    let regions = read_regions(alloc, inputs)?;
+    Ok(Job::Explore {
+        program: String::from_str(alloc, program)?,
+        out: String::from_str(alloc, out)?,
+        regions,
+    })
+}
+
+/// The regions that the words name, in their order.
+fn read_regions(alloc: Global, words: &[&str]) -> Result<Regions, WordsError>
+    ensures { IsRead (λ regions. regions) (regions_of (map (λ word. word.now) words.now)) result }
+{
+    let mut regions = Vec::with_capacity(alloc, words.len())?;
+    for word in words {
+        regions.push(read_region(word).ok_or(WordsError::Usage)?)?;
+    }
+    Ok(Regions::from_vec(regions))
+}
