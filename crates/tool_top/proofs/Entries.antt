@@ -4,7 +4,7 @@ use Rattle.std.proofs.lemmas.List.Sums.{sum_by-cons}
 use Rattle.std.specs.Prelude.{sum_by}
 use Rattle.tool_io.specs.Told.{Put}
 use Rattle.tool_top.specs.Reports.{Part, Entry, summary_of, entries_of, files_from, leaf_put, test_put, test_of}
-use Rattle.tool_top.specs.declared.region.Region.{Region}
+use Rattle.elf_load.specs.declared.region.Region.{Region}
 
 -- an entry for each part
 pub length-entries_of : (regions : List Region) (rank : ℕ) (parts : List Part) → length (entries_of regions rank parts) ≡ length parts

@@ -8,7 +8,7 @@ use Rattle.tool_top.specs.Leaves.{Leaf, covers, IsFaithful, IsExactCover, AreRan
 use Rattle.tool_top.specs.Programs.{image_of, regions}
 use Rattle.tool_top.specs.Reports.{Entry, Part, IsReport, IsExplored, entries_of, leaves_of, test_of}
 use Rattle.tool_top.specs.Tests.{IsRun}
-use Rattle.tool_top.specs.declared.region.Region.{Region}
+use Rattle.elf_load.specs.declared.region.Region.{Region}
 
 -- the entry of a part that has this rank
 abbrev entry_of : List Region → ℕ → Part → Entry

@@ -3,8 +3,8 @@ use Rattle.std.proofs.Common.{◌≡◌, ℕ, List, [], inl}
 use Rattle.std.specs.Prelude.{Option, None, Some, Result, Ok, Err, IfOk, OnErr}
 use Rattle.std.specs.declared.alloc.AllocError.{AllocError}
 use Rattle.tool_io.specs.Told.{Seen, after, IsPrefix}
-use Rattle.tool_top.specs.Job.{Job, names_of}
-use Rattle.tool_top.specs.Plan.{IsPlanned, OnlyReads, usage}
+use Rattle.tool_words.specs.Job.{Job}
+use Rattle.tool_top.specs.Plan.{names_of, IsPlanned, OnlyReads, usage}
 use Rattle.tool_top.specs.declared.plan.Plan.{Plan as Made}
 use Rattle.tool_top.specs.declared.verdict.Verdict.TheVariants.{NoJob}
 

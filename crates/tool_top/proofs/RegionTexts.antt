@@ -4,7 +4,7 @@ use Rattle.std.proofs.Math.Seq.{take-length}
 use Rattle.std.specs.List.{flat_map}
 use Rattle.tool_top.specs.Tests.{quoted, quoted_all, region_text, region_texts}
 use Rattle.tool_top.specs.TestParts.{further_region}
-use Rattle.tool_top.specs.declared.region.Region.{Region}
+use Rattle.elf_load.specs.declared.region.Region.{Region}
 
 -- the first region, and the others with commas
 first_and_more : (r : Region) (rs : List Region) → quoted (region_text r) ++ flat_map further_region rs ≡ quoted_all (region_texts (r ∷ rs))

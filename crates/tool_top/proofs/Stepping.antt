@@ -13,7 +13,7 @@ use Rattle.rv_decode.specs.declared.instr.Instr.{Instr}
 use Rattle.rv_decode.specs.declared.ends.Trap.{Trap}
 use Rattle.rv_decode.specs.declared.ends.End.{End}
 use Rattle.rv_decode.specs.declared.ends.End.TheVariants.{Trapped}
-use Rattle.tool_top.specs.declared.region.Region.{Region}
+use Rattle.elf_load.specs.declared.region.Region.{Region}
 
 -- one step more, of a run that has not ended
 pub run_more : (image : Image) (all : List Region) (input : List ℕ) (steps : ℕ) (s : State) → run image all input steps ≡ record { state = s; end = None; steps = steps } → run image all input (steps + 1) ≡ after_outcome (steps + 1) (next s)

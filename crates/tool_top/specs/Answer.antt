@@ -3,12 +3,13 @@ use Rattle.std.specs.Prelude.{◌≡◌, ◌≢◌, ℕ, ◌⊎◌, List, [], ta
 use Rattle.std.specs.Option.{option_map}
 use Rattle.tool_io.specs.Told.{Told, Seen, Put, after, Gives, IsPrefix, IsCutShort, puts_since, said_since, told_held}
 use Rattle.tool_io.specs.Causes.{Rose}
-use Rattle.tool_top.specs.Job.{Job, Explore, names_of}
-use Rattle.tool_top.specs.Plan.{Plan, IsPlan, no_memory, most_bytes}
-use Rattle.tool_top.specs.Programs.{IsProgram}
+use Rattle.elf_load.specs.declared.region.Region.{Region}
+use Rattle.tool_words.specs.Job.{Job, Explore}
+use Rattle.tool_top.specs.Plan.{Plan, IsPlan, names_of, no_memory, most_bytes}
+use Rattle.tool_top.specs.Programs.{IsProgram, regions}
 use Rattle.tool_top.specs.Reports.{Entry, files_of, summary_of}
 use Rattle.tool_top.specs.declared.verdict.Verdict.{Verdict}
-use Rattle.tool_top.specs.declared.verdict.Verdict.TheVariants.{Done, NoJob, Refused, ReadFault}
+use Rattle.tool_top.specs.declared.verdict.Verdict.TheVariants.{Done, NoJob, Refused, Unfit, ReadFault}
 use Rattle.tool_top.specs.declared.verdict.Ending.{Ending}
 use Rattle.tool_top.specs.declared.verdict.Ending.TheVariants.{Planned, WriteFault, NoMemory}
 
@@ -17,6 +18,7 @@ abbrev pub verdict_status : Verdict → ℕ
 verdict_status Done = 0
 verdict_status NoJob = 2
 verdict_status Refused = 3
+verdict_status Unfit = 4
 verdict_status ReadFault = 5
 
 abbrev pub status_of : Ending → ℕ
@@ -79,15 +81,16 @@ Answered old new job WriteFault = IsFaulted old new job
 Answered old new job NoMemory = IsWanting old new job
 
 -- The claims are facts of entries, that is, of leaves and their tests, and of the words of the program.
--- The words are those of the file that the program's name gave. The entries are the ones that were written:
+-- The words are those of the file that the program's name gave, and the regions asked are the input that is taken. The entries are the ones that were written:
 -- where the object tells its files, the files put are their texts, one for each leaf and each test, and no others;
 -- where it tells what was said, the line said is their summary. The claim holds of these words and entries.
-pub record IsWritten (old new : Told) (program out : List ℕ) (Claim : List ℕ → List Entry → Type 0) : Type 0 where
+pub record IsWritten (old new : Told) (program out : List ℕ) (asked : List Region) (Claim : List ℕ → List Entry → Type 0) : Type 0 where
   pub words : List ℕ
   pub entries : List Entry
   pub bytes : List ℕ
   pub given : Gives old program most_bytes bytes
   pub taken : IsProgram bytes words
+  pub fits : asked ≡ regions
   pub files : IfSome (puts_since old new) (λ puts. puts ≡ files_of out entries)
   pub summary : IfSome (said_since old new) (λ said. said ≡ summary_of entries)
   pub claim : Claim words entries
@@ -95,16 +98,22 @@ pub record IsWritten (old new : Told) (program out : List ℕ) (Claim : List ℕ
 -- there is a job, and the claim holds of what was written for it
 abbrev pub OnWritten : Told → Told → Option Job → (List ℕ → List Entry → Type 0) → Type 0
 OnWritten old new None Claim = ⊥
-OnWritten old new (Some (Explore program out)) Claim = IsWritten old new program out Claim
+OnWritten old new (Some (Explore program out asked)) Claim = IsWritten old new program out asked Claim
 
 -- there is a job, and the bytes that its program's name gives are the file of no program that is taken
 abbrev pub HoldsNoProgram : Told → Option Job → Type 0
 HoldsNoProgram told None = ⊥
-HoldsNoProgram told (Some (Explore program out)) =
+HoldsNoProgram told (Some (Explore program out asked)) =
     (bytes : List ℕ) × Gives told program most_bytes bytes × ((words : List ℕ) → ¬ IsProgram bytes words)
 
--- there is a job, and it is told that its program's name holds the file of a program that is taken
+-- there is a job, and the bytes that its program's name gives are the file of a program that is taken, but not for the input that is asked
+abbrev pub HoldsMisfit : Told → Option Job → Type 0
+HoldsMisfit told None = ⊥
+HoldsMisfit told (Some (Explore program out asked)) =
+    (bytes words : List ℕ) × Gives told program most_bytes bytes × IsProgram bytes words × (asked ≢ regions)
+
+-- there is a job, and it is told that its program's name holds the file of a program that is taken, for the input that is asked
 abbrev pub HoldsProgram : Told → Option Job → Type 0
 HoldsProgram told None = ⊥
-HoldsProgram told (Some (Explore program out)) =
-    (bytes words : List ℕ) × (option_map (take most_bytes) (told_held told program) ≡ Some bytes) × IsProgram bytes words
+HoldsProgram told (Some (Explore program out asked)) =
+    (bytes words : List ℕ) × (option_map (take most_bytes) (told_held told program) ≡ Some bytes) × IsProgram bytes words × (asked ≡ regions)

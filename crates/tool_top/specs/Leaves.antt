@@ -3,7 +3,7 @@ use Rattle.std.specs.Prelude.{◌≡◌, ℕ, ◌≤◌, Bool, true, false, List
 use Rattle.bv_dag.specs.Graphs.{number_of}
 use Rattle.bv_dag.specs.Queries.{Condition, holds}
 use Rattle.tool_top.specs.Machine.{Image, Run, IsAssignment, run}
-use Rattle.tool_top.specs.declared.region.Region.{Region}
+use Rattle.elf_load.specs.declared.region.Region.{Region}
 use Rattle.rv_decode.specs.declared.ends.End.{End}
 use Rattle.rv_decode.specs.declared.ends.End.TheVariants.{Exit, Trapped}
 use Rattle.rv_decode.specs.declared.ends.PathStep.{PathStep}

@@ -11,8 +11,6 @@ pub mod Symbolic
 pub mod Tame
 pub mod Forks
 pub mod Work
-pub mod Job
 pub mod Plan
 pub mod Answer
-pub mod Words
 pub mod Samples

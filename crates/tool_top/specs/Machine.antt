@@ -18,7 +18,7 @@ use Rattle.rv_decode.specs.declared.ends.End.TheVariants.{Exit, Trapped}
 use Rattle.rv_decode.specs.declared.ends.PathStep.{PathStep}
 use Rattle.rv_decode.specs.declared.ends.PathStep.TheVariants.{Taken, NotTaken, Target}
 use Rattle.tool_top.specs.Arithmetic.{sum32, passes, with_immediate, shifted, combined}
-use Rattle.tool_top.specs.declared.region.Region.{Region}
+use Rattle.elf_load.specs.declared.region.Region.{Region}
 
 -- What a program's file puts into memory.
 pub record Image : Type 0 where

@@ -1,12 +1,18 @@
 -- What the tool means to put and say for a job.
-use Rattle.std.specs.Prelude.{◌≡◌, ℕ, ◌⊎◌, List, [], ◌∷◌, ◌++◌, Option, None, Some, codes}
+use Rattle.std.specs.Prelude.{◌≡◌, ◌≢◌, ℕ, ◌⊎◌, List, [], ◌∷◌, ◌++◌, Option, None, Some, codes}
 use Rattle.tool_io.specs.Told.{Told, Seen, Put, after, Gives, IsPrefix}
 use Rattle.tool_io.specs.Causes.{Rose}
-use Rattle.tool_top.specs.Job.{Job, Explore, names_of}
-use Rattle.tool_top.specs.Programs.{IsProgram}
+use Rattle.elf_load.specs.declared.region.Region.{Region}
+use Rattle.tool_words.specs.Job.{Job, Explore}
+use Rattle.tool_top.specs.Programs.{IsProgram, regions}
 use Rattle.tool_top.specs.Reports.{IsReportOf}
 use Rattle.tool_top.specs.declared.verdict.Verdict.{Verdict}
-use Rattle.tool_top.specs.declared.verdict.Verdict.TheVariants.{Done, NoJob, Refused, ReadFault}
+use Rattle.tool_top.specs.declared.verdict.Verdict.TheVariants.{Done, NoJob, Refused, Unfit, ReadFault}
+
+-- the names that a job reads, in their order
+abbrev pub names_of : Option Job → List (List ℕ)
+names_of None = []
+names_of (Some (Explore program out asked)) = program ∷ []
 
 -- the names that were read, and what is to be put and said
 pub record Plan : Type 0 where
@@ -25,6 +31,9 @@ usage =
 abbrev pub refused_line : List ℕ
 refused_line = codes "program refused 19 Later\n"
 
+abbrev pub unfit_line : List ℕ
+unfit_line = codes "inputs refused 6 Later\n"
+
 abbrev pub read_fault : List ℕ
 read_fault = codes "read fault\n"
 
@@ -39,10 +48,11 @@ most_bytes = 1048577
 abbrev pub says_only : Verdict → List (List ℕ) → List ℕ → Plan
 says_only verdict names text = record { verdict = verdict; names = names; puts = []; text = text }
 
--- the bytes are the file of a program that is taken, and its report is put into `out`
-pub record IsReported (out bytes : List ℕ) (verdict : Verdict) (puts : List Put) (text : List ℕ) : Type 0 where
+-- the bytes are the file of a program that is taken, for the input that is asked, and its report is put into `out`
+pub record IsReported (out bytes : List ℕ) (asked : List Region) (verdict : Verdict) (puts : List Put) (text : List ℕ) : Type 0 where
   pub words : List ℕ
   pub taken : IsProgram bytes words
+  pub fits : asked ≡ regions
   pub done : verdict ≡ Done
   pub report : IsReportOf out words puts text
 
@@ -53,16 +63,26 @@ pub record IsRefusal (bytes : List ℕ) (verdict : Verdict) (puts : List Put) (t
   pub no_files : puts ≡ []
   pub line : text ≡ refused_line
 
--- what is put and said for the bytes of a program's file
-abbrev pub Treats : (out bytes : List ℕ) → Verdict → List Put → List ℕ → Type 0
-Treats out bytes verdict puts text = IsReported out bytes verdict puts text ⊎ IsRefusal bytes verdict puts text
+-- the bytes are the file of a program that is taken, but not for the input that is asked, and that is said
+pub record IsMisfit (bytes : List ℕ) (asked : List Region) (verdict : Verdict) (puts : List Put) (text : List ℕ) : Type 0 where
+  pub words : List ℕ
+  pub taken : IsProgram bytes words
+  pub others : asked ≢ regions
+  pub unfit : verdict ≡ Unfit
+  pub no_files : puts ≡ []
+  pub line : text ≡ unfit_line
+
+-- what is put and said for the bytes of a program's file and the regions that are asked
+abbrev pub Treats : (out bytes : List ℕ) → List Region → Verdict → List Put → List ℕ → Type 0
+Treats out bytes asked verdict puts text =
+    IsReported out bytes asked verdict puts text ⊎ (IsRefusal bytes verdict puts text ⊎ IsMisfit bytes asked verdict puts text)
 
 -- what is meant, where all that the job reads was read
 abbrev pub Means : Told → Option Job → Plan → Type 0
 Means told None plan = plan ≡ says_only NoJob [] usage
-Means told (Some (Explore program out)) plan =
+Means told (Some (Explore program out asked)) plan =
     (bytes : List ℕ) × Gives told program most_bytes bytes
-    × (plan.names ≡ program ∷ []) × Treats out bytes plan.verdict plan.puts plan.text
+    × (plan.names ≡ program ∷ []) × Treats out bytes asked plan.verdict plan.puts plan.text
 
 -- a read failed, of the names from the first on
 abbrev pub IsReadFault : Option Job → Plan → Type 0

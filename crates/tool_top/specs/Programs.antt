@@ -3,7 +3,7 @@ use Rattle.std.specs.Prelude.{◌≡◌, ◌≢◌, ℕ, ◌+◌, ◌-◌, ◌*�
 use Rattle.std.specs.List.{flat_map}
 use Rattle.rv_decode.specs.Instructions.{instr}
 use Rattle.tool_top.specs.Machine.{Image}
-use Rattle.tool_top.specs.declared.region.Region.{Region}
+use Rattle.elf_load.specs.declared.region.Region.{Region}
 use Rattle.rv_decode.specs.declared.instr.Instr.{Instr}
 use Rattle.rv_decode.specs.declared.instr.Instr.TheVariants.{Branch, Immediate, Ecall}
 use Rattle.rv_decode.specs.declared.ops.ImmediateOp.TheVariants.{Addi}

@@ -7,7 +7,7 @@ use Rattle.tool_top.specs.Leaves.{Leaf, covers, worth, end_on, IsFaithful, IsExa
 use Rattle.tool_top.specs.LeafText.{leaf_text}
 use Rattle.tool_top.specs.Tests.{Test, IsRun, test_text}
 use Rattle.tool_top.specs.Programs.{image_of, regions}
-use Rattle.tool_top.specs.declared.region.Region.{Region}
+use Rattle.elf_load.specs.declared.region.Region.{Region}
 use Rattle.tool_top.specs.declared.leaf.LeafEnd.{LeafEnd}
 use Rattle.tool_top.specs.declared.leaf.LeafEnd.TheVariants.{Exits, Traps}
 

@@ -5,7 +5,7 @@ use Rattle.tool_top.specs.Machine.{Image, IsAssignment, run}
 use Rattle.tool_top.specs.Leaves.{Leaf, covers, EndsAs}
 use Rattle.tool_top.specs.LeafText.{path_text, eight_digits}
 use Rattle.rv_decode.specs.Ends.{trap_name}
-use Rattle.tool_top.specs.declared.region.Region.{Region}
+use Rattle.elf_load.specs.declared.region.Region.{Region}
 use Rattle.rv_decode.specs.declared.ends.End.{End}
 use Rattle.rv_decode.specs.declared.ends.End.TheVariants.{Exit, Trapped}
 use Rattle.rv_decode.specs.declared.ends.PathStep.{PathStep}

@@ -1,17 +1,19 @@
 //! What a run is to put and say.
 
-ghost use Rattle.std.specs.Prelude.{◌≡◌, [], Some, IfOk, OnErr, map, string_bytes};
-ghost use Rattle.tool_top.specs.Job.{Explore, job_of};
+ghost use Rattle.std.specs.Prelude.{◌≡◌, ◌≢◌, [], false, true, Some, IfOk, OnErr, map, string_bytes};
+ghost use Rattle.tool_words.specs.Job.{Explore, job_of};
 ghost use Rattle.tool_top.specs.Plan.{IsPlanned, OnlyReads, Treats};
+ghost use Rattle.tool_top.specs.Programs.{regions};
 ghost use Rattle.tool_top.specs.Reports.{IsReportOf};
 
 use crate::program::{Program, read_program};
 use crate::report::make_report;
 use crate::verdict::Verdict;
 use crate::walk::explore;
-use crate::words::{Job, read_words};
+use elf_load::{Region, Regions};
 use std::alloc::{AllocError as NoMemory, Global};
 use tool_io::{Fault, Files, NamedFile};
+use tool_words::{Job, WordsError, read_words};
 
 // The most bytes of a file that are read.
 const MOST_BYTES: usize = 1_048_577;
@@ -57,12 +59,29 @@ fn plan_report(alloc: Global, out: &str, program: &Program) -> Result<Plan, NoMe
     })
 }
 
-// What is to be done for a program's bytes.
-fn plan_bytes(alloc: Global, out: &str, bytes: &[u8]) -> Result<Plan, NoMemory>
-    ensures { IfOk result (λ p. Treats out.now bytes.now p.verdict p.files.items p.text.items) }
+// Whether this is the input that is taken.
+fn is_taken(asked: &[Region]) -> bool
+    ensures yes { result ≡ true → asked.now ≡ regions }
+    ensures no { result ≡ false → asked.now ≢ regions }
+{
+    match asked {
+        [region] => region.start == 0x0001_1000 && region.count == 1,
+        _ => false,
+    }
+}
+
+// What is to be done for a program's bytes, and the regions that are asked.
+fn plan_bytes(alloc: Global, out: &str, asked: &Regions, bytes: &[u8]) -> Result<Plan, NoMemory>
+    ensures { IfOk result (λ p. Treats out.now bytes.now asked.now p.verdict p.files.items p.text.items) }
 {
     match read_program(alloc, bytes)? {
-        Some(program) => plan_report(alloc, out, &program),
+        Some(program) => {
+            if is_taken(asked.as_slice()) {
+                plan_report(alloc, out, &program)
+            } else {
+                says_only(alloc, Verdict::Unfit, b"inputs refused 6 Later\n")
+            }
+        }
         None => says_only(alloc, Verdict::Refused, b"program refused 19 Later\n"),
     }
 }
@@ -71,15 +90,16 @@ fn plan_explore<F: Files>(
     alloc: Global,
     program: &str,
     out: &str,
+    asked: &Regions,
     files: &mut F,
 ) -> Result<Plan, NoMemory>
     ensures ok { IfOk result (λ p. IsPlanned (F.seen files.old) (F.seen files.new)
-        (Some (Explore program.now out.now)) p.verdict p.files.items p.text.items) }
-    ensures err { OnErr result (OnlyReads (F.seen files.old) (F.seen files.new) (Some (Explore program.now out.now))) }
+        (Some (Explore program.now out.now asked.now)) p.verdict p.files.items p.text.items) }
+    ensures err { OnErr result (OnlyReads (F.seen files.old) (F.seen files.new) (Some (Explore program.now out.now asked.now))) }
     ensures writes { (F.seen files.new).writes ≡ (F.seen files.old).writes }
 {
     match files.read(program, MOST_BYTES) {
-        Ok(bytes) => plan_bytes(alloc, out, bytes.as_slice()),
+        Ok(bytes) => plan_bytes(alloc, out, asked, bytes.as_slice()),
         Err(Fault::Failed) => says_only(alloc, Verdict::ReadFault, b"read fault\n"),
         Err(Fault::NoMemory) => Err(NoMemory),
     }
@@ -92,8 +112,15 @@ pub fn make_plan<F: Files>(alloc: Global, words: &[String], files: &mut F) -> Re
     ensures err { OnErr result (OnlyReads (F.seen files.old) (F.seen files.new) (job_of (map string_bytes words.now))) }
     ensures writes { (F.seen files.new).writes ≡ (F.seen files.old).writes }
 {
-    match read_words(words) {
-        Some(Job::Explore { program, out }) => plan_explore(alloc, program, out, files),
-        None => says_only(alloc, Verdict::NoJob, USAGE),
+    match read_words(alloc, words) {
+        Ok(
+            Job::Explore {
+                program,
+                out,
+                regions,
+            },
+        ) => plan_explore(alloc, program.as_str(), out.as_str(), &regions, files),
+        Err(WordsError::Usage) => says_only(alloc, Verdict::NoJob, USAGE),
+        Err(WordsError::NoMemory) => Err(NoMemory),
     }
 }

@@ -3,11 +3,12 @@
 ghost use Rattle.std.specs.Prelude.{◌≡◌, ◌≢◌, ◌⊎◌, None, IfSome, map, string_bytes};
 ghost use Rattle.tool_io.specs.Told.{names_since, IsPrefix};
 ghost use Rattle.tool_io.specs.Causes.{Rose};
-ghost use Rattle.tool_top.specs.Job.{job_of, names_of};
+ghost use Rattle.tool_words.specs.Job.{job_of};
+ghost use Rattle.tool_top.specs.Plan.{names_of};
 ghost use Rattle.tool_top.specs.Programs.{image_of, regions};
 ghost use Rattle.tool_top.specs.Leaves.{IsExactCover, AreRanked};
 ghost use Rattle.tool_top.specs.Reports.{IsReport, AreFaithful, AreRuns, leaves_of};
-ghost use Rattle.tool_top.specs.Answer.{Answered, IsAnswered, IsFaulted, IsWanting, OnWritten, HoldsProgram, HoldsNoProgram};
+ghost use Rattle.tool_top.specs.Answer.{Answered, IsAnswered, IsFaulted, IsWanting, OnWritten, HoldsProgram, HoldsNoProgram, HoldsMisfit};
 
 use crate::carry::{carry_out, say_no_memory};
 use crate::plan::make_plan;
@@ -49,14 +50,16 @@ pub fn run_tool<R: Threads + Wait + Sync, F: Files, G: Gate + Sync>(
     ensures done { result ≡ 0 → IsAnswered (F.seen files.old) (F.seen files.new) (job_of (map string_bytes words.now)) Verdict.Done }
     ensures no_job { result ≡ 2 → IsAnswered (F.seen files.old) (F.seen files.new) (job_of (map string_bytes words.now)) Verdict.NoJob }
     ensures refused { result ≡ 3 → IsAnswered (F.seen files.old) (F.seen files.new) (job_of (map string_bytes words.now)) Verdict.Refused }
+    ensures unfit { result ≡ 4 → IsAnswered (F.seen files.old) (F.seen files.new) (job_of (map string_bytes words.now)) Verdict.Unfit }
     ensures read_fault { result ≡ 5 → IsAnswered (F.seen files.old) (F.seen files.new) (job_of (map string_bytes words.now)) Verdict.ReadFault }
     ensures write_fault { result ≡ 6 → IsFaulted (F.seen files.old) (F.seen files.new) (job_of (map string_bytes words.now)) }
     ensures no_memory { result ≡ 8 → IsWanting (F.seen files.old) (F.seen files.new) (job_of (map string_bytes words.now)) }
 
     // No other status is answered, and each only where it has its cause.
-    ensures only { (result ≡ 0) ⊎ (result ≡ 2) ⊎ (result ≡ 3) ⊎ (result ≡ 5) ⊎ (result ≡ 6) ⊎ (result ≡ 8) }
+    ensures only { (result ≡ 0) ⊎ (result ≡ 2) ⊎ (result ≡ 3) ⊎ (result ≡ 4) ⊎ (result ≡ 5) ⊎ (result ≡ 6) ⊎ (result ≡ 8) }
     ensures no_job_where { result ≡ 2 → job_of (map string_bytes words.now) ≡ None }
     ensures refused_where { result ≡ 3 → HoldsNoProgram (F.seen files.old).told (job_of (map string_bytes words.now)) }
+    ensures unfit_where { result ≡ 4 → HoldsMisfit (F.seen files.old).told (job_of (map string_bytes words.now)) }
     ensures read_where { result ≡ 5 → Rose (F.seen files.old).reads (F.seen files.new).reads }
     ensures write_job { result ≡ 6 → job_of (map string_bytes words.now) ≢ None }
     ensures write_where { result ≡ 6 → Rose (F.seen files.old).writes (F.seen files.new).writes }

@@ -8,9 +8,9 @@ ghost use Rattle.tool_top.specs.Reports.{IsTestable, test_of};
 
 use crate::leaf::LeafEnd;
 use crate::part::LeafPart;
-use crate::region::Region;
 use crate::test_text::Test;
 use bv_dag::Word;
+use elf_load::Region;
 use rv_decode::End;
 use std::alloc::{AllocError as NoMemory, Global};
 use tool_io::Bytes;

@@ -7,7 +7,7 @@ ghost use Rattle.tool_top.specs.TestParts.{further_region};
 ghost use Rattle.tool_top.specs.Tests.{end_text, quoted, quoted_all, region_text, region_texts, test_text};
 
 use crate::leaf_text::write_path;
-use crate::region::Region;
+use elf_load::Region;
 use rv_decode::{End, PathStep};
 use std::alloc::{AllocError as NoMemory, Global};
 use std::marker::Model;

@@ -10,6 +10,8 @@ pub enum Verdict {
     NoJob,
     /// The program is none that is taken.
     Refused,
+    /// The program is one that is taken, but not for the input that is asked.
+    Unfit,
     /// A name could not be read.
     ReadFault,
 }
@@ -34,6 +36,7 @@ impl Ending {
             Ending::Planned(Verdict::Done) => 0,
             Ending::Planned(Verdict::NoJob) => 2,
             Ending::Planned(Verdict::Refused) => 3,
+            Ending::Planned(Verdict::Unfit) => 4,
             Ending::Planned(Verdict::ReadFault) => 5,
             Ending::WriteFault => 6,
             Ending::NoMemory => 8,

@@ -110,14 +110,19 @@ fn a_report_is_put_and_its_summary_said(rt: HostRuntime) -> Result<(), Fail> {
 fn other_runs_say_one_line(rt: HostRuntime) -> Result<(), Fail> {
     let usage =
         "usage: rvklee explore [--steps N] [--targets N] [--conflicts N] [--workers N] PROGRAM OUT INPUT..\n       rvklee replay PROGRAM TEST\n       rvklee bench NUMBER WORKERS OUT\n";
+    let unfit = "inputs refused 6 Later\n";
     let refused = "program refused 19 Later\n";
     let fault = "read fault\n";
     let none: [u32; 0] = [];
     let other = ["rvklee", "explore", "p.elf", "out", "00011000:2"];
+    let more = ["rvklee", "explore", "p.elf", "out", "00011000:10000"];
     for (words, program, to_fail, status, said, names, puts) in [
         (&EXPLORE[..1], &FORKED[..], 9, 2, usage, 0, 0),
         (&EXPLORE[..4], &FORKED[..], 9, 2, usage, 0, 0),
-        (&other[..], &FORKED[..], 9, 2, usage, 0, 0),
+        (&more[..], &FORKED[..], 9, 2, usage, 0, 0),
+        (&other[..], &FORKED[..], 9, 4, unfit, 1, 0),
+        (&other[..], &FORKED[..], 2, 4, "", 1, 0),
+        (&other[..], &STRAIGHT[..], 9, 3, refused, 1, 0),
         (&EXPLORE[..1], &FORKED[..], 1, 2, "", 0, 0),
         (&EXPLORE[..], &STRAIGHT[..], 9, 3, refused, 1, 0),
         (&EXPLORE[..], &STRAIGHT[..], 2, 3, "", 1, 0),

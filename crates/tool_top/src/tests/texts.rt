@@ -3,8 +3,9 @@
 ghost use Rattle.std.specs.Prelude.{◌≡◌, ◌<◌, [], IfOk, OnOk, length};
 ghost use Rattle.tool_top.specs.Reports.{EndsByByte, IsTestable};
 
-use crate::{Choice, Leaf, LeafEnd, LeafPart, Region, Test, make_report, print_leaf, write_test};
+use crate::{Choice, Leaf, LeafEnd, LeafPart, Test, make_report, print_leaf, write_test};
 use bv_dag::{Comparison, Dag, Node, Query};
+use elf_load::Region;
 use rv_decode::{End, PathStep};
 use std::alloc::{AllocError as NoMemory, Global};
 use std::process::Abort;

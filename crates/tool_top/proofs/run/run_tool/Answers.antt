@@ -1,5 +1,5 @@
 use Rattle.tool_top.specs.Reports.{IsReport}
-use Rattle.tool_top.proofs.Endings.{answered_names, answered_done, answered_refused, answered_faulted, done_written, refused_no_program, faulted_job, complete}
+use Rattle.tool_top.proofs.Endings.{answered_names, answered_done, answered_refused, answered_unfit, answered_faulted, done_written, refused_no_program, unfit_holds, faulted_job, complete}
 use Rattle.tool_top.proofs.run.run_tool.Goals as goal
 
 pub returns-clause-names : goal.returns-clause-names
@@ -12,6 +12,10 @@ returns-clause-write_job g c = λ six.
 pub returns-clause-refused_where : goal.returns-clause-refused_where
 returns-clause-refused_where g c = λ three.
     refused_no_program _ _ _ (answered_refused _ _ _ c.run_words.result _ c.run_words.ensures c.status.ensures three)
+
+pub returns-clause-unfit_where : goal.returns-clause-unfit_where
+returns-clause-unfit_where g c = λ four.
+    unfit_holds _ _ _ (answered_unfit _ _ _ c.run_words.result _ c.run_words.ensures c.status.ensures four)
 
 pub returns-clause-exact_cover : goal.returns-clause-exact_cover
 returns-clause-exact_cover g c = λ zero.
