@@ -1,3 +1,4 @@
+pub mod MachineRows
 pub mod Growing
 pub mod Stepping
 pub mod Grown

@@ -88,8 +88,8 @@ test_of regions rank part = record {
 
 -- leaves and the tests of their samples, whose ranks begin with this one
 unfoldable pub entries_of : List Region → ℕ → List Part → List Entry
-entries_of regions rank [] = []
-entries_of regions rank (p ∷ ps) = record { leaf = p.leaf; test = test_of regions rank p } ∷ entries_of regions (rank + 1) ps
+entries_of asked rank [] = []
+entries_of asked rank (p ∷ ps) = record { leaf = p.leaf; test = test_of asked rank p } ∷ entries_of asked (rank + 1) ps
 
 -- each assignment is covered by exactly one of the leaves, and each leaf is faithful and has a sample that it covers
 pub record IsExplored (image : Image) (regions : List Region) (parts : List Part) : Type 0 where
