@@ -1,6 +1,11 @@
 //! Programs in ELF32 files, and the regions of their memory that hold input bytes.
 #![tactic(auto)]
 
+mod header;
+mod header_check;
+mod refused;
 mod region;
 
+pub use header::{Header, ProgramHeader};
+pub use refused::Refused;
 pub use region::{Region, Regions};

@@ -1,0 +1,66 @@
+-- Which files are refused, and why: each row's test, and the first row whose test holds.
+use Rattle.std.specs.Prelude.{ℕ, ◌+◌, ◌*◌, ◌==◌, nat_lt, Bool, not, ◌&&◌, ◌||◌, if◌then◌else◌, List, length, slice_index, Option, Some, None}
+use Rattle.std.specs.Int.RustNames.{bit_and}
+use Rattle.elf_load.specs.Fields.{header_of}
+use Rattle.elf_load.specs.declared.refused.Refused.{Refused}
+use Rattle.elf_load.specs.declared.refused.Refused.TheVariants.{TooBig, Short, Magic, Class, ByteOrder, Version, FileType, Machine, Flags, HeaderSize, HeadersPastEnd, Dynamic, FileOverMemory, BytesPastEnd, AddressRange, Overlap, TooManyPages, Nothing}
+
+-- more than a mebibyte
+abbrev pub refused_too_big : List ℕ → Bool
+refused_too_big bytes = nat_lt 1048576 (length bytes)
+
+-- no whole header
+abbrev pub refused_short : List ℕ → Bool
+refused_short bytes = nat_lt (length bytes) 52
+
+-- EI_MAG0 to EI_MAG3
+abbrev pub refused_magic : List ℕ → Bool
+refused_magic bytes = not (slice_index bytes 0 == 0x7F && slice_index bytes 1 == 0x45 && slice_index bytes 2 == 0x4C && slice_index bytes 3 == 0x46)
+
+-- EI_CLASS is not ELFCLASS32
+abbrev pub refused_class : List ℕ → Bool
+refused_class bytes = not (slice_index bytes 4 == 1)
+
+-- EI_DATA is not ELFDATA2LSB
+abbrev pub refused_byte_order : List ℕ → Bool
+refused_byte_order bytes = not (slice_index bytes 5 == 1)
+
+-- EI_VERSION or e_version is not EV_CURRENT
+abbrev pub refused_version : List ℕ → Bool
+refused_version bytes = not (slice_index bytes 6 == 1) || not ((header_of bytes).version == 1)
+
+-- e_type is not ET_EXEC
+abbrev pub refused_file_type : List ℕ → Bool
+refused_file_type bytes = not ((header_of bytes).file_type == 2)
+
+-- e_machine is not EM_RISCV
+abbrev pub refused_machine : List ℕ → Bool
+refused_machine bytes = not ((header_of bytes).machine == 243)
+
+-- EF_RISCV_RVC or EF_RISCV_RVE is set
+abbrev pub refused_flags : List ℕ → Bool
+refused_flags bytes = not (bit_and (header_of bytes).flags 0x9 == 0)
+
+-- the size of the header, or that of a program header where there is one, is not the standard's
+abbrev pub refused_header_size : List ℕ → Bool
+refused_header_size bytes = not ((header_of bytes).header_size == 52) || (not ((header_of bytes).row_count == 0) && not ((header_of bytes).row_size == 32))
+
+-- the table of program headers passes the end
+abbrev pub refused_headers_past_end : List ℕ → Bool
+refused_headers_past_end bytes = nat_lt (length bytes) ((header_of bytes).table_offset + 32 * (header_of bytes).row_count)
+
+-- the first of the rows on the header
+unfoldable pub header_refusal : List ℕ → Option Refused
+header_refusal bytes =
+    if refused_too_big bytes then Some TooBig else
+    if refused_short bytes then Some Short else
+    if refused_magic bytes then Some Magic else
+    if refused_class bytes then Some Class else
+    if refused_byte_order bytes then Some ByteOrder else
+    if refused_version bytes then Some Version else
+    if refused_file_type bytes then Some FileType else
+    if refused_machine bytes then Some Machine else
+    if refused_flags bytes then Some Flags else
+    if refused_header_size bytes then Some HeaderSize else
+    if refused_headers_past_end bytes then Some HeadersPastEnd else
+    None
