@@ -1,6 +1,6 @@
 -- The fields of an ELF32 file whose numbers are little endian (Tool Interface Standard, ELF: "ELF Header" and "Program Header").
 -- Bytes past the end read as 0.
-use Rattle.std.specs.Prelude.{ℕ, ◌+◌, ◌*◌, List, drop, map}
+use Rattle.std.specs.Prelude.{ℕ, ◌+◌, ◌*◌, ◌==◌, nat_lt, ◌&&◌, Bool, List, drop, map, filter}
 use Rattle.std.specs.List.{range_with_len}
 use Rattle.byteorder.specs.Endian.{little_number}
 use Rattle.elf_load.specs.declared.header.Header.{Header}
@@ -41,3 +41,14 @@ program_header_at bytes at = record {
 -- the program headers, each of 32 bytes
 unfoldable pub headers : List ℕ → List ProgramHeader
 headers bytes = map (λ i. program_header_at bytes ((header_of bytes).table_offset + 32 * i)) (range_with_len 0 (header_of bytes).row_count)
+
+-- PT_LOAD
+abbrev pub is_loaded : ProgramHeader → Bool
+is_loaded h = h.kind == 1
+
+-- what is loaded and takes memory
+abbrev pub is_segment : ProgramHeader → Bool
+is_segment h = is_loaded h && nat_lt 0 h.memory_size
+
+unfoldable pub segments : List ℕ → List ProgramHeader
+segments bytes = filter is_segment (headers bytes)

@@ -1,3 +1,4 @@
+pub mod Areas
 pub mod Fields
-pub mod Refusals
 pub mod Names
+pub mod Refusals

@@ -1,7 +1,9 @@
 -- Which files are refused, and why: each row's test, and the first row whose test holds.
 use Rattle.std.specs.Prelude.{ℕ, ◌+◌, ◌*◌, ◌==◌, nat_lt, Bool, not, ◌&&◌, ◌||◌, if◌then◌else◌, List, length, slice_index, Option, Some, None}
+use Rattle.std.specs.List.{list_any}
 use Rattle.std.specs.Int.RustNames.{bit_and}
-use Rattle.elf_load.specs.Fields.{header_of}
+use Rattle.elf_load.specs.Fields.{header_of, headers, segments, is_loaded}
+use Rattle.elf_load.specs.Areas.{end_of, share_address, any_pair, touched_pages, touches_stack}
 use Rattle.elf_load.specs.declared.refused.Refused.{Refused}
 use Rattle.elf_load.specs.declared.refused.Refused.TheVariants.{TooBig, Short, Magic, Class, ByteOrder, Version, FileType, Machine, Flags, HeaderSize, HeadersPastEnd, Dynamic, FileOverMemory, BytesPastEnd, AddressRange, Overlap, TooManyPages, Nothing}
 
@@ -64,3 +66,55 @@ header_refusal bytes =
     if refused_header_size bytes then Some HeaderSize else
     if refused_headers_past_end bytes then Some HeadersPastEnd else
     None
+
+-- PT_DYNAMIC or PT_INTERP
+abbrev pub refused_dynamic : List ℕ → Bool
+refused_dynamic bytes = list_any (λ h. h.kind == 2 || h.kind == 3) (headers bytes)
+
+-- more bytes in the file than in memory
+abbrev pub refused_file_over_memory : List ℕ → Bool
+refused_file_over_memory bytes = list_any (λ h. is_loaded h && nat_lt h.memory_size h.file_size) (headers bytes)
+
+-- bytes past the end of the file
+abbrev pub refused_bytes_past_end : List ℕ → Bool
+refused_bytes_past_end bytes = list_any (λ h. is_loaded h && (nat_lt 0 h.file_size && nat_lt (length bytes) (h.offset + h.file_size))) (headers bytes)
+
+-- the first of the rows on program headers
+unfoldable pub program_refusal : List ℕ → Option Refused
+program_refusal bytes =
+    if refused_dynamic bytes then Some Dynamic else
+    if refused_file_over_memory bytes then Some FileOverMemory else
+    if refused_bytes_past_end bytes then Some BytesPastEnd else
+    None
+
+-- past the end of memory, or on the stack's pages
+abbrev pub refused_address_range : List ℕ → Bool
+refused_address_range bytes = list_any (λ s. nat_lt 4294967296 (end_of s) || touches_stack s) (segments bytes)
+
+abbrev pub refused_overlap : List ℕ → Bool
+refused_overlap bytes = any_pair share_address (segments bytes)
+
+-- more than four mebibytes of pages
+abbrev pub refused_too_many_pages : List ℕ → Bool
+refused_too_many_pages bytes = nat_lt 16384 (touched_pages (segments bytes))
+
+abbrev pub refused_nothing : List ℕ → Bool
+refused_nothing bytes = length (segments bytes) == 0
+
+-- the first of the rows on segments
+unfoldable pub segment_refusal : List ℕ → Option Refused
+segment_refusal bytes =
+    if refused_address_range bytes then Some AddressRange else
+    if refused_overlap bytes then Some Overlap else
+    if refused_too_many_pages bytes then Some TooManyPages else
+    if refused_nothing bytes then Some Nothing else
+    None
+
+-- the first where there is one, and else the second
+abbrev pub first_of : Option Refused → Option Refused → Option Refused
+first_of None second = second
+first_of (Some refused) second = Some refused
+
+-- why a file is refused: the first row whose test holds
+unfoldable pub refusal : List ℕ → Option Refused
+refusal bytes = first_of (header_refusal bytes) (first_of (program_refusal bytes) (segment_refusal bytes))

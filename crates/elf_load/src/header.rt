@@ -92,3 +92,76 @@ pub fn read_program_header(bytes: &[u8], at: usize) -> ProgramHeader
         flags: word(bytes, at + 24),
     }
 }
+
+impl ProgramHeader {
+    ghost use Rattle.std.specs.Prelude.{◌==◌, ◌||◌, ◌&&◌, ◌<◌, ◌^◌, nat_lt};
+    ghost use Rattle.elf_load.specs.Fields.{is_loaded, is_segment};
+    ghost use Rattle.elf_load.specs.Areas.{end_of, first_page, last_page, touches_stack};
+
+    /// It asks for linking when the program runs.
+    pub fn is_dynamic(&self) -> bool
+        ensures { result ≡ (self.now.kind == 2 || self.now.kind == 3) }
+    {
+        self.kind == 2 || self.kind == 3
+    }
+
+    /// It is for loading.
+    pub fn is_loaded(&self) -> bool
+        ensures { result ≡ is_loaded self.now }
+    {
+        self.kind == 1
+    }
+
+    /// It is for loading, and takes memory.
+    pub fn is_segment(&self) -> bool
+        ensures { result ≡ is_segment self.now }
+    {
+        self.is_loaded() && self.memory_size > 0
+    }
+
+    /// It is for loading, and has more bytes in the file than in memory.
+    pub fn has_file_over_memory(&self) -> bool
+        ensures { result ≡ (is_loaded self.now && nat_lt self.now.memory_size self.now.file_size) }
+    {
+        self.is_loaded() && self.file_size > self.memory_size
+    }
+
+    /// It is for loading, and has bytes past the end of a file of this length.
+    pub fn has_bytes_past(&self, file_length: usize) -> bool
+        ensures { result ≡ (is_loaded self.now && (nat_lt 0 self.now.file_size && nat_lt file_length (self.now.offset + self.now.file_size))) }
+    {
+        self.is_loaded()
+            && self.file_size > 0
+            && self.offset as u64 + self.file_size as u64 > file_length as u64
+    }
+
+    /// The address past its last.
+    pub fn end(&self) -> u64
+        ensures { result ≡ end_of self.now }
+    {
+        self.address as u64 + self.memory_size as u64
+    }
+
+    /// The page of its first address.
+    pub fn first_page(&self) -> u64
+        ensures { result ≡ first_page self.now }
+    {
+        self.address as u64 / 256
+    }
+
+    /// The page of its last address.
+    pub fn last_page(&self) -> u64
+        requires { 0 < self.now.memory_size }
+        ensures { result ≡ last_page self.now }
+    {
+        (self.end() - 1) / 256
+    }
+
+    /// It passes the end of memory, or touches the stack's pages.
+    pub fn is_out_of_range(&self) -> bool
+        requires { 0 < self.now.memory_size }
+        ensures { result ≡ (nat_lt 4294967296 (end_of self.now) || touches_stack self.now) }
+    {
+        self.end() > 1 << 32 || (self.first_page() <= 0x7FFFFF && self.last_page() >= 0x7FFF00)
+    }
+}

@@ -1,6 +1,6 @@
 //! What a file's header must be.
 
-ghost use Rattle.std.specs.Prelude.{◌≡◌, ◌≤◌, length};
+ghost use Rattle.std.specs.Prelude.{◌≡◌, ◌≤◌, ◌+◌, ◌*◌, length, IfOk, OnOk, IfErr};
 ghost use Rattle.elf_load.specs.Fields.{header_of};
 ghost use Rattle.elf_load.specs.Refusals.{refused_magic, refused_version, refused_flags, refused_header_size, refused_headers_past_end, header_refusal};
 
@@ -14,7 +14,7 @@ const MOST_BYTES: usize = 1_048_576;
 const HEADER_SIZE: u16 = 52;
 
 /// The bytes of a program header.
-const ROW_SIZE: u16 = 32;
+pub const ROW_SIZE: u16 = 32;
 
 /// The machine's number.
 const RISC_V: u16 = 243;
@@ -55,44 +55,48 @@ fn has_headers_past_end(bytes: &[u8], header: &Header) -> bool
     end > bytes.len() as u64
 }
 
-/// The first fault of the header, if it has one.
+/// Reads the header, unless it has a fault, of which the first is answered.
 #[tactic(auto, unfolding(crate::specs::Refusals::header_refusal))]
-pub fn check_header(bytes: &[u8]) -> Option<Refused>
-    ensures { result ≡ header_refusal bytes.now }
+pub fn check_header(bytes: &[u8]) -> Result<Header, Refused>
+    ensures header { IfOk result (λ header. header ≡ header_of bytes.now) }
+    ensures whole { OnOk result (52 ≤ length bytes.now) }
+    ensures table { IfOk result (λ header. header.table_offset + 32 * header.row_count ≤ length bytes.now) }
+    ensures fine { OnOk result (header_refusal bytes.now ≡ None) }
+    ensures refused { IfErr result (λ refused. header_refusal bytes.now ≡ Some refused) }
 {
     if bytes.len() > MOST_BYTES {
-        return Some(Refused::TooBig);
+        return Err(Refused::TooBig);
     }
     if bytes.len() < HEADER_SIZE as usize {
-        return Some(Refused::Short);
+        return Err(Refused::Short);
     }
     if has_other_magic(bytes) {
-        return Some(Refused::Magic);
+        return Err(Refused::Magic);
     }
     if bytes[4] != 1 {
-        return Some(Refused::Class);
+        return Err(Refused::Class);
     }
     if bytes[5] != 1 {
-        return Some(Refused::ByteOrder);
+        return Err(Refused::ByteOrder);
     }
     let header = read_header(bytes);
     if has_other_version(bytes, &header) {
-        return Some(Refused::Version);
+        return Err(Refused::Version);
     }
     if header.file_type != EXECUTABLE {
-        return Some(Refused::FileType);
+        return Err(Refused::FileType);
     }
     if header.machine != RISC_V {
-        return Some(Refused::Machine);
+        return Err(Refused::Machine);
     }
     if header.flags & OTHER_INSTRUCTIONS != 0 {
-        return Some(Refused::Flags);
+        return Err(Refused::Flags);
     }
     if has_other_sizes(bytes, &header) {
-        return Some(Refused::HeaderSize);
+        return Err(Refused::HeaderSize);
     }
     if has_headers_past_end(bytes, &header) {
-        return Some(Refused::HeadersPastEnd);
+        return Err(Refused::HeadersPastEnd);
     }
-    None
+    Ok(header)
 }

@@ -3,8 +3,10 @@
 
 mod header;
 mod header_check;
+mod program_check;
 mod refused;
 mod region;
+mod segment_check;
 
 pub use header::{Header, ProgramHeader};
 pub use refused::Refused;
