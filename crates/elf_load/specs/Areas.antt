@@ -32,7 +32,7 @@ abbrev pub is_touched : List ProgramHeader → ℕ → Bool
 is_touched areas page = list_any (λ s. touches s page) areas
 
 -- how many numbers below n pass a test
-abbrev pub count_below : ℕ → (ℕ → Bool) → ℕ
+unfoldable pub count_below : ℕ → (ℕ → Bool) → ℕ
 count_below zero test = 0
 count_below (suc n) test = (if test n then 1 else 0) + count_below n test
 

@@ -1,4 +1,5 @@
 pub mod Areas
 pub mod Fields
+pub mod Images
 pub mod Names
 pub mod Refusals

@@ -4,6 +4,7 @@ use Rattle.std.specs.List.{list_any}
 use Rattle.std.specs.Int.RustNames.{bit_and}
 use Rattle.elf_load.specs.Fields.{header_of, headers, segments, is_loaded}
 use Rattle.elf_load.specs.Areas.{end_of, share_address, any_pair, touched_pages, touches_stack}
+use Rattle.elf_load.specs.declared.header.ProgramHeader.{ProgramHeader}
 use Rattle.elf_load.specs.declared.refused.Refused.{Refused}
 use Rattle.elf_load.specs.declared.refused.Refused.TheVariants.{TooBig, Short, Magic, Class, ByteOrder, Version, FileType, Machine, Flags, HeaderSize, HeadersPastEnd, Dynamic, FileOverMemory, BytesPastEnd, AddressRange, Overlap, TooManyPages, Nothing}
 
@@ -67,47 +68,49 @@ header_refusal bytes =
     if refused_headers_past_end bytes then Some HeadersPastEnd else
     None
 
--- PT_DYNAMIC or PT_INTERP
-abbrev pub refused_dynamic : List ℕ → Bool
-refused_dynamic bytes = list_any (λ h. h.kind == 2 || h.kind == 3) (headers bytes)
+-- of program headers: PT_DYNAMIC or PT_INTERP
+abbrev pub refused_dynamic : List ProgramHeader → Bool
+refused_dynamic hs = list_any (λ h. h.kind == 2 || h.kind == 3) hs
 
 -- more bytes in the file than in memory
-abbrev pub refused_file_over_memory : List ℕ → Bool
-refused_file_over_memory bytes = list_any (λ h. is_loaded h && nat_lt h.memory_size h.file_size) (headers bytes)
+abbrev pub refused_file_over_memory : List ProgramHeader → Bool
+refused_file_over_memory hs = list_any (λ h. is_loaded h && nat_lt h.memory_size h.file_size) hs
 
--- bytes past the end of the file
-abbrev pub refused_bytes_past_end : List ℕ → Bool
-refused_bytes_past_end bytes = list_any (λ h. is_loaded h && (nat_lt 0 h.file_size && nat_lt (length bytes) (h.offset + h.file_size))) (headers bytes)
+-- bytes past the end of a file of this length
+abbrev pub refused_bytes_past_end : ℕ → List ProgramHeader → Bool
+refused_bytes_past_end file_length hs = list_any (λ h. is_loaded h && (nat_lt 0 h.file_size && nat_lt file_length (h.offset + h.file_size))) hs
 
 -- the first of the rows on program headers
-unfoldable pub program_refusal : List ℕ → Option Refused
-program_refusal bytes =
-    if refused_dynamic bytes then Some Dynamic else
-    if refused_file_over_memory bytes then Some FileOverMemory else
-    if refused_bytes_past_end bytes then Some BytesPastEnd else
+unfoldable pub program_refusal : ℕ → List ProgramHeader → Option Refused
+program_refusal file_length hs =
+    if refused_dynamic hs then Some Dynamic else
+    if refused_file_over_memory hs then Some FileOverMemory else
+    if refused_bytes_past_end file_length hs then Some BytesPastEnd else
     None
 
--- past the end of memory, or on the stack's pages
-abbrev pub refused_address_range : List ℕ → Bool
-refused_address_range bytes = list_any (λ s. nat_lt 4294967296 (end_of s) || touches_stack s) (segments bytes)
+-- of segments: past the end of memory, or on the stack's pages
+abbrev pub refused_address_range : List ProgramHeader → Bool
+refused_address_range ss = list_any (λ s. nat_lt 4294967296 (end_of s) || touches_stack s) ss
 
-abbrev pub refused_overlap : List ℕ → Bool
-refused_overlap bytes = any_pair share_address (segments bytes)
+-- two share an address
+abbrev pub refused_overlap : List ProgramHeader → Bool
+refused_overlap ss = any_pair share_address ss
 
 -- more than four mebibytes of pages
-abbrev pub refused_too_many_pages : List ℕ → Bool
-refused_too_many_pages bytes = nat_lt 16384 (touched_pages (segments bytes))
+abbrev pub refused_too_many_pages : List ProgramHeader → Bool
+refused_too_many_pages ss = nat_lt 16384 (touched_pages ss)
 
-abbrev pub refused_nothing : List ℕ → Bool
-refused_nothing bytes = length (segments bytes) == 0
+-- none
+abbrev pub refused_nothing : List ProgramHeader → Bool
+refused_nothing ss = length ss == 0
 
 -- the first of the rows on segments
-unfoldable pub segment_refusal : List ℕ → Option Refused
-segment_refusal bytes =
-    if refused_address_range bytes then Some AddressRange else
-    if refused_overlap bytes then Some Overlap else
-    if refused_too_many_pages bytes then Some TooManyPages else
-    if refused_nothing bytes then Some Nothing else
+unfoldable pub segment_refusal : List ProgramHeader → Option Refused
+segment_refusal ss =
+    if refused_address_range ss then Some AddressRange else
+    if refused_overlap ss then Some Overlap else
+    if refused_too_many_pages ss then Some TooManyPages else
+    if refused_nothing ss then Some Nothing else
     None
 
 -- the first where there is one, and else the second
@@ -117,4 +120,4 @@ first_of (Some refused) second = Some refused
 
 -- why a file is refused: the first row whose test holds
 unfoldable pub refusal : List ℕ → Option Refused
-refusal bytes = first_of (header_refusal bytes) (first_of (program_refusal bytes) (segment_refusal bytes))
+refusal bytes = first_of (header_refusal bytes) (first_of (program_refusal (length bytes) (headers bytes)) (segment_refusal (segments bytes)))

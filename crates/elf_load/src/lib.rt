@@ -3,11 +3,13 @@
 
 mod header;
 mod header_check;
+mod page;
 mod program_check;
 mod refused;
 mod region;
 mod segment_check;
 
 pub use header::{Header, ProgramHeader};
+pub use page::Page;
 pub use refused::Refused;
 pub use region::{Region, Regions};

@@ -1,9 +1,9 @@
 //! What a file's program headers must be.
 
-ghost use Rattle.std.specs.Prelude.{◌≡◌, ◌≤◌, ◌+◌, ◌*◌, ◌==◌, ◌||◌, ◌&&◌, nat_lt, length, IfOk, OnOk, OnErr, IfErr};
-ghost use Rattle.std.specs.List.{list_any, filter};
-ghost use Rattle.elf_load.specs.Fields.{header_of, headers, is_loaded, is_segment};
-ghost use Rattle.elf_load.specs.Refusals.{program_refusal};
+ghost use Rattle.std.specs.Prelude.{◌≡◌, ◌≤◌, ◌+◌, ◌*◌, length, IfOk, OnOk, IfErr};
+ghost use Rattle.std.specs.List.{filter};
+ghost use Rattle.elf_load.specs.Fields.{header_of, headers, is_segment};
+ghost use Rattle.elf_load.specs.Refusals.{refused_dynamic, refused_file_over_memory, refused_bytes_past_end, program_refusal};
 
 use std::alloc::{AllocError as NoMemory, Global};
 
@@ -31,29 +31,28 @@ pub fn read_program_headers(
 }
 
 fn any_dynamic(rows: &[ProgramHeader]) -> bool
-    ensures { result ≡ list_any (λ h. h.kind == 2 || h.kind == 3) rows.now }
+    ensures { result ≡ refused_dynamic rows.now }
 {
     rows.iter().any(|row| row.is_dynamic())
 }
 
 fn any_file_over_memory(rows: &[ProgramHeader]) -> bool
-    ensures { result ≡ list_any (λ h. is_loaded h && nat_lt h.memory_size h.file_size) rows.now }
+    ensures { result ≡ refused_file_over_memory rows.now }
 {
     rows.iter().any(|row| row.has_file_over_memory())
 }
 
 fn any_bytes_past(rows: &[ProgramHeader], file_length: usize) -> bool
-    ensures { result ≡ list_any (λ h. is_loaded h && (nat_lt 0 h.file_size && nat_lt file_length (h.offset + h.file_size))) rows.now }
+    ensures { result ≡ refused_bytes_past_end file_length rows.now }
 {
     rows.iter().any(|row| row.has_bytes_past(file_length))
 }
 
-/// Finds the first fault of the program headers, if they have one.
+/// Finds the first fault of the program headers of a file of this length, if they have one.
 #[tactic(auto, unfolding(crate::specs::Refusals::program_refusal))]
-pub fn check_program_headers(bytes: &[u8], rows: &[ProgramHeader]) -> Result<(), Refused>
-    requires { rows.now ≡ headers bytes.now }
-    ensures fine { OnOk result (program_refusal bytes.now ≡ None) }
-    ensures refused { IfErr result (λ refused. program_refusal bytes.now ≡ Some refused) }
+pub fn check_program_headers(rows: &[ProgramHeader], file_length: usize) -> Result<(), Refused>
+    ensures fine { OnOk result (program_refusal file_length rows.now ≡ None) }
+    ensures refused { IfErr result (λ refused. program_refusal file_length rows.now ≡ Some refused) }
 {
     if any_dynamic(rows) {
         return Err(Refused::Dynamic);
@@ -61,7 +60,7 @@ pub fn check_program_headers(bytes: &[u8], rows: &[ProgramHeader]) -> Result<(),
     if any_file_over_memory(rows) {
         return Err(Refused::FileOverMemory);
     }
-    if any_bytes_past(rows, bytes.len()) {
+    if any_bytes_past(rows, file_length) {
         return Err(Refused::BytesPastEnd);
     }
     Ok(())

@@ -1,0 +1,4 @@
+pub mod Counting
+pub mod Moved
+pub mod Rows
+pub mod Sweep
