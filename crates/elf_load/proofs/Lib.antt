@@ -1,4 +1,5 @@
 pub mod Counting
+pub mod Mapping
 pub mod Moved
 pub mod Pasting
 pub mod Rows

@@ -1,5 +1,5 @@
 -- Which addresses and pages the areas of memory take. A page has 256 bytes.
-use Rattle.std.specs.Prelude.{ℕ, zero, suc, ◌+◌, ◌-◌, ◌/◌, nat_lt, nat_le, Bool, true, false, ◌&&◌, ◌||◌, if◌then◌else◌, List, [], ◌∷◌}
+use Rattle.std.specs.Prelude.{ℕ, zero, suc, ◌+◌, ◌-◌, ◌/◌, ◌<◌, ◌≤◌, nat_lt, nat_le, Bool, true, false, ◌&&◌, ◌||◌, if◌then◌else◌, List, [], ◌∷◌}
 use Rattle.std.specs.List.{list_any}
 use Rattle.elf_load.specs.declared.header.ProgramHeader.{ProgramHeader}
 
@@ -43,3 +43,10 @@ touched_pages areas = count_below 16777216 (is_touched areas)
 -- one of its addresses is on a page of the stack, 0x7FFF00 to 0x7FFFFF
 abbrev pub touches_stack : ProgramHeader → Bool
 touches_stack s = nat_le (first_page s) 0x7FFFFF && nat_le 0x7FFF00 (last_page s)
+
+-- an area that lies in memory, with no more bytes than it takes there and none past the end of a file of this length
+pub record IsPlaced (file_length : ℕ) (s : ProgramHeader) : Type 0 where
+  pub sized : 0 < s.memory_size
+  pub over : s.file_size ≤ s.memory_size
+  pub inside : 0 < s.file_size → s.offset + s.file_size ≤ file_length
+  pub in_memory : end_of s ≤ 4294967296

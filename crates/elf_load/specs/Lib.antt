@@ -2,4 +2,5 @@ pub mod Areas
 pub mod Fields
 pub mod Images
 pub mod Names
+pub mod Pages
 pub mod Refusals

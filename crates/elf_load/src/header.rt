@@ -143,18 +143,18 @@ impl ProgramHeader {
     }
 
     /// The page of its first address.
-    pub fn first_page(&self) -> u64
+    pub fn first_page(&self) -> u32
         ensures { result ≡ first_page self.now }
     {
-        self.address as u64 / 256
+        self.address / 256
     }
 
     /// The page of its last address.
-    pub fn last_page(&self) -> u64
+    pub fn last_page(&self) -> u32
         requires { 0 < self.now.memory_size }
         ensures { result ≡ last_page self.now }
     {
-        (self.end() - 1) / 256
+        ((self.address as u64 + self.memory_size as u64 - 1) / 256) as u32
     }
 
     /// It passes the end of memory, or touches the stack's pages.

@@ -4,6 +4,7 @@
 mod header;
 mod header_check;
 mod page;
+mod pages;
 mod program_check;
 mod refused;
 mod region;

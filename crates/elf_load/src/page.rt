@@ -1,6 +1,6 @@
 //! Pages of memory.
 
-ghost use Rattle.std.specs.Prelude.{◌≡◌, ◌≤◌, ◌<◌, ◌+◌, ◌*◌, ◌-◌, ◌^◌, ℕ, length, replicate, slice_index, if◌then◌else◌};
+ghost use Rattle.std.specs.Prelude.{◌≡◌, ◌≤◌, ◌<◌, ◌+◌, ◌*◌, ◌-◌, ◌^◌, ℕ, length, slice_index, if◌then◌else◌};
 ghost use Rattle.std.specs.Int.RustNames.{bit_and, bit_or};
 ghost use Rattle.elf_load.specs.Images.{gives_byte};
 
@@ -20,7 +20,7 @@ pub struct Page {
 /// A page of zeros, on which nothing may be done.
 pub fn blank_page() -> Page
     ensures flags { result.flags ≡ 0 }
-    ensures bytes { result.bytes ≡ replicate 256 0 }
+    ensures bytes { (i : ℕ) → slice_index result.bytes i ≡ 0 }
 {
     Page {
         flags: 0,
@@ -56,6 +56,7 @@ pub fn add_area(page: &mut Page, number: u32, area: &ProgramHeader, bytes: &[u8]
         (i : ℕ) → i < 256 →
         slice_index page.new.bytes i ≡ (if gives_byte area.now (256 * number + i) then slice_index bytes.now (area.now.offset + (256 * number + i - area.now.address)) else slice_index page.old.bytes i)
     }
+    ensures size { length page.new.bytes ≡ 256 }
 {
     page.flags = (area.flags & 7) as u8 | page.flags;
     put_bytes(&mut page.bytes, number as usize * PAGE_SIZE, area, bytes);
