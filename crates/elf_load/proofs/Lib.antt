@@ -1,4 +1,7 @@
 pub mod Counting
+pub mod Failing
+pub mod Finding
+pub mod InMap
 pub mod Mapping
 pub mod Moved
 pub mod Pasting

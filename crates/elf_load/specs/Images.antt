@@ -1,8 +1,9 @@
 -- The memory of a loaded program, in pages of 256 bytes.
-use Rattle.std.specs.Prelude.{◌≡◌, ℕ, ◌+◌, ◌*◌, ◌-◌, ◌<◌, nat_lt, nat_le, Bool, ◌&&◌, if◌then◌else◌, List, [], ◌∷◌, ◌++◌, length, slice_index, Option, Some, None, IfSome, is_some}
+use Rattle.std.specs.Prelude.{◌≡◌, ℕ, ◌+◌, ◌*◌, ◌-◌, ◌<◌, nat_lt, nat_le, Bool, ◌&&◌, if◌then◌else◌, List, [], ◌∷◌, ◌++◌, length, slice_index, Option, Some, None, IfSome, is_some, refl}
 use Rattle.std.specs.Int.RustNames.{bit_and, bit_or}
 use Rattle.std.specs.Ordering.{nat_cmp}
-use Rattle.std.specs.FinMap.{FinMap, get}
+use Rattle.std.specs.FinMap.{FinMap, get, code}
+use Rattle.std.specs.Coded.{Coded, code_by, coded×, coded_ℕ, coded_list}
 use Rattle.elf_load.specs.Fields.{header_of, segments}
 use Rattle.elf_load.specs.Areas.{touches, is_touched}
 use Rattle.elf_load.specs.Refusals.{refusal}
@@ -44,3 +45,10 @@ pub record Loads (bytes : List ℕ) (image : Image) : Type 0 where
   pub flags : (page : ℕ) → IfSome (get image.pages page) (λ p. p.flags ≡ page_flags (areas bytes) page)
   pub size : (page : ℕ) → IfSome (get image.pages page) (λ p. length p.bytes ≡ 256)
   pub content : (page i : ℕ) → i < 256 → IfSome (get image.pages page) (λ p. slice_index p.bytes i ≡ byte_at bytes (areas bytes) (256 * page + i))
+
+-- The codes of pages and images, by which they are told apart.
+abbrev pub page_code : Coded Page
+page_code = code_by (ℕ × List ℕ) (coded× coded_ℕ (coded_list coded_ℕ)) (λ p. (p.flags, p.bytes)) (λ c. record { flags = c.0; bytes = c.1 }) (λ _. refl)
+
+abbrev pub image_code : Coded Image
+image_code = code_by (ℕ × FinMap nat_cmp Page) (coded× coded_ℕ (code coded_ℕ page_code)) (λ i. (i.entry, i.pages)) (λ c. record { entry = c.0; pages = c.1 }) (λ _. refl)

@@ -1,6 +1,7 @@
 -- What stands at a page's number, while areas are put into memory one after the other.
 use Rattle.std.specs.Prelude.{◌≡◌, ℕ, ◌+◌, ◌*◌, ◌<◌, List, length, slice_index, Option, Some, None, IfSome, is_some}
 use Rattle.std.specs.BTreeMap.{BTreeMap, get}
+use Rattle.std.specs.FinMap.{FinMap, from_entries}
 use Rattle.std.specs.Ordering.{nat_cmp}
 use Rattle.elf_load.specs.Areas.{is_touched}
 use Rattle.elf_load.specs.Images.{page_flags, byte_at}
@@ -26,3 +27,7 @@ pub record IsPage (bytes : List ℕ) (areas : List ProgramHeader) (number : ℕ)
 -- the pages are those of these areas
 abbrev pub HoldsAreas : List ℕ → List ProgramHeader → BTreeMap ℕ Page → Type 0
 HoldsAreas bytes areas pages = (number : ℕ) → IsPage bytes areas number (get nat_cmp pages number)
+
+-- the pages as a finite map
+abbrev pub map_of : BTreeMap ℕ Page → FinMap nat_cmp Page
+map_of pages = from_entries pages.entries

@@ -1,10 +1,12 @@
 -- Which files are refused, and why: each row's test, and the first row whose test holds.
-use Rattle.std.specs.Prelude.{ℕ, ◌+◌, ◌*◌, ◌==◌, nat_lt, Bool, not, ◌&&◌, ◌||◌, if◌then◌else◌, List, length, slice_index, Option, Some, None}
+use Rattle.std.specs.Prelude.{◌≡◌, ℕ, ◌+◌, ◌*◌, ◌==◌, nat_lt, Bool, not, ◌&&◌, ◌||◌, if◌then◌else◌, List, length, slice_index, Option, Some, None}
 use Rattle.std.specs.List.{list_any}
 use Rattle.std.specs.Int.RustNames.{bit_and}
 use Rattle.elf_load.specs.Fields.{header_of, headers, segments, is_loaded}
 use Rattle.elf_load.specs.Areas.{end_of, share_address, any_pair, touched_pages, touches_stack}
 use Rattle.elf_load.specs.declared.header.ProgramHeader.{ProgramHeader}
+use Rattle.elf_load.specs.declared.load_error.LoadError.{LoadError}
+use Rattle.elf_load.specs.declared.load_error.LoadError.TheVariants.{Refused as Refuses, NoMemory}
 use Rattle.elf_load.specs.declared.refused.Refused.{Refused}
 use Rattle.elf_load.specs.declared.refused.Refused.TheVariants.{TooBig, Short, Magic, Class, ByteOrder, Version, FileType, Machine, Flags, HeaderSize, HeadersPastEnd, Dynamic, FileOverMemory, BytesPastEnd, AddressRange, Overlap, TooManyPages, Nothing}
 
@@ -121,3 +123,8 @@ first_of (Some refused) second = Some refused
 -- why a file is refused: the first row whose test holds
 unfoldable pub refusal : List ℕ → Option Refused
 refusal bytes = first_of (header_refusal bytes) (first_of (program_refusal (length bytes) (headers bytes)) (segment_refusal (segments bytes)))
+
+-- a load may end in this error: it was refused memory, or the file is refused so
+abbrev pub MayFail : Option Refused → LoadError → Type 0
+MayFail why NoMemory = Unit {0}
+MayFail why (Refuses refused) = why ≡ Some refused

@@ -3,6 +3,9 @@
 
 mod header;
 mod header_check;
+mod image;
+mod loading;
+mod load_error;
 mod page;
 mod pages;
 mod program_check;
@@ -11,6 +14,9 @@ mod region;
 mod segment_check;
 
 pub use header::{Header, ProgramHeader};
+pub use image::Image;
+pub use loading::load;
+pub use load_error::LoadError;
 pub use page::Page;
 pub use refused::Refused;
 pub use region::{Region, Regions};

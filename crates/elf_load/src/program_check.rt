@@ -1,6 +1,6 @@
 //! What a file's program headers must be.
 
-ghost use Rattle.std.specs.Prelude.{◌≡◌, ◌≤◌, ◌+◌, ◌*◌, length, IfOk, OnOk, IfErr};
+ghost use Rattle.std.specs.Prelude.{◌≡◌, ◌≤◌, ◌+◌, ◌*◌, false, length, IfOk, OnOk, IfErr};
 ghost use Rattle.std.specs.List.{filter};
 ghost use Rattle.elf_load.specs.Fields.{header_of, headers, is_segment};
 ghost use Rattle.elf_load.specs.Refusals.{refused_dynamic, refused_file_over_memory, refused_bytes_past_end, program_refusal};
@@ -52,6 +52,8 @@ fn any_bytes_past(rows: &[ProgramHeader], file_length: usize) -> bool
 #[tactic(auto, unfolding(crate::specs::Refusals::program_refusal))]
 pub fn check_program_headers(rows: &[ProgramHeader], file_length: usize) -> Result<(), Refused>
     ensures fine { OnOk result (program_refusal file_length rows.now ≡ None) }
+    ensures over_none { OnOk result (refused_file_over_memory rows.now ≡ false) }
+    ensures past_none { OnOk result (refused_bytes_past_end file_length rows.now ≡ false) }
     ensures refused { IfErr result (λ refused. program_refusal file_length rows.now ≡ Some refused) }
 {
     if any_dynamic(rows) {
