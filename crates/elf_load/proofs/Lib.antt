@@ -7,3 +7,4 @@ pub mod Moved
 pub mod Pasting
 pub mod Rows
 pub mod Sweep
+pub mod Walking

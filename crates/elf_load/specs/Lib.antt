@@ -1,5 +1,6 @@
 pub mod Areas
 pub mod Fields
+pub mod Fits
 pub mod Images
 pub mod Names
 pub mod Pages

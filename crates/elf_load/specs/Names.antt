@@ -2,6 +2,8 @@
 use Rattle.std.specs.Prelude.{ℕ, List, codes}
 use Rattle.elf_load.specs.declared.refused.Refused.{Refused}
 use Rattle.elf_load.specs.declared.refused.Refused.TheVariants.{TooBig, Short, Magic, Class, ByteOrder, Version, FileType, Machine, Flags, HeaderSize, HeadersPastEnd, Dynamic, FileOverMemory, BytesPastEnd, AddressRange, Overlap, TooManyPages, Nothing}
+use Rattle.elf_load.specs.declared.unfit.Unfit.{Unfit}
+use Rattle.elf_load.specs.declared.unfit.Unfit.TheVariants.{TooMany, Empty, TooLong, Unmapped, Overlap as SharesAddress}
 
 abbrev pub refused_number : Refused → ℕ
 refused_number TooBig = 1
@@ -42,3 +44,18 @@ refused_name AddressRange = codes "AddressRange"
 refused_name Overlap = codes "Overlap"
 refused_name TooManyPages = codes "TooManyPages"
 refused_name Nothing = codes "Nothing"
+
+-- Those of regions that do not fit.
+abbrev pub unfit_number : Unfit → ℕ
+unfit_number TooMany = 1
+unfit_number Empty = 2
+unfit_number TooLong = 3
+unfit_number Unmapped = 4
+unfit_number SharesAddress = 5
+
+abbrev pub unfit_name : Unfit → List ℕ
+unfit_name TooMany = codes "TooMany"
+unfit_name Empty = codes "Empty"
+unfit_name TooLong = codes "TooLong"
+unfit_name Unmapped = codes "Unmapped"
+unfit_name SharesAddress = codes "Overlap"

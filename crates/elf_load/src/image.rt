@@ -1,6 +1,6 @@
 //! The memory that a program begins with.
 
-ghost use Rattle.std.specs.Prelude.{◌≡◌, ◌/◌, ◌%◌, slice_index};
+ghost use Rattle.std.specs.Prelude.{◌≡◌, ◌/◌, ◌%◌, slice_index, is_some};
 ghost use Rattle.std.specs.Option.{option_map, option_copied};
 ghost use Rattle.std.specs.FinMap as map;
 
@@ -47,7 +47,8 @@ impl Image {
 
     /// The page of this number, if it is mapped.
     pub fn page(&self, number: u32) -> Option<&Page>
-        ensures { option_copied result ≡ map.get self.now.pages number }
+        ensures value { option_copied result ≡ map.get self.now.pages number }
+        ensures mapped { is_some result ≡ map.contains_key self.now.pages number }
     {
         self.pages.get(&number)
     }

@@ -1,6 +1,7 @@
 //! Programs in ELF32 files, and the regions of their memory that hold input bytes.
 #![tactic(auto)]
 
+mod fitting;
 mod header;
 mod header_check;
 mod image;
@@ -12,7 +13,9 @@ mod program_check;
 mod refused;
 mod region;
 mod segment_check;
+mod unfit;
 
+pub use fitting::fit;
 pub use header::{Header, ProgramHeader};
 pub use image::Image;
 pub use loading::load;
@@ -20,3 +23,4 @@ pub use load_error::LoadError;
 pub use page::Page;
 pub use refused::Refused;
 pub use region::{Region, Regions};
+pub use unfit::Unfit;
