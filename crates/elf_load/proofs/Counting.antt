@@ -56,7 +56,7 @@ pages_counted (s ∷ ss) low before free r m o =
     let p : (ltb s.address before ≡ false) × (overlaps_from (end_of s) ss ≡ false) = or_parts _ _ o in
     let first : first_page s ≤ last_page s = omega arith in
     count_split 16777216 _ (λ p. leb (max (first_page s) free) p && leb p (last_page s)) (λ p. leb (max (last_page s + 1) free) p && is_touched ss p)
-      (λ page. one_or_other (is_touched ss page) (first_page s) (last_page s) free page first (λ t. let q : end_of s / 256 ≤ page = touched_above ss (end_of s) page p.1 t in omega arith))
+    (λ page. one_or_other (is_touched ss page) (first_page s) (last_page s) free page first (λ t. let q : end_of s / 256 ≤ page = touched_above ss (end_of s) page p.1 t in omega arith))
     ∙ rw (interval_pages s free ends, pages_counted ss s.address (end_of s) (max (last_page s + 1) free) r.2 (All-tail (λ s. end_of s ≤ 4294967296) s ss m) p.1) refl
 
 pub touched_pages_counted : (ss : List ProgramHeader) → RisesFrom 0 ss → All (λ s. end_of s ≤ 4294967296) ss → overlaps_from 0 ss ≡ false → touched_pages ss ≡ pages_from 0 ss

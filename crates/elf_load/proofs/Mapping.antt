@@ -12,11 +12,11 @@ use Rattle.elf_load.specs.declared.page.Page.{Page}
 -- an area changes nothing on a page that it does not touch
 untouched : (bytes : List ℕ) (area : ProgramHeader) (areas : List ProgramHeader) (number : ℕ) (found : Option Page) → touches area number ≡ false → ((i : ℕ) → i < 256 → gives_byte area (256 * number + i) ≡ false) → IsPage bytes areas number found → IsPage bytes (area ∷ areas) number found
 untouched bytes area areas number found t g p = record {
-    mapped = p.mapped ∙ sym (ap (λ b. b || is_touched areas number) t);
-    flags = p.flags ∙ sym (ap (λ b. cond b (bit_or (bit_and area.flags 7) (page_flags areas number)) (page_flags areas number)) t);
-    content = λ i l. p.content i l ∙ sym (ap (λ b. cond b (slice_index bytes (area.offset + (256 * number + i - area.address))) (byte_at bytes areas (256 * number + i))) (g i l));
-    size = p.size;
-  }
+  mapped = p.mapped ∙ sym (ap (λ b. b || is_touched areas number) t);
+  flags = p.flags ∙ sym (ap (λ b. cond b (bit_or (bit_and area.flags 7) (page_flags areas number)) (page_flags areas number)) t);
+  content = λ i l. p.content i l ∙ sym (ap (λ b. cond b (slice_index bytes (area.offset + (256 * number + i - area.address))) (byte_at bytes areas (256 * number + i))) (g i l));
+  size = p.size;
+}
 
 pub below : (bytes : List ℕ) (area : ProgramHeader) (areas : List ProgramHeader) (number : ℕ) (found : Option Page) → number < first_page area → IsPage bytes areas number found → IsPage bytes (area ∷ areas) number found
 below bytes area areas number found l p = untouched bytes area areas number found
@@ -32,10 +32,10 @@ above bytes area areas number found placed l p = untouched bytes area areas numb
 
 -- the page that an area was put onto
 pub onto : (bytes : List ℕ) (area : ProgramHeader) (areas : List ProgramHeader) (number : ℕ) (found : Option Page) (page : Page) → first_page area ≤ number → number ≤ last_page area
-  → page.flags ≡ bit_or (bit_and area.flags 7) (flags_in found)
-  → ((i : ℕ) → i < 256 → slice_index page.bytes i ≡ cond (gives_byte area (256 * number + i)) (slice_index bytes (area.offset + (256 * number + i - area.address))) (byte_in found i))
-  → length page.bytes ≡ 256
-  → IsPage bytes areas number found → IsPage bytes (area ∷ areas) number (Some page)
+    → page.flags ≡ bit_or (bit_and area.flags 7) (flags_in found)
+    → ((i : ℕ) → i < 256 → slice_index page.bytes i ≡ cond (gives_byte area (256 * number + i)) (slice_index bytes (area.offset + (256 * number + i - area.address))) (byte_in found i))
+    → length page.bytes ≡ 256
+    → IsPage bytes areas number found → IsPage bytes (area ∷ areas) number (Some page)
 onto bytes area areas number found page low high flags content size p =
     let t : touches area number ≡ true = and_from (leb (first_page area) number) (leb number (last_page area)) (le-leb (first_page area) number low) (le-leb number (last_page area) high) in
     record {
@@ -57,19 +57,19 @@ pub mapped_none : (bytes : List ℕ) (area : ProgramHeader) (areas : List Progra
 mapped_none bytes area areas pages h = record { done = λ q l. below bytes area areas q (pages q) l (h q); left = λ q l. h q }
 
 pub mapped_more : (bytes : List ℕ) (area : ProgramHeader) (areas : List ProgramHeader) (next : ℕ) (old new : ℕ → Option Page) (page : Page) → first_page area ≤ next → next ≤ last_page area
-  → ((q : ℕ) → new q ≡ cond (is_eq (nat_cmp next q)) (Some page) (old q))
-  → page.flags ≡ bit_or (bit_and area.flags 7) (flags_in (old next))
-  → ((i : ℕ) → i < 256 → slice_index page.bytes i ≡ cond (gives_byte area (256 * next + i)) (slice_index bytes (area.offset + (256 * next + i - area.address))) (byte_in (old next) i))
-  → length page.bytes ≡ 256
-  → IsMapped bytes area areas next old → IsMapped bytes area areas (next + 1) new
+    → ((q : ℕ) → new q ≡ cond (is_eq (nat_cmp next q)) (Some page) (old q))
+    → page.flags ≡ bit_or (bit_and area.flags 7) (flags_in (old next))
+    → ((i : ℕ) → i < 256 → slice_index page.bytes i ≡ cond (gives_byte area (256 * next + i)) (slice_index bytes (area.offset + (256 * next + i - area.address))) (byte_in (old next) i))
+    → length page.bytes ≡ 256
+    → IsMapped bytes area areas next old → IsMapped bytes area areas (next + 1) new
 mapped_more bytes area areas next old new page low high updates flags content size h =
     let here : new next ≡ Some page = updates next ∙ ap (λ b. cond b (Some page) (old next)) (at_number next next ∙ eq-eqb next next refl) in
     let elsewhere : (q : ℕ) → (next ≡ q → ⊥) → new q ≡ old q = λ q n. updates q ∙ ap (λ b. cond b (Some page) (old q)) (at_number next q ∙ ne_eqb next q n) in
     record {
       done = λ q l. ⊎_elim
-        (λ (b : q < next). subst (IsPage bytes (area ∷ areas) q) (sym (elsewhere q (λ e. omega arith))) (h.done q b))
-        (λ (a : next ≤ q). let e : next ≡ q = omega arith in subst (λ k. IsPage bytes (area ∷ areas) k (new k)) e (subst (IsPage bytes (area ∷ areas) next) (sym here) (onto bytes area areas next (old next) page low high flags content size (h.left next (omega arith)))))
-        (cases_lt q next);
+          (λ (b : q < next). subst (IsPage bytes (area ∷ areas) q) (sym (elsewhere q (λ e. omega arith))) (h.done q b))
+          (λ (a : next ≤ q). let e : next ≡ q = omega arith in subst (λ k. IsPage bytes (area ∷ areas) k (new k)) e (subst (IsPage bytes (area ∷ areas) next) (sym here) (onto bytes area areas next (old next) page low high flags content size (h.left next (omega arith)))))
+          (cases_lt q next);
       left = λ q l. subst (IsPage bytes areas q) (sym (elsewhere q (λ e. omega arith))) (h.left q (omega arith));
     }
 

@@ -21,24 +21,24 @@ pasted_length bytes source k h = search (rules, places)
 
 -- a page that begins at `start`, after the file's bytes of an area were put onto it
 pub pasted : (page bytes ys : List ℕ) (start address offset size from past i : ℕ) → from ≡ max start address → past ≡ min (start + 256) (address + size) → from < past → length page ≡ 256 → offset + size ≤ length bytes → i < 256
-  → ys ≡ take (past - from) (drop (offset + (from - address)) bytes)
-  → get_or (put_mid (from - start) (past - start - (from - start)) page ys) i 0 ≡ cond (leb address (start + i) && ltb (start + i) (address + size)) (get_or bytes (offset + (start + i - address)) 0) (get_or page i 0)
+    → ys ≡ take (past - from) (drop (offset + (from - address)) bytes)
+    → get_or (put_mid (from - start) (past - start - (from - start)) page ys) i 0 ≡ cond (leb address (start + i) && ltb (start + i) (address + size)) (get_or bytes (offset + (start + i - address)) 0) (get_or page i 0)
 pasted page bytes ys start address offset size from past i f p l len fits inside is =
     let lower : from - start ≤ length page = omega arith in
     let source : (offset + (from - address)) + (past - from) ≤ length bytes = omega arith in
     let count : length ys ≡ past - start - (from - start) = ap length is ∙ pasted_length bytes (offset + (from - address)) (past - from) source ∙ omega arith in
     ⊎_elim
-      (λ (b : i < from - start). put_below (from - start) (past - start - (from - start)) page ys i b lower
-        ∙ sym (rw (and_left (leb address (start + i)) (ltb (start + i) (address + size)) (lt-leb address (start + i) (omega arith))) refl))
-      (λ (a : from - start ≤ i). ⊎_elim
-        (λ (b : i < past - start).
-          let part : get_or (take (past - from) (drop (offset + (from - address)) bytes)) (i - (from - start)) 0 ≡ get_or bytes ((offset + (from - address)) + (i - (from - start))) 0 = pasted_part bytes (offset + (from - address)) (past - from) (i - (from - start)) (omega arith) source in
-          let at : (offset + (from - address)) + (i - (from - start)) ≡ offset + (start + i - address) = omega arith in
-          let both : (leb address (start + i) && ltb (start + i) (address + size)) ≡ true = and_from _ _ (le-leb address (start + i) (omega arith)) (lt-ltb (start + i) (address + size) (omega arith)) in
-          put_within (from - start) (past - start - (from - start)) page ys i a (omega arith) lower count
-          ∙ ap (λ l. get_or l (i - (from - start)) 0) is ∙ part ∙ ap (λ k. get_or bytes k 0) at
-          ∙ sym (ap (λ t. cond t (get_or bytes (offset + (start + i - address)) 0) (get_or page i 0)) both))
-        (λ (b : past - start ≤ i). put_above (from - start) (past - start - (from - start)) page ys i (omega arith) lower count
-          ∙ sym (rw (and_right (leb address (start + i)) (ltb (start + i) (address + size)) (le-ltb (start + i) (address + size) (omega arith))) refl))
-        (cases_lt i (past - start)))
-      (cases_lt i (from - start))
+    (λ (b : i < from - start). put_below (from - start) (past - start - (from - start)) page ys i b lower
+    ∙ sym (rw (and_left (leb address (start + i)) (ltb (start + i) (address + size)) (lt-leb address (start + i) (omega arith))) refl))
+    (λ (a : from - start ≤ i). ⊎_elim
+    (λ (b : i < past - start).
+    let part : get_or (take (past - from) (drop (offset + (from - address)) bytes)) (i - (from - start)) 0 ≡ get_or bytes ((offset + (from - address)) + (i - (from - start))) 0 = pasted_part bytes (offset + (from - address)) (past - from) (i - (from - start)) (omega arith) source in
+    let at : (offset + (from - address)) + (i - (from - start)) ≡ offset + (start + i - address) = omega arith in
+    let both : (leb address (start + i) && ltb (start + i) (address + size)) ≡ true = and_from _ _ (le-leb address (start + i) (omega arith)) (lt-ltb (start + i) (address + size) (omega arith)) in
+    put_within (from - start) (past - start - (from - start)) page ys i a (omega arith) lower count
+    ∙ ap (λ l. get_or l (i - (from - start)) 0) is ∙ part ∙ ap (λ k. get_or bytes k 0) at
+    ∙ sym (ap (λ t. cond t (get_or bytes (offset + (start + i - address)) 0) (get_or page i 0)) both))
+    (λ (b : past - start ≤ i). put_above (from - start) (past - start - (from - start)) page ys i (omega arith) lower count
+    ∙ sym (rw (and_right (leb address (start + i)) (ltb (start + i) (address + size)) (le-ltb (start + i) (address + size) (omega arith))) refl))
+    (cases_lt i (past - start)))
+    (cases_lt i (from - start))

@@ -68,8 +68,8 @@ one_placed file_length h t over past range =
     }
 
 placed_more : (file_length : ℕ) (h : ProgramHeader) (ss : List ProgramHeader) → (is_loaded h && ltb h.memory_size h.file_size) ≡ false → (is_loaded h && (ltb 0 h.file_size && ltb file_length (h.offset + h.file_size))) ≡ false
-  → (refused_address_range ss ≡ false → All (IsPlaced file_length) ss)
-  → (b : Bool) → is_segment h ≡ b → refused_address_range (cond b (h ∷ ss) ss) ≡ false → All (IsPlaced file_length) (cond b (h ∷ ss) ss)
+    → (refused_address_range ss ≡ false → All (IsPlaced file_length) ss)
+    → (b : Bool) → is_segment h ≡ b → refused_address_range (cond b (h ∷ ss) ss) ≡ false → All (IsPlaced file_length) (cond b (h ∷ ss) ss)
 placed_more file_length h ss over past rest true t range =
     let r : ((ltb 4294967296 (end_of h) || touches_stack h) ≡ false) × (refused_address_range ss ≡ false) = or_parts _ _ range in
     All-cons (IsPlaced file_length) h ss (one_placed file_length h t over past r.0) (rest r.1)

@@ -4,10 +4,9 @@ ghost use Rattle.std.specs.Prelude.{◌≡◌, ◌/◌, ◌%◌, slice_index, is
 ghost use Rattle.std.specs.Option.{option_map, option_copied};
 ghost use Rattle.std.specs.FinMap as map;
 
+use crate::page::{PAGE_SIZE, Page};
 use std::collections::BTreeMap;
 use std::marker::Model;
-
-use crate::page::{PAGE_SIZE, Page};
 
 /// Where a program begins, and its memory.
 #[derive(Debug, Drop)]

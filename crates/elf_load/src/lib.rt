@@ -5,8 +5,8 @@ mod fitting;
 mod header;
 mod header_check;
 mod image;
-mod loading;
 mod load_error;
+mod loading;
 mod page;
 mod pages;
 mod program_check;
@@ -18,9 +18,12 @@ mod unfit;
 pub use fitting::fit;
 pub use header::{Header, ProgramHeader};
 pub use image::Image;
-pub use loading::load;
 pub use load_error::LoadError;
+pub use loading::load;
 pub use page::Page;
 pub use refused::Refused;
 pub use region::{Region, Regions};
 pub use unfit::Unfit;
+
+#[cfg(test)]
+mod tests;

@@ -1,9 +1,8 @@
 //! Why a file was not loaded.
 
+use crate::refused::Refused;
 use std::alloc::{AllocError, AllocFailed};
 use thiserror::Error;
-
-use crate::refused::Refused;
 
 /// Why a file was not loaded.
 #[derive(Clone, Copy, Debug, PartialEq, Eq, Error)]

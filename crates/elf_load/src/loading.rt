@@ -7,8 +7,6 @@ ghost use Rattle.elf_load.specs.Fields.{header_of, segments};
 ghost use Rattle.elf_load.specs.Images.{Loads};
 ghost use Rattle.elf_load.specs.Refusals.{refusal, MayFail};
 
-use std::alloc::Global;
-
 use crate::header::ProgramHeader;
 use crate::header_check::check_header;
 use crate::image::Image;
@@ -16,6 +14,7 @@ use crate::load_error::LoadError;
 use crate::pages::make_pages;
 use crate::program_check::{check_program_headers, keep_segments, read_program_headers};
 use crate::segment_check::check_segments;
+use std::alloc::Global;
 
 /// The stack, to be read and written.
 const STACK: ProgramHeader = ProgramHeader {

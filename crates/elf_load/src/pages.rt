@@ -8,11 +8,10 @@ ghost use Rattle.elf_load.specs.Areas.{IsPlaced};
 ghost use Rattle.elf_load.specs.Pages.{flags_in, byte_in, HoldsAreas};
 ghost use Rattle.elf_load.specs.declared.header.ProgramHeader.{ProgramHeader};
 
-use std::alloc::{AllocError as NoMemory, Global};
-use std::collections::BTreeMap;
-
 use crate::header::ProgramHeader;
 use crate::page::{Page, add_area, blank_page};
+use std::alloc::{AllocError as NoMemory, Global};
+use std::collections::BTreeMap;
 
 /// The page of this number, or a blank one where there is none.
 fn page_or_blank(pages: &BTreeMap<u32, Page>, number: u32) -> Page

@@ -5,11 +5,10 @@ ghost use Rattle.std.specs.List.{filter};
 ghost use Rattle.elf_load.specs.Fields.{header_of, headers, is_segment};
 ghost use Rattle.elf_load.specs.Refusals.{refused_dynamic, refused_file_over_memory, refused_bytes_past_end, program_refusal};
 
-use std::alloc::{AllocError as NoMemory, Global};
-
 use crate::header::{Header, ProgramHeader, read_program_header};
 use crate::header_check::ROW_SIZE;
 use crate::refused::Refused;
+use std::alloc::{AllocError as NoMemory, Global};
 
 /// The program headers of a file that has this header.
 #[tactic(auto, unfolding(crate::specs::Fields::headers))]

@@ -10,12 +10,12 @@ use Rattle.elf_load.proofs.loading.read_segments.Goals as goal
 pub returns-in_err-header-clause-refused : goal.returns-in_err-header-clause-refused
 returns-in_err-header-clause-refused c =
     refused_so c.from_residual.result _ c.in_err-header.field-0.0 c.from_residual.ensures.1
-      (refused_by_header c.args.bytes.now _ c.in_err-header.ensures.refused)
+    (refused_by_header c.args.bytes.now _ c.in_err-header.ensures.refused)
 
 pub returns-in_err-check_program_headers-clause-refused : goal.returns-in_err-check_program_headers-clause-refused
 returns-in_err-check_program_headers-clause-refused c =
     refused_so c.from_residual-in_err-check_program_headers.result _ c.in_err-check_program_headers.field-0.0 c.from_residual-in_err-check_program_headers.ensures.1
-      (refused_by_program c.args.bytes.now _ c.in_ok-header.ensures.fine (rw (← c.in_ok-rows.ensures, ← c.deref.ensures.value) c.in_err-check_program_headers.ensures.refused))
+    (refused_by_program c.args.bytes.now _ c.in_ok-header.ensures.fine (rw (← c.in_ok-rows.ensures, ← c.deref.ensures.value) c.in_err-check_program_headers.ensures.refused))
 
 pub check_segments-requires : goal.check_segments-requires
 check_segments-requires c = rw (c.deref-2.ensures.value, c.keep_segments.ensures) (segments_sized c.in_ok-rows.rows.items)
@@ -27,7 +27,7 @@ returns-in_err-check_segments-clause-refused c =
     let kept : c.deref-2.result.now ≡ segments c.args.bytes.now = c.deref-2.ensures.value ∙ c.keep_segments.ensures ∙ ap (filter is_segment) c.in_ok-rows.ensures in
     let why : segment_refusal c.deref-2.result.now ≡ refusal c.args.bytes.now = ap segment_refusal kept ∙ sym (refused_by_segments c.args.bytes.now c.in_ok-header.ensures.fine program) in
     fails_so c.from_residual-in_err-check_segments.result _ c.in_err-check_segments.field-0.0 c.from_residual-in_err-check_segments.ensures.1
-      (subst (λ o. MayFail o c.in_err-check_segments.field-0.0) why c.in_err-check_segments.ensures.refused)
+    (subst (λ o. MayFail o c.in_err-check_segments.field-0.0) why c.in_err-check_segments.ensures.refused)
 
 pub returns-clause-placed : goal.returns-clause-placed
 returns-clause-placed c =

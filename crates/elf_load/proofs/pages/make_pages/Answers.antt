@@ -8,5 +8,5 @@ pub loop-i-preserved : goal.loop-i-preserved
 loop-i-preserved c =
     let next : suc (c.loop-i.i - 1) ≡ c.loop-i.i = omega arith in
     let areas : drop (c.loop-i.i - 1) c.args.areas.now ≡ get_or c.args.areas.now (c.loop-i.i - 1) zeros ∷ drop c.loop-i.i c.args.areas.now =
-      drop-cons c.args.areas.now (c.loop-i.i - 1) zeros (omega arith) ∙ ap (λ k. get_or c.args.areas.now (c.loop-i.i - 1) zeros ∷ drop k c.args.areas.now) next in
+    drop-cons c.args.areas.now (c.loop-i.i - 1) zeros (omega arith) ∙ ap (λ k. get_or c.args.areas.now (c.loop-i.i - 1) zeros ∷ drop k c.args.areas.now) next in
     subst (λ k. HoldsAreas c.args.bytes.now k c.map_area.new.pages) (sym areas) (c.in_ok-map_area.ensures (drop c.loop-i.i c.args.areas.now) c.loop-i.invariant)
