@@ -132,41 +132,52 @@ fn answers(rt: HostRuntime) -> Result<(), Fail> {
     Ok(())
 }
 
+const PAGES: [(u32, Option<u8>); 6] = [
+    (0x100, Some(5)),
+    (0x110, Some(6)),
+    (0x112, None),
+    (0x7F_FEFF, None),
+    (0x7F_FF00, Some(6)),
+    (0x7F_FFFF, Some(6)),
+];
+
+const BYTES: [(u32, Option<u8>); 8] = [
+    (0x10000, Some(0x13)),
+    (0x10001, Some(0x05)),
+    (0x10002, Some(0x70)),
+    (0x10008, Some(0x73)),
+    (0x1000C, Some(0)),
+    (0x111FF, Some(0)),
+    (0x11200, None),
+    (0x7FFF_FFFF, Some(0)),
+];
+
 #[test]
 fn an_image(rt: HostRuntime) -> Result<(), Fail> {
     let bytes = file(rt.alloc(), WHOLE, &[])?;
     let image = load(rt.alloc(), &bytes).ok().ok_or("the file loads")?;
     assert_eq!(rt; image.entry(), 0x10000);
-    assert_eq!(rt; image.flags(0x100), Some(5));
-    assert_eq!(rt; image.flags(0x110), Some(6));
-    assert_eq!(rt; image.flags(0x112), None);
-    assert_eq!(rt; image.flags(0x7F_FEFF), None);
-    assert_eq!(rt; image.flags(0x7F_FF00), Some(6));
-    assert_eq!(rt; image.flags(0x7F_FFFF), Some(6));
-    assert_eq!(rt; image.byte(0x10000), Some(0x13));
-    assert_eq!(rt; image.byte(0x10001), Some(0x05));
-    assert_eq!(rt; image.byte(0x10002), Some(0x70));
-    assert_eq!(rt; image.byte(0x1000B), Some(0));
-    assert_eq!(rt; image.byte(0x1000C), Some(0));
-    assert_eq!(rt; image.byte(0x111FF), Some(0));
-    assert_eq!(rt; image.byte(0x11200), None);
-    assert_eq!(rt; image.byte(0x7FFF_FFFF), Some(0));
+    for (page, wanted) in PAGES {
+        assert_eq!(rt; image.flags(page), wanted, "on page {page}");
+    }
+    for (address, wanted) in BYTES {
+        assert_eq!(rt; image.byte(address), wanted, "at {address}");
+    }
     Ok(())
 }
 
-// The second segment begins on the first's page, lets its page be executed alone, and has other bits set.
+// The second segment begins on the first's page, and the first has bits set that say nothing.
 #[test]
 fn a_shared_page(rt: HostRuntime) -> Result<(), Fail> {
-    let bytes = file(
-        rt.alloc(),
-        WHOLE,
-        &[(92, 12), (93, 0), (76, 0xFC), (108, 2)],
-    )?;
+    let edits = [(92, 12), (93, 0), (76, 0xFC), (108, 2)];
+    let bytes = file(rt.alloc(), WHOLE, &edits)?;
     let image = load(rt.alloc(), &bytes).ok().ok_or("the file loads")?;
-    assert_eq!(rt; image.flags(0x100), Some(6));
-    assert_eq!(rt; image.flags(0x102), Some(2));
-    assert_eq!(rt; image.byte(0x1000A), Some(0));
-    assert_eq!(rt; image.byte(0x10008), Some(0x73));
+    for (page, wanted) in [(0x100, Some(6)), (0x102, Some(2)), (0x103, None)] {
+        assert_eq!(rt; image.flags(page), wanted, "on page {page}");
+    }
+    for (address, wanted) in [(0x10008, Some(0x73)), (0x1000C, Some(0))] {
+        assert_eq!(rt; image.byte(address), wanted, "at {address}");
+    }
     Ok(())
 }
 
