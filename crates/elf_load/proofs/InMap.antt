@@ -1,10 +1,7 @@
 -- What a finite map of pages that areas take is.
-use Rattle.std.proofs.Common.{◌≡◌, ℕ, ◌+◌, ◌*◌, ◌<◌, List, length, slice_index, Option, Some, None, IfSome, is_some, sym, ap, subst, ◌∙◌}
-use Rattle.std.specs.BTreeMap as tree
+use Rattle.std.proofs.Common.{◌≡◌, ℕ, ◌+◌, ◌*◌, ◌<◌, List, slice_index, Option, Some, None, IfSome, sym, subst}
 use Rattle.std.specs.BTreeMap.{BTreeMap}
 use Rattle.std.specs.FinMap.{get}
-use Rattle.std.specs.Ordering.{nat_cmp}
-use Rattle.elf_load.specs.Areas.{is_touched}
 use Rattle.elf_load.specs.Images.{page_flags, byte_at}
 use Rattle.elf_load.specs.Pages.{IsPage, HoldsAreas, map_of}
 use Rattle.elf_load.specs.declared.header.ProgramHeader.{ProgramHeader}

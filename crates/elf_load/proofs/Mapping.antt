@@ -1,9 +1,9 @@
 -- The pages of areas, one area more.
-use Rattle.std.proofs.Common.{◌≡◌, ℕ, suc, ◌+◌, ◌-◌, ◌*◌, ◌/◌, ◌<◌, ◌≤◌, Bool, true, false, cond, ltb, leb, eqb, ◌&&◌, ◌||◌, List, [], ◌∷◌, length, slice_index, get_or, bit_and, bit_or, Option, Some, None, IfSome, is_some, refl, sym, ap, subst, ◌∙◌, ⊎_elim, arith}
+use Rattle.std.proofs.Common.{◌≡◌, ℕ, ◌+◌, ◌-◌, ◌*◌, ◌<◌, ◌≤◌, true, false, cond, ltb, leb, eqb, ◌||◌, List, ◌∷◌, length, slice_index, bit_and, bit_or, Option, Some, refl, sym, ap, subst, ◌∙◌, ⊎_elim, arith}
 use Rattle.std.specs.Ordering.{nat_cmp, is_eq}
-use Rattle.std.proofs.lemmas.Bool.{and_left, and_right, and_from, or_left, lt-leb, le-leb, le-ltb, cases_eq, cases_lt, eq-eqb, ne_eqb}
+use Rattle.std.proofs.lemmas.Bool.{and_left, and_right, and_from, lt-leb, le-leb, le-ltb, cases_lt, eq-eqb, ne_eqb}
 use Rattle.std.proofs.lemmas.Bool.Decides.{nat_tests}
-use Rattle.elf_load.specs.Areas.{end_of, first_page, last_page, touches, is_touched, IsPlaced}
+use Rattle.elf_load.specs.Areas.{first_page, last_page, touches, is_touched, IsPlaced}
 use Rattle.elf_load.specs.Images.{page_flags, gives_byte, byte_at}
 use Rattle.elf_load.specs.Pages.{flags_in, byte_in, IsPage}
 use Rattle.elf_load.specs.declared.header.ProgramHeader.{ProgramHeader}

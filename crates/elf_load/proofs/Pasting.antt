@@ -1,8 +1,8 @@
 -- The bytes of a page after a part of it was written.
-use Rattle.std.proofs.Common.{◌≡◌, ℕ, ◌+◌, ◌-◌, ◌<◌, ◌≤◌, min, max, Bool, true, false, cond, ltb, leb, ◌&&◌, List, ◌++◌, length, get_or, take, drop, slice_index, refl, sym, ap, ◌∙◌, ⊎_elim, arith, rules, length-append, length-drop}
+use Rattle.std.proofs.Common.{◌≡◌, ℕ, ◌+◌, ◌-◌, ◌<◌, ◌≤◌, min, max, true, cond, ltb, leb, ◌&&◌, List, length, get_or, take, drop, refl, sym, ap, ◌∙◌, ⊎_elim, arith, rules}
 use borrow.Rule.Slice.PartMut.{put_mid}
 use Rattle.std.proofs.lemmas.Bool.{and_from, and_left, and_right, le-leb, lt-leb, lt-ltb, le-ltb, cases_lt}
-use Rattle.std.proofs.lemmas.List.{places, length-take, get_or-take, get_or-drop, get_or-append_right}
+use Rattle.std.proofs.lemmas.List.{places, get_or-take, get_or-drop}
 
 put_below : (a k : ℕ) (xs ys : List ℕ) (i : ℕ) → i < a → a ≤ length xs → get_or (put_mid a k xs ys) i 0 ≡ get_or xs i 0
 put_below a k xs ys i l h = search (rules, places)

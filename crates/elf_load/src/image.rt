@@ -6,6 +6,7 @@ ghost use Rattle.std.specs.FinMap as map;
 
 use crate::page::{PAGE_SIZE, Page};
 use std::collections::BTreeMap;
+use std::collections::btree_map::Iter;
 use std::marker::Model;
 
 /// Where a program begins, and its memory.
@@ -42,6 +43,13 @@ impl Image {
         ensures { result ≡ self.now.entry }
     {
         self.entry
+    }
+
+    /// The pages with their numbers, in order.
+    pub fn pages(&self) -> Iter<'_, u32, Page>
+        ensures { result ≡ map.entries self.now.pages }
+    {
+        self.pages.iter()
     }
 
     /// The page of this number, if it is mapped.

@@ -1,7 +1,7 @@
 use Rattle.std.proofs.Common.{◌≡◌, ℕ, [], ◌∷◌, ◌++◌, sym, ap, subst, ◌∙◌}
 use Rattle.std.specs.FinMap.{get}
 use Rattle.elf_load.specs.Images.{stack, areas}
-use Rattle.elf_load.specs.Pages.{IsPage, HoldsAreas, map_of}
+use Rattle.elf_load.specs.Pages.{IsPage, HoldsAreas}
 use Rattle.elf_load.proofs.InMap.{page_in_map, flags_of_page, byte_of_page}
 use Rattle.elf_load.proofs.loading.load.Goals as goal
 

@@ -1,6 +1,4 @@
-use Rattle.std.proofs.Common.{◌≡◌, ◌<◌, None, false, All, filter, length, sym, ap, subst, ◌∙◌}
-use Rattle.elf_load.specs.declared.header.ProgramHeader.{ProgramHeader}
-use Rattle.elf_load.specs.Areas.{IsPlaced}
+use Rattle.std.proofs.Common.{◌≡◌, None, false, filter, length, sym, ap, subst, ◌∙◌}
 use Rattle.elf_load.specs.Fields.{headers, segments, is_segment}
 use Rattle.elf_load.specs.Refusals.{refusal, program_refusal, segment_refusal, refused_file_over_memory, refused_bytes_past_end, refused_address_range, MayFail}
 use Rattle.elf_load.proofs.Failing.{refused_so, fails_so}
