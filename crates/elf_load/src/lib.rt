@@ -5,6 +5,7 @@ mod fitting;
 mod header;
 mod header_check;
 mod image;
+pub mod laws;
 mod load_error;
 mod loading;
 mod page;
