@@ -1,1 +1,7 @@
-
+pub mod Areas
+pub mod Fields
+pub mod Fits
+pub mod Images
+pub mod Names
+pub mod Pages
+pub mod Refusals

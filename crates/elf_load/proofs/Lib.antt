@@ -1,0 +1,12 @@
+pub mod Counting
+pub mod Failing
+pub mod Finding
+pub mod InMap
+pub mod Mapping
+pub mod Meanings
+pub mod Moved
+pub mod OneImage
+pub mod Pasting
+pub mod Rows
+pub mod Sweep
+pub mod Walking
