@@ -15,12 +15,12 @@ length-headers : (words : List ℕ) → length (headers words) ≡ 116
 unfolding headers
 length-headers words = refl
 
-length-row_file : (words : List ℕ) → length (row_file words) ≡ 116 + 4 * length words
+pub length-row_file : (words : List ℕ) → length (row_file words) ≡ 116 + 4 * length words
 length-row_file words =
     ap length (split words) ∙ length-append (headers words) (code_bytes words)
     ∙ ap (λ n. n + length (code_bytes words)) (length-headers words) ∙ ap (λ n. 116 + n) (length-code_bytes words)
 
-code_of_file : (words : List ℕ) → drop 116 (row_file words) ≡ code_bytes words
+pub code_of_file : (words : List ℕ) → drop 116 (row_file words) ≡ code_bytes words
 code_of_file words = ap (λ bytes. drop 116 bytes) (split words) ∙ drop_at (headers words) (code_bytes words) 116 (length-headers words)
 
 -- how long the file of a program is

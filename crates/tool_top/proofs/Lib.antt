@@ -24,3 +24,5 @@ pub mod Entries
 pub mod Finishing
 pub mod Walking
 pub mod FirstRun
+pub mod RowSegments
+pub mod RowImage

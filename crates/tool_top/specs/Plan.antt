@@ -1,8 +1,14 @@
 -- What the tool means to put and say for a job.
-use Rattle.std.specs.Prelude.{◌≡◌, ◌≢◌, ℕ, ◌⊎◌, List, [], ◌∷◌, ◌++◌, Option, None, Some, codes}
+use Rattle.std.specs.Prelude.{◌≡◌, ◌≢◌, ℕ, ◌⊎◌, List, [], ◌∷◌, ◌++◌, Option, None, Some, codes, decimal}
 use Rattle.tool_io.specs.Told.{Told, Seen, Put, after, Gives, IsPrefix}
 use Rattle.tool_io.specs.Causes.{Rose}
+use Rattle.elf_load.specs.Fits.{unfit}
+use Rattle.elf_load.specs.Images.{Image, Loads}
+use Rattle.elf_load.specs.Names.{refused_number, refused_name, unfit_number, unfit_name}
+use Rattle.elf_load.specs.Refusals.{refusal}
+use Rattle.elf_load.specs.declared.refused.Refused.{Refused as WhyRefused}
 use Rattle.elf_load.specs.declared.region.Region.{Region}
+use Rattle.elf_load.specs.declared.unfit.Unfit.{Unfit as WhyUnfit}
 use Rattle.tool_words.specs.Job.{Job, Explore}
 use Rattle.tool_top.specs.Programs.{IsProgram, regions}
 use Rattle.tool_top.specs.Reports.{IsReportOf}
@@ -28,11 +34,21 @@ usage =
     ++ codes "       rvklee replay PROGRAM TEST\n"
     ++ codes "       rvklee bench NUMBER WORKERS OUT\n"
 
-abbrev pub refused_line : List ℕ
-refused_line = codes "program refused 19 Later\n"
+abbrev pub program_refused : ℕ → List ℕ → List ℕ
+program_refused number name = codes "program refused " ++ decimal number ++ codes " " ++ name ++ codes "\n"
 
-abbrev pub unfit_line : List ℕ
-unfit_line = codes "inputs refused 6 Later\n"
+abbrev pub inputs_refused : ℕ → List ℕ → List ℕ
+inputs_refused number name = codes "inputs refused " ++ decimal number ++ codes " " ++ name ++ codes "\n"
+
+-- why a program isn't taken: the reason why its file is refused, and where there is none, that it is to be taken later
+abbrev pub refused_line : Option WhyRefused → List ℕ
+refused_line (Some why) = program_refused (refused_number why) (refused_name why)
+refused_line None = program_refused 19 (codes "Later")
+
+-- why an input isn't taken: the reason why it doesn't fit, and where there is none, that it is to be taken later
+abbrev pub unfit_line : Option WhyUnfit → List ℕ
+unfit_line (Some why) = inputs_refused (unfit_number why) (unfit_name why)
+unfit_line None = inputs_refused 6 (codes "Later")
 
 abbrev pub read_fault : List ℕ
 read_fault = codes "read fault\n"
@@ -56,21 +72,23 @@ pub record IsReported (out bytes : List ℕ) (asked : List Region) (verdict : Ve
   pub done : verdict ≡ Done
   pub report : IsReportOf out words puts text
 
--- the bytes are the file of no program that is taken, and that is said
+-- the bytes are the file of no program that is taken, and why is said
 pub record IsRefusal (bytes : List ℕ) (verdict : Verdict) (puts : List Put) (text : List ℕ) : Type 0 where
   pub none : (words : List ℕ) → ¬ IsProgram bytes words
   pub refused : verdict ≡ Refused
   pub no_files : puts ≡ []
-  pub line : text ≡ refused_line
+  pub line : text ≡ refused_line (refusal bytes)
 
--- the bytes are the file of a program that is taken, but not for the input that is asked, and that is said
+-- the bytes are the file of a program that is taken, but not for the input that is asked, and why is said
 pub record IsMisfit (bytes : List ℕ) (asked : List Region) (verdict : Verdict) (puts : List Put) (text : List ℕ) : Type 0 where
   pub words : List ℕ
   pub taken : IsProgram bytes words
   pub others : asked ≢ regions
   pub unfit : verdict ≡ Unfit
   pub no_files : puts ≡ []
-  pub line : text ≡ unfit_line
+  pub image : Image
+  pub loads : Loads bytes image
+  pub line : text ≡ unfit_line (unfit image asked)
 
 -- what is put and said for the bytes of a program's file and the regions that are asked
 abbrev pub Treats : (out bytes : List ℕ) → List Region → Verdict → List Put → List ℕ → Type 0

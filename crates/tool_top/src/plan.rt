@@ -2,7 +2,8 @@
 
 ghost use Rattle.std.specs.Prelude.{◌≡◌, ◌≢◌, [], false, true, Some, IfOk, OnErr, map, string_bytes};
 ghost use Rattle.tool_words.specs.Job.{Explore, job_of};
-ghost use Rattle.tool_top.specs.Plan.{IsPlanned, OnlyReads, Treats};
+ghost use Rattle.elf_load.specs.Images.{Loads};
+ghost use Rattle.tool_top.specs.Plan.{IsPlanned, OnlyReads, Treats, refused_line, unfit_line};
 ghost use Rattle.tool_top.specs.Programs.{regions};
 ghost use Rattle.tool_top.specs.Reports.{IsReportOf};
 
@@ -10,7 +11,8 @@ use crate::program::{Program, read_program};
 use crate::report::make_report;
 use crate::verdict::Verdict;
 use crate::walk::explore;
-use elf_load::{Region, Regions};
+use crate::refusals::{say_refused, say_unfit};
+use elf_load::{Image, LoadError, Refused, Region, Regions, Unfit, fit, load};
 use std::alloc::{AllocError as NoMemory, Global};
 use tool_io::{Fault, Files, NamedFile};
 use tool_words::{Job, WordsError, read_words};
@@ -70,19 +72,53 @@ fn is_taken(asked: &[Region]) -> bool
     }
 }
 
+fn refuse(alloc: Global, why: Option<Refused>) -> Result<Plan, NoMemory>
+    ensures verdict { IfOk result (λ p. p.verdict ≡ Verdict.Refused) }
+    ensures files { IfOk result (λ p. p.files.items ≡ []) }
+    ensures text { IfOk result (λ p. p.text.items ≡ refused_line why) }
+{
+    let line = say_refused(alloc, why)?;
+    says_only(alloc, Verdict::Refused, line.as_slice())
+}
+
+fn refuse_input(alloc: Global, why: Option<Unfit>) -> Result<Plan, NoMemory>
+    ensures verdict { IfOk result (λ p. p.verdict ≡ Verdict.Unfit) }
+    ensures files { IfOk result (λ p. p.files.items ≡ []) }
+    ensures text { IfOk result (λ p. p.text.items ≡ unfit_line why) }
+{
+    let line = say_unfit(alloc, why)?;
+    says_only(alloc, Verdict::Unfit, line.as_slice())
+}
+
+// What is to be done for a program's bytes, which load to this image, and the regions that are asked.
+fn plan_image(
+    alloc: Global,
+    out: &str,
+    asked: &Regions,
+    bytes: &[u8],
+    image: &Image,
+) -> Result<Plan, NoMemory>
+    requires { Loads bytes.now image.now }
+    ensures { IfOk result (λ p. Treats out.now bytes.now asked.now p.verdict p.files.items p.text.items) }
+{
+    let Some(program) = read_program(alloc, bytes)? else {
+        return refuse(alloc, None);
+    };
+    match fit(image, asked) {
+        Err(why) => refuse_input(alloc, Some(why)),
+        Ok(()) if is_taken(asked.as_slice()) => plan_report(alloc, out, &program),
+        Ok(()) => refuse_input(alloc, None),
+    }
+}
+
 // What is to be done for a program's bytes, and the regions that are asked.
 fn plan_bytes(alloc: Global, out: &str, asked: &Regions, bytes: &[u8]) -> Result<Plan, NoMemory>
     ensures { IfOk result (λ p. Treats out.now bytes.now asked.now p.verdict p.files.items p.text.items) }
 {
-    match read_program(alloc, bytes)? {
-        Some(program) => {
-            if is_taken(asked.as_slice()) {
-                plan_report(alloc, out, &program)
-            } else {
-                says_only(alloc, Verdict::Unfit, b"inputs refused 6 Later\n")
-            }
-        }
-        None => says_only(alloc, Verdict::Refused, b"program refused 19 Later\n"),
+    match load(alloc, bytes) {
+        Ok(image) => plan_image(alloc, out, asked, bytes, &image),
+        Err(LoadError::Refused(why)) => refuse(alloc, Some(why)),
+        Err(LoadError::NoMemory) => Err(NoMemory),
     }
 }
 

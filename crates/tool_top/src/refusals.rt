@@ -1,0 +1,41 @@
+//! The lines that are said of programs and inputs that aren't taken.
+
+ghost use Rattle.std.specs.Prelude.{◌≡◌, IfOk};
+ghost use Rattle.tool_top.specs.Plan.{program_refused, inputs_refused, refused_line, unfit_line};
+
+use elf_load::{Refused, Unfit};
+use std::alloc::{AllocError as NoMemory, Global};
+
+fn program_refused(alloc: Global, number: u8, name: &str) -> Result<Vec<u8>, NoMemory>
+    ensures { IfOk result (λ line. line.items ≡ program_refused number name.now) }
+{
+    let line = format!(in alloc; "program refused {number} {name}\n")?;
+    Ok(line.into_bytes())
+}
+
+fn inputs_refused(alloc: Global, number: u8, name: &str) -> Result<Vec<u8>, NoMemory>
+    ensures { IfOk result (λ line. line.items ≡ inputs_refused number name.now) }
+{
+    let line = format!(in alloc; "inputs refused {number} {name}\n")?;
+    Ok(line.into_bytes())
+}
+
+/// Why a program isn't taken: the reason why its file is refused, and else that it is to be taken later.
+pub fn say_refused(alloc: Global, why: Option<Refused>) -> Result<Vec<u8>, NoMemory>
+    ensures { IfOk result (λ line. line.items ≡ refused_line why) }
+{
+    match why {
+        Some(why) => program_refused(alloc, why.number(), why.name()),
+        None => program_refused(alloc, 19, "Later"),
+    }
+}
+
+/// Why an input isn't taken: the reason why it doesn't fit, and else that it is to be taken later.
+pub fn say_unfit(alloc: Global, why: Option<Unfit>) -> Result<Vec<u8>, NoMemory>
+    ensures { IfOk result (λ line. line.items ≡ unfit_line why) }
+{
+    match why {
+        Some(why) => inputs_refused(alloc, why.number(), why.name()),
+        None => inputs_refused(alloc, 6, "Later"),
+    }
+}
