@@ -8,5 +8,6 @@ pub mod Moved
 pub mod OneImage
 pub mod Pasting
 pub mod Rows
+pub mod StackPages
 pub mod Sweep
 pub mod Walking

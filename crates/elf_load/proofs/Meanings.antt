@@ -1,5 +1,5 @@
 -- What the tests on areas mean.
-use Rattle.std.proofs.Common.{◌≡◌, ℕ, ◌+◌, ◌-◌, ◌*◌, ◌/◌, ◌<◌, ◌≤◌, max, true, ltb, leb, ◌&&◌, ◌↔◌, IsTrue, arith}
+use Rattle.std.proofs.Common.{◌≡◌, ℕ, ◌*◌, ◌/◌, ◌<◌, ◌≤◌, max, true, ltb, leb, ◌↔◌, IsTrue, arith}
 use Rattle.std.proofs.lemmas.Bool.{and_parts, and_from, lt-ltb, ltb-true, leb-true, le-leb}
 use Rattle.elf_load.specs.Areas.{end_of, first_page, last_page, share_address, touches}
 use Rattle.elf_load.specs.declared.header.ProgramHeader.{ProgramHeader}

@@ -1,5 +1,5 @@
 -- The memory of a loaded program, in pages of 256 bytes.
-use Rattle.std.specs.Prelude.{◌≡◌, ℕ, ◌+◌, ◌*◌, ◌-◌, ◌<◌, nat_lt, nat_le, Bool, ◌&&◌, if◌then◌else◌, List, [], ◌∷◌, ◌++◌, length, slice_index, None, IfSome, is_some, refl}
+use Rattle.std.specs.Prelude.{◌≡◌, ℕ, ◌+◌, ◌*◌, ◌-◌, ◌<◌, nat_lt, nat_le, Bool, ◌&&◌, if◌then◌else◌, List, [], ◌∷◌, ◌++◌, length, slice_index, Option, Some, None, IfSome, is_some, refl}
 use Rattle.std.specs.Int.RustNames.{bit_and, bit_or}
 use Rattle.std.specs.Ordering.{nat_cmp}
 use Rattle.std.specs.FinMap.{FinMap, get, code}
@@ -45,6 +45,11 @@ pub record Loads (bytes : List ℕ) (image : Image) : Type 0 where
   pub flags : (page : ℕ) → IfSome (get image.pages page) (λ p. p.flags ≡ page_flags (areas bytes) page)
   pub size : (page : ℕ) → IfSome (get image.pages page) (λ p. length p.bytes ≡ 256)
   pub content : (page i : ℕ) → i < 256 → IfSome (get image.pages page) (λ p. slice_index p.bytes i ≡ byte_at bytes (areas bytes) (256 * page + i))
+
+-- a page of the stack: to be read and written, and of zeros
+abbrev pub IsStackPage : Option Page → Type 0
+IsStackPage None = ⊥
+IsStackPage (Some p) = (p.flags ≡ 6) × ((i : ℕ) → i < 256 → slice_index p.bytes i ≡ 0)
 
 -- The codes of pages and images, by which they are told apart.
 abbrev pub page_code : Coded Page

@@ -1,8 +1,9 @@
 //! What the definitions say of themselves.
 
 ghost use Rattle.std.specs.Prelude.{◌≡◌, ◌≤◌, ◌<◌, ◌/◌, ◌↔◌, ℕ, List, IsTrue};
+ghost use Rattle.std.specs.FinMap as map;
 ghost use Rattle.elf_load.specs.Areas.{end_of, share_address, touches};
-ghost use Rattle.elf_load.specs.Images.{Image, Loads};
+ghost use Rattle.elf_load.specs.Images.{Image, IsStackPage, Loads};
 ghost use Rattle.elf_load.specs.declared.header.ProgramHeader.{ProgramHeader};
 
 /// A file loads to one image.
@@ -20,4 +21,10 @@ pub fn areas_share_an_address()
 pub fn an_area_touches_a_page()
     ensures { (s : ProgramHeader) (page : ℕ) → 0 < s.memory_size →
         (IsTrue (touches s page) ↔ ((x : ℕ) × (s.address ≤ x) × (x < end_of s) × (x / 256 ≡ page))) }
+{}
+
+/// The stack's pages are mapped, to be read and written, and are zeros.
+pub fn the_stack_is_mapped()
+    ensures { (bytes : List ℕ) (image : Image) (page : ℕ) → Loads bytes image → 0x7FFF00 ≤ page → page ≤ 0x7FFFFF →
+        IsStackPage (map.get image.pages page) }
 {}
