@@ -38,13 +38,13 @@ plan_names old new job plan (inr (rose, fault)) = fault.0
 done_reported : (old new : Seen) (program out : List ℕ) (asked : List Region) (plan : Plan) → plan.verdict ≡ Done → IsPlan old new (Some (Explore program out asked)) plan → (bytes : List ℕ) × Gives old.told program most_bytes bytes × IsReported out bytes asked plan.verdict plan.puts plan.text
 done_reported old new program out asked plan done (inl (bytes, given, names, inl report)) = (bytes, given, report)
 done_reported old new program out asked plan done (inl (bytes, given, names, inr (inl refusal))) = let other = refusal.refused in cc
-done_reported old new program out asked plan done (inl (bytes, given, names, inr (inr misfit))) = let other = misfit.unfit in cc
+done_reported old new program out asked plan done (inl (bytes, given, names, inr (inr misfit))) = let other = misfit.is in cc
 done_reported old new program out asked plan done (inr (rose, (begins, is))) = let other : plan.verdict ≡ ReadFault = ap (λ (p : Plan). p.verdict) is in cc
 
 refused_refusal : (old new : Seen) (program out : List ℕ) (asked : List Region) (plan : Plan) → plan.verdict ≡ Refused → IsPlan old new (Some (Explore program out asked)) plan → (bytes : List ℕ) × Gives old.told program most_bytes bytes × ((words : List ℕ) → ¬ IsProgram bytes words)
 refused_refusal old new program out asked plan refused (inl (bytes, given, names, inl report)) = let other = report.done in cc
 refused_refusal old new program out asked plan refused (inl (bytes, given, names, inr (inl refusal))) = (bytes, given, refusal.none)
-refused_refusal old new program out asked plan refused (inl (bytes, given, names, inr (inr misfit))) = let other = misfit.unfit in cc
+refused_refusal old new program out asked plan refused (inl (bytes, given, names, inr (inr misfit))) = let other = misfit.is in cc
 refused_refusal old new program out asked plan refused (inr (rose, (begins, is))) = let other : plan.verdict ≡ ReadFault = ap (λ (p : Plan). p.verdict) is in cc
 
 unfit_misfit : (old new : Seen) (program out : List ℕ) (asked : List Region) (plan : Plan) → plan.verdict ≡ Unfit → IsPlan old new (Some (Explore program out asked)) plan → (bytes words : List ℕ) × Gives old.told program most_bytes bytes × IsProgram bytes words × (asked ≢ regions)
@@ -56,13 +56,13 @@ unfit_misfit old new program out asked plan unfit (inr (rose, (begins, is))) = l
 fault_rose : (old new : Seen) (program out : List ℕ) (asked : List Region) (plan : Plan) → plan.verdict ≡ ReadFault → IsPlan old new (Some (Explore program out asked)) plan → Rose old.reads new.reads
 fault_rose old new program out asked plan fault (inl (bytes, given, names, inl report)) = let other = report.done in cc
 fault_rose old new program out asked plan fault (inl (bytes, given, names, inr (inl refusal))) = let other = refusal.refused in cc
-fault_rose old new program out asked plan fault (inl (bytes, given, names, inr (inr misfit))) = let other = misfit.unfit in cc
+fault_rose old new program out asked plan fault (inl (bytes, given, names, inr (inr misfit))) = let other = misfit.is in cc
 fault_rose old new program out asked plan fault (inr (rose, read)) = rose
 
 no_job_none : (old new : Seen) (program out : List ℕ) (asked : List Region) (plan : Plan) → plan.verdict ≡ NoJob → IsPlan old new (Some (Explore program out asked)) plan → ⊥
 no_job_none old new program out asked plan no_job (inl (bytes, given, names, inl report)) = let other = report.done in cc
 no_job_none old new program out asked plan no_job (inl (bytes, given, names, inr (inl refusal))) = let other = refusal.refused in cc
-no_job_none old new program out asked plan no_job (inl (bytes, given, names, inr (inr misfit))) = let other = misfit.unfit in cc
+no_job_none old new program out asked plan no_job (inl (bytes, given, names, inr (inr misfit))) = let other = misfit.is in cc
 no_job_none old new program out asked plan no_job (inr (rose, (begins, is))) = let other : plan.verdict ≡ ReadFault = ap (λ (p : Plan). p.verdict) is in cc
 
 -- without a job the plan is one verdict or another, and puts nothing

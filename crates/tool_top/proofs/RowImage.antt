@@ -50,12 +50,14 @@ flags_on : (n page : ℕ) → n ≤ 1024 → flags_of n page ≡ cond (is_touche
 flags_on n page most =
     rw (sym (touches_code n page), sym (touches_data page))
     (of_three (touches (code_segment n) page) (touches data_segment page) (touches stack page)
-        (λ c. code_or_data n page most c) (λ c. code_or_stack n page most c) (λ d. data_or_stack page d))
+    (λ c. code_or_data n page most c) (λ c. code_or_stack n page most c) (λ d. data_or_stack page d))
   where
     code_or_data : (n page : ℕ) → n ≤ 1024 → touches (code_segment n) page ≡ true → touches data_segment page ≡ false
     code_or_data n page most c = grind (arith, nat_tests)
+
     code_or_stack : (n page : ℕ) → n ≤ 1024 → touches (code_segment n) page ≡ true → touches stack page ≡ false
     code_or_stack n page most c = grind (arith, nat_tests)
+
     data_or_stack : (page : ℕ) → touches data_segment page ≡ true → touches stack page ≡ false
     data_or_stack page d = grind (arith, nat_tests)
 
@@ -89,14 +91,19 @@ byte_of_row words address = only_code (row_file words) (length words) address �
   where
     below : (address end : ℕ) → address < code_start → (leb code_start address && ltb address end) ≡ false
     below address end h = grind (arith, nat_tests)
+
     no_code : (address : ℕ) → address < code_start → leb code_start address ≡ false
     no_code address h = grind (arith, nat_tests)
+
     from_start : (address : ℕ) → code_start ≤ address → leb code_start address ≡ true
     from_start address h = grind (arith, nat_tests)
+
     inside : (address end : ℕ) → code_start ≤ address → address < end → (true && ltb address end) ≡ true
     inside address end h k = grind (arith, nat_tests)
+
     outside : (address end : ℕ) → end ≤ address → (true && ltb address end) ≡ false
     outside address end h = grind (arith, nat_tests)
+
     in_file : (words : List ℕ) (k : ℕ) → get_or (row_file words) (116 + k) 0 ≡ get_or (code_bytes words) k 0
     in_file words k = sym (get_or-drop 116 (row_file words) k 0) ∙ ap (λ bs. get_or bs k 0) (code_of_file words)
 

@@ -1,10 +1,10 @@
 -- What the headers of a program's file say: two segments, and no reason to refuse it.
-use Rattle.std.proofs.Common.{◌≡◌, ℕ, ◌+◌, ◌*◌, ◌/◌, ◌%◌, ◌^◌, ◌<◌, ◌≤◌, Bool, true, false, ltb, leb, List, [], ◌∷◌, All, length, None, refl, sym, ap, ◌∙◌, arith}
+use Rattle.std.proofs.Common.{◌≡◌, ℕ, ◌+◌, ◌*◌, ◌/◌, ◌%◌, ◌^◌, ◌<◌, ◌≤◌, true, false, ltb, List, [], ◌∷◌, length, None, refl, ap, ◌∙◌, arith}
 use Rattle.std.proofs.lemmas.Bool.Decides.{nat_tests}
 use Rattle.elf_load.specs.declared.header.Header.{Header}
 use Rattle.elf_load.specs.declared.header.ProgramHeader.{ProgramHeader}
 use Rattle.elf_load.specs.Fields.{half_at, word_at, header_of, headers, segments, is_segment}
-use Rattle.elf_load.specs.Areas.{touched_pages, end_of}
+use Rattle.elf_load.specs.Areas.{end_of}
 use Rattle.elf_load.specs.Refusals.{refusal, header_refusal, program_refusal, segment_refusal, refused_too_big, refused_short, refused_magic, refused_class, refused_byte_order, refused_version, refused_file_type, refused_machine, refused_flags, refused_header_size, refused_headers_past_end, refused_dynamic, refused_file_over_memory, refused_bytes_past_end, refused_address_range, refused_overlap, refused_too_many_pages, refused_nothing}
 use Rattle.std.proofs.lemmas.List.Elements.{All-nil, All-cons}
 use Rattle.elf_load.proofs.Counting.{touched_pages_counted}
@@ -58,14 +58,19 @@ header_fine words most = header_rows (row_file words) (big words most) (short wo
   where
     not_big : (n : ℕ) → n ≤ 1024 → ltb 1048576 (116 + 4 * n) ≡ false
     not_big n h = grind (arith, nat_tests)
+
     big : (words : List ℕ) → length words ≤ 1024 → ltb 1048576 (length (row_file words)) ≡ false
     big words h = rw (length-row_file words) (not_big (length words) h)
+
     not_short : (n : ℕ) → ltb (116 + 4 * n) 52 ≡ false
     not_short n = grind (arith, nat_tests)
+
     short : (words : List ℕ) → ltb (length (row_file words)) 52 ≡ false
     short words = rw (length-row_file words) (not_short (length words))
+
     not_past : (n : ℕ) → ltb (116 + 4 * n) 116 ≡ false
     not_past n = grind (arith, nat_tests)
+
     past : (words : List ℕ) → refused_headers_past_end (row_file words) ≡ false
     past words = header_is_in words ∙ rw (length-row_file words) (not_past (length words))
 
@@ -86,7 +91,7 @@ InMemory s = end_of s ≤ 4294967296
 few_pages : (n : ℕ) → 2 ≤ n → n ≤ 1024 → refused_too_many_pages (code_segment n ∷ data_segment ∷ []) ≡ false
 few_pages n least most =
     let counted = touched_pages_counted (code_segment n ∷ data_segment ∷ []) (omega arith, omega arith, (omega arith, omega arith, tt))
-        (All-cons InMemory (code_segment n) (data_segment ∷ []) (omega arith) (All-cons InMemory data_segment [] (omega arith) (All-nil InMemory))) (grind (arith, nat_tests)) in
+    (All-cons InMemory (code_segment n) (data_segment ∷ []) (omega arith) (All-cons InMemory data_segment [] (omega arith) (All-nil InMemory))) (grind (arith, nat_tests)) in
     rw counted (few n most)
   where
     few : (n : ℕ) → n ≤ 1024 → ltb 16384 (pages_from 0 (code_segment n ∷ data_segment ∷ [])) ≡ false

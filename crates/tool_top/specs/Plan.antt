@@ -84,7 +84,7 @@ pub record IsMisfit (bytes : List ℕ) (asked : List Region) (verdict : Verdict)
   pub words : List ℕ
   pub taken : IsProgram bytes words
   pub others : asked ≢ regions
-  pub unfit : verdict ≡ Unfit
+  pub is : verdict ≡ Unfit
   pub no_files : puts ≡ []
   pub image : Image
   pub loads : Loads bytes image

@@ -11,8 +11,7 @@ ghost use Rattle.tool_top.specs.Programs.{IsProgram, image_of, regions};
 /// The file of a program that is taken is not refused.
 pub fn a_program_that_is_taken_loads()
     ensures { (bytes words : List ℕ) → IsProgram bytes words → refusal bytes ≡ None }
-{
-}
+{}
 
 /// What the words of a program put into memory is the image that its file loads to: where it begins, what may be done
 /// on each page, and each byte of a mapped page.
@@ -23,11 +22,9 @@ pub fn its_image_is_what_its_file_loads_to()
         (page : ℕ) → (image_of words).flags page ≡ option_map (λ p. p.flags) (get image.pages page) }
     ensures bytes { (bytes words : List ℕ) (image : Image) → IsProgram bytes words → Loads bytes image →
         (page i : ℕ) → i < 256 → IfSome (get image.pages page) (λ p. slice_index p.bytes i ≡ (image_of words).byte (256 * page + i)) }
-{
-}
+{}
 
 /// The one input that is taken fits it.
 pub fn the_input_that_is_taken_fits()
     ensures { (bytes words : List ℕ) (image : Image) → IsProgram bytes words → Loads bytes image → unfit image regions ≡ None }
-{
-}
+{}

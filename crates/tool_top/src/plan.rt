@@ -8,10 +8,10 @@ ghost use Rattle.tool_top.specs.Programs.{regions};
 ghost use Rattle.tool_top.specs.Reports.{IsReportOf};
 
 use crate::program::{Program, read_program};
+use crate::refusals::{say_refused, say_unfit};
 use crate::report::make_report;
 use crate::verdict::Verdict;
 use crate::walk::explore;
-use crate::refusals::{say_refused, say_unfit};
 use elf_load::{Image, LoadError, Refused, Region, Regions, Unfit, fit, load};
 use std::alloc::{AllocError as NoMemory, Global};
 use tool_io::{Fault, Files, NamedFile};

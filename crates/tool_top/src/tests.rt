@@ -1,4 +1,5 @@
 //! Tests over whole runs and over texts.
 
+mod refusals;
 mod rows;
 mod texts;

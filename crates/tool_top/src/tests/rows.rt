@@ -10,10 +10,10 @@ use tool_io::{Files, HostFiles, MemFiles};
 use work_gate::OpenGate;
 
 // A program without a branch, and with other words first than are taken.
-const STRAIGHT: [u32; 3] = [0x0070_0513, 0x05D0_0893, 0x0000_0073];
+pub(crate) const STRAIGHT: [u32; 3] = [0x0070_0513, 0x05D0_0893, 0x0000_0073];
 
 // A program that exits with 1 where its input byte is 'A', and else with 0.
-const FORKED: [u32; 9] = [
+pub(crate) const FORKED: [u32; 9] = [
     0x0001_12B7,
     0x0002_C383,
     0x0410_0313,
@@ -33,7 +33,7 @@ const TEST_0: &str =
 const TEST_1: &str =
     "{\"end\":\"exit 1\",\"format\":1,\"input\":\"41\",\"leaf\":1,\"output\":\"\",\"path\":\"T\",\"regions\":[\"00011000:1\"],\"steps\":7}\n";
 
-const EXPLORE: [&str; 5] = ["rvklee", "explore", "p.elf", "out", "00011000:1"];
+pub(crate) const EXPLORE: [&str; 5] = ["rvklee", "explore", "p.elf", "out", "00011000:1"];
 
 fn push_words(bytes: &mut Vec<u8>, words: &[u32]) -> Result<(), Fail> {
     for word in words {
@@ -43,7 +43,7 @@ fn push_words(bytes: &mut Vec<u8>, words: &[u32]) -> Result<(), Fail> {
 }
 
 // The file of these words: the ELF header, a header for the code, one for 512 bytes of data, and the code.
-fn row_file(alloc: Global, words: &[u32]) -> Result<Vec<u8>, Fail> {
+pub(crate) fn row_file(alloc: Global, words: &[u32]) -> Result<Vec<u8>, Fail> {
     let size = words.iter().fold(0u32, |size, _| size.wrapping_add(4));
     let mut bytes = Vec::new(alloc);
     push_words(&mut bytes, &[0x464C_457F, 0x0001_0101, 0, 0])?;
@@ -76,7 +76,7 @@ fn files(alloc: Global, program: &[u32], to_fail: &[u64]) -> Result<MemFiles, Fa
 }
 
 // The status of the tool's run.
-fn run<R: Threads + Wait + Sync + AllocGlobal, F: Files>(
+pub(crate) fn run<R: Threads + Wait + Sync + AllocGlobal, F: Files>(
     rt: &R,
     words: &[&str],
     files: &mut F,

@@ -1,4 +1,3 @@
-use Rattle.std.proofs.Common.{subst}
 use Rattle.tool_top.proofs.RowImage.{taken_loads, same_entry, same_flags, same_bytes}
 use Rattle.tool_top.proofs.laws.its_image_is_what_its_file_loads_to.Goals as goal
 
