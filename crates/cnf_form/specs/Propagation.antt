@@ -1,4 +1,4 @@
-use Rattle.std.specs.Prelude.{ℕ, Bool, true, false, not, ◌==◌, ◌-◌, List, [], ◌∷◌, Option, Some, None, filter, fold, slice_get, if◌then◌else◌}
+use Rattle.std.specs.Prelude.{ℕ, Bool, false, not, ◌==◌, ◌-◌, List, [], ◌∷◌, Option, Some, None, filter, fold, slice_get, if◌then◌else◌}
 use Rattle.std.specs.List.{list_all}
 use Rattle.cnf_form.specs.Literals.{Literal, negation, same_truth}
 

@@ -1,10 +1,22 @@
 //! What holds of every formula, log and valuation.
 
-ghost use Rattle.std.specs.Prelude.{◌≡◌, ℕ, Bool, List, true};
+ghost use Rattle.std.specs.Prelude.{◌≡◌, ℕ, Bool, List, true, Some, None};
 ghost use Rattle.cnf_form.specs.Literals.{Literal};
+ghost use Rattle.cnf_form.specs.Clauses.{clause_of, is_subset};
 ghost use Rattle.cnf_form.specs.Valuations.{satisfies_clause, satisfies};
 ghost use Rattle.cnf_form.specs.Propagation.{follows};
 ghost use Rattle.cnf_form.specs.Refutations.{Step, clauses_of, follows_all, refutes};
+
+/// A clause is satisfied just where one of the literals is true of which it was made.
+pub fn clauses_mean_their_literals()
+    ensures clause { (v : ℕ → Bool) (literals clause : List Literal) → clause_of literals ≡ Some clause → satisfies_clause v clause ≡ satisfies_clause v literals }
+    ensures none { (v : ℕ → Bool) (literals : List Literal) → clause_of literals ≡ None → satisfies_clause v literals ≡ true }
+{}
+
+/// A superset of a clause is satisfied where the clause is.
+pub fn supersets_are_weaker()
+    ensures { (v : ℕ → Bool) (small large : List Literal) → is_subset small large ≡ true → satisfies_clause v small ≡ true → satisfies_clause v large ≡ true }
+{}
 
 /// A clause that follows by its hints is satisfied wherever the clauses are that it follows from.
 pub fn what_follows_is_satisfied()

@@ -1,8 +1,8 @@
-use Rattle.std.proofs.Common.{◌≡◌, ℕ, ◌+◌, ◌<◌, Bool, true, false, not, cond, List, [], ◌∷◌, ◌++◌, length, get_or, take, drop, drop-cons, refl, ap, sym, ◌∙◌, arith, filter, Option, Some, None, option_to_list, is_some, append-nil, ◌≤◌}
+use Rattle.std.proofs.Common.{◌≡◌, ℕ, ◌+◌, ◌<◌, Bool, true, false, not, cond, List, [], ◌∷◌, ◌++◌, length, get_or, take, drop, refl, ap, sym, ◌∙◌, filter, Option, Some, None, option_to_list, is_some, append-nil, ◌≤◌}
 use Rattle.std.proofs.lemmas.List.{take_more, take_all, take-append-drop}
 use Rattle.std.proofs.lemmas.List.Elements.{filter-append}
 use Rattle.cnf_form.specs.Literals.{Literal}
-use Rattle.cnf_form.specs.Propagation.{is_false, is_true, open_literals, only_literal, unit_literal}
+use Rattle.cnf_form.specs.Propagation.{is_false, open_literals, only_literal, unit_literal}
 
 pub open_more : (a : ℕ → Option Bool) (c : List Literal) (i : ℕ) (d : Literal) → i < length c → open_literals a (take (i + 1) c) ≡ open_literals a (take i c) ++ cond (not (is_false a (get_or c i d))) (get_or c i d ∷ []) []
 unfolding open_literals

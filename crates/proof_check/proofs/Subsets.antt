@@ -1,8 +1,8 @@
-use Rattle.std.proofs.Common.{◌≡◌, ℕ, suc, ◌+◌, ◌<◌, ◌≤◌, ◌==◌, nat_lt, Bool, true, false, not, ◌&&◌, ◌||◌, if◌then◌else◌, List, [], ◌∷◌, length, get_or, drop, drop-cons, refl, ap, sym, ◌∙◌, arith, add-one, inl, inr}
+use Rattle.std.proofs.Common.{◌≡◌, ℕ, suc, ◌+◌, ◌<◌, ◌≤◌, ◌==◌, nat_lt, Bool, true, false, not, if◌then◌else◌, List, [], ◌∷◌, length, get_or, drop, drop-cons, refl, sym, ◌∙◌, arith, add-one, inl, inr}
 use Rattle.std.specs.List.{list_any, list_all}
 use Rattle.std.proofs.lemmas.Bool.{and_parts, and_from, or_from, ltb-true, ltb-false, lt-ltb, le-ltb, ne_eqb, eqb-true, not_from_false, and_left, not-true, cases_lt, eq-eqb}
 use Rattle.std.proofs.lemmas.List.{drop_all}
-use Rattle.cnf_form.specs.Literals.{Literal, same_literal, same_truth}
+use Rattle.cnf_form.specs.Literals.{Literal, same_literal}
 use Rattle.cnf_form.specs.Clauses.{is_subset, are_increasing}
 use Rattle.cnf_form.proofs.Inserting.{all_above, above_later}
 use Rattle.proof_check.specs.Merging.{is_met}

@@ -1,4 +1,4 @@
-use Rattle.std.specs.Prelude.{ℕ, Bool, true, false, nat_lt, List, [], ◌∷◌, if◌then◌else◌}
+use Rattle.std.specs.Prelude.{Bool, true, false, nat_lt, List, [], ◌∷◌, if◌then◌else◌}
 use Rattle.cnf_form.specs.Literals.{Literal, same_literal}
 
 -- whether each literal of the first list is met in the second, both in the order of their variables

@@ -1,4 +1,4 @@
-use Rattle.std.proofs.Common.{◌≡◌, ◌++◌, ◌∙◌, sym, ap, arith, true, false, drop, take}
+use Rattle.std.proofs.Common.{◌++◌, ◌∙◌, sym, ap, arith, true, false, take}
 use Rattle.std.proofs.lemmas.List.{drop_all}
 use Rattle.cnf_form.specs.Refutations.{follows_all, clauses_of}
 use Rattle.proof_check.proofs.Turns.{follows_kept, follows_lost, follows_none, follows_test}

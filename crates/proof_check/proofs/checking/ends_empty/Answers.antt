@@ -1,6 +1,5 @@
-use Rattle.std.proofs.Common.{◌≡◌, ap, sym, ◌∙◌, ◌==◌, length, Some, List}
+use Rattle.std.proofs.Common.{ap, sym, ◌∙◌, ◌==◌, length, List}
 use Rattle.cnf_form.specs.Literals.{Literal}
-use Rattle.cnf_form.specs.Refutations.{Step}
 use Rattle.proof_check.proofs.Turns.{empty_at_end, no_end, empty_by_length}
 use Rattle.proof_check.proofs.checking.ends_empty.Goals as goal
 

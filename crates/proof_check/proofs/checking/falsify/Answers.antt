@@ -1,6 +1,4 @@
-use Rattle.std.proofs.Common.{◌≡◌, ◌∙◌, ap, sym, arith, refl}
-use Rattle.cnf_form.specs.Literals.{negation}
-use Rattle.cnf_form.specs.Propagation.{assign, falsify}
+use Rattle.std.proofs.Common.{◌∙◌, sym, arith, refl}
 use Rattle.proof_check.proofs.Walks.{falsify_none, falsify_more}
 use Rattle.proof_check.proofs.checking.falsify.Goals as goal
 

@@ -1,4 +1,4 @@
-use Rattle.std.proofs.Common.{◌≡◌, ◌∙◌, ap, sym, arith, refl, ◌++◌, ◌-◌, length}
+use Rattle.std.proofs.Common.{◌∙◌, ap, arith, ◌++◌, ◌-◌, length}
 use Rattle.cnf_form.specs.Propagation.{follows, falsify, reaches_conflict}
 use Rattle.cnf_form.specs.Refutations.{clauses_of}
 use Rattle.proof_check.specs.Marking.{marked}

@@ -1,6 +1,6 @@
-use Rattle.std.proofs.Common.{◌≡◌, ◌∙◌, ap, sym, arith, refl}
+use Rattle.std.proofs.Common.{◌∙◌, sym, arith}
 use Rattle.proof_check.specs.Marking.{marked}
-use Rattle.proof_check.proofs.Opened.{open_none, opened, passed, too_many_found, unit_at_end}
+use Rattle.proof_check.proofs.Opened.{open_none, opened, passed, too_many_found}
 use Rattle.proof_check.proofs.checking.unit_literal.Goals as goal
 use Rattle.proof_check.proofs.checking.unit_literal.Goals.{then-not-is_false+else-is_some, else-not-is_false}
 

@@ -1,4 +1,4 @@
-use Rattle.std.proofs.Common.{◌≡◌, ◌<◌, ◌≤◌, ◌∙◌, sym, arith, length}
+use Rattle.std.proofs.Common.{◌<◌, ◌≤◌, ◌∙◌, sym, arith, length}
 use Rattle.proof_check.proofs.Subsets.{met_whole, met_less, met_same, met_other, met_end}
 use Rattle.proof_check.proofs.freshness.is_met.Goals as goal
 use Rattle.proof_check.proofs.freshness.is_met.Goals.{then-is_same, else-is_same}

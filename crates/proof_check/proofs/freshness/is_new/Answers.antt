@@ -1,4 +1,4 @@
-use Rattle.std.proofs.Common.{refl, ◌≡◌, ap, sym, ◌∙◌, not, true, false, ◌||◌}
+use Rattle.std.proofs.Common.{refl}
 use Rattle.proof_check.proofs.Turns.{new_by_parts}
 use Rattle.proof_check.proofs.freshness.is_new.Goals as goal
 

@@ -1,4 +1,4 @@
-use Rattle.std.proofs.Common.{◌≡◌, ◌∙◌}
+use Rattle.std.proofs.Common.{◌∙◌}
 use Rattle.proof_check.proofs.Subsets.{met_is_subset}
 use Rattle.proof_check.proofs.freshness.is_subset.Goals as goal
 

@@ -1,4 +1,4 @@
-use Rattle.std.proofs.Common.{◌≡◌, arith, ◌∙◌, sym, ap}
+use Rattle.std.proofs.Common.{arith}
 use Rattle.proof_check.proofs.Assigning.{made}
 use Rattle.proof_check.proofs.marks.Marks.assign.Goals as goal
 

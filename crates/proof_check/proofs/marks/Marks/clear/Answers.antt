@@ -1,4 +1,3 @@
-use Rattle.std.proofs.Common.{◌≡◌, arith}
 use Rattle.proof_check.proofs.Assigning.{cleared}
 use Rattle.proof_check.proofs.marks.Marks.clear.Goals as goal
 
