@@ -1,0 +1,5 @@
+pub mod Literals
+pub mod Clauses
+pub mod Valuations
+pub mod Propagation
+pub mod Refutations
