@@ -62,7 +62,9 @@ fn files_that_are_refused(rt: HostRuntime) -> Result<(), Fail> {
         let mut bytes = row_file(alloc, &STRAIGHT)?;
         bytes.resize(length, 0)?;
         for &(at, value) in edits {
-            bytes[at] = value;
+            if at < bytes.len() {
+                bytes[at] = value;
+            }
         }
         let mut files = holding(alloc, bytes.as_slice())?;
         assert_eq!(rt; run(&rt, &EXPLORE, &mut files)?, 3, "{why}");

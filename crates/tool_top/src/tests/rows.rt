@@ -35,6 +35,12 @@ const TEST_1: &str =
 
 pub(crate) const EXPLORE: [&str; 5] = ["rvklee", "explore", "p.elf", "out", "00011000:1"];
 
+const OTHER_INPUT: [&str; 5] = ["rvklee", "explore", "p.elf", "out", "00011000:2"];
+
+const NO_INPUT: [&str; 5] = ["rvklee", "explore", "p.elf", "out", "00011000:10000"];
+
+const NOTHING: [u32; 0] = [];
+
 fn push_words(bytes: &mut Vec<u8>, words: &[u32]) -> Result<(), Fail> {
     for word in words {
         bytes.extend_from_slice(&word.to_le_bytes())?;
@@ -113,20 +119,17 @@ fn other_runs_say_one_line(rt: HostRuntime) -> Result<(), Fail> {
     let unfit = "inputs refused 6 Later\n";
     let refused = "program refused 19 Later\n";
     let fault = "read fault\n";
-    let none: [u32; 0] = [];
-    let other = ["rvklee", "explore", "p.elf", "out", "00011000:2"];
-    let more = ["rvklee", "explore", "p.elf", "out", "00011000:10000"];
     for (words, program, to_fail, status, said, names, puts) in [
         (&EXPLORE[..1], &FORKED[..], 9, 2, usage, 0, 0),
         (&EXPLORE[..4], &FORKED[..], 9, 2, usage, 0, 0),
-        (&more[..], &FORKED[..], 9, 2, usage, 0, 0),
-        (&other[..], &FORKED[..], 9, 4, unfit, 1, 0),
-        (&other[..], &FORKED[..], 2, 4, "", 1, 0),
-        (&other[..], &STRAIGHT[..], 9, 3, refused, 1, 0),
+        (&NO_INPUT[..], &FORKED[..], 9, 2, usage, 0, 0),
+        (&OTHER_INPUT[..], &FORKED[..], 9, 4, unfit, 1, 0),
+        (&OTHER_INPUT[..], &FORKED[..], 2, 4, "", 1, 0),
+        (&OTHER_INPUT[..], &STRAIGHT[..], 9, 3, refused, 1, 0),
         (&EXPLORE[..1], &FORKED[..], 1, 2, "", 0, 0),
         (&EXPLORE[..], &STRAIGHT[..], 9, 3, refused, 1, 0),
         (&EXPLORE[..], &STRAIGHT[..], 2, 3, "", 1, 0),
-        (&EXPLORE[..], &none[..], 9, 5, fault, 1, 0),
+        (&EXPLORE[..], &NOTHING[..], 9, 5, fault, 1, 0),
         (&EXPLORE[..], &FORKED[..], 1, 5, fault, 1, 0),
         (&EXPLORE[..], &FORKED[..], 2, 6, "", 1, 0),
         (&EXPLORE[..], &FORKED[..], 3, 6, "", 1, 1),
