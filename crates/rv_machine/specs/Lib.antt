@@ -1,0 +1,5 @@
+pub mod Arithmetic
+pub mod Memory
+pub mod Machine
+pub mod Runs
+pub mod Decisions
