@@ -1,0 +1,80 @@
+-- Conditional branches of symbolic runs.
+use Rattle.std.proofs.Common.{◌≡◌, ℕ, ◌≤◌, Bool, true, false, List, map, get_or, refl, sym, ap, ◌∙◌, subst, arith}
+use Rattle.std.specs.Prelude.{Option, None, Some, Result, Ok, Err, IfOk, ◌==◌, ◌-◌, if◌then◌else◌, not}
+use Rattle.std.proofs.Math.ListN.{get_or-map}
+use Rattle.bv_dag.specs.Graphs.{Graph, number_of, width_of}
+use Rattle.rv_decode.specs.declared.ends.Trap.{Trap}
+use Rattle.rv_decode.specs.declared.instr.Instr.{Instr}
+use Rattle.rv_decode.specs.declared.instr.Instr.TheVariants.{Branch}
+use Rattle.rv_decode.specs.declared.ops.Test.{Test}
+use Rattle.rv_machine.specs.Arithmetic.{sum32, passes, one_where}
+use Rattle.rv_machine.specs.Machine.{State, next, branch, x, fetch}
+use Rattle.rv_machine.specs.Memory.{IsAssignment}
+use Rattle.sym_state.specs.Growing.{Grows}
+use Rattle.sym_state.specs.Moves.{with_terms}
+use Rattle.sym_state.specs.Programs.{Program, regions_of}
+use Rattle.sym_state.specs.Symbolic.{Symbolic, IsOpen, IsWide, IsDecided, Goes, GoesBy, concrete, meets, value_at, worth_of}
+use Rattle.sym_state.specs.declared.value.Value.{Value}
+use Rattle.sym_state.specs.declared.value.Value.TheVariants.{Number, Term}
+use Rattle.sym_machine.specs.Steps.{IsBranch, IsFetched, Stepped}
+use Rattle.sym_machine.specs.declared.outcome.Step.TheVariants.{Branch as AtBranch}
+use Rattle.sym_machine.proofs.Moving.{open_grown, same_grown, is_grown, concrete-grown}
+use Rattle.sym_machine.proofs.Stepping.{next_executes}
+
+-- what a register holds on an assignment
+pub x-worth : (p : Program) (s : Symbolic) (input : List ℕ) (r : ℕ) → x (concrete p s input) r ≡ worth_of s.terms input (value_at s.registers r)
+x-worth p s input r = get_or-map (worth_of s.terms input) s.registers r (Number 0)
+
+pub x-number : (p : Program) (s : Symbolic) (input : List ℕ) (r n : ℕ) → value_at s.registers r ≡ Number n → x (concrete p s input) r ≡ n
+x-number p s input r n is = x-worth p s input r ∙ ap (worth_of s.terms input) is
+
+-- the branch that comes next, along the side that was chosen
+goes_by : (c : State) (side : Bool) (test : Test) (rs1 rs2 offset : ℕ) → IsFetched c (Branch test rs1 rs2 offset) → Goes side c → passes test (x c rs1) (x c rs2) ≡ side
+goes_by c side test rs1 rs2 offset fetched goes = subst (GoesBy side c) fetched goes
+
+pub goes_with : (c : State) (side : Bool) (test : Test) (rs1 rs2 offset : ℕ) → IsFetched c (Branch test rs1 rs2 offset) → passes test (x c rs1) (x c rs2) ≡ side → Goes side c
+goes_with c side test rs1 rs2 offset fetched is = subst (GoesBy side c) (sym fetched) is
+
+pub along : (c : State) (side : Bool) (test : Test) (rs1 rs2 offset : ℕ) → IsFetched c (Branch test rs1 rs2 offset) → passes test (x c rs1) (x c rs2) ≡ side → next c ≡ branch c side (sum32 c.pc offset)
+along c side test rs1 rs2 offset fetched is = next_executes c (Branch test rs1 rs2 offset) fetched ∙ ap (λ b. branch c b (sum32 c.pc offset)) is
+
+pub along_chosen : (p : Program) (s : Symbolic) (side : Bool) (test : Test) (rs1 rs2 offset : ℕ) → IsOpen p s → s.decided ≡ Some side
+    → ((input : List ℕ) → IsAssignment (regions_of p) input → IsFetched (concrete p s input) (Branch test rs1 rs2 offset))
+    → (input : List ℕ) → IsAssignment (regions_of p) input → meets s input ≡ true → next (concrete p s input) ≡ branch (concrete p s input) side (sum32 s.pc offset)
+along_chosen p s side test rs1 rs2 offset was chosen fetched input assigned meeting =
+    along (concrete p s input) side test rs1 rs2 offset (fetched input assigned)
+    (goes_by (concrete p s input) side test rs1 rs2 offset (fetched input assigned) ((subst (IsDecided p s) chosen was.decided) input assigned meeting))
+
+pub along_numbers : (p : Program) (s : Symbolic) (test : Test) (rs1 rs2 offset left right : ℕ) → value_at s.registers rs1 ≡ Number left → value_at s.registers rs2 ≡ Number right
+    → ((input : List ℕ) → IsAssignment (regions_of p) input → IsFetched (concrete p s input) (Branch test rs1 rs2 offset))
+    → (input : List ℕ) → IsAssignment (regions_of p) input → meets s input ≡ true → next (concrete p s input) ≡ branch (concrete p s input) (passes test left right) (sum32 s.pc offset)
+along_numbers p s test rs1 rs2 offset left right is_left is_right fetched input assigned meeting =
+    along (concrete p s input) (passes test left right) test rs1 rs2 offset (fetched input assigned)
+    (cc (x-number p s input rs1 left is_left, x-number p s input rs2 right is_right))
+
+one_small : (b : Bool) → one_where b ≤ 1
+one_small true = omega arith
+one_small false = omega arith
+
+one_test : (b : Bool) → (one_where b == 1) ≡ b
+one_test true = refl
+one_test false = refl
+
+-- a branch that may go both ways
+pub at_branch : (p : Program) (s : Symbolic) (g : Graph) (test : Test) (rs1 rs2 offset term : ℕ) → IsOpen p s → Grows s.terms g → width_of g term ≡ 1 → s.decided ≡ None
+    → ((input : List ℕ) → number_of g term input ≡ one_where (passes test (worth_of s.terms input (value_at s.registers rs1)) (worth_of s.terms input (value_at s.registers rs2))))
+    → ((input : List ℕ) → IsAssignment (regions_of p) input → IsFetched (concrete p s input) (Branch test rs1 rs2 offset))
+    → Stepped p s (with_terms s g) (AtBranch term)
+at_branch p s g test rs1 rs2 offset term was grows bit undecided number fetched = (
+  open_grown p s g was grows,
+  same_grown p s g was grows,
+  is_grown s g grows,
+  record {
+    bit = bit;
+    small = λ input. subst (λ n. n ≤ 1) (sym (number input)) (one_small (passes test (worth_of s.terms input (value_at s.registers rs1)) (worth_of s.terms input (value_at s.registers rs2))));
+    undecided = undecided;
+    goes = λ input assigned meeting.
+        subst (Goes (number_of g term input == 1)) (sym (concrete-grown p s g input was grows))
+        (goes_with (concrete p s input) (number_of g term input == 1) test rs1 rs2 offset (fetched input assigned)
+          (cc (x-worth p s input rs1, x-worth p s input rs2, one_test (passes test (worth_of s.terms input (value_at s.registers rs1)) (worth_of s.terms input (value_at s.registers rs2))), number input)));
+  })

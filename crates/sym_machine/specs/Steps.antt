@@ -1,0 +1,61 @@
+-- What one instruction leads a symbolic run to.
+use Rattle.std.specs.Prelude.{◌≡◌, ℕ, ◌+◌, ◌%◌, ◌^◌, ◌<◌, ◌≤◌, ◌==◌, Bool, true, false, List, [], ◌∷◌, All, length, None, Some, Ok}
+use Rattle.bv_dag.specs.Graphs.{IsDag, number_of, width_of}
+use Rattle.bv_dag.specs.Queries.{AreBits}
+use Rattle.rv_decode.specs.declared.ends.End.{End}
+use Rattle.rv_decode.specs.declared.ends.End.TheVariants.{Exit, Trapped}
+use Rattle.rv_machine.specs.Arithmetic.{sum32}
+use Rattle.rv_decode.specs.declared.instr.Instr.{Instr}
+use Rattle.rv_machine.specs.Machine.{State, fetch}
+use Rattle.rv_machine.specs.Memory.{IsAssignment}
+use Rattle.rv_machine.specs.Runs.{run, IsRunOf}
+use Rattle.sym_state.specs.Moves.{IsGrown, IsSame}
+use Rattle.sym_state.specs.Programs.{Program, regions_of}
+use Rattle.sym_state.specs.Symbolic.{Symbolic, IsOpen, IsWide, AreBytes, Goes, concrete, is_term, meets, most_steps, numbers_of, value_at, worth_of}
+use Rattle.sym_machine.specs.declared.outcome.RunEnd.{RunEnd}
+use Rattle.sym_machine.specs.declared.outcome.RunEnd.TheVariants.{Exits, Traps}
+use Rattle.sym_machine.specs.declared.outcome.Step.{Step}
+use Rattle.sym_machine.specs.declared.outcome.Step.TheVariants.{Running, Branch, Pin, Ended}
+
+-- the instruction that comes next
+abbrev pub IsFetched : State → Instr → Type 0
+IsFetched c i = fetch c.flags c.byte c.pc ≡ Ok i
+
+-- how a run ends on an assignment
+abbrev pub end_on : Symbolic → List ℕ → RunEnd → End
+end_on s input Exits = Exit (worth_of s.terms input (value_at s.registers 10) % 256)
+end_on s input (Traps trap) = Trapped trap
+
+-- all its runs have ended so, in the step made last
+pub record IsEnding (p : Program) (s : Symbolic) (end : RunEnd) : Type 0 where
+  pub dag : IsDag s.terms
+  pub one_input : s.terms.inputs ≡ 1
+  pub all_registers : length s.registers ≡ 32
+  pub wide : All (IsWide s.terms) s.registers
+  pub bits : AreBits s.terms s.condition
+  pub bytes : AreBytes s.terms s.output
+  pub sampled : (s.sample < 256) × (meets s (s.sample ∷ []) ≡ true)
+  pub ends : (input : List ℕ) → IsAssignment (regions_of p) input → meets s input ≡ true →
+      IsRunOf (run p.image (regions_of p) input s.steps) s.steps s.path (Some (end_on s input end)) (numbers_of s.terms input s.output)
+
+-- a conditional branch comes next, and is taken where this term is 1
+pub record IsBranch (p : Program) (s : Symbolic) (term : ℕ) : Type 0 where
+  pub bit : width_of s.terms term ≡ 1
+  pub small : (input : List ℕ) → number_of s.terms term input ≤ 1
+  pub undecided : s.decided ≡ None
+  pub goes : (input : List ℕ) → IsAssignment (regions_of p) input → meets s input ≡ true → Goes (number_of s.terms term input == 1) (concrete p s input)
+
+-- the term is the sum of a register and an offset, and the register holds no number
+pub record IsPin (s : Symbolic) (register offset term : ℕ) : Type 0 where
+  pub wide : width_of s.terms term ≡ 32
+  pub is_register : register < 32
+  pub small : offset < 2 ^ 32
+  pub no_number : is_term (value_at s.registers register) ≡ true
+  pub sums : (input : List ℕ) → number_of s.terms term input ≡ sum32 (worth_of s.terms input (value_at s.registers register)) offset
+
+-- it has gone on, it is at a branch or at a term that has to be a number and has not carried the instruction out, or all its runs have ended
+abbrev pub Stepped : Program → Symbolic → Symbolic → Step → Type 0
+Stepped p old new Running = IsOpen p new × IsSame p old new × (new.steps ≡ old.steps + 1)
+Stepped p old new (Branch term) = IsOpen p new × IsSame p old new × IsGrown old new × IsBranch p new term
+Stepped p old new (Pin register offset term) = IsOpen p new × IsSame p old new × IsGrown old new × IsPin new register offset term
+Stepped p old new (Ended end) = IsEnding p new end × IsSame p old new × (new.steps ≡ old.steps + 1)

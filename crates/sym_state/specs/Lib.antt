@@ -1,0 +1,4 @@
+pub mod Programs
+pub mod Symbolic
+pub mod Growing
+pub mod Moves
