@@ -1,6 +1,6 @@
 -- The numbers of a job are within their limits.
-use Rattle.std.proofs.Common.{ℕ, Bool, true, false, List, [], ◌∷◌, ◌≡◌, ◌≤◌, Option, Some, None, Result, Ok, Err, refl, codes, arith, ap}
-use Rattle.std.specs.Prelude.{IfOk, if◌then◌else◌, nat_le, option_and_then}
+use Rattle.std.proofs.Common.{ℕ, Bool, true, false, List, [], ◌∷◌, ◌≡◌, Option, Some, None, Result, Ok, Err, refl, codes, arith}
+use Rattle.std.specs.Prelude.{IfOk, if◌then◌else◌, option_and_then}
 use Rattle.std.specs.Str.{bytes_eq}
 use Rattle.std.proofs.lemmas.Bool.Decides.{nat_tests}
 use Rattle.clap.specs.Words.{Kinds, Row, all_of, fault_of, first_of, subcommand_of}

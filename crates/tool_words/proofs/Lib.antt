@@ -1,5 +1,6 @@
 pub mod Numbers
 pub mod PlainNumbers
+pub mod Decimals
 pub mod Options
 pub mod Adding
 pub mod Matching

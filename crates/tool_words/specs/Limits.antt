@@ -1,5 +1,5 @@
 -- The numbers that options say: what a run may spend, and how many work at it.
-use Rattle.std.specs.Prelude.{ℕ, Bool, true, false, List, [], ◌∷◌, ◌==◌, ◌&&◌, ◌≤◌, nat_le, Option, None, Some, if◌then◌else◌, codes, option_and_then}
+use Rattle.std.specs.Prelude.{ℕ, Bool, false, List, [], ◌∷◌, ◌==◌, ◌&&◌, ◌≤◌, nat_le, Option, None, Some, if◌then◌else◌, codes, option_and_then}
 use Rattle.clap.specs.Words.{Row, first_of}
 use Rattle.tool_words.specs.Region.{number_of}
 use Rattle.tool_words.specs.declared.limit.Budgets.{Budgets}

@@ -1,9 +1,10 @@
 //! What holds of all command lines.
 
-ghost use Rattle.std.specs.Prelude.{◌≡◌, ◌≢◌, ◌∷◌, None, Some, ◌<◌, ◌^◌, ℕ, List, codes, length, option_map, true};
+ghost use Rattle.std.specs.Prelude.{◌≡◌, ◌≢◌, ◌↔◌, ◌∷◌, None, Some, ◌<◌, ◌^◌, ℕ, List, codes, length, option_map, true};
+ghost use Rattle.std.specs.Fmt.{decimal};
 ghost use Rattle.std.specs.List.{list_all};
 ghost use Rattle.tool_words.specs.Job.{Explore, IsWithinLimits, Job, job_of};
-ghost use Rattle.tool_words.specs.Limits.{default_budgets, workers_limit};
+ghost use Rattle.tool_words.specs.Limits.{default_budgets, plain_number, workers_limit};
 ghost use Rattle.tool_words.specs.Plain.{has_no_hyphen};
 ghost use Rattle.tool_words.specs.Region.{regions_of};
 
@@ -20,6 +21,11 @@ pub fn plain_words_name_their_job()
 /// The numbers of a job are within their limits.
 pub fn jobs_are_within_their_limits()
     ensures { (words : List (List ℕ)) (job : Job) → job_of words ≡ Some job → IsWithinLimits job }
+{}
+
+/// The value of an option is the number as `{}` writes it.
+pub fn a_number_is_written_in_one_way()
+    ensures { (text : List ℕ) (n : ℕ) → n < 2 ^ 64 → (plain_number text ≡ Some n ↔ text ≡ decimal n) }
 {}
 
 /// Words whose second is neither `explore` nor an option have no job: there is no other command, and

@@ -82,12 +82,12 @@ fn read_within(limit: Limit, value: &str) -> Option<u32>
     ensures { result ≡ number_within limit value.now }
 {
     let digits = value.as_bytes();
-    // `parse` takes a plus and leading zeros; 0 is below the limit.
+    // `parse` takes a plus and leading zeros, too.
     if digits.is_empty() || digits[0] == b'+' || digits[0] == b'0' {
         return None;
     }
     let number = value.parse::<u32>().ok()?;
-    if number == 0 || limit.most < number {
+    if limit.most < number {
         return None;
     }
     Some(number)

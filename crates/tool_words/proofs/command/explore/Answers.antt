@@ -1,7 +1,6 @@
-use Rattle.std.proofs.Common.{◌≡◌, codes, false}
+use Rattle.std.proofs.Common.{◌≡◌, codes}
 use Rattle.std.proofs.lemmas.Result.{IfOk-weaker}
 use Rattle.clap.specs.Words.{app_of, new_app, with_rule}
-use Rattle.clap.specs.declared.builder.command.Command.TheViews.{out-Command as fields_of}
 use Rattle.tool_words.specs.Command.{explore_command, with_numbers, required_word}
 use Rattle.tool_words.proofs.Adding.{arg_added, stays_local}
 use Rattle.tool_words.proofs.command.explore.Goals as goal

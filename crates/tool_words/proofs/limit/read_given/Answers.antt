@@ -1,4 +1,4 @@
-use Rattle.std.proofs.Common.{◌≡◌, ◌∙◌, option_map}
+use Rattle.std.proofs.Common.{◌∙◌, option_map}
 use Rattle.clap.specs.Words.{found_of}
 use Rattle.tool_words.proofs.Options.{number_found_is}
 use Rattle.tool_words.proofs.limit.read_given.Goals as goal
