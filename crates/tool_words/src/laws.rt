@@ -23,7 +23,7 @@ pub fn jobs_are_within_their_limits()
     ensures { (words : List (List ℕ)) (job : Job) → job_of words ≡ Some job → IsWithinLimits job }
 {}
 
-/// The value of an option is the number as `{}` writes it.
+/// A number has one text that says it, which is what `{}` writes.
 pub fn a_number_is_written_in_one_way()
     ensures { (text : List ℕ) (n : ℕ) → n < 2 ^ 64 → (plain_number text ≡ Some n ↔ text ≡ decimal n) }
 {}

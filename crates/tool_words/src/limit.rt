@@ -6,7 +6,8 @@ ghost use Rattle.tool_words.specs.Limits.{budgets_found, number_found, number_wi
 
 use clap::ArgMatches;
 
-/// What the exploration of a program may spend.
+/// What the exploration of a program may spend: in a job of words, each from 1 to the most of its
+/// limit.
 #[derive(Clone, Copy, Debug, PartialEq, Eq)]
 pub struct Budgets {
     /// The most steps of a run; one that hasn't ended by then is cut.
