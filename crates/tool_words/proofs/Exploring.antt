@@ -1,22 +1,34 @@
 -- The job of `explore`, from what the getters of clap's matches give.
-use Rattle.std.proofs.Common.{ℕ, List, ◌≡◌, codes, refl, Option, None, Result, Err, option_map}
+use Rattle.std.proofs.Common.{ℕ, List, ◌≡◌, codes, refl, Option, None, Some, Result, Err, option_map}
 use Rattle.std.specs.Prelude.{option_and_then}
 use Rattle.clap.specs.Words.{first_value, matched_of, raw_values, rows_of}
 use Rattle.clap.specs.declared.parser.matches.Found.{Found}
 use Rattle.clap.proofs.WalkLemmas.{first_value-rows, raw_values-rows}
+use Rattle.elf_load.specs.declared.region.Region.{Region}
 use Rattle.tool_words.specs.Job.{explore_job, explore_with}
+use Rattle.tool_words.specs.Limits.{budgets_found, workers_found}
 use Rattle.tool_words.specs.Region.{regions_of}
+use Rattle.tool_words.specs.declared.limit.Budgets.{Budgets}
 use Rattle.tool_words.specs.Seen.{IsRead}
 use Rattle.tool_words.specs.declared.job.WordsError.{WordsError}
 use Rattle.tool_words.specs.declared.job.WordsError.TheVariants.{Usage, NoMemory}
 
-pub explore_job_is : (found : Found) (program out : Option (List ℕ)) (inputs : Option (List (List ℕ)))
+pub explore_job_is : (found : Found) (program out : Option (List ℕ)) (inputs : Option (List (List ℕ))) (budgets : Option Budgets) (workers : Option ℕ)
     → program ≡ first_value found (codes "PROGRAM") → out ≡ first_value found (codes "OUT")
-    → inputs ≡ option_map raw_values (matched_of found (codes "INPUT"))
-    → explore_job (rows_of found) ≡ explore_with program out (option_and_then regions_of inputs)
+    → inputs ≡ option_map raw_values (matched_of found (codes "INPUT")) → budgets ≡ budgets_found (rows_of found) → workers ≡ workers_found (rows_of found)
+    → explore_job (rows_of found) ≡ explore_with program out (option_and_then regions_of inputs) budgets workers
 unfolding explore_job
-explore_job_is found program out inputs is_program is_out is_inputs =
-    rw (is_program, is_out, is_inputs, first_value-rows found (codes "PROGRAM"), first_value-rows found (codes "OUT"), raw_values-rows found (codes "INPUT")) refl
+explore_job_is found program out inputs budgets workers is_program is_out is_inputs is_budgets is_workers =
+    rw (is_program, is_out, is_inputs, is_budgets, is_workers, first_value-rows found (codes "PROGRAM"), first_value-rows found (codes "OUT"), raw_values-rows found (codes "INPUT")) refl
+
+-- without one of the numbers there is no job
+pub no_budgets : (program out : List ℕ) (regions : Option (List Region)) (workers : Option ℕ) → explore_with (Some program) (Some out) regions None workers ≡ None
+no_budgets program out None workers = refl
+no_budgets program out (Some regions) workers = refl
+
+pub no_workers : (program out : List ℕ) (regions : Option (List Region)) (budgets : Budgets) → explore_with (Some program) (Some out) regions (Some budgets) None ≡ None
+no_workers program out None budgets = refl
+no_workers program out (Some regions) budgets = refl
 
 -- an error is handed on
 pub same_error : {T V S W : Type 0} → (seen : T → V) (said : Option V) (first : Result T WordsError) (also_seen : S → W) (also_said : Option W) (second : Result S WordsError)

@@ -1,8 +1,12 @@
 pub mod Numbers
+pub mod PlainNumbers
+pub mod Decimals
+pub mod Options
 pub mod Adding
 pub mod Matching
 pub mod Reading
 pub mod Exploring
 pub mod Jobs
+pub mod Bounds
 pub mod PlainWords
 pub mod OtherWords

@@ -19,7 +19,7 @@ room base digits i most all lt short =
     let times = mul-le-mul_left (digits_value base (take i digits)) most in
     omega arith
 
-all_digits : (base : ℕ) (digits : List ℕ) → AllDigits base digits → list_all (λ d. is_digit d base) digits ≡ true
+pub all_digits : (base : ℕ) (digits : List ℕ) → AllDigits base digits → list_all (λ d. is_digit d base) digits ≡ true
 all_digits base [] all = refl
 all_digits base (d ∷ ds) all =
     let first : is_digit d base ≡ true = search (all.0, rules) in

@@ -4,6 +4,10 @@ use Rattle.clap.specs.Lexer.{usize_max}
 use Rattle.clap.specs.Simple.{on_top}
 use Rattle.clap.specs.Words.{App, Rule, new_app, new_rule, with_rule, with_subcommand}
 
+-- an option with a value, `--name N`
+abbrev pub number_option : List ℕ → Rule
+number_option name = record (new_rule name) { long = Some name }
+
 -- a word that has to be given, by its place
 abbrev pub required_word : List ℕ → Rule
 required_word id = record (new_rule id) { required = true }
@@ -14,9 +18,15 @@ required_words id = record (required_word id) {
   range = Some (record { start_inclusive = 1; end_inclusive = usize_max });
 }
 
--- explore PROGRAM OUT INPUT..
+-- the options of explore
+abbrev pub with_numbers : App → App
+with_numbers app = with_rule (with_rule (with_rule (with_rule app
+    (number_option (codes "steps"))) (number_option (codes "targets")))
+    (number_option (codes "conflicts"))) (number_option (codes "workers"))
+
+-- explore [--steps N] [--targets N] [--conflicts N] [--workers N] PROGRAM OUT INPUT..
 unfoldable pub explore_command : App
-explore_command = with_rule (with_rule (with_rule (new_app (codes "explore"))
+explore_command = with_rule (with_rule (with_rule (with_numbers (new_app (codes "explore")))
     (required_word (codes "PROGRAM"))) (required_word (codes "OUT"))) (required_words (codes "INPUT"))
 
 -- rvklee COMMAND ..

@@ -4,21 +4,25 @@ use Rattle.std.specs.Str.{bytes_eq}
 use Rattle.clap.specs.Words.{Kinds, Row, all_of, fault_of, first_of, subcommand_of}
 use Rattle.elf_load.specs.declared.region.Region.{Region}
 use Rattle.tool_words.specs.Command.{rvklee_command}
+use Rattle.tool_words.specs.Limits.{IsBudgets, IsWithin, budgets_found, workers_found, workers_limit}
 use Rattle.tool_words.specs.Region.{regions_of}
+use Rattle.tool_words.specs.declared.limit.Budgets.{Budgets}
 
 pub data Job : Type 0 where
   -- the leaves of a program's file, whose regions hold the input bytes, and their tests, are put into
-  -- the folder `out`
-  Explore : (program out : List ℕ) → (regions : List Region) → Job
+  -- the folder `out`, within the budgets, by so many workers
+  Explore : (program out : List ℕ) → (regions : List Region) → (budgets : Budgets) → (workers : ℕ) → Job
 
-abbrev pub explore_with : Option (List ℕ) → Option (List ℕ) → Option (List Region) → Option Job
-explore_with (Some program) (Some out) (Some regions) = Some (Explore program out regions)
-explore_with _ _ _ = None
+-- the job, where all is there
+abbrev pub explore_with : Option (List ℕ) → Option (List ℕ) → Option (List Region) → Option Budgets → Option ℕ → Option Job
+explore_with (Some program) (Some out) (Some regions) (Some budgets) (Some workers) =
+    Some (Explore program out regions budgets workers)
+explore_with _ _ _ _ _ = None
 
 -- the job of `explore`, from what `clap` finds for it
 unfoldable pub explore_job : List Row → Option Job
 explore_job rows = explore_with (first_of (codes "PROGRAM") rows) (first_of (codes "OUT") rows)
-    (option_and_then regions_of (all_of (codes "INPUT") rows))
+    (option_and_then regions_of (all_of (codes "INPUT") rows)) (budgets_found rows) (workers_found rows)
 
 -- the job of the command that `clap` finds in the words
 abbrev pub command_job : Option (List ℕ × List Row) → Option Job
@@ -31,7 +35,12 @@ without_fault [] job = job
 without_fault (fault ∷ faults) job = None
 
 -- the job of these words, of which the first is the tool's name: there is one where `clap` finds no
--- fault in them, and each INPUT names a region
+-- fault in them, each INPUT names a region, and each option a number within its limit
 unfoldable pub job_of : List (List ℕ) → Option Job
 job_of words = without_fault (fault_of rvklee_command words)
     (command_job (subcommand_of rvklee_command words))
+
+-- the numbers of the job are within their limits
+abbrev pub IsWithinLimits : Job → Type 0
+IsWithinLimits (Explore program out regions budgets workers) =
+    IsBudgets budgets × IsWithin workers_limit workers

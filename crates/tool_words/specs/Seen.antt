@@ -10,7 +10,8 @@ use Rattle.tool_words.specs.declared.job.WordsError.TheVariants.{Usage, NoMemory
 
 -- the job, with its texts as lists of bytes
 abbrev pub job_seen : Job → spec.Job
-job_seen (Explore program out regions) = spec.Explore (string_bytes program) (string_bytes out) regions
+job_seen (Explore program out regions budgets workers) =
+    spec.Explore (string_bytes program) (string_bytes out) regions budgets workers
 
 -- what stands for an error of `clap`'s
 abbrev pub error_of : ErrorKind → WordsError

@@ -3,7 +3,7 @@
 ghost use Rattle.std.specs.Prelude.{◌≡◌, IfOk, false};
 ghost use Rattle.clap.specs.Words.{app_of, rule_of};
 ghost use Rattle.clap.specs.declared.builder.command.Command.TheViews.{out-Command as fields_of};
-ghost use Rattle.tool_words.specs.Command.{explore_command, required_word, required_words, rvklee_command};
+ghost use Rattle.tool_words.specs.Command.{explore_command, number_option, required_word, required_words, rvklee_command};
 
 use clap::{Arg, Command};
 use std::alloc::{AllocError as NoMemory, Global};
@@ -17,15 +17,27 @@ pub(crate) fn rvklee<'a>(alloc: Global) -> Result<Command<'a>, NoMemory>
         .subcommand(explore(alloc)?)
 }
 
-/// `explore PROGRAM OUT INPUT..`.
+/// `explore [--steps N] [--targets N] [--conflicts N] [--workers N] PROGRAM OUT INPUT..`.
 fn explore<'a>(alloc: Global) -> Result<Command<'a>, NoMemory>
     ensures app { IfOk result (λ command. app_of command ≡ explore_command) }
     ensures local { IfOk result (λ command. (fields_of command).has_globals ≡ false) }
 {
     Command::new(alloc, "explore")
+        .arg(number_option(alloc, "steps"))?
+        .arg(number_option(alloc, "targets"))?
+        .arg(number_option(alloc, "conflicts"))?
+        .arg(number_option(alloc, "workers"))?
         .arg(required_word(alloc, "PROGRAM"))?
         .arg(required_word(alloc, "OUT"))?
         .arg(required_words(alloc, "INPUT"))
+}
+
+/// An option with a value, `--name N`, that may be given once.
+fn number_option<'a>(alloc: Global, name: &'a str) -> Arg<'a>
+    ensures rule { rule_of result ≡ number_option name.entry.now }
+    ensures local { result.global ≡ false }
+{
+    Arg::new(alloc, name).long(name)
 }
 
 /// A word that has to be given, by its place.

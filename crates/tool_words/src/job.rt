@@ -5,6 +5,7 @@ ghost use Rattle.clap.specs.Words.{kind_of};
 ghost use Rattle.tool_words.specs.Seen.{error_of};
 ghost use Rattle.tool_words.specs.declared.job.WordsError.TheVariants.{NoMemory};
 
+use crate::limit::Budgets;
 use clap::error::ErrorKind;
 use elf_load::Regions;
 use std::alloc::{AllocError, AllocFailed};
@@ -13,11 +14,13 @@ use std::alloc::{AllocError, AllocFailed};
 #[derive(Debug, Drop)]
 pub enum Job {
     /// The leaves of the program in this file, whose regions hold the input bytes, and their tests,
-    /// are to be put into the folder `out`.
+    /// are to be put into the folder `out`, within the budgets, by so many workers.
     Explore {
         program: String,
         out: String,
         regions: Regions,
+        budgets: Budgets,
+        workers: u32,
     },
 }
 

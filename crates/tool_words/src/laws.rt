@@ -1,19 +1,31 @@
 //! What holds of all command lines.
 
-ghost use Rattle.std.specs.Prelude.{◌≡◌, ◌≢◌, ◌∷◌, None, ◌<◌, ◌^◌, ℕ, List, codes, length, option_map, true};
+ghost use Rattle.std.specs.Prelude.{◌≡◌, ◌≢◌, ◌↔◌, ◌∷◌, None, Some, ◌<◌, ◌^◌, ℕ, List, codes, length, option_map, true};
+ghost use Rattle.std.specs.Fmt.{decimal};
 ghost use Rattle.std.specs.List.{list_all};
-ghost use Rattle.tool_words.specs.Job.{Explore, job_of};
+ghost use Rattle.tool_words.specs.Job.{Explore, IsWithinLimits, Job, job_of};
+ghost use Rattle.tool_words.specs.Limits.{default_budgets, plain_number, workers_limit};
 ghost use Rattle.tool_words.specs.Plain.{has_no_hyphen};
 ghost use Rattle.tool_words.specs.Region.{regions_of};
 
-/// `explore` with a program, a folder and inputs has the job that these words name, where none of
-/// them begins with a hyphen.
+/// `explore` with a program, a folder and inputs has the job that these words name, with the default
+/// numbers, where none of them begins with a hyphen.
 pub fn plain_words_name_their_job()
     ensures { (tool program out input : List ℕ) (inputs : List (List ℕ))
         → list_all has_no_hyphen (program ∷ out ∷ input ∷ inputs) ≡ true
         → length (input ∷ inputs) < 2 ^ 64
         → job_of (tool ∷ codes "explore" ∷ program ∷ out ∷ input ∷ inputs)
-        ≡ option_map (Explore program out) (regions_of (input ∷ inputs)) }
+        ≡ option_map (λ regions. Explore program out regions default_budgets workers_limit.default) (regions_of (input ∷ inputs)) }
+{}
+
+/// The numbers of a job are within their limits.
+pub fn jobs_are_within_their_limits()
+    ensures { (words : List (List ℕ)) (job : Job) → job_of words ≡ Some job → IsWithinLimits job }
+{}
+
+/// A number has one text that says it, which is what `{}` writes.
+pub fn a_number_is_written_in_one_way()
+    ensures { (text : List ℕ) (n : ℕ) → n < 2 ^ 64 → (plain_number text ≡ Some n ↔ text ≡ decimal n) }
 {}
 
 /// Words whose second is neither `explore` nor an option have no job: there is no other command, and

@@ -4,10 +4,12 @@
 mod command;
 mod job;
 pub mod laws;
+mod limit;
 mod region;
 mod words;
 
 pub use job::{Job, WordsError};
+pub use limit::{Budgets, CONFLICTS, Limit, STEPS, TARGETS, WORKERS};
 pub use words::read_words;
 
 #[cfg(test)]

@@ -4,16 +4,31 @@ use crate::{Job, WordsError, read_words};
 use std::alloc::{AllocError as NoMemory, Global};
 use std::test::Fail;
 
-/// A command line, and what it asks to explore: the program, the folder and the regions.
-struct Row<'a> {
-    words: &'a [&'a str],
-    job: (&'a str, &'a str, &'a [(u32, u32)]),
+/// What a command line asks to explore: the program, the folder, the regions; the steps, targets,
+/// conflicts and workers.
+struct Wanted<'a> {
+    files: (&'a str, &'a str),
+    regions: &'a [(u32, u32)],
+    numbers: (u32, u32, u32, u32),
 }
 
-const TAKEN: [Row<'static>; 8] = [
+/// A command line, and its job.
+struct Row<'a> {
+    words: &'a [&'a str],
+    job: Wanted<'a>,
+}
+
+// Where no option is given.
+const DEFAULTS: (u32, u32, u32, u32) = (10_000, 16, 2_000, 4);
+
+const TAKEN: [Row<'static>; 14] = [
     Row {
         words: &["rvklee", "explore", "a.elf", "out", "00011000:1"],
-        job: ("a.elf", "out", &[(0x11000, 1)]),
+        job: Wanted {
+            files: ("a.elf", "out"),
+            regions: &[(0x11000, 1)],
+            numbers: DEFAULTS,
+        },
     },
     Row {
         words: &[
@@ -24,35 +39,172 @@ const TAKEN: [Row<'static>; 8] = [
             "00011000:16",
             "fffffffe:2",
         ],
-        job: ("a.elf", "out", &[(0x11000, 16), (0xfffffffe, 2)]),
+        job: Wanted {
+            files: ("a.elf", "out"),
+            regions: &[(0x11000, 16), (0xfffffffe, 2)],
+            numbers: DEFAULTS,
+        },
     },
     Row {
         words: &["rvklee", "explore", "a.elf", "out", "0001100A:1"],
-        job: ("a.elf", "out", &[(0x1100a, 1)]),
+        job: Wanted {
+            files: ("a.elf", "out"),
+            regions: &[(0x1100a, 1)],
+            numbers: DEFAULTS,
+        },
     },
     Row {
         words: &["rvklee", "explore", "a.elf", "out", "0aBcDeF9:0042"],
-        job: ("a.elf", "out", &[(0x0abcdef9, 42)]),
+        job: Wanted {
+            files: ("a.elf", "out"),
+            regions: &[(0x0abcdef9, 42)],
+            numbers: DEFAULTS,
+        },
     },
     Row {
         words: &["rvklee", "explore", "a.elf", "out", "00011000:0"],
-        job: ("a.elf", "out", &[(0x11000, 0)]),
+        job: Wanted {
+            files: ("a.elf", "out"),
+            regions: &[(0x11000, 0)],
+            numbers: DEFAULTS,
+        },
     },
     Row {
         words: &["rvklee", "explore", "a.elf", "out", "00011000:9999"],
-        job: ("a.elf", "out", &[(0x11000, 9999)]),
+        job: Wanted {
+            files: ("a.elf", "out"),
+            regions: &[(0x11000, 9999)],
+            numbers: DEFAULTS,
+        },
     },
     Row {
         words: &["rvklee", "explore", "--", "-a.elf", "--help", "00011000:1"],
-        job: ("-a.elf", "--help", &[(0x11000, 1)]),
+        job: Wanted {
+            files: ("-a.elf", "--help"),
+            regions: &[(0x11000, 1)],
+            numbers: DEFAULTS,
+        },
     },
     Row {
         words: &["rvklee", "explore", "", "out", "00011000:1"],
-        job: ("", "out", &[(0x11000, 1)]),
+        job: Wanted {
+            files: ("", "out"),
+            regions: &[(0x11000, 1)],
+            numbers: DEFAULTS,
+        },
+    },
+    Row {
+        words: &[
+            "rvklee",
+            "explore",
+            "--targets",
+            "4",
+            "--steps",
+            "50",
+            "a.elf",
+            "out",
+            "00011000:1",
+        ],
+        job: Wanted {
+            files: ("a.elf", "out"),
+            regions: &[(0x11000, 1)],
+            numbers: (50, 4, 2_000, 4),
+        },
+    },
+    Row {
+        words: &[
+            "rvklee",
+            "explore",
+            "a.elf",
+            "--targets",
+            "4",
+            "out",
+            "--steps",
+            "50",
+            "00011000:1",
+        ],
+        job: Wanted {
+            files: ("a.elf", "out"),
+            regions: &[(0x11000, 1)],
+            numbers: (50, 4, 2_000, 4),
+        },
+    },
+    Row {
+        words: &[
+            "rvklee",
+            "explore",
+            "a.elf",
+            "out",
+            "00011000:1",
+            "--targets",
+            "4",
+            "--steps",
+            "50",
+        ],
+        job: Wanted {
+            files: ("a.elf", "out"),
+            regions: &[(0x11000, 1)],
+            numbers: (50, 4, 2_000, 4),
+        },
+    },
+    Row {
+        words: &[
+            "rvklee",
+            "explore",
+            "--steps=1",
+            "--targets=1",
+            "--conflicts=1",
+            "--workers=1",
+            "a.elf",
+            "out",
+            "00011000:1",
+        ],
+        job: Wanted {
+            files: ("a.elf", "out"),
+            regions: &[(0x11000, 1)],
+            numbers: (1, 1, 1, 1),
+        },
+    },
+    Row {
+        words: &[
+            "rvklee",
+            "explore",
+            "--workers",
+            "64",
+            "a.elf",
+            "--conflicts=100000",
+            "out",
+            "--targets",
+            "64",
+            "00011000:1",
+            "--steps=1000000",
+        ],
+        job: Wanted {
+            files: ("a.elf", "out"),
+            regions: &[(0x11000, 1)],
+            numbers: (1_000_000, 64, 100_000, 64),
+        },
+    },
+    Row {
+        words: &[
+            "rvklee",
+            "explore",
+            "--steps",
+            "3",
+            "--",
+            "--steps",
+            "4",
+            "00011000:1",
+        ],
+        job: Wanted {
+            files: ("--steps", "4"),
+            regions: &[(0x11000, 1)],
+            numbers: (3, 16, 2_000, 4),
+        },
     },
 ];
 
-const REFUSED: [&[&str]; 28] = [
+const REFUSED: [&[&str]; 30] = [
     &[],
     &["rvklee"],
     &["rvklee", "explore"],
@@ -79,8 +231,45 @@ const REFUSED: [&[&str]; 28] = [
     &["rvklee", "--version"],
     &["rvklee", "explore", "--help"],
     &["rvklee", "explore", "--steps", "a.elf", "out", "00011000:1"],
+    &["rvklee", "explore", "a.elf", "out", "00011000:1", "--steps"],
+    &[
+        "rvklee",
+        "--steps",
+        "5",
+        "explore",
+        "a.elf",
+        "out",
+        "00011000:1",
+    ],
     &["rvklee", "--", "explore", "a.elf", "out", "00011000:1"],
     &["rvklee", "replay", "a.elf", "out", "00011000:1"],
+];
+
+// Out of form, out of the limit, given twice, or no option; they stand before a program, a folder and
+// an input.
+const REFUSED_OPTIONS: [&[&str]; 22] = [
+    &["--steps", "0"],
+    &["--steps", "1000001"],
+    &["--steps", "01"],
+    &["--steps", "+5"],
+    &["--steps", "-5"],
+    &["--steps", "5a"],
+    &["--steps", " 5"],
+    &["--steps", ""],
+    &["--steps="],
+    &["--steps", "4294967297"],
+    &["--steps", "18446744073709551617"],
+    &["--steps", "5", "--steps", "5"],
+    &["--targets", "65"],
+    &["--targets", "0"],
+    &["--conflicts", "100001"],
+    &["--conflicts", "0"],
+    &["--workers", "65"],
+    &["--workers", "0"],
+    &["--step", "5"],
+    &["--seed", "5"],
+    &["-s", "5"],
+    &["--", "--steps", "5"],
 ];
 
 /// The words as a program is given them.
@@ -102,17 +291,20 @@ fn these_words_have_a_job(rt: HostRuntime) -> Result<(), Fail> {
                 program,
                 out,
                 regions,
+                budgets,
+                workers,
             },
         ) = read_words(alloc, words.as_slice())
         else {
             return Err("a job".into());
         };
-        assert_eq!(rt; program.as_str(), row.job.0);
-        assert_eq!(rt; out.as_str(), row.job.1);
-        assert_eq!(rt; regions.len(), row.job.2.len());
-        for (region, wanted) in regions.as_slice().iter().zip(row.job.2) {
+        assert_eq!(rt; (program.as_str(), out.as_str()), row.job.files);
+        assert_eq!(rt; regions.len(), row.job.regions.len());
+        for (region, wanted) in regions.as_slice().iter().zip(row.job.regions) {
             assert_eq!(rt; (region.start, region.count), *wanted);
         }
+        let numbers = (budgets.steps, budgets.targets, budgets.conflicts, workers);
+        assert_eq!(rt; numbers, row.job.numbers);
     }
     Ok(())
 }
@@ -122,6 +314,19 @@ fn these_words_have_none(rt: HostRuntime) -> Result<(), Fail> {
     let alloc = rt.alloc();
     for words in &REFUSED {
         let words = owned(alloc, words)?;
+        let answer = read_words(alloc, words.as_slice());
+        assert!(rt; matches!(answer, Err(WordsError::Usage)));
+    }
+    Ok(())
+}
+
+#[test]
+fn these_options_are_refused(rt: HostRuntime) -> Result<(), Fail> {
+    let alloc = rt.alloc();
+    for options in &REFUSED_OPTIONS {
+        let mut words = owned(alloc, &["rvklee", "explore"])?;
+        words.append(&mut owned(alloc, options)?)?;
+        words.append(&mut owned(alloc, &["a.elf", "out", "00011000:1"])?)?;
         let answer = read_words(alloc, words.as_slice());
         assert!(rt; matches!(answer, Err(WordsError::Usage)));
     }

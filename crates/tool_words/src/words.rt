@@ -4,12 +4,13 @@ ghost use Rattle.std.specs.Prelude.{◌≡◌, ◌≢◌, [], IfErr, IfOk, map, 
 ghost use Rattle.clap.specs.Words.{fault_of, found_of, kind_of, rows_of, subcommand_of, subcommand_rows_of};
 ghost use Rattle.clap.specs.declared.error.kind.ErrorKind.TheVariants.{OutOfMemory};
 ghost use Rattle.tool_words.specs.Command.{rvklee_command};
-ghost use Rattle.tool_words.specs.Job.{explore_job, job_of};
+ghost use Rattle.tool_words.specs.Job.{IsWithinLimits, explore_job, job_of};
 ghost use Rattle.tool_words.specs.Region.{regions_of};
 ghost use Rattle.tool_words.specs.Seen.{IsRead, job_seen};
 
 use crate::command::rvklee;
 use crate::job::{Job, WordsError};
+use crate::limit::{read_budgets, read_workers};
 use crate::region::read_region;
 use clap::ArgMatches;
 use elf_load::Regions;
@@ -17,7 +18,8 @@ use std::alloc::Global;
 
 /// The job that the words ask for, of which the first is the program's name.
 pub fn read_words(alloc: Global, words: &[String]) -> Result<Job, WordsError>
-    ensures { IsRead job_seen (job_of (map string_bytes words.now)) result }
+    ensures job { IsRead job_seen (job_of (map string_bytes words.now)) result }
+    ensures within { IfOk result (λ job. IsWithinLimits (job_seen job)) }
 {
     let matches = match_words(alloc, words)?;
     match matches.subcommand() {
@@ -41,10 +43,12 @@ fn match_words<'a>(alloc: Global, words: &'a [String]) -> Result<ArgMatches<'a>,
 fn read_explore(alloc: Global, found: &ArgMatches<'_>) -> Result<Job, WordsError>
     ensures { IsRead job_seen (explore_job (rows_of (found_of found.now))) result }
 {
-    let (Some(program), Some(out), Some(inputs)) = (
+    let (Some(program), Some(out), Some(inputs), Some(budgets), Some(workers)) = (
         found.get_str("PROGRAM"),
         found.get_str("OUT"),
         found.get_raw("INPUT"),
+        read_budgets(found),
+        read_workers(found),
     ) else {
         return Err(WordsError::Usage);
     };
@@ -53,6 +57,8 @@ fn read_explore(alloc: Global, found: &ArgMatches<'_>) -> Result<Job, WordsError
         program: String::from_str(alloc, program)?,
         out: String::from_str(alloc, out)?,
         regions,
+        budgets,
+        workers,
     })
 }
 

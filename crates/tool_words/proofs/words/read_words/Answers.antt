@@ -1,24 +1,31 @@
 use Rattle.std.proofs.Common.{rules, ◌≡◌, map, string_bytes, Err}
 use Rattle.clap.specs.Words.{found_of, kind_of, rows_of}
 use Rattle.tool_words.specs.Seen.{error_of, job_seen}
+use Rattle.tool_words.proofs.Bounds.{read_bounds}
 use Rattle.tool_words.proofs.Jobs.{error_read, explore_named, job_refused, none_named, other_named}
 use Rattle.tool_words.proofs.words.read_words.Goals.{in_default-via-in-Some+else-eq, in_default-via-in_default}
 use Rattle.tool_words.proofs.words.read_words.Goals as goal
 
-pub returns-in_err-matches : goal.returns-in_err-matches
-returns-in_err-matches c =
+pub returns-in_err-matches-clause-job : goal.returns-in_err-matches-clause-job
+returns-in_err-matches-clause-job c =
     let is : c.from_residual.result ≡ Err (error_of (kind_of c.in_err-matches.field-0.0)) = search rules in
     rw is (error_read job_seen _ (kind_of c.in_err-matches.field-0.0)
     (λ other. job_refused (map string_bytes c.args.words.now) (c.in_err-matches.ensures.refuses other)))
 
-pub returns-in-Some : goal.returns-in-Some
-returns-in-Some c =
+pub returns-in-Some-clause-job : goal.returns-in-Some-clause-job
+returns-in-Some-clause-job c =
     let job = explore_named (map string_bytes c.args.words.now) c.in_ok-matches.matches c.in-Some.name.now (rows_of (found_of c.in-Some.found.now))
     c.in_ok-matches.ensures.takes c.in_ok-matches.ensures.finds c.in-Some.ensures.name c.in-Some.ensures.rows (search rules) in
     rw job c.read_explore.ensures
 
-pub returns : goal.returns
-returns c =
+pub returns-in-Some-clause-within : goal.returns-in-Some-clause-within
+returns-in-Some-clause-within c =
+    let job = explore_named (map string_bytes c.args.words.now) c.in_ok-matches.matches c.in-Some.name.now (rows_of (found_of c.in-Some.found.now))
+    c.in_ok-matches.ensures.takes c.in_ok-matches.ensures.finds c.in-Some.ensures.name c.in-Some.ensures.rows (search rules) in
+    read_bounds (map string_bytes c.args.words.now) c.read_explore.result (rw job c.read_explore.ensures)
+
+pub returns-clause-job : goal.returns-clause-job
+returns-clause-job c =
     elim c.in_default.branch [
       | in_default-via-in-Some+else-eq w ↦ other_named (map string_bytes c.args.words.now) c.in_ok-matches.matches w.in-Some.name.now
           c.in_ok-matches.ensures.takes c.in_ok-matches.ensures.finds w.in-Some.ensures.name (search rules)
