@@ -13,7 +13,7 @@ use Rattle.rv_machine.specs.Memory.{IsAssignment}
 use Rattle.sym_state.specs.Growing.{Grows}
 use Rattle.sym_state.specs.Moves.{IsSame, moved}
 use Rattle.sym_state.specs.Programs.{Program, regions_of}
-use Rattle.sym_state.specs.Symbolic.{Symbolic, IsOpen, IsWide, concrete, meets, most_steps, set_value, value_at, worth_of}
+use Rattle.sym_state.specs.Symbolic.{Symbolic, IsOpen, IsSmall, IsWide, concrete, meets, most_steps, set_value, value_at, worth_of}
 use Rattle.sym_state.specs.declared.value.Value.{Value}
 use Rattle.sym_state.specs.declared.value.Value.TheVariants.{Number, Term}
 use Rattle.sym_state.proofs.Kept.{map-grown}
@@ -21,20 +21,21 @@ use Rattle.sym_state.proofs.Pushes.{Grows-none}
 use Rattle.sym_machine.specs.Steps.{IsEnding, Stepped, end_on}
 use Rattle.sym_machine.specs.declared.outcome.RunEnd.TheVariants.{Traps}
 use Rattle.sym_machine.specs.declared.outcome.Step.TheVariants.{Running as GoesOn, Ended as Stops}
-use Rattle.sym_machine.proofs.Moving.{open_moved, same_moved, ends_moved, numbers-grown, AreBytes-grown, wide-grown}
+use Rattle.sym_machine.proofs.Moving.{open_moved, same_moved, ends_moved, numbers-grown, AreBytes-grown, small-grown, wide-grown}
 use Rattle.sym_machine.proofs.Registers.{length-set_value, map-set_value, All-set_value, zero-set_value}
 
 sum_small : (a b : ℕ) → sum32 a b < 2 ^ 32
 sum_small a b = omega arith
 
 -- A register is written with a value over grown terms, and the machine does likewise.
-pub writes_register : (p : Program) (s : Symbolic) (g : Graph) (rd : ℕ) (v : Value) → IsOpen p s → Grows s.terms g → IsWide g v → s.steps < most_steps
+pub writes_register : (p : Program) (s : Symbolic) (g : Graph) (rd : ℕ) (v : Value) → IsOpen p s → Grows s.terms g → IsWide g v → ((input : List ℕ) → IsAssignment (regions_of p) input → IsSmall g input v) → s.steps < most_steps
     → ((input : List ℕ) → IsAssignment (regions_of p) input → next (concrete p s input) ≡ Running (onward (concrete p s input) (written (map (worth_of s.terms input) s.registers) rd (worth_of g input v))))
     → Stepped p s (moved s (sum32 s.pc 4) (set_value s.registers rd v) g s.output s.path) GoesOn
-writes_register p s g rd v was grows wide few does = (
+writes_register p s g rd v was grows wide small few does = (
   open_moved p s (sum32 s.pc 4) (set_value s.registers rd v) g s.output s.path was grows
     (length-set_value s.registers rd v ∙ was.all_registers)
     (All-set_value (IsWide g) s.registers rd v wide (wide-grown s.terms g s.registers grows was.wide))
+    (λ input assigned. All-set_value (IsSmall g input) s.registers rd v (small input assigned) (small-grown s.terms g input s.registers grows was.wide (was.small input assigned)))
     (zero-set_value s.registers rd v was.zero)
     (AreBytes-grown s.terms g s.output grows was.bytes)
     (sum_small s.pc 4) few
@@ -70,6 +71,7 @@ links p s rd target was few small aligned does = (
   open_moved p s target (set_value s.registers rd (Number (sum32 s.pc 4))) s.terms s.output s.path was (Grows-none s.terms was.dag)
     (length-set_value s.registers rd (Number (sum32 s.pc 4)) ∙ was.all_registers)
     (All-set_value (IsWide s.terms) s.registers rd (Number (sum32 s.pc 4)) (sum_small s.pc 4) was.wide)
+    (λ input assigned. All-set_value (IsSmall s.terms input) s.registers rd (Number (sum32 s.pc 4)) (sum_small s.pc 4) (was.small input assigned))
     (zero-set_value s.registers rd (Number (sum32 s.pc 4)) was.zero)
     was.bytes small few
     (λ input assigned meeting. does input assigned
@@ -84,7 +86,7 @@ pub goes_on : (p : Program) (s : Symbolic) (target : ℕ) → IsOpen p s → s.s
     → Stepped p s (moved s (sum32 s.pc 4) s.registers s.terms s.output (s.path ++ NotTaken ∷ [])) GoesOn
 goes_on p s target was few does = (
   open_moved p s (sum32 s.pc 4) s.registers s.terms s.output (s.path ++ NotTaken ∷ []) was (Grows-none s.terms was.dag)
-    was.all_registers was.wide was.zero was.bytes (sum_small s.pc 4) few does,
+    was.all_registers was.wide was.small was.zero was.bytes (sum_small s.pc 4) few does,
   same_moved p s (sum32 s.pc 4) s.registers s.terms s.output (s.path ++ NotTaken ∷ []) was (Grows-none s.terms was.dag),
   refl)
 
@@ -99,7 +101,7 @@ pub is_taken : (p : Program) (s : Symbolic) (target : ℕ) → IsOpen p s → s.
     → Stepped p s (moved s target s.registers s.terms s.output (s.path ++ Taken ∷ [])) GoesOn
 is_taken p s target was few small aligned does = (
   open_moved p s target s.registers s.terms s.output (s.path ++ Taken ∷ []) was (Grows-none s.terms was.dag)
-    was.all_registers was.wide was.zero was.bytes small few
+    was.all_registers was.wide was.small was.zero was.bytes small few
     (λ input assigned meeting. does input assigned meeting ∙ to_taken (concrete p s input) target aligned),
   same_moved p s target s.registers s.terms s.output (s.path ++ Taken ∷ []) was (Grows-none s.terms was.dag),
   refl)

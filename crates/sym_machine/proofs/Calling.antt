@@ -2,7 +2,7 @@
 use Rattle.std.proofs.Common.{◌≡◌, ℕ, zero, suc, ◌+◌, ◌*◌, ◌%◌, ◌^◌, ◌<◌, ◌≤◌, Bool, true, false, ◌&&◌, ◌||◌, List, [], ◌∷◌, ◌++◌, length, map, refl, sym, ap, ◌∙◌, subst, arith, rules, add-one}
 use Rattle.std.specs.Prelude.{All, Option, None, Some, ◌==◌, if◌then◌else◌, min}
 use Rattle.std.specs.List.{list_all}
-use Rattle.std.proofs.lemmas.List.{map-append, append_assoc, append_nil}
+use Rattle.std.proofs.lemmas.List.{map-append, append_assoc, append-nil}
 use Rattle.std.proofs.lemmas.List.Folds.{list_all-append}
 use Rattle.std.proofs.lemmas.List.Elements.{All-nil, All-cons, All-append}
 use Rattle.bv_dag.specs.Graphs.{Graph, number_of, width_of}
@@ -15,7 +15,7 @@ use Rattle.rv_machine.specs.Memory.{IsAssignment, byte_of, flags_of, is_mapped, 
 use Rattle.sym_state.specs.Growing.{Grows}
 use Rattle.sym_state.specs.Moves.{moved, with_terms}
 use Rattle.sym_state.specs.Programs.{Program, regions_of}
-use Rattle.sym_state.specs.Symbolic.{Symbolic, IsOpen, IsWide, AreBytes, concrete, is_term, meets, most_steps, numbers_of, set_value, value_at, worth_of}
+use Rattle.sym_state.specs.Symbolic.{Symbolic, IsOpen, IsSmall, IsWide, AreBytes, concrete, is_term, meets, most_steps, numbers_of, set_value, value_at, worth_of}
 use Rattle.sym_state.specs.declared.value.Value.{Value}
 use Rattle.sym_state.specs.declared.value.Value.TheVariants.{Number, Term}
 use Rattle.sym_state.proofs.Kept.{map-grown}
@@ -27,7 +27,7 @@ use Rattle.sym_machine.specs.declared.outcome.Step.TheVariants.{Running, Pin, En
 use Rattle.sym_machine.proofs.Acting.{stops_by_trap}
 use Rattle.sym_machine.proofs.Branching.{x-number, x-worth}
 use Rattle.sym_machine.proofs.Loading.{at_pin, wide_at}
-use Rattle.sym_machine.proofs.Moving.{open_moved, same_moved, ends_moved, numbers-grown, AreBytes-grown, wide-grown}
+use Rattle.sym_machine.proofs.Moving.{open_moved, same_moved, ends_moved, numbers-grown, AreBytes-grown, small-grown, wide-grown}
 use Rattle.sym_machine.proofs.Registers.{length-set_value, map-set_value, All-set_value, zero-set_value}
 
 and-true : (b : Bool) → (b && true) ≡ b
@@ -43,6 +43,10 @@ addresses-more start (suc count) small =
     let next : (sum32 start 1 + count) % 2 ^ 32 ≡ (start + suc count) % 2 ^ 32 = omega (arith, small) in
     ap (λ xs. start ∷ xs) (addresses-more (sum32 start 1) count (omega arith) ∙ ap (λ a. addresses (sum32 start 1) count ++ a ∷ []) next)
 
+pub mapped_none : (flags : ℕ → Option ℕ) (start : ℕ) → true ≡ list_all (is_mapped flags) (addresses start 0)
+unfolding addresses
+mapped_none flags start = refl
+
 -- whether one address more is mapped
 pub mapped-more : (flags : ℕ → Option ℕ) (start count : ℕ) (mapped one : Bool) → start < 2 ^ 32 → mapped ≡ list_all (is_mapped flags) (addresses start count) → one ≡ is_mapped flags ((start + count) % 2 ^ 32)
     → (mapped && one) ≡ list_all (is_mapped flags) (addresses start (count + 1))
@@ -57,7 +61,7 @@ pub writes_none : (p : Program) (s : Symbolic) (start : ℕ) → IsOpen p s → 
 unfolding addresses
 writes_none p s start was = record {
   ids = [];
-  same = ap (λ os. record s { output = os }) (sym (append_nil s.output));
+  same = ap (λ os. record s { output = os }) (sym (append-nil s.output));
   grows = Grows-none s.terms was.dag;
   bytes = All-nil (λ id. width_of s.terms id ≡ 8);
   numbers = λ input. refl;
@@ -91,7 +95,9 @@ pub at_call_pin : (p : Program) (s : Symbolic) (register term : ℕ) → IsOpen 
 at_call_pin p s register term was small is =
     let wide : IsWide s.terms (Term term) = subst (IsWide s.terms) is (wide_at p s register was small) in
     at_pin p s s.terms register 0 term was (Grows-none s.terms was.dag) wide small (omega arith) (ap is_term is) (wide_at p s register was small)
-    (λ input. whole _ (below_width s.terms term 32 input wide) ∙ ap (λ v. sum32 (worth_of s.terms input v) 0) (sym is))
+    (λ input assigned.
+      let fits : IsSmall s.terms input (Term term) = subst (IsSmall s.terms input) is (was.small input assigned register (Number 0) (omega (arith, small, was.all_registers))) in
+      whole (number_of s.terms term input) fits ∙ ap (λ v. sum32 (worth_of s.terms input v) 0) (sym is))
 
 -- The calls.
 pub exits : (p : Program) (s : Symbolic) → IsOpen p s → value_at s.registers 17 ≡ Number 93
@@ -141,6 +147,10 @@ stops_write p s file start count was is_file is_start is_count one unmapped does
     stops_by_trap p s LoadAccess was (λ input assigned. does input assigned
       ∙ cc (x-number p s input 10 file is_file, x-number p s input 11 start is_start, x-number p s input 12 count is_count, no_bytes (concrete p s input) file start count one unmapped))
 
+asked : (p : Program) (s : Symbolic) (input : List ℕ) (file start count : ℕ) → value_at s.registers 10 ≡ Number file → value_at s.registers 11 ≡ Number start → value_at s.registers 12 ≡ Number count
+    → write (concrete p s input) (x (concrete p s input) 10) (x (concrete p s input) 11) (x (concrete p s input) 12) ≡ write (concrete p s input) file start count
+asked p s input file start count is_file is_start is_count = cc (x-number p s input 10 file is_file, x-number p s input 11 start is_start, x-number p s input 12 count is_count)
+
 pub writes : (p : Program) (s t : Symbolic) (file start count least : ℕ) → IsOpen p s → WritesBytes p s t start least → s.steps < most_steps → least ≡ min count 4096
     → value_at s.registers 10 ≡ Number file → value_at s.registers 11 ≡ Number start → value_at s.registers 12 ≡ Number count
     → (file == 1 || file == 2) ≡ true → list_all (is_mapped (flags_of p.image)) (addresses start least) ≡ true
@@ -150,6 +160,7 @@ writes p s t file start count least was bytes few is_least is_file is_start is_c
   open_moved p s (sum32 s.pc 4) (set_value s.registers 10 (Number least)) t.terms (s.output ++ bytes.ids) s.path was bytes.grows
     (length-set_value s.registers 10 (Number least) ∙ was.all_registers)
     (All-set_value (IsWide t.terms) s.registers 10 (Number least) (omega (arith, is_least)) (wide-grown s.terms t.terms s.registers bytes.grows was.wide))
+    (λ input assigned. All-set_value (IsSmall t.terms input) s.registers 10 (Number least) (omega (arith, is_least)) (small-grown s.terms t.terms input s.registers bytes.grows was.wide (was.small input assigned)))
     (zero-set_value s.registers 10 (Number least) was.zero)
     (All-append (λ i. width_of t.terms i ≡ 8) s.output bytes.ids (AreBytes-grown s.terms t.terms s.output bytes.grows was.bytes) bytes.bytes)
     (omega arith) few
@@ -161,10 +172,13 @@ writes p s t file start count least was bytes few is_least is_file is_start is_c
         ∙ ap (λ ns. numbers_of t.terms input s.output ++ ns) (sym (bytes.numbers input))
         ∙ sym (map-append (λ i. number_of t.terms i input) s.output bytes.ids) in
       does input assigned
-      ∙ cc (x-number p s input 10 file is_file, x-number p s input 11 start is_start, x-number p s input 12 count is_count, refl {x = write (concrete p s input) file start count})
+      ∙ asked p s input file start count is_file is_start is_count
       ∙ all_bytes (concrete p s input) file start count one (ap (λ n. list_all (is_mapped (flags_of p.image)) (addresses start n)) (sym is_least) ∙ mapped)
       ∙ ap (λ n. GoesOn (onward (record (concrete p s input) { output = numbers_of s.terms input s.output ++ map (placed (regions_of p) input (byte_of p.image)) (addresses start n) }) (written (concrete p s input).registers 10 n))) (sym is_least)
       ∙ ap (λ rs. GoesOn (onward (record (concrete p s input) { output = numbers_of s.terms input s.output ++ map (placed (regions_of p) input (byte_of p.image)) (addresses start least) }) rs)) same
       ∙ ap (λ ns. GoesOn (onward (record (concrete p s input) { output = ns }) (map (worth_of t.terms input) (set_value s.registers 10 (Number least))))) out),
   same_moved p s (sum32 s.pc 4) (set_value s.registers 10 (Number least)) t.terms (s.output ++ bytes.ids) s.path was bytes.grows,
   refl)
+
+pub is_not : (n m : ℕ) → (n ≡ m → ⊥) → (n == m) ≡ false
+is_not n m other = search (rules, other)

@@ -1,5 +1,5 @@
 -- Instructions that are fetched from a page of the image, and what the input byte changes of that: nothing.
-use Rattle.std.proofs.Common.{◌≡◌, ℕ, ◌+◌, ◌-◌, ◌*◌, ◌/◌, ◌%◌, ◌<◌, Bool, true, false, ◌&&◌, List, [], ◌∷◌, drop, refl, sym, ap, ◌∙◌, arith, rules}
+use Rattle.std.proofs.Common.{◌≡◌, ℕ, ◌+◌, ◌-◌, ◌*◌, ◌/◌, ◌%◌, ◌^◌, ◌<◌, Bool, true, false, ◌&&◌, List, [], ◌∷◌, drop, refl, sym, subst, ap, ◌∙◌, arith, rules}
 use Rattle.std.specs.Prelude.{Option, None, Some, Result, Ok, Err, ◌==◌, if◌then◌else◌, nat_lt, nat_le, slice_index, is_some}
 use Rattle.std.specs.FinMap.{get}
 use Rattle.std.specs.Option.{ok_or, option_map, unwrap_or}
@@ -8,13 +8,14 @@ use Rattle.std.proofs.lemmas.List.{get_or-drop}
 use Rattle.byteorder.specs.Endian.{little_number}
 use Rattle.elf_load.specs.Images.{Image}
 use Rattle.elf_load.specs.declared.page.Page.{Page}
+use Rattle.rv_decode.specs.Eight.{IsOneOfEight}
 use Rattle.rv_decode.specs.Instructions.{instr}
 use Rattle.rv_decode.specs.declared.ends.Trap.{Trap}
 use Rattle.rv_decode.specs.declared.ends.Trap.TheVariants.{Illegal, FetchAccess, FetchMisaligned}
 use Rattle.rv_decode.specs.declared.instr.Instr.{Instr}
 use Rattle.rv_machine.specs.Machine.{fetch}
 use Rattle.rv_machine.specs.Memory.{byte_of, byte_in, flags_of, has_x, can_execute, placed, is_in, word_at}
-use Rattle.sym_state.specs.Programs.{Program, IsRunnable, regions_of}
+use Rattle.sym_state.specs.Programs.{Program, IsKnown, IsRunnable, regions_of}
 
 byte_on_page : (image : Image) (pc i : ℕ) (p : Page) → get image.pages (pc / 256) ≡ Some p → pc % 4 ≡ 0 → i < 4 → byte_of image (pc + i) ≡ slice_index p.bytes (pc % 256 + i)
 unfolding byte_of
@@ -115,3 +116,15 @@ fetched_word image pc p word i is aligned runs reads decodes =
 
 pub test_one : (n : ℕ) → n ≡ 1 → (n == 1) ≡ true
 test_one n is = rw is refl
+
+-- what is fetched is known
+known-if : (aligned can : Bool) (o : Option Instr) (i : Instr) → (aligned ≡ true → can ≡ true → IsKnown o) → (if aligned then (if can then ok_or o Illegal else Err FetchAccess) else Err FetchMisaligned) ≡ Ok i → IsOneOfEight i
+known-if true true (Some j) i known is = let same : j ≡ i = cc is in subst IsOneOfEight same (known refl refl)
+known-if true true None i known is = absurd (cc is)
+known-if true false o i known is = absurd (cc is)
+known-if false can o i known is = absurd (cc is)
+
+pub known_fetched : (p : Program) (pc : ℕ) (i : Instr) → IsRunnable p → pc < 2 ^ 32 → fetch (flags_of p.image) (byte_of p.image) pc ≡ Ok i → IsOneOfEight i
+unfolding fetch
+known_fetched p pc i runs small is =
+    known-if (pc % 4 == 0) (can_execute (flags_of p.image) pc) (instr (word_at (byte_of p.image) pc)) i (λ aligned can. runs.known pc (search (rules, aligned)) small can) is

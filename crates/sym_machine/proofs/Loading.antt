@@ -1,16 +1,20 @@
 -- LBU in symbolic runs, and terms that have to be numbers.
-use Rattle.std.proofs.Common.{◌≡◌, ℕ, ◌^◌, ◌<◌, true, false, List, map, refl, sym, ap, ◌∙◌, arith}
-use Rattle.std.specs.Prelude.{if◌then◌else◌, slice_index}
+use Rattle.std.proofs.Common.{◌≡◌, ℕ, ◌^◌, ◌<◌, Bool, true, false, List, map, refl, sym, ap, ◌∙◌, arith}
+use Rattle.std.specs.Prelude.{if◌then◌else◌, nat_lt, slice_index}
 use Rattle.bv_dag.specs.Graphs.{Graph, number_of, width_of}
 use Rattle.rv_decode.specs.declared.ends.Trap.TheVariants.{LoadAccess}
-use Rattle.rv_decode.specs.declared.ops.LoadWidth.TheVariants.{Lbu}
-use Rattle.rv_machine.specs.Arithmetic.{sum32}
+use Rattle.rv_decode.specs.declared.ops.LoadWidth.{LoadWidth}
+use Rattle.rv_decode.specs.declared.ops.LoadWidth.TheVariants.{Lb, Lh, Lw, Lbu, Lhu}
+use Rattle.rv_decode.specs.Eight.{IsAddiOrSltiu, IsLbu}
+use Rattle.rv_decode.specs.declared.ops.ImmediateOp.{ImmediateOp}
+use Rattle.rv_decode.specs.declared.ops.ImmediateOp.TheVariants.{Addi, Slti, Sltiu, Xori, Ori, Andi}
+use Rattle.rv_machine.specs.Arithmetic.{one_where, sum32, with_immediate}
 use Rattle.rv_machine.specs.Machine.{State, Running as GoesOn, next, load, onward, written, to_register, trapped, x}
 use Rattle.rv_machine.specs.Memory.{IsAssignment, byte_of, flags_of, is_mapped, placed}
 use Rattle.sym_state.specs.Growing.{Grows}
 use Rattle.sym_state.specs.Moves.{moved, with_terms}
 use Rattle.sym_state.specs.Programs.{Program, regions_of}
-use Rattle.sym_state.specs.Symbolic.{Symbolic, IsOpen, IsWide, concrete, is_term, meets, most_steps, set_value, value_at, worth_of}
+use Rattle.sym_state.specs.Symbolic.{Symbolic, IsOpen, IsSmall, IsWide, concrete, is_term, meets, most_steps, set_value, value_at, worth_of}
 use Rattle.sym_state.specs.declared.value.Value.{Value}
 use Rattle.sym_state.specs.declared.value.Value.TheVariants.{Number, Term}
 use Rattle.sym_state.proofs.Kept.{map-grown, worth_of-grown}
@@ -24,7 +28,7 @@ use Rattle.sym_machine.proofs.Moving.{concrete-grown, from_more_terms, is_grown,
 -- a register whose sum with an offset has to be a number
 pub at_pin : (p : Program) (s : Symbolic) (g : Graph) (register offset term : ℕ) → IsOpen p s → Grows s.terms g → width_of g term ≡ 32 → register < 32 → offset < 2 ^ 32
     → is_term (value_at s.registers register) ≡ true → IsWide s.terms (value_at s.registers register)
-    → ((input : List ℕ) → number_of g term input ≡ sum32 (worth_of s.terms input (value_at s.registers register)) offset)
+    → ((input : List ℕ) → IsAssignment (regions_of p) input → number_of g term input ≡ sum32 (worth_of s.terms input (value_at s.registers register)) offset)
     → Stepped p s (with_terms s g) (Pin register offset term)
 at_pin p s g register offset term was grows width is_register small kind wide sums = (
   open_grown p s g was grows,
@@ -35,7 +39,7 @@ at_pin p s g register offset term was grows width is_register small kind wide su
     is_register = is_register;
     small = small;
     no_number = kind;
-    sums = λ input. sums input ∙ ap (λ n. sum32 n offset) (sym (worth_of-grown s.terms g input (value_at s.registers register) grows wide));
+    sums = λ input assigned. sums input assigned ∙ ap (λ n. sum32 n offset) (sym (worth_of-grown s.terms g input (value_at s.registers register) grows wide));
   })
 
 -- the machine's load of a byte
@@ -57,13 +61,13 @@ stops_load p s g rd rs1 offset address was grows is unmapped does =
       ∙ loads_nothing (concrete p s input) rd address unmapped ∙ ap (trapped LoadAccess) (sym (concrete-grown p s g input was grows))))
 
 -- a byte, over more terms
-pub loads : (p : Program) (s : Symbolic) (g : Graph) (rd rs1 offset address : ℕ) (v : Value) → IsOpen p s → Grows s.terms g → IsWide g v → s.steps < most_steps
+pub loads : (p : Program) (s : Symbolic) (g : Graph) (rd rs1 offset address : ℕ) (v : Value) → IsOpen p s → Grows s.terms g → IsWide g v → ((input : List ℕ) → IsAssignment (regions_of p) input → IsSmall g input v) → s.steps < most_steps
     → ((input : List ℕ) → sum32 (x (concrete p s input) rs1) offset ≡ address) → is_mapped (flags_of p.image) address ≡ true
     → ((input : List ℕ) → worth_of g input v ≡ placed (regions_of p) input (byte_of p.image) address)
     → ((input : List ℕ) → IsAssignment (regions_of p) input → next (concrete p s input) ≡ load (concrete p s input) Lbu rd (sum32 (x (concrete p s input) rs1) offset))
     → Stepped p s (moved s (sum32 s.pc 4) (set_value s.registers rd v) g s.output s.path) Running
-loads p s g rd rs1 offset address v was grows wide few is mapped worth does =
-    writes_register p s g rd v was grows wide few
+loads p s g rd rs1 offset address v was grows wide small few is mapped worth does =
+    writes_register p s g rd v was grows wide small few
     (λ input assigned. does input assigned ∙ ap (load (concrete p s input) Lbu rd) (is input) ∙ loads_byte (concrete p s input) rd address mapped
       ∙ ap (λ n. GoesOn (onward (concrete p s input) (written (concrete p s input).registers rd n))) (sym (worth input)))
 
@@ -79,11 +83,34 @@ address_is p s g rs1 offset address base v number is sums input =
     ap (λ n. sum32 n offset) (x-worth p s input rs1) ∙ ap (λ (b : Value). sum32 (worth_of s.terms input b) offset) (sym is) ∙ sym (sums input) ∙ ap (worth_of g input) number
 
 -- ADDI and SLTIU
-pub computes : (p : Program) (s : Symbolic) (g : Graph) (rd rs1 : ℕ) (result : ℕ → ℕ) (operand v : Value) → IsOpen p s → Grows s.terms g → IsWide g v → s.steps < most_steps → operand ≡ value_at s.registers rs1
+pub computes : (p : Program) (s : Symbolic) (g : Graph) (rd rs1 : ℕ) (result : ℕ → ℕ) (operand v : Value) → IsOpen p s → Grows s.terms g → IsWide g v → ((n : ℕ) → result n < 2 ^ 32) → s.steps < most_steps → operand ≡ value_at s.registers rs1
     → ((input : List ℕ) → worth_of g input v ≡ result (worth_of s.terms input operand))
     → ((input : List ℕ) → IsAssignment (regions_of p) input → next (concrete p s input) ≡ to_register (concrete p s input) rd (result (x (concrete p s input) rs1)))
     → Stepped p s (moved s (sum32 s.pc 4) (set_value s.registers rd v) g s.output s.path) Running
-computes p s g rd rs1 result operand v was grows wide few is worth does =
-    writes_register p s g rd v was grows wide few
+computes p s g rd rs1 result operand v was grows wide small few is worth does =
+    writes_register p s g rd v was grows wide (λ input assigned. omega (arith, worth input, small (worth_of s.terms input operand))) few
     (λ input assigned. does input assigned ∙ ap (λ n. to_register (concrete p s input) rd (result n)) (x-worth p s input rs1 ∙ ap (worth_of s.terms input) (sym is))
       ∙ ap (to_register (concrete p s input) rd) (sym (worth input)))
+
+one_small : (b : Bool) → one_where b < 2 ^ 32
+one_small true = omega arith
+one_small false = omega arith
+
+pub immediate_small : (op : ImmediateOp) (a b : ℕ) → IsAddiOrSltiu op → with_immediate op a b < 2 ^ 32
+immediate_small Addi a b is = omega arith
+immediate_small Slti a b is = absurd is
+immediate_small Sltiu a b is = one_small (nat_lt a b)
+immediate_small Xori a b is = absurd is
+immediate_small Ori a b is = absurd is
+immediate_small Andi a b is = absurd is
+
+-- an input byte is small
+pub input_small : (p : Program) (input : List ℕ) → IsAssignment (regions_of p) input → slice_index input 0 < 256
+input_small p input (counted, bytes) = bytes 0 0 (omega (arith, counted))
+
+pub is_lbu : (width : LoadWidth) → IsLbu width → width ≡ Lbu
+is_lbu Lb is = absurd is
+is_lbu Lh is = absurd is
+is_lbu Lw is = absurd is
+is_lbu Lbu is = refl
+is_lbu Lhu is = absurd is

@@ -11,10 +11,10 @@ use Rattle.rv_machine.specs.Runs.{Run, IsRunOf, run}
 use Rattle.sym_state.specs.Growing.{Grows}
 use Rattle.sym_state.specs.Moves.{IsSame, IsGrown, moved, with_terms}
 use Rattle.sym_state.specs.Programs.{Program, regions_of}
-use Rattle.sym_state.specs.Symbolic.{Symbolic, IsOpen, IsWide, AreBytes, IsDecided, Goes, concrete, meets, most_steps, numbers_of, value_at, worth_of}
+use Rattle.sym_state.specs.Symbolic.{Symbolic, IsOpen, IsSmall, IsWide, AreBytes, IsDecided, Goes, concrete, meets, most_steps, numbers_of, value_at, worth_of}
 use Rattle.sym_state.specs.declared.value.Value.{Value}
 use Rattle.sym_state.specs.declared.value.Value.TheVariants.{Number}
-use Rattle.sym_state.proofs.Kept.{map-grown, IsWide-grown, AreBits-grown, holds-grown, bit_width-grown, number_of-grown}
+use Rattle.sym_state.proofs.Kept.{map-grown, IsSmall-grown, IsWide-grown, AreBits-grown, holds-grown, bit_width-grown, number_of-grown}
 use Rattle.sym_machine.specs.Steps.{IsEnding, Stepped, end_on}
 use Rattle.sym_machine.specs.declared.outcome.RunEnd.{RunEnd}
 use Rattle.sym_machine.specs.declared.outcome.Step.{Step}
@@ -34,6 +34,9 @@ AreBytes-grown g h ids grows bytes k d below = bit_width-grown g h (get_or ids k
 pub wide-grown : (g h : Graph) (vs : List Value) → Grows g h → All (IsWide g) vs → All (IsWide h) vs
 wide-grown g h vs grows wide k d below = IsWide-grown g h (get_or vs k d) grows (wide k d below)
 
+pub small-grown : (g h : Graph) (input : List ℕ) (vs : List Value) → Grows g h → All (IsWide g) vs → All (IsSmall g input) vs → All (IsSmall h input) vs
+small-grown g h input vs grows wide small k d below = IsSmall-grown g h input (get_or vs k d) grows (wide k d below) (small k d below)
+
 -- the condition is met where it was, so the run stands for the same assignments
 pub same_moved : (p : Program) (s : Symbolic) (pc : ℕ) (rs : List Value) (g : Graph) (output : List ℕ) (path : List PathStep) → IsOpen p s → Grows s.terms g → IsSame p s (moved s pc rs g output path)
 same_moved p s pc rs g output path was grows = record {
@@ -49,14 +52,15 @@ same_grown p s g was grows = record {
 
 -- A step: the machine makes it on each assignment too.
 pub open_moved : (p : Program) (s : Symbolic) (pc : ℕ) (rs : List Value) (g : Graph) (output : List ℕ) (path : List PathStep) → IsOpen p s → Grows s.terms g
-    → length rs ≡ 32 → All (IsWide g) rs → value_at rs 0 ≡ Number 0 → AreBytes g output → pc < 2 ^ 32 → s.steps < most_steps
+    → length rs ≡ 32 → All (IsWide g) rs → ((input : List ℕ) → IsAssignment (regions_of p) input → All (IsSmall g input) rs) → value_at rs 0 ≡ Number 0 → AreBytes g output → pc < 2 ^ 32 → s.steps < most_steps
     → ((input : List ℕ) → IsAssignment (regions_of p) input → meets s input ≡ true → next (concrete p s input) ≡ GoesOn (concrete p (moved s pc rs g output path) input))
     → IsOpen p (moved s pc rs g output path)
-open_moved p s pc rs g output path was grows all wide zero bytes in_memory few does = record {
+open_moved p s pc rs g output path was grows all wide small zero bytes in_memory few does = record {
   dag = grows.dag;
   one_input = grows.same_inputs ∙ was.one_input;
   all_registers = all;
   wide = wide;
+  small = small;
   zero = zero;
   bits = AreBits-grown s.terms g s.condition grows was.bits;
   bytes = bytes;
@@ -106,6 +110,7 @@ open_grown p s g was grows = record {
   one_input = grows.same_inputs ∙ was.one_input;
   all_registers = was.all_registers;
   wide = wide-grown s.terms g s.registers grows was.wide;
+  small = λ input assigned. small-grown s.terms g input s.registers grows was.wide (was.small input assigned);
   zero = was.zero;
   bits = AreBits-grown s.terms g s.condition grows was.bits;
   bytes = AreBytes-grown s.terms g s.output grows was.bytes;

@@ -46,16 +46,16 @@ pub record IsBranch (p : Program) (s : Symbolic) (term : ℕ) : Type 0 where
   pub goes : (input : List ℕ) → IsAssignment (regions_of p) input → meets s input ≡ true → Goes (number_of s.terms term input == 1) (concrete p s input)
 
 -- the term is the sum of a register and an offset, and the register holds no number
-pub record IsPin (s : Symbolic) (register offset term : ℕ) : Type 0 where
+pub record IsPin (p : Program) (s : Symbolic) (register offset term : ℕ) : Type 0 where
   pub wide : width_of s.terms term ≡ 32
   pub is_register : register < 32
   pub small : offset < 2 ^ 32
   pub no_number : is_term (value_at s.registers register) ≡ true
-  pub sums : (input : List ℕ) → number_of s.terms term input ≡ sum32 (worth_of s.terms input (value_at s.registers register)) offset
+  pub sums : (input : List ℕ) → IsAssignment (regions_of p) input → number_of s.terms term input ≡ sum32 (worth_of s.terms input (value_at s.registers register)) offset
 
 -- it has gone on, it is at a branch or at a term that has to be a number and has not carried the instruction out, or all its runs have ended
 abbrev pub Stepped : Program → Symbolic → Symbolic → Step → Type 0
 Stepped p old new Running = IsOpen p new × IsSame p old new × (new.steps ≡ old.steps + 1)
 Stepped p old new (Branch term) = IsOpen p new × IsSame p old new × IsGrown old new × IsBranch p new term
-Stepped p old new (Pin register offset term) = IsOpen p new × IsSame p old new × IsGrown old new × IsPin new register offset term
+Stepped p old new (Pin register offset term) = IsOpen p new × IsSame p old new × IsGrown old new × IsPin p new register offset term
 Stepped p old new (Ended end) = IsEnding p new end × IsSame p old new × (new.steps ≡ old.steps + 1)

@@ -1,6 +1,6 @@
 //! The environment call: exit, and write.
 
-ghost use Rattle.std.specs.Prelude.{◌≡◌, ◌≤◌, ◌<◌, ◌^◌, ◌++◌, ℕ, List, IfOk, OnOk, map, min};
+ghost use Rattle.std.specs.Prelude.{◌≡◌, ◌<◌, ◌==◌, ◌||◌, ℕ, List, IfOk, OnOk};
 ghost use Rattle.std.specs.List.{list_all};
 ghost use Rattle.rv_machine.specs.Machine as machine;
 ghost use Rattle.rv_machine.specs.Machine.{addresses, call, next, x};
@@ -8,10 +8,11 @@ ghost use Rattle.rv_machine.specs.Memory.{IsAssignment, flags_of, is_mapped};
 ghost use Rattle.sym_state.specs.Programs.{regions_of};
 ghost use Rattle.sym_state.specs.Symbolic.{IsOpen, concrete, most_steps};
 ghost use Rattle.sym_machine.specs.Steps.{Stepped};
+ghost use Rattle.sym_machine.specs.declared.outcome.Step.TheVariants.{Pin};
 ghost use Rattle.sym_machine.specs.Writing.{WritesBytes};
 
 use crate::memory::{self, byte_term};
-use crate::outcome::{RunEnd, Step, trapped};
+use crate::outcome::{RunEnd, Step, ended, trapped};
 use rv_decode::{Register, Trap};
 use std::alloc::AllocError as NoMemory;
 use sym_state::{Program, State, Value};
@@ -31,7 +32,7 @@ fn are_mapped(program: &Program, start: u32, count: u32) -> bool
 {
     let mut mapped = true;
     for i in 0..count {
-        mapped = mapped && memory::is_mapped(program, start.wrapping_add(i));
+        mapped &= memory::is_mapped(program, start.wrapping_add(i));
     }
     mapped
 }
@@ -53,8 +54,17 @@ fn write_bytes(
     Ok(())
 }
 
+/// Whether a file of this number is there to be written to: standard output and standard error, which are one.
+fn is_file(file: u32) -> bool
+    ensures { result ≡ (file == 1 || file == 2) }
+{
+    file == 1 || file == 2
+}
+
 /// The number of a register has to be known.
-fn pin(register: Register, term: usize) -> Step {
+fn pin(register: Register, term: usize) -> Step
+    ensures { result ≡ Pin register 0 term }
+{
     Step::Pin {
         register,
         offset: 0,
@@ -75,7 +85,7 @@ fn write(program: &Program, state: &mut State) -> Result<Step, NoMemory>
         Value::Number(file) => file,
         Value::Term(term) => return Ok(pin(file_at, term)),
     };
-    if file != 1 && file != 2 {
+    if !is_file(file) {
         return Ok(trapped(state, Trap::Call));
     }
     let start = match state.value(start_at) {
@@ -103,13 +113,15 @@ pub fn call(program: &Program, state: &mut State) -> Result<Step, NoMemory>
     ensures { IfOk result (Stepped program.now state.old state.new) }
 {
     let number_at = Register::new(17);
-    match state.value(number_at) {
-        Value::Term(term) => Ok(pin(number_at, term)),
-        Value::Number(EXIT) => {
-            state.go_to(state.pc);
-            Ok(Step::Ended(RunEnd::Exits))
-        }
-        Value::Number(WRITE) => write(program, state),
-        Value::Number(_) => Ok(trapped(state, Trap::Call)),
+    let number = match state.value(number_at) {
+        Value::Number(number) => number,
+        Value::Term(term) => return Ok(pin(number_at, term)),
+    };
+    if number == EXIT {
+        return Ok(ended(state, RunEnd::Exits));
     }
+    if number == WRITE {
+        return write(program, state);
+    }
+    Ok(trapped(state, Trap::Call))
 }

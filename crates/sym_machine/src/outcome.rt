@@ -32,12 +32,21 @@ pub enum Step {
     Ended(RunEnd),
 }
 
-/// Ends the runs by a trap, in a step that writes nothing.
+/// Ends the runs, in a step that changes nothing else.
+pub fn ended(state: &mut State, end: RunEnd) -> Step
+    requires { state.old.steps < most_steps }
+    ensures ended { result ≡ Ended end }
+    ensures state { state.new ≡ moved state.old state.old.pc state.old.registers state.old.terms state.old.output state.old.path }
+{
+    state.go_to(state.pc);
+    Step::Ended(end)
+}
+
+/// Ends the runs by a trap.
 pub fn trapped(state: &mut State, trap: Trap) -> Step
     requires { state.old.steps < most_steps }
     ensures ended { result ≡ Ended (Traps trap) }
     ensures state { state.new ≡ moved state.old state.old.pc state.old.registers state.old.terms state.old.output state.old.path }
 {
-    state.go_to(state.pc);
-    Step::Ended(RunEnd::Traps(trap))
+    ended(state, RunEnd::Traps(trap))
 }

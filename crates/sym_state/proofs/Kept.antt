@@ -9,7 +9,7 @@ use Rattle.bv_dag.proofs.TermLaws.{there}
 use Rattle.rv_machine.specs.Arithmetic.{sum32, one_where}
 use Rattle.sym_state.specs.Growing.{Grows, front_of}
 use Rattle.sym_state.specs.Moves.{IsGrown, with_terms, cut_back}
-use Rattle.sym_state.specs.Symbolic.{Symbolic, IsWide, worth_of}
+use Rattle.sym_state.specs.Symbolic.{Symbolic, IsSmall, IsWide, worth_of}
 use Rattle.sym_state.specs.declared.value.Value.{Value}
 use Rattle.sym_state.specs.declared.value.Value.TheVariants.{Number, Term}
 
@@ -89,3 +89,7 @@ below-grown f g h k left right bit n (Err e) grows width is below same = tt
 below-grown f g h k left right bit n (Ok id) grows width is below same = λ input. same input ∙ below input
     ∙ ap (λ a. one_where (nat_lt a (number_of g right input))) (number_of-grown f g left 32 input grows width (omega arith))
     ∙ ap (λ b. one_where (nat_lt (number_of f left input) b)) (is input)
+
+-- a value that is small stays so
+pub IsSmall-grown : (g h : Graph) (input : List ℕ) (v : Value) → Grows g h → IsWide g v → IsSmall g input v → IsSmall h input v
+IsSmall-grown g h input v grows wide is = omega (arith, worth_of-grown g h input v grows wide, is)

@@ -6,7 +6,7 @@ use Rattle.bv_dag.specs.Graphs.{width_of}
 use Rattle.bv_dag.proofs.TermLaws.{IsDag-none}
 use Rattle.rv_machine.specs.Runs.{run_from}
 use Rattle.sym_state.specs.Programs.{Program}
-use Rattle.sym_state.specs.Symbolic.{Symbolic, IsWide, IsOpen, first_run}
+use Rattle.sym_state.specs.Symbolic.{Symbolic, IsWide, IsSmall, IsOpen, first_run}
 use Rattle.sym_state.specs.declared.value.Value.{Value}
 use Rattle.sym_state.specs.declared.value.Value.TheVariants.{Number}
 
@@ -20,6 +20,7 @@ open_first p entry = record {
   one_input = refl;
   all_registers = refl;
   wide = first_all (IsWide (first_run p).terms) p (omega arith) (omega arith);
+  small = λ input assigned. first_all (IsSmall (first_run p).terms input) p (omega arith) (omega arith);
   zero = refl;
   bits = All-nil (λ id. width_of (first_run p).terms id ≡ 1);
   bytes = All-nil (λ id. width_of (first_run p).terms id ≡ 8);

@@ -53,6 +53,10 @@ abbrev pub IsWide : Graph → Value → Type 0
 IsWide terms (Number n) = n < 2 ^ 32
 IsWide terms (Term id) = width_of terms id ≡ 32
 
+-- it is a number of 32 bits on this assignment
+abbrev pub IsSmall : Graph → List ℕ → Value → Type 0
+IsSmall terms input v = worth_of terms input v < 2 ^ 32
+
 abbrev pub is_term : Value → Bool
 is_term (Number n) = false
 is_term (Term id) = true
@@ -103,6 +107,7 @@ pub record IsOpen (p : Program) (s : Symbolic) : Type 0 where
   pub one_input : s.terms.inputs ≡ 1
   pub all_registers : length s.registers ≡ 32
   pub wide : All (IsWide s.terms) s.registers
+  pub small : (input : List ℕ) → IsAssignment (regions_of p) input → All (IsSmall s.terms input) s.registers
   pub zero : value_at s.registers 0 ≡ Number 0
   pub bits : AreBits s.terms s.condition
   pub bytes : AreBytes s.terms s.output
