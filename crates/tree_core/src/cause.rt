@@ -1,0 +1,9 @@
+//! Why a leaf was cut.
+
+/// The budget that was spent where a leaf was cut: of steps, of targets (values of one term), or of conflicts of one question.
+#[derive(Clone, Copy, Debug, PartialEq, Eq)]
+pub enum Cause {
+    Steps,
+    Targets,
+    Conflicts,
+}
