@@ -1,6 +1,7 @@
 //! Tests of a program, as JSON files: an assignment of the input bytes, and what the run of it does.
 #![tactic(auto)]
 
+pub mod laws;
 mod parts;
 mod test;
 #[cfg(test)]

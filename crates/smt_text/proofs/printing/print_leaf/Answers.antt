@@ -1,8 +1,8 @@
-use Rattle.std.proofs.Common.{◌≡◌, List, ◌∙◌, ◌++◌, [], ◌∷◌, ap, append_assoc, map, ℕ, Vec, Global, codes, string_bytes}
+use Rattle.std.proofs.Common.{◌≡◌, List, ◌∙◌, ◌++◌, [], ◌∷◌, ap, append_assoc, map, ℕ, Vec, Global, string_bytes}
 use Rattle.smt_text.specs.Leaves.{LeafText}
 use Rattle.smt_text.specs.LeafLines.{heading, definitions, assertions, leaf_text, lines_of}
 use Rattle.smt_text.specs.Lines.{Line, AssertLine, CheckLine, ExitLine, line_text, lines_text}
-use Rattle.smt_text.proofs.TextLines.{no_lines, push_line, push_lines}
+use Rattle.smt_text.proofs.TextLines.{push_line, push_lines}
 use Rattle.smt_text.proofs.printing.print_leaf.Goals as goal
 
 -- the last two lines, as they are appended one by one

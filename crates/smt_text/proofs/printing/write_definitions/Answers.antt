@@ -1,4 +1,4 @@
-use Rattle.std.proofs.Common.{◌≡◌, List, ◌∙◌, ◌++◌, [], ◌∷◌, ap, append_assoc, codes, string_bytes}
+use Rattle.std.proofs.Common.{◌≡◌, List, ◌∙◌, ◌++◌, [], ◌∷◌, ap, append_assoc, string_bytes}
 use Rattle.bv_dag.specs.Graphs.{Graph}
 use Rattle.smt_text.specs.Leaves.{LeafText}
 use Rattle.smt_text.specs.LeafLines.{input_lines, node_lines, status_lines, output_lines}

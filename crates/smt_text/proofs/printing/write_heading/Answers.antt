@@ -1,4 +1,4 @@
-use Rattle.std.proofs.Common.{◌≡◌, ◌∙◌, ◌++◌, [], ◌∷◌, ap, length, arith, codes, decimal, string_bytes}
+use Rattle.std.proofs.Common.{◌≡◌, ◌∙◌, ◌++◌, [], ◌∷◌, ap, length, arith, codes, string_bytes}
 use Rattle.bv_dag.specs.Graphs.{Graph}
 use Rattle.smt_text.specs.Leaves.{LeafText}
 use Rattle.smt_text.specs.Names.{kind_name, end_name, kind_of, word_of}

@@ -1,5 +1,4 @@
 use Rattle.std.proofs.Common.{◌≡◌, ◌∙◌, ◌++◌, ℕ, Vec, Global, ap, codes, false, string_bytes}
-use Rattle.serde_json.specs.Data.{Data}
 use Rattle.serde_json.specs.View.{view}
 use Rattle.serde_json.specs.Written.{compact_text, has_float}
 use Rattle.test_files.specs.TestData.{test_data}
