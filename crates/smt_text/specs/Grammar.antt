@@ -1,5 +1,5 @@
 -- The grammar of leaf texts, line by line: which line may stand after given lines.
-use Rattle.std.specs.Prelude.{◌≡◌, ℕ, ◌+◌, ◌^◌, ◌<◌, All, Bool, true, false, not, List, [], ◌∷◌, ◌++◌, ◌==◌, ◌&&◌, if◌then◌else◌, nat_lt, length, Option, Some, None, option_and_then}
+use Rattle.std.specs.Prelude.{◌≡◌, ℕ, ◌+◌, ◌^◌, ◌<◌, All, Bool, true, false, List, [], ◌∷◌, ◌++◌, ◌==◌, ◌&&◌, if◌then◌else◌, nat_lt, length, Option, Some, None, option_and_then}
 use Rattle.bv_dag.specs.Graphs.{Graph, IsDag, width_of}
 use Rattle.bv_dag.specs.Queries.{AreBits}
 use Rattle.bv_dag.specs.Nodes.{node_width, widths_of}
@@ -14,7 +14,7 @@ use Rattle.smt_text.specs.NodeFits.{fits}
 use Rattle.smt_text.specs.declared.leaf.LeafEnd.{LeafEnd}
 use Rattle.smt_text.specs.declared.leaf.LeafEnd.TheVariants.{Exits, Traps, Cut}
 
--- What a line may come next: the one of that name, or one among those.
+-- Which line is to come: each place has one kind of line, and the last but one has two.
 pub data Place : Type 0 where
   AtFormat : Place
   AtKind : Place
@@ -27,8 +27,11 @@ pub data Place : Type 0 where
   AtOutputs : Place
   AtLogic : Place
   AmongInputs : Place
+  AtBase : Place
   AmongNodes : Place
+  AtStatus : Place
   AmongOutputs : Place
+  -- an assertion or the check
   AmongAssertions : Place
   AtExit : Place
   -- all lines were read
@@ -110,22 +113,24 @@ exits (Exits status) = true
 exits (Traps t) = false
 exits (Cut cause) = false
 
--- the node that would be the next
+-- what is to come when so many inputs, nodes or outputs were read: one more, or what stands behind them
+abbrev pub behind_inputs : Reading → Place
+behind_inputs r = if r.declared == r.inputs then AtBase else AmongInputs
+
+abbrev pub behind_outputs : Reading → Place
+behind_outputs r = if length r.outputs == r.output_count then AmongAssertions else AmongOutputs
+
+abbrev pub behind_nodes : Reading → Place
+behind_nodes r = if length r.nodes == r.node_count then if exits r.end then AtStatus else behind_outputs r else AmongNodes
+
+-- the term is that wide
+abbrev pub is_wide : Reading → ℕ → ℕ → Bool
+is_wide r id width = width_of (graph_of r) id == width
+
+-- the node is the next, it fits, and this is its width
 abbrev pub is_next_node : Reading → ℕ → ℕ → Node → Bool
 is_next_node r id width node =
-    (id == length r.nodes) && nat_lt id r.node_count
-    && fits r.inputs (widths_of r.nodes) node && (width == node_width (widths_of r.nodes) node)
-
--- a byte of the output that would be the next
-abbrev pub is_next_output : Reading → ℕ → ℕ → Bool
-is_next_output r i id = (i == length r.outputs) && nat_lt i r.output_count && (width_of (graph_of r) id == 8)
-
--- the nodes are all there, and no status is to come
-abbrev pub has_nodes : Reading → Bool
-has_nodes r = (length r.nodes == r.node_count) && not (exits r.end)
-
-abbrev pub has_outputs : Reading → Bool
-has_outputs r = length r.outputs == r.output_count
+    (id == length r.nodes) && fits r.inputs (widths_of r.nodes) node && (width == node_width (widths_of r.nodes) node)
 
 -- Whether the line may stand at this place, after what was read.
 abbrev pub stands : Place → Reading → Line → Bool
@@ -139,20 +144,25 @@ stands AtInputs r (InputsLine inputs) = is_small inputs
 stands AtNodes r (NodesLine nodes) = is_small nodes
 stands AtOutputs r (OutputsLine outputs) = is_small outputs
 stands AtLogic r LogicLine = true
-stands AmongInputs r (InputLine i) = (i == r.declared) && nat_lt i r.inputs
-stands AmongInputs r BaseLine = r.declared == r.inputs
+stands AmongInputs r (InputLine i) = i == r.declared
+stands AtBase r BaseLine = true
 stands AmongNodes r (NodeLine id width node) = is_next_node r id width node
-stands AmongNodes r (StatusLine id) = (length r.nodes == r.node_count) && exits r.end && (width_of (graph_of r) id == 8)
-stands AmongNodes r (OutputLine i id) = has_nodes r && is_next_output r i id
-stands AmongNodes r (AssertLine id) = has_nodes r && has_outputs r && (width_of (graph_of r) id == 1)
-stands AmongNodes r CheckLine = has_nodes r && has_outputs r
-stands AmongOutputs r (OutputLine i id) = is_next_output r i id
-stands AmongOutputs r (AssertLine id) = has_outputs r && (width_of (graph_of r) id == 1)
-stands AmongOutputs r CheckLine = has_outputs r
-stands AmongAssertions r (AssertLine id) = width_of (graph_of r) id == 1
+stands AtStatus r (StatusLine id) = is_wide r id 8
+stands AmongOutputs r (OutputLine i id) = (i == length r.outputs) && is_wide r id 8
+stands AmongAssertions r (AssertLine id) = is_wide r id 1
 stands AmongAssertions r CheckLine = true
 stands AtExit r ExitLine = true
 stands place r line = false
+
+-- the reading at the place behind its inputs, its nodes or its outputs
+abbrev pub past_input : Reading → Reading
+past_input r = record r { place = behind_inputs r }
+
+abbrev pub past_node : Reading → Reading
+past_node r = record r { place = behind_nodes r }
+
+abbrev pub past_output : Reading → Reading
+past_output r = record r { place = behind_outputs r }
 
 -- what is read after a line that may stand
 abbrev pub with_line : Reading → Line → Reading
@@ -165,13 +175,13 @@ with_line r (EndLine word) = record r { place = AtInputs; end = end_of r.kind wo
 with_line r (InputsLine inputs) = record r { place = AtNodes; inputs = inputs }
 with_line r (NodesLine nodes) = record r { place = AtOutputs; node_count = nodes }
 with_line r (OutputsLine outputs) = record r { place = AtLogic; output_count = outputs }
-with_line r LogicLine = record r { place = AmongInputs }
-with_line r (InputLine i) = record r { declared = r.declared + 1 }
-with_line r BaseLine = record r { place = AmongNodes }
-with_line r (NodeLine id width node) = record r { nodes = r.nodes ++ node ∷ [] }
-with_line r (StatusLine id) = record r { place = AmongOutputs; end = Exits id }
-with_line r (OutputLine i id) = record r { place = AmongOutputs; outputs = r.outputs ++ id ∷ [] }
-with_line r (AssertLine id) = record r { place = AmongAssertions; asserted = r.asserted ++ id ∷ [] }
+with_line r LogicLine = past_input r
+with_line r (InputLine i) = past_input (record r { declared = r.declared + 1 })
+with_line r BaseLine = past_node r
+with_line r (NodeLine id width node) = past_node (record r { nodes = r.nodes ++ node ∷ [] })
+with_line r (StatusLine id) = past_output (record r { end = Exits id })
+with_line r (OutputLine i id) = past_output (record r { outputs = r.outputs ++ id ∷ [] })
+with_line r (AssertLine id) = record r { asserted = r.asserted ++ id ∷ [] }
 with_line r CheckLine = record r { place = AtExit }
 with_line r ExitLine = record r { place = Closed }
 
