@@ -1,0 +1,225 @@
+-- The grammar of leaf texts, line by line: which line may stand after given lines.
+use Rattle.std.specs.Prelude.{◌≡◌, ℕ, ◌+◌, ◌^◌, ◌<◌, All, Bool, true, false, List, [], ◌∷◌, ◌++◌, ◌==◌, ◌&&◌, if◌then◌else◌, nat_lt, length, Option, Some, None, option_and_then}
+use Rattle.bv_dag.specs.Graphs.{Graph, IsDag, width_of}
+use Rattle.bv_dag.specs.Queries.{AreBits}
+use Rattle.bv_dag.specs.Nodes.{node_width, widths_of}
+use Rattle.bv_dag.specs.declared.nodes.Node.{Node}
+use Rattle.rv_decode.specs.declared.ends.PathStep.{PathStep}
+use Rattle.tree_core.specs.declared.cause.Cause.TheVariants.{Steps}
+use Rattle.tree_core.specs.declared.choice.Choice.{Choice}
+use Rattle.smt_text.specs.Leaves.{LeafText}
+use Rattle.smt_text.specs.Lines.{Line, FormatLine, KindLine, ChoicesLine, PathLine, StepsLine, EndLine, InputsLine, NodesLine, OutputsLine, LogicLine, InputLine, BaseLine, NodeLine, StatusLine, OutputLine, AssertLine, CheckLine, ExitLine, lines_text}
+use Rattle.smt_text.specs.Names.{Kind, finished, cut, EndWord, exit, trap, running}
+use Rattle.smt_text.specs.NodeFits.{fits}
+use Rattle.smt_text.specs.declared.leaf.LeafEnd.{LeafEnd}
+use Rattle.smt_text.specs.declared.leaf.LeafEnd.TheVariants.{Exits, Traps, Cut}
+
+-- Which line is to come: each place has one kind of line, and the last but one has two.
+pub data Place : Type 0 where
+  AtFormat : Place
+  AtKind : Place
+  AtChoices : Place
+  AtPath : Place
+  AtSteps : Place
+  AtEnd : Place
+  AtInputs : Place
+  AtNodes : Place
+  AtOutputs : Place
+  AtLogic : Place
+  AmongInputs : Place
+  AtBase : Place
+  AmongNodes : Place
+  AtStatus : Place
+  AmongOutputs : Place
+  -- an assertion or the check
+  AmongAssertions : Place
+  AtExit : Place
+  -- all lines were read
+  Closed : Place
+
+-- What the lines so far say.
+pub record Reading : Type 0 where
+  pub place : Place
+  pub kind : Kind
+  pub choices : List Choice
+  pub path : List PathStep
+  pub steps : ℕ
+  -- the status is 0 until its line
+  pub end : LeafEnd
+  -- how many inputs, nodes and outputs are announced
+  pub inputs : ℕ
+  pub node_count : ℕ
+  pub output_count : ℕ
+  -- how many inputs were declared
+  pub declared : ℕ
+  pub nodes : List Node
+  pub outputs : List ℕ
+  pub asserted : List ℕ
+
+-- before the first line
+abbrev pub start : Reading
+start = record {
+  place = AtFormat;
+  kind = finished;
+  choices = [];
+  path = [];
+  steps = 0;
+  end = Exits 0;
+  inputs = 0;
+  node_count = 0;
+  output_count = 0;
+  declared = 0;
+  nodes = [];
+  outputs = [];
+  asserted = [];
+}
+
+abbrev pub graph_of : Reading → Graph
+graph_of r = record { inputs = r.inputs; nodes = r.nodes }
+
+-- the leaf that was read
+abbrev pub leaf_of : Reading → LeafText
+leaf_of r = record {
+  choices = r.choices;
+  path = r.path;
+  steps = r.steps;
+  end = r.end;
+  condition = record { graph = graph_of r; asserted = r.asserted };
+  outputs = r.outputs;
+}
+
+-- a number that texts may have
+abbrev pub is_small : ℕ → Bool
+is_small n = nat_lt n (2 ^ 32)
+
+-- runs that are finished exit or trap, others are still running
+abbrev pub agree : Kind → EndWord → Bool
+agree finished exit = true
+agree finished (trap t) = true
+agree finished running = false
+agree (cut cause) exit = false
+agree (cut cause) (trap t) = false
+agree (cut cause) running = true
+
+-- the end that a kind and a word stand for; of an exit the status is still to come
+abbrev pub end_of : Kind → EndWord → LeafEnd
+end_of kind exit = Exits 0
+end_of kind (trap t) = Traps t
+end_of (cut cause) running = Cut cause
+end_of finished running = Cut Steps
+
+abbrev pub exits : LeafEnd → Bool
+exits (Exits status) = true
+exits (Traps t) = false
+exits (Cut cause) = false
+
+-- what is to come when so many inputs, nodes or outputs were read: one more, or what stands behind them
+abbrev pub behind_inputs : Reading → Place
+behind_inputs r = if r.declared == r.inputs then AtBase else AmongInputs
+
+abbrev pub behind_outputs : Reading → Place
+behind_outputs r = if length r.outputs == r.output_count then AmongAssertions else AmongOutputs
+
+abbrev pub behind_nodes : Reading → Place
+behind_nodes r = if length r.nodes == r.node_count then if exits r.end then AtStatus else behind_outputs r else AmongNodes
+
+-- the term is that wide
+abbrev pub is_wide : Reading → ℕ → ℕ → Bool
+is_wide r id width = width_of (graph_of r) id == width
+
+-- the node is the next, it fits, and this is its width
+abbrev pub is_next_node : Reading → ℕ → ℕ → Node → Bool
+is_next_node r id width node =
+    (id == length r.nodes) && fits r.inputs (widths_of r.nodes) node && (width == node_width (widths_of r.nodes) node)
+
+-- Whether the line may stand at this place, after what was read.
+abbrev pub stands : Place → Reading → Line → Bool
+stands AtFormat r FormatLine = true
+stands AtKind r (KindLine kind) = true
+stands AtChoices r (ChoicesLine choices) = true
+stands AtPath r (PathLine path) = true
+stands AtSteps r (StepsLine steps) = is_small steps
+stands AtEnd r (EndLine word) = agree r.kind word
+stands AtInputs r (InputsLine inputs) = is_small inputs
+stands AtNodes r (NodesLine nodes) = is_small nodes
+stands AtOutputs r (OutputsLine outputs) = is_small outputs
+stands AtLogic r LogicLine = true
+stands AmongInputs r (InputLine i) = i == r.declared
+stands AtBase r BaseLine = true
+stands AmongNodes r (NodeLine id width node) = is_next_node r id width node
+stands AtStatus r (StatusLine id) = is_wide r id 8
+stands AmongOutputs r (OutputLine i id) = (i == length r.outputs) && is_wide r id 8
+stands AmongAssertions r (AssertLine id) = is_wide r id 1
+stands AmongAssertions r CheckLine = true
+stands AtExit r ExitLine = true
+stands place r line = false
+
+-- the reading at the place behind its inputs, its nodes or its outputs
+abbrev pub past_input : Reading → Reading
+past_input r = record r { place = behind_inputs r }
+
+abbrev pub past_node : Reading → Reading
+past_node r = record r { place = behind_nodes r }
+
+abbrev pub past_output : Reading → Reading
+past_output r = record r { place = behind_outputs r }
+
+-- what is read after a line that may stand
+abbrev pub with_line : Reading → Line → Reading
+with_line r FormatLine = record r { place = AtKind }
+with_line r (KindLine kind) = record r { place = AtChoices; kind = kind }
+with_line r (ChoicesLine choices) = record r { place = AtPath; choices = choices }
+with_line r (PathLine path) = record r { place = AtSteps; path = path }
+with_line r (StepsLine steps) = record r { place = AtEnd; steps = steps }
+with_line r (EndLine word) = record r { place = AtInputs; end = end_of r.kind word }
+with_line r (InputsLine inputs) = record r { place = AtNodes; inputs = inputs }
+with_line r (NodesLine nodes) = record r { place = AtOutputs; node_count = nodes }
+with_line r (OutputsLine outputs) = record r { place = AtLogic; output_count = outputs }
+with_line r LogicLine = past_input r
+with_line r (InputLine i) = past_input (record r { declared = r.declared + 1 })
+with_line r BaseLine = past_node r
+with_line r (NodeLine id width node) = past_node (record r { nodes = r.nodes ++ node ∷ [] })
+with_line r (StatusLine id) = past_output (record r { end = Exits id })
+with_line r (OutputLine i id) = past_output (record r { outputs = r.outputs ++ id ∷ [] })
+with_line r (AssertLine id) = record r { asserted = r.asserted ++ id ∷ [] }
+with_line r CheckLine = record r { place = AtExit }
+with_line r ExitLine = record r { place = Closed }
+
+-- the reading after one more line, and none where it may not stand
+unfoldable pub next_state : Reading → Line → Option Reading
+next_state r line = if stands r.place r line then Some (with_line r line) else None
+
+-- the reading after more lines, and none from the first on that may not stand
+unfoldable pub read_lines : Reading → List Line → Option Reading
+read_lines r [] = Some r
+read_lines r (line ∷ lines) = option_and_then (λ next. read_lines next lines) (next_state r line)
+
+-- the lines may each stand after those before it, the last is `(exit)`, and this is the leaf that they say
+pub record ReadAs (lines : List Line) (leaf : LeafText) : Type 0 where
+  pub reading : Reading
+  pub all_stand : read_lines start lines ≡ Some reading
+  pub to_the_end : reading.place ≡ Closed
+  pub same : leaf_of reading ≡ leaf
+
+-- the text is that of such lines
+pub record IsTextOf (text : List ℕ) (leaf : LeafText) : Type 0 where
+  pub lines : List Line
+  pub read_as : ReadAs lines leaf
+  pub is_theirs : text ≡ lines_text lines
+
+-- the status is a byte, where there is one
+abbrev pub IsByteStatus : Graph → LeafEnd → Type 0
+IsByteStatus graph (Exits status) = width_of graph status ≡ 8
+IsByteStatus graph (Traps t) = Unit {0}
+IsByteStatus graph (Cut cause) = Unit {0}
+
+-- a leaf whose lines may stand: its terms fit, are as wide as they are to be, and its numbers are below 2 ^ 32
+pub record IsPrintable (leaf : LeafText) : Type 0 where
+  pub is_dag : IsDag leaf.condition.graph
+  pub bits : AreBits leaf.condition.graph leaf.condition.asserted
+  pub status : IsByteStatus leaf.condition.graph leaf.end
+  pub bytes : All (λ id. width_of leaf.condition.graph id ≡ 8) leaf.outputs
+  pub few_steps : leaf.steps < 2 ^ 32
+  pub few_inputs : leaf.condition.graph.inputs < 2 ^ 32
+  pub few_nodes : length leaf.condition.graph.nodes < 2 ^ 32
+  pub few_outputs : length leaf.outputs < 2 ^ 32
