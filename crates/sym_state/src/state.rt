@@ -1,6 +1,6 @@
 //! A symbolic run.
 
-ghost use Rattle.std.specs.Prelude.{◌≡◌, ◌==◌, ◌+◌, ◌-◌, ◌%◌, ◌<◌, ◌^◌, ℕ, true, false, List, [], ◌∷◌, ◌++◌, All, length, nat_lt, slice_index, IfOk, OnOk, if◌then◌else◌};
+ghost use Rattle.std.specs.Prelude.{◌≡◌, ◌==◌, ◌+◌, ◌-◌, ◌%◌, ◌<◌, ◌^◌, ℕ, true, false, List, [], ◌∷◌, ◌++◌, All, length, nat_lt, slice_index, IfOk, OnOk, Some, if◌then◌else◌};
 ghost use Rattle.bv_dag.specs.Graphs.{IsDag, width_of, number_of};
 ghost use Rattle.rv_machine.specs.Arithmetic.{sum32, one_where};
 ghost use Rattle.sym_state.specs.Growing.{Grows};
@@ -140,6 +140,13 @@ impl State {
         self.decided
     }
 
+    /// Chooses the side of the conditional branch that comes next.
+    pub fn decide(&mut self, side: bool)
+        ensures { self.new ≡ record self.old { decided = Some side } }
+    {
+        self.decided = Some(side);
+    }
+
     /// Makes a step, to this address.
     pub fn go_to(&mut self, pc: u32)
         requires { self.old.steps < most_steps }
@@ -265,6 +272,19 @@ impl State {
         build::equality(&mut self.terms, left, right)
     }
 
+    /// Whether a term of 32 bits is a number, as a bit.
+    pub fn equals(&mut self, term: usize, number: u32) -> Result<usize, NoMemory>
+        requires dag { IsDag self.old.terms }
+        requires wide { width_of self.old.terms term ≡ 32 }
+        ensures terms { self.new ≡ with_terms self.old self.new.terms }
+        ensures grows { OnOk result (Grows self.old.terms self.new.terms) }
+        ensures width { IfOk result (λ id. width_of self.new.terms id ≡ 1) }
+        ensures number { IfOk result (λ id. (input : List ℕ) → number_of self.new.terms id input
+            ≡ (if number_of self.old.terms term input == number then 1 else 0)) }
+    {
+        self.equality(Value::Term(term), Value::Number(number))
+    }
+
     /// The other bit of a term of one.
     pub fn negation(&mut self, bit: usize) -> Result<usize, NoMemory>
         requires dag { IsDag self.old.terms }
@@ -294,6 +314,14 @@ impl State {
         ensures { self.new ≡ cut_back self.old len }
     {
         self.terms.truncate(len);
+    }
+
+    /// Asks for one more term of one bit to be 1.
+    pub fn assert(&mut self, term: usize) -> Result<(), NoMemory>
+        ensures { OnOk result (self.new ≡ record self.old { condition = self.old.condition ++ term ∷ [] }) }
+    {
+        self.condition.push(term)?;
+        Ok(())
     }
 
     /// Narrows to one side of a fork, on which this term of one bit is 1.

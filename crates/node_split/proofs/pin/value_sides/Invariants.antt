@@ -1,0 +1,6 @@
+use Rattle.std.proofs.Common.{take}
+use Rattle.node_split.specs.Resting.{AreSidesOf}
+use Rattle.node_split.proofs.pin.value_sides.Given as goal
+
+abbrev pub invariant-loop-at : goal.invariant-loop-at
+invariant-loop-at l = AreSidesOf l.program l.state l.pin.term (take l.at-index l.found) l.kids.items
