@@ -4,3 +4,4 @@ pub mod Standing
 pub mod Sharing
 pub mod Keeping
 pub mod Rooms
+pub mod Histories

@@ -36,6 +36,10 @@ stands_for covers s input m = is_live (status s m) && covered covers (content s 
 abbrev pub root_content : {R : Type 0} → Story R → Option R
 root_content s = option_map (λ n. n.content) (slice_get s.nodes 0)
 
+-- how many nodes stand for the assignment
+abbrev pub standing_count : {R : Type 0} → (R → List ℕ → Bool) → Story R → List ℕ → ℕ
+standing_count covers s input = count_below (stands_for covers s input) (length s.nodes)
+
 -- each assignment that the root covered at its birth is covered by exactly one node that is free, held or a leaf, and any other by none
 abbrev pub Partition : {R : Type 0} → (R → List ℕ → Bool) → Story R → Type 0
-Partition covers s = (input : List ℕ) → count_below (stands_for covers s input) (length s.nodes) ≡ one_if (covered covers (root_content s) input)
+Partition covers s = (input : List ℕ) → standing_count covers s input ≡ one_if (covered covers (root_content s) input)

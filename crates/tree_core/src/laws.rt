@@ -1,20 +1,23 @@
 //! What holds of every story, whatever its contents are.
 
-ghost use Rattle.std.specs.Prelude.{◌≡◌, ℕ, List, ◌++◌, ◌∷◌, [], ◌<◌, Some, None, Bool, length, Option, IsTrue, ◌+◌, map, set};
-ghost use Rattle.tree_core.specs.Stories.{Story, status, status_by, content_after};
-ghost use Rattle.tree_core.specs.declared.event.Event.{Event};
-ghost use Rattle.tree_core.specs.declared.event.Deed.{Deed};
-ghost use Rattle.tree_core.specs.declared.event.Kid.{Kid};
-ghost use Rattle.tree_core.specs.declared.node.Status.{Status};
+ghost use Rattle.std.specs.Prelude.{◌≡◌, ◌↔◌, ℕ, List, IsTrue, IsFalse, false};
 ghost use Rattle.std.specs.Global.{Vec};
-ghost use Rattle.std.specs.List.{All};
-ghost use Rattle.tree_core.specs.Replays.{is_allowed, IsFit, noted, kids_of, opening};
-ghost use Rattle.tree_core.specs.Covers.{Partition};
-ghost use Rattle.tree_core.specs.Cores.{held_count, takes, ends, IsCore};
+ghost use Rattle.tree_core.specs.Stories.{Story, status, LastIsClaim};
+ghost use Rattle.tree_core.specs.Covers.{Partition, standing_count};
+ghost use Rattle.tree_core.specs.Replays.{AreFit, Replays, after, after_all, is_allowed, opening};
+ghost use Rattle.tree_core.specs.declared.event.Event.{Event};
+ghost use Rattle.tree_core.specs.declared.event.Kid.{Kid};
+ghost use Rattle.tree_core.specs.declared.node.Status.TheVariants.{Held};
 
 use crate::cover::Cover;
 
-pub fn trial<R: Cover>()
-    ensures first { (s : Story R) (latest : List (Option ℕ)) (held more : ℕ) (e : Event R (Vec (Kid R))) → IsCore R.covers s latest held → IsFit R.covers s e → IsTrue (is_allowed s e) → more + ends e.deed ≡ held + takes e.deed → IsCore R.covers (noted s e) (set (latest ++ map (λ _. None) (kids_of e.deed)) e.node (Some (length s.events))) more }
-    ensures second { (root : R) (is_leaf : Bool) → IsCore R.covers (opening root is_leaf) (None ∷ []) 0 }
+/// From one free root on, after any events of any workers, refused ones among them: each assignment that the root covers is
+/// covered by exactly one node that is free, held or a leaf; a node is held by a worker exactly where the last event noted of it
+/// is that worker's claim; and a refused event has changed nothing.
+pub fn every_list_of_events<R: Cover>()
+    ensures exactly_one { (root : R) (events : List (Event R (Vec (Kid R)))) (input : List ℕ) → AreFit R.covers (opening root false) events → IsTrue (R.covers root input) → standing_count R.covers (after_all (opening root false) events) input ≡ 1 }
+    ensures partition { (root : R) (events : List (Event R (Vec (Kid R)))) → AreFit R.covers (opening root false) events → Partition R.covers (after_all (opening root false) events) }
+    ensures replays { (root : R) (events : List (Event R (Vec (Kid R)))) → AreFit R.covers (opening root false) events → Replays R.covers (after_all (opening root false) events) }
+    ensures held { (root : R) (events : List (Event R (Vec (Kid R)))) (node by : ℕ) → (status (after_all (opening root false) events) node ≡ Held by) ↔ LastIsClaim (after_all (opening root false) events) node by }
+    ensures refused { (s : Story R) (event : Event R (Vec (Kid R))) → IsFalse (is_allowed s event) → after s event ≡ s }
 {}

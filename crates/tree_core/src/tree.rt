@@ -1,9 +1,9 @@
 //! The core of a fork tree: its nodes and events, both of which only grow.
 
-ghost use Rattle.std.specs.Prelude.{◌≡◌, ◌+◌, ◌<◌, ◌≤◌, ◌++◌, ◌∷◌, ◌↔◌, [], Some, None, IsTrue, false, length, map, replicate, vec_len, vec_capacity, option_map, OnOk, OnErr, IfOk, IfSome, IsFalse, Err};
-ghost use Rattle.tree_core.specs.Stories.{status, content};
+ghost use Rattle.std.specs.Prelude.{◌≡◌, ◌+◌, ◌<◌, ◌≤◌, ◌++◌, ◌∷◌, ◌↔◌, [], Some, None, IsTrue, false, length, map, replicate, vec_len, vec_capacity, option_map, OnOk, OnErr, IfOk, IfSome, IsFalse, Err, ◌≢◌};
+ghost use Rattle.tree_core.specs.Stories.{status, content, origin};
 ghost use Rattle.tree_core.specs.Covers.{Partition};
-ghost use Rattle.tree_core.specs.Replays.{IsFit, IsSound, is_allowed, noted, opening, Replays, births, deed_kept};
+ghost use Rattle.tree_core.specs.Replays.{IsFit, IsSound, is_allowed, noted, after, opening, Replays, births, deed_kept};
 ghost use Rattle.tree_core.specs.Cores.{LacksRoom, IsLast};
 
 use crate::choice::Choice;
@@ -72,6 +72,7 @@ impl<R: Cover> Core<R> {
         ensures not_now { (result ≡ Err (Refusal.NotNow event.node (status self.old.story event.node))) ↔ IsFalse (is_allowed self.old.story event) }
         ensures memory { result ≡ Err Refusal.NoMemory → LacksRoom self.old event.deed }
         ensures err { OnErr result (self.new.story ≡ self.old.story) }
+        ensures after { result ≢ Err Refusal.NoMemory → self.new.story ≡ after self.old.story event }
     {
         let Event { by, node, deed } = event;
         let status = status_at(&self.nodes, &self.events, self.latest[node], node);
@@ -106,6 +107,46 @@ impl<R: Cover> Core<R> {
         ensures { content self.now.story node ≡ Some result.now }
     {
         content_at(&self.nodes, &self.events, self.latest[node], node)
+    }
+
+    /// Whose kid the node is: None for the root alone. A parent's number is below its kids'.
+    pub fn parent(&self, node: usize) -> Option<usize>
+        requires there { node < length self.now.story.nodes }
+        ensures value { result ≡ option_map (λ o. o.parent) (origin self.now.story node) }
+        ensures older { IfSome result (λ parent. parent < node) }
+    {
+        self.nodes[node].origin.map(|origin| origin.parent)
+    }
+
+    /// On which side of its parent's fork the node is: None for the root alone.
+    pub fn choice(&self, node: usize) -> Option<Choice>
+        requires there { node < length self.now.story.nodes }
+        ensures { result ≡ option_map (λ o. o.choice) (origin self.now.story node) }
+    {
+        self.nodes[node].origin.map(|origin| origin.choice)
+    }
+
+    /// Finds room for so many kids, for a claim and for the event that ends it.
+    pub fn reserve(&mut self, kids: usize) -> Result<(), NoMemory>
+        ensures story { self.new.story ≡ self.old.story }
+        ensures nodes { OnOk result (kids ≤ self.new.node_room) }
+        ensures events { OnOk result (2 ≤ self.new.event_room) }
+    {
+        let Some(events) = self.held.checked_add(2) else {
+            return Err(NoMemory);
+        };
+        self.nodes.reserve(kids)?;
+        self.latest.reserve(kids)?;
+        self.events.reserve(events)
+    }
+
+    /// At every moment the tree is what its events have made of its root, each allowed and fit when it came, and its free,
+    /// held and leaf nodes share out what the root covers.
+    pub fn is_whole(&self)
+        ensures replays { Replays R.covers self.now.story }
+        ensures partition { Partition R.covers self.now.story }
+    {
+        let _ = &self.nodes;
     }
 
     /// How many nodes there are.
