@@ -16,13 +16,13 @@ pub count_change : (p q : ℕ → Bool) (n m : ℕ) → m < n → ((k : ℕ) →
 count_change p q zero m lt same = absurd (omega arith)
 count_change p q (suc n) m lt same = dite (ℕ_discrete n m)
     (λ e. let below : count_below p n ≡ count_below q n = count_same p q n (λ k low. same k (omega arith) (λ is. omega arith)) in
-        let here : one_if (p n) ≡ one_if (p m) = ap (λ k. one_if (p k)) e in let there : one_if (q n) ≡ one_if (q m) = ap (λ k. one_if (q k)) e in
-        let a : ℕ = count_below p n in let b : ℕ = count_below q n in let pm : ℕ = one_if (p m) in let qm : ℕ = one_if (q m) in let pn : ℕ = one_if (p n) in let qn : ℕ = one_if (q n) in
-        let e1 : a ≡ b = below in let e2 : pn ≡ pm = here in let e3 : qn ≡ qm = there in let goal : (a + pn) + qm ≡ (b + qn) + pm = omega arith in goal)
+    let here : one_if (p n) ≡ one_if (p m) = ap (λ k. one_if (p k)) e in let there : one_if (q n) ≡ one_if (q m) = ap (λ k. one_if (q k)) e in
+    let a : ℕ = count_below p n in let b : ℕ = count_below q n in let pm : ℕ = one_if (p m) in let qm : ℕ = one_if (q m) in let pn : ℕ = one_if (p n) in let qn : ℕ = one_if (q n) in
+    let e1 : a ≡ b = below in let e2 : pn ≡ pm = here in let e3 : qn ≡ qm = there in let goal : (a + pn) + qm ≡ (b + qn) + pm = omega arith in goal)
     (λ ne. let before : count_below p n + one_if (q m) ≡ count_below q n + one_if (p m) = count_change p q n m (omega arith) (λ k low. same k (omega arith)) in
-        let here : one_if (p n) ≡ one_if (q n) = ap one_if (same n (omega arith) ne) in
-        let a : ℕ = count_below p n in let b : ℕ = count_below q n in let pm : ℕ = one_if (p m) in let qm : ℕ = one_if (q m) in let pn : ℕ = one_if (p n) in let qn : ℕ = one_if (q n) in
-        let e1 : a + qm ≡ b + pm = before in let e2 : pn ≡ qn = here in let goal : (a + pn) + qm ≡ (b + qn) + pm = omega arith in goal)
+    let here : one_if (p n) ≡ one_if (q n) = ap one_if (same n (omega arith) ne) in
+    let a : ℕ = count_below p n in let b : ℕ = count_below q n in let pm : ℕ = one_if (p m) in let qm : ℕ = one_if (q m) in let pn : ℕ = one_if (p n) in let qn : ℕ = one_if (q n) in
+    let e1 : a + qm ≡ b + pm = before in let e2 : pn ≡ qn = here in let goal : (a + pn) + qm ≡ (b + qn) + pm = omega arith in goal)
 
 count_by-cons : {X : Type 0} (f : X → Bool) (x : X) (xs : List X) → count_by f (x ∷ xs) ≡ one_if (f x) + count_by f xs
 count_by-cons f x xs = sum_by-cons (λ y. one_if (f y)) x xs
@@ -40,8 +40,10 @@ count_more {X} p f n (x ∷ xs) same = let later : count_below p (suc n + length
   where
     zero_right : (a : ℕ) → a ≡ a + 0
     zero_right a = omega arith
+
     move : (a b : ℕ) → suc a + b ≡ a + suc b
     move a b = omega arith
+
     assoc : (a b c : ℕ) → (a + b) + c ≡ a + (b + c)
     assoc a b c = omega arith
 

@@ -27,10 +27,13 @@ module _ {R : Type 0} (covers : R → List ℕ → Bool) where
     where
       balance : (a b h : ℕ) → a ≤ h → (h + b - a) + a ≡ h + b
       balance a b h le = omega arith
+
       by_guard : (b : Bool) → is_allowed s e ≡ b → Made (cond b (noted s e) s)
-      by_guard true may = let held : ℕ = m.1 in let low : ends e.deed ≤ held = ends-held covers s m.0 held e m.2 fit.0 may in
-          (set (m.0 ++ map (λ _. None) (kids_of e.deed)) e.node (Some (length s.events)), held + takes e.deed - ends e.deed,
-            core-noted covers s m.0 held (held + takes e.deed - ends e.deed) e m.2 fit may (balance (ends e.deed) (takes e.deed) held low))
+      by_guard true may = let held : ℕ = m.1 in let low : ends e.deed ≤ held = ends-held covers s m.0 held e m.2 fit.0 may in (
+        set (m.0 ++ map (λ _. None) (kids_of e.deed)) e.node (Some (length s.events)),
+        held + takes e.deed - ends e.deed,
+        core-noted covers s m.0 held (held + takes e.deed - ends e.deed) e m.2 fit may (balance (ends e.deed) (takes e.deed) held low),
+      )
       by_guard false may = m
 
   made_after_all : (s : Story R) (es : List (Event R (Vec (Kid R)))) → AreFit covers s es → Made s → Made (after_all s es)

@@ -31,10 +31,13 @@ module _ {R : Type 0} (covers : R → List ℕ → Bool) where
   may_come_more s (x ∷ es) e all fit may = (all.0, all.1, may_come_more (noted s x) es e all.2 fit may)
 
   replays-noted : (s : Story R) (e : Event R (Vec (Kid R))) → Replays covers s → IsFit covers s e → IsTrue (is_allowed s e) → Replays covers (noted s e)
-  replays-noted s e r fit may = let first : Story R = opening r.0 r.1 in let is : s ≡ noted_all first r.2 = r.4 in
-      (r.0, r.1, r.2 ++ e ∷ [],
-       may_come_more first r.2 e r.3 (subst (λ (t : Story R). IsFit covers t e) is fit) (subst (λ (t : Story R). IsTrue (is_allowed t e)) is may),
-       ap (λ (t : Story R). noted t e) is ∙ sym (noted_all-push first r.2 e))
+  replays-noted s e r fit may = let first : Story R = opening r.0 r.1 in let is : s ≡ noted_all first r.2 = r.4 in (
+    r.0,
+    r.1,
+    r.2 ++ e ∷ [],
+    may_come_more first r.2 e r.3 (subst (λ (t : Story R). IsFit covers t e) is fit) (subst (λ (t : Story R). IsTrue (is_allowed t e)) is may),
+    ap (λ (t : Story R). noted t e) is ∙ sym (noted_all-push first r.2 e),
+  )
 
 module _ {R : Type 0} where
   long-noted : (s : Story R) (e : Event R (Vec (Kid R))) → length (noted s e).nodes ≡ length s.nodes + length (kids_of e.deed)
@@ -53,7 +56,7 @@ module _ {R : Type 0} where
       → (m : ℕ) (x : Node R) → slice_get (noted s e).nodes m ≡ Some x → IfSome x.origin (λ (o : Origin). o.parent < m)
   older-noted s e older there m x at = let n : ℕ = length s.nodes in dite (dec_le n m)
       (λ le. let split : n + (m - n) ≡ m = omega arith in
-        born_older e.node m (m - n) (kids_of e.deed) x (omega arith) (sym (get_behind s.nodes (births e.node e.deed) (m - n)) ∙ (ap (slice_get (s.nodes ++ births e.node e.deed)) split ∙ at)))
+      born_older e.node m (m - n) (kids_of e.deed) x (omega arith) (sym (get_behind s.nodes (births e.node e.deed) (m - n)) ∙ (ap (slice_get (s.nodes ++ births e.node e.deed)) split ∙ at)))
       (λ apart. older m x (sym (get_before s.nodes (births e.node e.deed) m (Rattle.std.proofs.Common.lt_of_not-le apart)) ∙ at))
 
   last_stays : (s : Story R) (e : Event R (Vec (Kid R))) (k : ℕ) (o : Option ℕ) → eqb e.node k ≡ false → IsLast s k o → IsLast (noted s e) k o
@@ -74,15 +77,15 @@ module _ {R : Type 0} where
       let put : slice_get (set (latest ++ nones) m new) k ≡ cond (eqb m k) (Some new) (slice_get (latest ++ nones) k) = get_set (latest ++ nones) m k new (omega arith) in
       let at' : cond (eqb m k) (Some new) (slice_get (latest ++ nones) k) ≡ Some o = sym put ∙ at in
       dite (ℕ_discrete m k)
-        (λ is. let yes : eqb m k ≡ true = eq-eqb m k is in let same : Some new ≡ Some o = sym (ap (λ b. cond b (Some new) (slice_get (latest ++ nones) k)) yes) ∙ at' in let same' : new ≡ o = cc in
-          subst (λ (p : Option ℕ). IsLast (noted s e) k p) same' (kept e, get_last s.events (kept e), last_on-push k s.events (kept e) ∙ ap (λ b. cond b (Some (kept e)) (last_on k s.events)) yes))
-        (λ ne. let apart : eqb m k ≡ false = ne_eqb m k ne in let old : slice_get (latest ++ nones) k ≡ Some o = sym (ap (λ b. cond b (Some new) (slice_get (latest ++ nones) k)) apart) ∙ at' in
-          dite (dec_le n k)
-            (λ le. let split : length latest + (k - n) ≡ k = omega arith in let split' : n + (k - n) ≡ k = omega arith in
-              let is : o ≡ None = none_at (kids_of e.deed) (k - n) o (sym (get_behind latest nones (k - n)) ∙ (ap (slice_get (latest ++ nones)) split ∙ old)) in
-              subst (λ (p : Option ℕ). IsLast (noted s e) k p) (sym is) (subst (λ (j : ℕ). last_on j (s.events ++ kept e ∷ []) ≡ None) split' (kid_unnamed s e (k - n) named there)))
-            (λ not. let low : k < length latest = subst (λ (j : ℕ). k < j) (sym long) (Rattle.std.proofs.Common.lt_of_not-le not) in
-              last_stays s e k o apart (last k o (sym (get_before latest nones k low) ∙ old))))
+      (λ is. let yes : eqb m k ≡ true = eq-eqb m k is in let same : Some new ≡ Some o = sym (ap (λ b. cond b (Some new) (slice_get (latest ++ nones) k)) yes) ∙ at' in let same' : new ≡ o = cc in
+      subst (λ (p : Option ℕ). IsLast (noted s e) k p) same' (kept e, get_last s.events (kept e), last_on-push k s.events (kept e) ∙ ap (λ b. cond b (Some (kept e)) (last_on k s.events)) yes))
+      (λ ne. let apart : eqb m k ≡ false = ne_eqb m k ne in let old : slice_get (latest ++ nones) k ≡ Some o = sym (ap (λ b. cond b (Some new) (slice_get (latest ++ nones) k)) apart) ∙ at' in
+      dite (dec_le n k)
+      (λ le. let split : length latest + (k - n) ≡ k = omega arith in let split' : n + (k - n) ≡ k = omega arith in
+      let is : o ≡ None = none_at (kids_of e.deed) (k - n) o (sym (get_behind latest nones (k - n)) ∙ (ap (slice_get (latest ++ nones)) split ∙ old)) in
+      subst (λ (p : Option ℕ). IsLast (noted s e) k p) (sym is) (subst (λ (j : ℕ). last_on j (s.events ++ kept e ∷ []) ≡ None) split' (kid_unnamed s e (k - n) named there)))
+      (λ not. let low : k < length latest = subst (λ (j : ℕ). k < j) (sym long) (Rattle.std.proofs.Common.lt_of_not-le not) in
+      last_stays s e k o apart (last k o (sym (get_before latest nones k low) ∙ old))))
 
 module _ {R : Type 0} (covers : R → List ℕ → Bool) where
   pub core-noted : (s : Story R) (latest : List (Option ℕ)) (held more : ℕ) (e : Event R (Vec (Kid R))) → IsCore covers s latest held → IsFit covers s e → IsTrue (is_allowed s e) → more + ends e.deed ≡ held + takes e.deed

@@ -9,6 +9,8 @@ mod event;
 pub mod laws;
 mod node;
 mod refusal;
+#[cfg(test)]
+mod tests;
 mod tree;
 
 pub use cause::Cause;
