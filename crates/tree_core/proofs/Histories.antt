@@ -73,11 +73,11 @@ module _ {R : Type 0} where
   held_claims by w (Cut r) is = cc
   held_claims by w Release is = cc
 
-  to_claim : (birth : Option (Node R)) (o : Option (Event R ℕ)) (w : ℕ) → status_by (born_as birth) o ≡ Held w → IsClaimBy w o
+  pub to_claim : (birth : Option (Node R)) (o : Option (Event R ℕ)) (w : ℕ) → status_by (born_as birth) o ≡ Held w → IsClaimBy w o
   to_claim birth None w is = born_not_held birth w is
   to_claim birth (Some e) w is = held_claims e.by w e.deed is
 
-  from_claim : (birth : Status) (o : Option (Event R ℕ)) (w : ℕ) → IsClaimBy w o → status_by birth o ≡ Held w
+  pub from_claim : (birth : Status) (o : Option (Event R ℕ)) (w : ℕ) → IsClaimBy w o → status_by birth o ≡ Held w
   from_claim birth None w l = absurd l
   from_claim birth (Some e) w l = ap (left_by e.by) l.0 ∙ ap Held l.1
 

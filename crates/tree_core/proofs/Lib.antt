@@ -5,3 +5,4 @@ pub mod Sharing
 pub mod Keeping
 pub mod Rooms
 pub mod Histories
+pub mod Surviving
