@@ -1,5 +1,5 @@
 -- What any list of events makes of a root.
-use Rattle.std.proofs.Common.{◌≡◌, ◌↔◌, ℕ, ◌+◌, ◌-◌, ◌≤◌, Bool, true, false, cond, IsTrue, IsFalse, Option, Some, None, List, [], ◌∷◌, ◌++◌, map, length, set, option_map, refl, ap, ◌∙◌, arith}
+use Rattle.std.proofs.Common.{◌≡◌, ◌↔◌, ℕ, ◌+◌, ◌-◌, ◌≤◌, ◌<◌, length-append, Bool, true, false, cond, IsTrue, IsFalse, Option, Some, None, List, [], ◌∷◌, ◌++◌, map, length, set, option_map, refl, ap, ◌∙◌, sym, subst, arith}
 use Rattle.std.specs.List.{slice_get}
 use Rattle.std.specs.Global.{Vec}
 use Rattle.tree_core.specs.declared.event.Event.{Event}
@@ -11,7 +11,7 @@ use Rattle.tree_core.specs.declared.node.Status.{Status}
 use Rattle.tree_core.specs.declared.node.Status.TheVariants.{Free, Held, Leaf}
 use Rattle.tree_core.specs.Stories.{Story, status, status_by, born_as, left_by, last_on, IsClaimBy, LastIsClaim}
 use Rattle.tree_core.specs.Covers.{one_if, covered, standing_count}
-use Rattle.tree_core.specs.Replays.{AreFit, IsFit, is_allowed, after, after_all, noted, opening, kids_of, births}
+use Rattle.tree_core.specs.Replays.{noted_all, Replays, AreFit, IsFit, is_allowed, after, after_all, noted, opening, kids_of, births}
 use Rattle.tree_core.specs.Cores.{IsCore, takes, ends}
 use Rattle.tree_core.proofs.Places.{get_before}
 use Rattle.tree_core.proofs.Keeping.{core-noted, core-opened, ends-held}
@@ -86,3 +86,13 @@ module _ {R : Type 0} where
 
   pub refused_stays : (s : Story R) (e : Event R (Vec (Kid R))) → IsFalse (is_allowed s e) → after s e ≡ s
   refused_stays s e barred = ap (λ b. cond b (noted s e) s) barred
+
+  -- the root is always there
+  at_least : (s : Story R) (es : List (Event R (Vec (Kid R)))) → 1 ≤ length s.nodes → 1 ≤ length (noted_all s es).nodes
+  at_least s [] one = one
+  at_least s (e ∷ es) one = let more : length (s.nodes ++ births e.node e.deed) ≡ length s.nodes + length (births e.node e.deed) = length-append s.nodes (births e.node e.deed) in
+      at_least (noted s e) es (omega arith)
+
+  pub rooted : (covers : R → List ℕ → Bool) (s : Story R) → Replays covers s → 0 < length s.nodes
+  rooted covers s r = let first : Story R = opening r.0 r.1 in let one : 1 ≤ length (noted_all first r.2).nodes = at_least first r.2 (omega arith) in
+      subst (λ (t : Story R). 0 < length t.nodes) (sym r.4) one

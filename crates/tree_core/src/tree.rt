@@ -1,6 +1,6 @@
 //! The core of a fork tree: its nodes and events, both of which only grow.
 
-ghost use Rattle.std.specs.Prelude.{◌≡◌, ◌+◌, ◌<◌, ◌≤◌, ◌++◌, ◌∷◌, ◌↔◌, [], Some, None, IsTrue, false, length, map, replicate, vec_len, vec_capacity, option_map, OnOk, OnErr, IfOk, IfSome, IsFalse, Err, ◌≢◌};
+ghost use Rattle.std.specs.Prelude.{◌≡◌, ◌+◌, ◌<◌, ◌≤◌, ◌++◌, ◌∷◌, ◌↔◌, [], Some, None, IsTrue, false, length, map, replicate, vec_len, vec_capacity, option_map, OnOk, OnErr, IfOk, IfSome, IsFalse, Err, ◌≢◌, All};
 ghost use Rattle.tree_core.specs.Stories.{status, content, origin};
 ghost use Rattle.tree_core.specs.Covers.{Partition};
 ghost use Rattle.tree_core.specs.Replays.{IsFit, IsSound, is_allowed, noted, after, opening, Replays, births, deed_kept};
@@ -149,9 +149,10 @@ impl<R: Cover> Core<R> {
         let _ = &self.nodes;
     }
 
-    /// How many nodes there are.
+    /// How many nodes there are. The root, node 0, is always there.
     pub fn len(&self) -> usize
-        ensures { result ≡ length self.now.story.nodes }
+        ensures count { result ≡ length self.now.story.nodes }
+        ensures root { 0 < result }
     {
         self.nodes.len()
     }
@@ -163,9 +164,10 @@ impl<R: Cover> Core<R> {
         self.nodes.as_slice()
     }
 
-    /// The events that were noted, in order.
+    /// The events that were noted, in order. The node of each is there.
     pub fn events(&self) -> &[Noted<R>]
-        ensures { result.now ≡ self.now.story.events }
+        ensures value { result.now ≡ self.now.story.events }
+        ensures there { All (λ e. e.node < length self.now.story.nodes) result.now }
     {
         self.events.as_slice()
     }
