@@ -19,10 +19,12 @@ pub record Kept (R : Type 0) : Type 0 where
   pub node_room : ℕ
   pub event_room : ℕ
 
+-- some worker has claimed it
 abbrev pub is_held : Status → Bool
 is_held (Held by) = true
 is_held _ = false
 
+-- how many nodes are held
 abbrev pub held_count : {R : Type 0} → Story R → ℕ
 held_count s = count_below (λ m. is_held (status s m)) (length s.nodes)
 
@@ -41,11 +43,12 @@ pub record IsCore {R : Type 0} (covers : R → List ℕ → Bool) (s : Story R) 
   pub last : (m : ℕ) (o : Option ℕ) → slice_get latest m ≡ Some o → IsLast s m o
   pub counted : held ≡ held_count s
 
--- how many nodes a deed takes into a worker's hand, and how many it gives back
+-- how many nodes a deed takes into a worker's hand
 abbrev pub takes : {R K : Type 0} → Deed R K → ℕ
 takes Claim = 1
 takes _ = 0
 
+-- how many nodes a deed gives back
 abbrev pub ends : {R K : Type 0} → Deed R K → ℕ
 ends Claim = 0
 ends _ = 1

@@ -5,6 +5,7 @@ use Rattle.tree_core.specs.declared.event.Kid.{Kid}
 use Rattle.tree_core.specs.declared.node.Status.{Status}
 use Rattle.tree_core.specs.declared.node.Status.TheVariants.{Parted}
 
+-- 1 or 0
 abbrev pub one_if : Bool → ℕ
 one_if b = if b then 1 else 0
 
@@ -13,6 +14,7 @@ abbrev pub count_below : (ℕ → Bool) → ℕ → ℕ
 count_below p zero = 0
 count_below p (suc n) = count_below p n + one_if (p n)
 
+-- a content covers the assignment; where there is none, nothing does
 abbrev pub covered : {R : Type 0} → (R → List ℕ → Bool) → Option R → List ℕ → Bool
 covered covers None input = false
 covered covers (Some r) input = covers r input
@@ -25,6 +27,7 @@ SameCover covers old new = (input : List ℕ) → covers new input ≡ covered c
 abbrev pub Parts : {R : Type 0} → (R → List ℕ → Bool) → Option R → List (Kid R) → Type 0
 Parts covers old kids = (input : List ℕ) → count_by (λ kid. covers kid.content input) kids ≡ one_if (covered covers old input)
 
+-- a node that stands for what it holds: it has no kids
 abbrev pub is_live : Status → Bool
 is_live Parted = false
 is_live _ = true
@@ -33,6 +36,7 @@ is_live _ = true
 abbrev pub stands_for : {R : Type 0} → (R → List ℕ → Bool) → Story R → List ℕ → ℕ → Bool
 stands_for covers s input m = is_live (status s m) && covered covers (content s m) input
 
+-- what the root held at its birth
 abbrev pub root_content : {R : Type 0} → Story R → Option R
 root_content s = option_map (λ n. n.content) (slice_get s.nodes 0)
 

@@ -11,10 +11,12 @@ use Rattle.tree_core.specs.declared.node.Node.{Node}
 use Rattle.tree_core.specs.declared.node.Status.{Status}
 use Rattle.tree_core.specs.declared.node.Status.TheVariants.{Free, Held}
 
+-- it may be claimed
 abbrev pub is_free : Status → Bool
 is_free Free = true
 is_free _ = false
 
+-- this worker has claimed it
 abbrev pub is_held_by : ℕ → Status → Bool
 is_held_by by (Held w) = w == by
 is_held_by by _ = false
@@ -39,9 +41,11 @@ IsFit covers s e = (e.node < length s.nodes) × IsSound covers (content s e.node
 abbrev pub is_allowed : {R : Type 0} → Story R → Event R (Vec (Kid R)) → Bool
 is_allowed s e = allows (status s e.node) e.by e.deed
 
+-- the node that a kid becomes
 abbrev pub node_of : {R : Type 0} → ℕ → Kid R → Node R
 node_of parent kid = record { origin = Some (record { parent = parent; choice = kid.choice }); content = kid.content; is_leaf = kid.is_leaf }
 
+-- the kids that a deed hands in
 abbrev pub kids_of : {R : Type 0} → Deed R (Vec (Kid R)) → List (Kid R)
 kids_of (Split kids) = kids.items
 kids_of _ = []
@@ -50,6 +54,7 @@ kids_of _ = []
 abbrev pub births : {R : Type 0} → ℕ → Deed R (Vec (Kid R)) → List (Node R)
 births parent deed = map (node_of parent) (kids_of deed)
 
+-- a deed as it is noted: of kids their number
 abbrev pub deed_kept : {R : Type 0} → Deed R (Vec (Kid R)) → Deed R ℕ
 deed_kept Claim = Claim
 deed_kept (Split kids) = Split (length kids.items)
@@ -57,6 +62,7 @@ deed_kept (Finish leaf) = Finish leaf
 deed_kept (Cut leaf) = Cut leaf
 deed_kept Release = Release
 
+-- an event as it is noted
 abbrev pub kept : {R : Type 0} → Event R (Vec (Kid R)) → Event R ℕ
 kept e = record { by = e.by; node = e.node; deed = deed_kept e.deed }
 
@@ -73,6 +79,7 @@ abbrev pub AllMayCome : {R : Type 0} → (R → List ℕ → Bool) → Story R �
 AllMayCome covers s [] = Unit {0}
 AllMayCome covers s (e ∷ es) = IsFit covers s e × IsTrue (is_allowed s e) × AllMayCome covers (noted s e) es
 
+-- the story with these events more
 abbrev pub noted_all : {R : Type 0} → Story R → List (Event R (Vec (Kid R))) → Story R
 noted_all s [] = s
 noted_all s (e ∷ es) = noted_all (noted s e) es

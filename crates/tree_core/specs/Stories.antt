@@ -8,6 +8,7 @@ use Rattle.tree_core.specs.declared.node.Origin.{Origin}
 use Rattle.tree_core.specs.declared.node.Status.{Status}
 use Rattle.tree_core.specs.declared.node.Status.TheVariants.{Free, Held, Parted, Leaf}
 
+-- the nodes at their places, the root first, and the events in their order
 pub record Story (R : Type 0) : Type 0 where
   pub nodes : List (Node R)
   pub events : List (Event R ℕ)
@@ -30,10 +31,12 @@ left_by by (Finish leaf) = Leaf
 left_by by (Cut leaf) = Leaf
 left_by by Release = Free
 
+-- how a node stands at its birth
 abbrev pub born_as : {R : Type 0} → Option (Node R) → Status
 born_as None = Free
 born_as (Some n) = if n.is_leaf then Leaf else Free
 
+-- how a node stands that was born so, by the last event that names it
 abbrev pub status_by : {R : Type 0} → Status → Option (Event R ℕ) → Status
 status_by birth None = birth
 status_by birth (Some e) = left_by e.by e.deed
@@ -42,11 +45,13 @@ status_by birth (Some e) = left_by e.by e.deed
 abbrev pub status : {R : Type 0} → Story R → ℕ → Status
 status s m = status_by (born_as (slice_get s.nodes m)) (last_on m s.events)
 
+-- what a deed leaves in a node that was born with this content
 abbrev pub content_by : {R : Type 0} → Option R → Deed R ℕ → Option R
 content_by birth (Finish leaf) = Some leaf
 content_by birth (Cut leaf) = Some leaf
 content_by birth _ = birth
 
+-- what a node holds that was born with this content, by the last event that names it
 abbrev pub content_after : {R : Type 0} → Option R → Option (Event R ℕ) → Option R
 content_after birth None = birth
 content_after birth (Some e) = content_by birth e.deed
@@ -55,6 +60,7 @@ content_after birth (Some e) = content_by birth e.deed
 abbrev pub content : {R : Type 0} → Story R → ℕ → Option R
 content s m = content_after (option_map (λ n. n.content) (slice_get s.nodes m)) (last_on m s.events)
 
+-- the event is a claim of this worker
 abbrev pub IsClaimBy : {R : Type 0} → ℕ → Option (Event R ℕ) → Type 0
 IsClaimBy w None = ⊥
 IsClaimBy w (Some e) = (e.deed ≡ Claim) × (e.by ≡ w)

@@ -1,16 +1,16 @@
 //! The core of a fork tree: its nodes and events, both of which only grow.
 
-ghost use Rattle.std.specs.Prelude.{◌≡◌, ◌+◌, ◌<◌, ◌≤◌, ◌++◌, ◌∷◌, ◌↔◌, [], Some, None, IsTrue, false, length, map, replicate, vec_len, vec_capacity, option_map, OnOk, OnErr, IfOk, IfSome, IsFalse, Err, ◌≢◌, All};
+ghost use Rattle.std.specs.Prelude.{◌≡◌, ◌≢◌, ◌<◌, ◌≤◌, ◌↔◌, Some, Err, IsTrue, IsFalse, All, length, option_map, OnOk, OnErr, IfOk, IfSome};
 ghost use Rattle.tree_core.specs.Stories.{status, content, origin};
 ghost use Rattle.tree_core.specs.Covers.{Partition};
-ghost use Rattle.tree_core.specs.Replays.{IsFit, IsSound, is_allowed, noted, after, opening, Replays, births, deed_kept};
+ghost use Rattle.tree_core.specs.Replays.{IsFit, Replays, is_allowed, noted, after, opening};
 ghost use Rattle.tree_core.specs.Cores.{LacksRoom, IsLast};
 
 use crate::choice::Choice;
 use crate::cover::Cover;
 use crate::deed::{bear, held_after, make_room};
-use crate::event::{Deed, Event, Kid, Noted};
-use crate::node::{Node, Origin, Status};
+use crate::event::{Deed, Event, Noted};
+use crate::node::{Node, Status};
 use crate::refusal::Refusal;
 use std::alloc::{AllocError as NoMemory, Global};
 use std::marker::Model;
