@@ -15,6 +15,7 @@ is_before (Value v) Rest = true
 is_before (Value v) _ = false
 is_before Rest _ = false
 
+-- the same choice
 abbrev pub is_same : Choice → Choice → Bool
 is_same No No = true
 is_same Yes Yes = true

@@ -1,1 +1,5 @@
 pub mod Choices
+pub mod Stories
+pub mod Covers
+pub mod Replays
+pub mod Cores

@@ -4,6 +4,20 @@
 
 mod cause;
 mod choice;
+mod cover;
+mod deed;
+mod event;
+pub mod laws;
+mod node;
+mod refusal;
+#[cfg(test)]
+mod tests;
+mod tree;
 
 pub use cause::Cause;
 pub use choice::Choice;
+pub use cover::Cover;
+pub use event::{Deed, Event, Kid, Noted};
+pub use node::{Node, Origin, Status};
+pub use refusal::Refusal;
+pub use tree::Core;

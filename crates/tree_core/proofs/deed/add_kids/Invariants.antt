@@ -1,0 +1,15 @@
+use Rattle.std.proofs.Common.{◌≡◌, ◌+◌, ◌≤◌, ◌++◌, None, length, map, vec_len}
+use Rattle.std.specs.Vec.{vec_capacity}
+use Rattle.std.specs.Vec.Iter.{into_iter_items, into_iter_len}
+use Rattle.tree_core.specs.Replays.{node_of}
+use Rattle.tree_core.proofs.deed.add_kids.Given as goal
+
+abbrev pub invariant-loop-kid : goal.invariant-loop-kid
+invariant-loop-kid g l = record {
+  whole : l.yielded ++ into_iter_items l.kid-iterator ≡ into_iter_items l.initial.kid-iterator;
+  left : into_iter_len l.kid-iterator ≡ length (into_iter_items l.kid-iterator);
+  nodes : l.nodes.items ≡ l.fn.nodes.items ++ map (node_of l.parent) l.yielded;
+  latest : l.latest.items ≡ l.fn.latest.items ++ map (λ _. None) l.yielded;
+  node_room : vec_len l.nodes + into_iter_len l.kid-iterator ≤ vec_capacity l.nodes;
+  latest_room : vec_len l.latest + into_iter_len l.kid-iterator ≤ vec_capacity l.latest;
+}
