@@ -6,3 +6,5 @@ pub mod Sides
 pub mod Parting
 pub mod Pinning
 pub mod SidesOfValues
+pub mod Leaving
+pub mod Working

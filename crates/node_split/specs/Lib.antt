@@ -4,4 +4,6 @@ pub mod Values
 pub mod LeafParts
 pub mod Parts
 pub mod Narrowing
+pub mod Ends
 pub mod Resting
+pub mod Working

@@ -3,10 +3,13 @@
 
 mod branch;
 mod evidence;
+mod finish;
 pub mod laws;
 mod parts;
 mod pin;
 mod question;
+mod worker;
 
 pub use evidence::{Evidence, Found, Spent};
 pub use parts::{Budgets, Content, Kid, LeafPart, Parts};
+pub use worker::work;

@@ -15,11 +15,11 @@ ghost use Rattle.node_split.specs.Resting.{AreSidesOf, IsRest, IsWithout, founds
 ghost use Rattle.node_split.specs.Values.{AreValues, HasValue, numbers_in};
 
 use crate::evidence::{Evidence, Found, Spent};
+use crate::finish::leaf_of;
 use crate::parts::{Budgets, Content, Forked, Kid, LeafPart};
 use crate::question::{ValueAt, Values, find_values};
-use bv_dag::Query;
 use rv_decode::Register;
-use smt_text::{LeafEnd, LeafText};
+use smt_text::LeafEnd;
 use std::alloc::{AllocError as NoMemory, Global};
 use sym_state::{Program, State, Value};
 use tool_io::Bytes;
@@ -34,11 +34,11 @@ pub struct Pin {
 }
 
 // The side on which the term has this value: the register is a number there.
-fn value_side(program: &Program, state: &State, pin: Pin, at: ValueAt) -> Result<State, NoMemory>
+fn value_side(program: &Program, state: &State, pin: &Pin, at: ValueAt) -> Result<State, NoMemory>
     requires open { IsOpen program.now state.now }
-    requires at { IsPin program.now state.now pin.register pin.offset pin.term }
-    requires has { HasValue state.now.terms state.now.condition pin.term at }
-    ensures { IfOk result (λ side. IsNarrower program.now state.now side (OfValue at.value) (λ input. number_of state.now.terms pin.term input == at.value)) }
+    requires at { IsPin program.now state.now pin.now.register pin.now.offset pin.now.term }
+    requires has { HasValue state.now.terms state.now.condition pin.now.term at }
+    ensures { IfOk result (λ side. IsNarrower program.now state.now side (OfValue at.value) (λ input. number_of state.now.terms pin.now.term input == at.value)) }
 {
     let _program = program;
     let mut side = state.share()?;
@@ -49,11 +49,11 @@ fn value_side(program: &Program, state: &State, pin: Pin, at: ValueAt) -> Result
 }
 
 // Goes on where the term has this one value, and leaves the terms behind that were made to ask for it.
-fn go_on(program: &Program, state: State, before: usize, pin: Pin, value: u32) -> State
+fn go_on(program: &Program, state: State, before: usize, pin: &Pin, value: u32) -> State
     requires open { IsOpen program.now (cut_back state before) }
     requires grows { Grows (front_of state.terms before) state.terms }
-    requires at { IsPin program.now state pin.register pin.offset pin.term }
-    requires one { (input : List ℕ) → IsAssignment (regions_of program.now) input → meets state input ≡ true → number_of state.terms pin.term input ≡ value }
+    requires at { IsPin program.now state pin.now.register pin.now.offset pin.now.term }
+    requires one { (input : List ℕ) → IsAssignment (regions_of program.now) input → meets state input ≡ true → number_of state.terms pin.now.term input ≡ value }
     ensures { GoesOn program.now state result }
 {
     let _program = program;
@@ -68,13 +68,13 @@ fn value_sides(
     alloc: Global,
     program: &Program,
     state: &State,
-    pin: Pin,
+    pin: &Pin,
     found: &[ValueAt],
 ) -> Result<Vec<Kid>, NoMemory>
     requires open { IsOpen program.now state.now }
-    requires at { IsPin program.now state.now pin.register pin.offset pin.term }
-    requires each { All (HasValue state.now.terms state.now.condition pin.term) found.now }
-    ensures { IfOk result (λ kids. AreSidesOf program.now state.now pin.term found.now kids.items) }
+    requires at { IsPin program.now state.now pin.now.register pin.now.offset pin.now.term }
+    requires each { All (HasValue state.now.terms state.now.condition pin.now.term) found.now }
+    ensures { IfOk result (λ kids. AreSidesOf program.now state.now pin.now.term found.now kids.items) }
 {
     let mut kids = Vec::new(alloc);
     for at in found {
@@ -122,30 +122,22 @@ fn rest_leaf(
     alloc: Global,
     program: &Program,
     state: State,
-    pin: Pin,
+    pin: &Pin,
     found: &[ValueAt],
     budgets: Budgets,
 ) -> Result<LeafPart, NoMemory>
     requires open { IsOpen program.now state }
-    requires at { IsPin program.now state pin.register pin.offset pin.term }
+    requires at { IsPin program.now state pin.now.register pin.now.offset pin.now.term }
     requires few { state.steps < budgets.steps }
-    requires values { AreValues state.terms state.condition pin.term budgets.targets 256 found.now true }
-    ensures { IfOk result (IsRest program.now budgets.steps budgets.targets state pin.term found.now) }
+    requires values { AreValues state.terms state.condition pin.now.term budgets.targets 256 found.now true }
+    ensures { IfOk result (IsRest program.now budgets.steps budgets.targets state pin.now.term found.now) }
 {
     let _program = program;
     let _budgets = budgets;
     let mut rest = without(state, pin.term, found)?;
-    rest.choices.push(Choice::Rest)?;
-    let leaf = LeafText {
-        choices: rest.choices,
-        path: rest.path,
-        steps: rest.steps,
-        end: LeafEnd::Cut(Cause::Targets),
-        condition: Query::new(rest.terms, rest.condition),
-        outputs: rest.output,
-    };
+    rest.choose(Choice::Rest)?;
     Ok(LeafPart {
-        leaf,
+        leaf: leaf_of(rest, LeafEnd::Cut(Cause::Targets)),
         evidence: Evidence::Targets(spent_of(alloc, pin.term, found)?),
     })
 }
@@ -155,14 +147,14 @@ fn part(
     alloc: Global,
     program: &Program,
     state: State,
-    pin: Pin,
+    pin: &Pin,
     values: Values,
     budgets: Budgets,
 ) -> Result<Forked, NoMemory>
     requires open { IsOpen program.now state }
-    requires at { IsPin program.now state pin.register pin.offset pin.term }
+    requires at { IsPin program.now state pin.now.register pin.now.offset pin.now.term }
     requires few { state.steps < budgets.steps }
-    requires values { AreValues state.terms state.condition pin.term budgets.targets 256 values.found.items values.more }
+    requires values { AreValues state.terms state.condition pin.now.term budgets.targets 256 values.found.items values.more }
     requires several { values.more ≡ false → 2 ≤ length values.found.items }
     ensures { IfOk result (IsForked program.now budgets.steps budgets.targets state) }
 {
@@ -185,13 +177,13 @@ pub fn at_pin(
     program: &Program,
     state: State,
     before: usize,
-    pin: Pin,
+    pin: &Pin,
     budgets: Budgets,
 ) -> Result<Forked, NoMemory>
     requires open { IsOpen program.now state }
     requires open_before { IsOpen program.now (cut_back state before) }
     requires grows { Grows (front_of state.terms before) state.terms }
-    requires at { IsPin program.now state pin.register pin.offset pin.term }
+    requires at { IsPin program.now state pin.now.register pin.now.offset pin.now.term }
     requires few { state.steps < budgets.steps }
     requires some { 1 ≤ budgets.targets }
     ensures { IfOk result (IsForked program.now budgets.steps budgets.targets state) }
@@ -199,11 +191,9 @@ pub fn at_pin(
     let (term, sample) = (pin.term, state.sample);
     let most = budgets.targets;
     let values = find_values(alloc, &state.terms, &state.condition, term, sample, most)?;
-    match values.found.as_slice() {
-        [one] if !values.more => {
-            let value = one.value;
-            Ok(Forked::One(go_on(program, state, before, pin, value)))
-        }
-        _ => part(alloc, program, state, pin, values, budgets),
+    if values.more || values.found.len() > 1 {
+        return part(alloc, program, state, pin, values, budgets);
     }
+    let value = values.found[0].value;
+    Ok(Forked::One(go_on(program, state, before, pin, value)))
 }

@@ -65,7 +65,7 @@ pub same_pc : (s t : Symbolic) → IsGrown s t → t.pc ≡ s.pc
 same_pc s t grown = ap (λ (r : Symbolic). r.pc) grown.same
 
 -- without them it is the run before
-front_before : (g h : Graph) (len : ℕ) → Grows g h → len ≡ length g.nodes → front_of h len ≡ g
+pub front_before : (g h : Graph) (len : ℕ) → Grows g h → len ≡ length g.nodes → front_of h len ≡ g
 front_before g h len grows is =
     ap {B = Graph} (λ n. record { inputs = n; nodes = take len h.nodes }) grows.same_inputs
     ∙ ap {B = Graph} (λ ns. record { inputs = g.inputs; nodes = ns }) (ap (λ k. take k h.nodes) is ∙ grows.front)

@@ -316,6 +316,14 @@ impl State {
         self.terms.truncate(len);
     }
 
+    /// Notes the side of a fork.
+    pub fn choose(&mut self, choice: Choice) -> Result<(), NoMemory>
+        ensures { OnOk result (self.new ≡ record self.old { choices = self.old.choices ++ choice ∷ [] }) }
+    {
+        self.choices.push(choice)?;
+        Ok(())
+    }
+
     /// Asks for one more term of one bit to be 1.
     pub fn assert(&mut self, term: usize) -> Result<(), NoMemory>
         ensures { OnOk result (self.new ≡ record self.old { condition = self.old.condition ++ term ∷ [] }) }

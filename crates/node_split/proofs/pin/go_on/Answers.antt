@@ -6,4 +6,4 @@ use Rattle.node_split.proofs.pin.go_on.Goals as goal
 pub returns : goal.returns
 returns c =
     rw (c.set.ensures, c.cut_back.ensures)
-    (goes_pinned c.args.program.now (cut_back c.args.state c.args.before) c.args.state.terms c.args.pin.register c.args.pin.offset c.args.pin.term c.args.value _ c.requires.open c.requires.grows c.requires.at refl c.requires.one)
+    (goes_pinned c.args.program.now (cut_back c.args.state c.args.before) c.args.state.terms c.args.pin.now.register c.args.pin.now.offset c.args.pin.now.term c.args.value _ c.requires.open c.requires.grows c.requires.at refl c.requires.one)

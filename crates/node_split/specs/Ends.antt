@@ -1,0 +1,14 @@
+-- How the end of runs is said by terms.
+use Rattle.std.specs.Prelude.{◌≡◌, ℕ, ◌%◌, List}
+use Rattle.bv_dag.specs.Graphs.{Graph, number_of, width_of}
+use Rattle.smt_text.specs.declared.leaf.LeafEnd.{LeafEnd}
+use Rattle.smt_text.specs.declared.leaf.LeafEnd.TheVariants.{Exits as LeafExits, Traps as LeafTraps, Cut}
+use Rattle.sym_machine.specs.declared.outcome.RunEnd.{RunEnd}
+use Rattle.sym_machine.specs.declared.outcome.RunEnd.TheVariants.{Exits, Traps}
+use Rattle.sym_state.specs.Symbolic.{Symbolic, value_at, worth_of}
+
+-- a term is the low byte of x10, or it is the same trap
+abbrev pub EndsLike : Symbolic → Graph → RunEnd → LeafEnd → Type 0
+EndsLike s g Exits (LeafExits status) = (width_of g status ≡ 8) × ((input : List ℕ) → number_of g status input ≡ worth_of s.terms input (value_at s.registers 10) % 256)
+EndsLike s g (Traps trap) (LeafTraps other) = trap ≡ other
+EndsLike s g _ _ = ⊥
