@@ -1,5 +1,5 @@
 -- Leaves that are added kid by kid.
-use Rattle.std.proofs.Common.{◌≡◌, ℕ, ◌+◌, ◌<◌, ◌≤◌, ◌⊎◌, inl, inr, Bool, true, false, cond, List, [], ◌∷◌, ◌++◌, ◌&&◌, get_or, length, map, refl, sym, ap, subst, ◌∙◌, append_assoc, append-nil, arith}
+use Rattle.std.proofs.Common.{◌≡◌, ℕ, ◌+◌, inl, inr, Bool, true, false, cond, List, [], ◌∷◌, ◌++◌, ◌&&◌, get_or, length, map, refl, sym, ap, subst, ◌∙◌, append_assoc, append-nil, arith}
 use Rattle.std.specs.Prelude.{All, count_by, ◌==◌}
 use Rattle.std.proofs.lemmas.List.{map-append}
 use Rattle.std.proofs.lemmas.List.Elements.{All-nil, All-cons, All-append, All-head, All-tail}
@@ -12,12 +12,12 @@ use Rattle.tool_io.specs.Told.{IsPrefix}
 use Rattle.tree_core.specs.Choices.{is_before, precedes}
 use Rattle.tree_core.specs.declared.choice.Choice.{Choice}
 use Rattle.node_split.specs.LeafParts.{Part}
-use Rattle.node_split.specs.Parts.{IsKid, IsLeaf, IsSplit, IsWhole, choices_of, content_covers, mark_of, one_if}
+use Rattle.node_split.specs.Parts.{IsKid, IsSplit, IsWhole, choices_of, content_covers, one_if}
 use Rattle.node_split.specs.declared.parts.Content.TheVariants.{Run, Leaf}
 use Rattle.node_split.specs.declared.parts.Kid.{Kid}
 use Rattle.explorer.specs.Explored.{IsExplored, IsSomeLeaf}
 use Rattle.explorer.specs.Ranks.{AreRanked}
-use Rattle.explorer.specs.Under.{AddsKids, AddsLeaves, AreUnder, AreUnderKids, IsUnderOne, covering}
+use Rattle.explorer.specs.Under.{AddsKids, AddsLeaves, IsUnderOne, covering}
 use Rattle.explorer.proofs.Ranking.{AreInOrder, apart, order-before, ranked-append, sides-order}
 
 counted_one : (b c : Bool) → b ≡ c → 0 + cond b 1 0 ≡ one_if c
@@ -88,8 +88,8 @@ adds_more p steps targets front kids kid old mid new found was added before coun
         each = All-append (IsSomeLeaf p steps targets) was.found found was.under.each each;
         below = subst (λ cs. All (λ (q : Part). IsUnderOne front cs q.leaf.choices) (was.found ++ found)) (sym choices)
             (All-append (λ (q : Part). IsUnderOne front (map (λ (k : Kid). k.choice) kids ++ kid.choice ∷ []) q.leaf.choices) was.found found
-              (λ k d within. under-more front (map (λ (k : Kid). k.choice) kids) (get_or was.found k d).leaf.choices kid.choice (was.under.below k d within))
-              (λ k d within. under-last front (map (λ (k : Kid). k.choice) kids) (get_or found k d).leaf.choices kid.choice (below k d within)));
+            (λ k d within. under-more front (map (λ (k : Kid). k.choice) kids) (get_or was.found k d).leaf.choices kid.choice (was.under.below k d within))
+            (λ k d within. under-last front (map (λ (k : Kid). k.choice) kids) (get_or found k d).leaf.choices kid.choice (below k d within)));
         ranked = subst AreRanked (sym (map-append (λ (q : Part). q.leaf) was.found found))
             (ranked-append _ _ was.under.ranked ranked (apart front (map (λ (k : Kid). k.choice) kids) kid.choice was.found found before was.under.below below));
       };

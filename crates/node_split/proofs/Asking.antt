@@ -1,7 +1,6 @@
 -- What a byte answers to a question.
-use Rattle.std.proofs.Common.{◌≡◌, ℕ, length, Bool, true, false, ◌&&◌, List, refl, sym, ap, ◌∙◌}
-use Rattle.std.specs.Prelude.{◌==◌, not}
-use mathlib.Core.Bool.{beq}
+use Rattle.std.proofs.Common.{◌≡◌, ℕ, length, Bool, ◌&&◌, List, refl, ap, ◌∙◌}
+use Rattle.std.specs.Prelude.{◌==◌}
 use Rattle.std.specs.List.{list_all}
 use Rattle.bv_dag.specs.BitVectors.{BitVector}
 use Rattle.bv_dag.specs.Graphs.{Graph, number_of, width_of}

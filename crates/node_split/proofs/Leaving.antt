@@ -1,5 +1,5 @@
 -- Leaves: what a symbolic run is when it is left.
-use Rattle.std.proofs.Common.{◌≡◌, ℕ, ◌+◌, ◌-◌, ◌<◌, ◌≤◌, Bool, true, false, ◌&&◌, List, [], ◌∷◌, ◌++◌, get_or, length, map, take, refl, sym, ap, subst, ◌∙◌, arith}
+use Rattle.std.proofs.Common.{◌≡◌, ℕ, ◌-◌, ◌<◌, ◌≤◌, Bool, true, false, ◌&&◌, List, [], ◌∷◌, ◌++◌, get_or, length, map, take, refl, sym, ap, subst, ◌∙◌, arith}
 use Rattle.std.specs.Prelude.{All, Option, None, Some, ◌==◌, not, IsTrue}
 use Rattle.std.specs.List.{list_all}
 use Rattle.std.proofs.lemmas.List.{length-append, length-map}
@@ -9,10 +9,9 @@ use Rattle.std.proofs.Math.Seq.{take-append_seam}
 use Rattle.bv_dag.specs.Graphs.{Graph, number_of, width_of}
 use Rattle.bv_dag.specs.Queries.{AreBits, holds}
 use Rattle.rv_decode.specs.declared.ends.End.{End}
-use Rattle.rv_machine.specs.Machine.{State}
 use Rattle.rv_machine.specs.Memory.{IsAssignment}
 use Rattle.rv_machine.specs.Runs.{Run, IsRunOf, run}
-use Rattle.smt_text.specs.Leaves.{LeafText, covers, worth}
+use Rattle.smt_text.specs.Leaves.{covers}
 use Rattle.smt_text.specs.declared.leaf.LeafEnd.{LeafEnd}
 use Rattle.smt_text.specs.declared.leaf.LeafEnd.TheVariants.{Exits as LeafExits, Traps as LeafTraps, Cut}
 use Rattle.rv_decode.specs.declared.ends.End.TheVariants.{Exit, Trapped}
@@ -22,19 +21,17 @@ use Rattle.sym_machine.specs.declared.outcome.RunEnd.{RunEnd}
 use Rattle.sym_machine.specs.declared.outcome.RunEnd.TheVariants.{Exits, Traps}
 use Rattle.sym_machine.proofs.Moving.{AreBytes-grown, numbers-grown}
 use Rattle.sym_state.specs.Growing.{Grows}
-use Rattle.sym_state.specs.Moves.{with_terms}
 use Rattle.sym_state.specs.Programs.{Program, regions_of}
-use Rattle.sym_state.specs.Symbolic.{Symbolic, IsOpen, concrete, meets, numbers_of}
+use Rattle.sym_state.specs.Symbolic.{Symbolic, IsOpen, meets, numbers_of}
 use Rattle.sym_state.proofs.Pushes.{Grows-none}
 use Rattle.sym_state.proofs.Kept.{AreBits-grown, bit_width-grown, holds-grown, number_of-grown}
 use Rattle.tree_core.specs.declared.cause.Cause.TheVariants.{Steps, Targets}
-use Rattle.tree_core.specs.declared.choice.Choice.{Choice}
 use Rattle.tree_core.specs.declared.choice.Choice.TheVariants.{Rest, Value}
 use Rattle.node_split.specs.Evidence.{AreIncreasing, Found, IsReached, SpendsTargets, is_among, values_of}
 use Rattle.node_split.specs.LeafParts.{Part}
 use Rattle.node_split.specs.Leaves.{IsFaithful}
 use Rattle.node_split.specs.Ends.{EndsLike}
-use Rattle.node_split.specs.Parts.{HasBytes, IsFinishedEnd, IsLeaf, IsWhole}
+use Rattle.node_split.specs.Parts.{IsFinishedEnd, IsWhole}
 use Rattle.node_split.specs.Resting.{IsRest, IsWithout, founds_of}
 use Rattle.node_split.specs.Values.{AreValues, HasValue, numbers_in}
 use Rattle.node_split.specs.declared.evidence.Evidence.TheVariants.{Sample, Targets as OnTargets}
@@ -80,7 +77,6 @@ all-bytes P Q found each turn = All-map Q (λ (f : ValueAt). record { value = f.
 module _ (p : Program) (steps targets : ℕ) (s : Symbolic) (g : Graph) (ids : List ℕ) (r offset term : ℕ) (found : List ValueAt) (was : IsOpen p s) (at : IsPin p s r offset term) (grows : Grows s.terms g)
     (values : AreValues s.terms s.condition term targets 256 found true) (each : length ids ≡ length (numbers_in found))
     (tells : (input : List ℕ) → list_all (λ id. number_of g id input == 1) ids ≡ not (is_among (numbers_in found) (number_of s.terms term input))) where
-
   covers-left : (input : List ℕ) → covers (left_part s g ids term found).leaf input ≡ (meets s input && not (is_among (numbers_in found) (number_of s.terms term input)))
   covers-left input = holds-append g s.condition ids input ∙ ap (λ b. b && list_all (λ id. number_of g id input == 1) ids) (holds-grown s.terms g s.condition input grows was.bits) ∙ ap (λ b. meets s input && b) (tells input)
 
@@ -110,10 +106,10 @@ module _ (p : Program) (steps targets : ℕ) (s : Symbolic) (g : Graph) (ids : L
     increasing = subst AreIncreasing (sym (values-founds found)) values.increasing;
     reached = all-bytes (HasValue s.terms s.condition term) (IsReached (regions_of p) (left_part s g ids term found).leaf targets term) found values.each reached-left;
     rest = λ input assigned. covers-left input
-      ∙ ap (λ b. b && not (is_among (numbers_in found) (number_of s.terms term input))) (sym (others-left input))
-      ∙ cc (values-founds found, term-left input);
+        ∙ ap (λ b. b && not (is_among (numbers_in found) (number_of s.terms term input))) (sym (others-left input))
+        ∙ cc (values-founds found, term-left input);
     some = let other = (values.others refl).1 in
-      (other.0 ∷ [], one_assigned p other.0 (other.1).0, covered-left other.0 (other.1).1 (other.1).2);
+        (other.0 ∷ [], one_assigned p other.0 (other.1).0, covered-left other.0 (other.1).1 (other.1).2);
     others = ap (λ vs. map Value vs ++ Rest ∷ []) (sym (values-founds found));
   }
 

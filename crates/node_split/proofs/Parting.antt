@@ -1,17 +1,15 @@
 -- Kids that part what a run stands for.
-use Rattle.std.proofs.Common.{◌≡◌, ℕ, zero, suc, ◌+◌, ◌<◌, ◌≤◌, inl, inr, Bool, true, false, ◌&&◌, ◌||◌, cond, List, [], ◌∷◌, ◌++◌, length, map, refl, sym, ap, subst, ◌∙◌, arith}
-use Rattle.std.specs.Prelude.{All, Option, None, Some, ◌==◌, not, count_by}
+use Rattle.std.proofs.Common.{◌≡◌, ℕ, ◌+◌, ◌<◌, inl, Bool, true, false, ◌&&◌, cond, List, [], ◌∷◌, refl, ap, ◌∙◌, arith}
+use Rattle.std.specs.Prelude.{◌==◌, not, count_by}
 use Rattle.std.proofs.lemmas.List.Elements.{All-nil, All-cons}
 use Rattle.std.proofs.lemmas.List.Sums.{sum_by-cons}
 use Rattle.bv_dag.specs.Graphs.{number_of}
-use Rattle.rv_machine.specs.Memory.{IsAssignment}
-use Rattle.sym_state.specs.Programs.{Program, regions_of}
+use Rattle.sym_state.specs.Programs.{Program}
 use Rattle.sym_state.specs.Symbolic.{Symbolic, meets}
-use Rattle.tree_core.specs.declared.cause.Cause.{Cause}
 use Rattle.tree_core.specs.declared.choice.Choice.{Choice}
 use Rattle.tree_core.specs.declared.choice.Choice.TheVariants.{No, Yes}
 use Rattle.node_split.specs.Narrowing.{IsNarrower, is_side}
-use Rattle.node_split.specs.Parts.{AreSides, IsKid, IsSplit, content_covers, mark_of, one_if}
+use Rattle.node_split.specs.Parts.{IsKid, IsSplit, content_covers, one_if}
 use Rattle.node_split.specs.declared.parts.Content.TheVariants.{Run}
 use Rattle.node_split.specs.declared.parts.Kid.{Kid}
 
@@ -49,6 +47,6 @@ two_sides p steps targets s no_run yes_run term few left right = record {
       ∙ one_of_two (meets s input) (number_of s.terms term input == 1);
   each = All-cons (IsKid p steps targets (No ∷ Yes ∷ []) s) (run_kid No no_run) (run_kid Yes yes_run ∷ []) (narrower_kid p steps targets (No ∷ Yes ∷ []) s no_run No _ few left)
       (All-cons (IsKid p steps targets (No ∷ Yes ∷ []) s) (run_kid Yes yes_run) [] (narrower_kid p steps targets (No ∷ Yes ∷ []) s yes_run Yes _ few right)
-        (All-nil (IsKid p steps targets (No ∷ Yes ∷ []) s)));
+      (All-nil (IsKid p steps targets (No ∷ Yes ∷ []) s)));
   sides = inl refl;
 }

@@ -1,28 +1,27 @@
 -- Registers of symbolic runs that become numbers.
-use Rattle.std.proofs.Common.{◌≡◌, ℕ, ◌+◌, ◌-◌, ◌*◌, ◌%◌, ◌^◌, ◌<◌, ◌≤◌, Bool, true, false, ◌&&◌, cond, List, [], ◌∷◌, set, get_or, length, map, refl, sym, ap, subst, ◌∙◌, arith, rules}
-use Rattle.std.specs.Prelude.{All, Option, None, Some, ◌==◌, if◌then◌else◌, count_by}
+use Rattle.std.proofs.Common.{◌≡◌, ℕ, ◌+◌, ◌-◌, ◌*◌, ◌%◌, ◌^◌, ◌<◌, Bool, true, false, ◌&&◌, cond, List, [], ◌∷◌, set, length, map, refl, sym, ap, subst, ◌∙◌, arith, rules}
+use Rattle.std.specs.Prelude.{Option, None, Some, ◌==◌, if◌then◌else◌, count_by}
 use Rattle.std.proofs.Math.Seq.{map-set_same}
 use Rattle.std.proofs.lemmas.List.Sums.{sum_by-set}
 use Rattle.bv_dag.specs.Graphs.{Graph, number_of, width_of}
-use Rattle.bv_dag.specs.Queries.{holds}
 use Rattle.rv_machine.specs.Arithmetic.{sum32}
 use Rattle.rv_machine.specs.Machine.{State}
 use Rattle.rv_machine.specs.Memory.{IsAssignment}
 use Rattle.sym_machine.specs.Steps.{IsPin}
-use Rattle.sym_machine.proofs.Moving.{concrete-grown, open_grown}
+use Rattle.sym_machine.proofs.Moving.{open_grown}
 use Rattle.sym_machine.proofs.Registers.{All-set_value, length-set_value, zero-set_value}
 use Rattle.sym_state.specs.Growing.{Grows}
 use Rattle.sym_state.specs.Moves.{narrowed, with_terms}
 use Rattle.sym_state.specs.Programs.{Program, regions_of}
-use Rattle.sym_state.specs.Symbolic.{Symbolic, Goes, IsDecided, IsOpen, IsSmall, IsWide, concrete, is_term, left_to_do, meets, most_steps, numbers_of, set_value, undecided, value_at, worth_of}
+use Rattle.sym_state.specs.Symbolic.{Symbolic, Goes, IsDecided, IsOpen, IsSmall, IsWide, concrete, is_term, left_to_do, meets, most_steps, set_value, undecided, value_at, worth_of}
 use Rattle.sym_state.specs.declared.value.Value.{Value}
-use Rattle.sym_state.specs.declared.value.Value.TheVariants.{Number, Term}
+use Rattle.sym_state.specs.declared.value.Value.TheVariants.{Number}
 use Rattle.sym_state.proofs.Kept.{holds-grown, worth_of-grown}
 use Rattle.tree_core.specs.declared.choice.Choice.TheVariants.{Value as OfValue}
 use Rattle.node_split.specs.Narrowing.{GoesOn, IsNarrower}
 use Rattle.node_split.specs.Values.{HasValue}
 use Rattle.node_split.specs.declared.question.ValueAt.{ValueAt}
-use Rattle.node_split.proofs.Bytes.{all_true, both_true}
+use Rattle.node_split.proofs.Bytes.{both_true}
 use Rattle.node_split.proofs.Sides.{meets-narrowed, open_narrowed}
 
 differs : (r : ℕ) → (r ≡ 0 → ⊥) → (r == 0) ≡ false
@@ -107,11 +106,11 @@ value_narrower p s g r offset term equal n f was at (small_byte, met, has) small
     let opened = open_narrowed p (with_terms s g) (OfValue f.value) equal f.byte (open_grown p s g was grows) bit small_byte (before (f.byte ∷ []) ∙ met) (test (f.byte ∷ []) ∙ same _ _ has) in record {
       is_open = open_pinned p (narrowed (with_terms s g) (OfValue f.value) equal f.byte) r n opened at.no_number (omega (arith, is_n))
           (λ input assigned meeting.
-            let parts = both_true (meets (with_terms s g) input) (number_of g equal input == 1) (sym (meets-narrowed (with_terms s g) (OfValue f.value) equal f.byte input) ∙ meeting) in
-            let value : number_of s.terms term input ≡ f.value = equals _ _ (sym (test input) ∙ parts.1) in
-            let wide : IsWide s.terms (value_at s.registers r) = was.wide r (Number 0) (omega (arith, at.is_register, was.all_registers)) in
-            worth_of-grown s.terms g input (value_at s.registers r) grows wide
-            ∙ unsum _ offset f.value (worth_small p s r input was at.is_register assigned) at.small (sym value ∙ at.sums input assigned) ∙ sym is_n);
+          let parts = both_true (meets (with_terms s g) input) (number_of g equal input == 1) (sym (meets-narrowed (with_terms s g) (OfValue f.value) equal f.byte input) ∙ meeting) in
+          let value : number_of s.terms term input ≡ f.value = equals _ _ (sym (test input) ∙ parts.1) in
+          let wide : IsWide s.terms (value_at s.registers r) = was.wide r (Number 0) (omega (arith, at.is_register, was.all_registers)) in
+          worth_of-grown s.terms g input (value_at s.registers r) grows wide
+          ∙ unsum _ offset f.value (worth_small p s r input was at.is_register assigned) at.small (sym value ∙ at.sums input assigned) ∙ sym is_n);
       choices = refl;
       steps = refl;
       less = less-pinned p s r n was at.is_register at.no_number;
@@ -125,10 +124,10 @@ pub goes_pinned : (p : Program) (s : Symbolic) (g : Graph) (r offset term v n : 
 goes_pinned p s g r offset term v n was grows at is_n one = record {
   is_open = open_pinned p s r n was at.no_number (omega (arith, is_n))
       (λ input assigned meeting.
-        let met : meets (with_terms s g) input ≡ true = holds-grown s.terms g s.condition input grows was.bits ∙ meeting in
-        let wide : IsWide s.terms (value_at s.registers r) = was.wide r (Number 0) (omega (arith, at.is_register, was.all_registers)) in
-        unsum _ offset v (worth_small p s r input was at.is_register assigned) at.small
-          (sym (one input assigned met) ∙ at.sums input assigned ∙ ap (λ k. sum32 k offset) (worth_of-grown s.terms g input (value_at s.registers r) grows wide)) ∙ sym is_n);
+      let met : meets (with_terms s g) input ≡ true = holds-grown s.terms g s.condition input grows was.bits ∙ meeting in
+      let wide : IsWide s.terms (value_at s.registers r) = was.wide r (Number 0) (omega (arith, at.is_register, was.all_registers)) in
+      unsum _ offset v (worth_small p s r input was at.is_register assigned) at.small
+      (sym (one input assigned met) ∙ at.sums input assigned ∙ ap (λ k. sum32 k offset) (worth_of-grown s.terms g input (value_at s.registers r) grows wide)) ∙ sym is_n);
   choices = refl;
   steps = refl;
   less = less-pinned p s r n was at.is_register at.no_number;

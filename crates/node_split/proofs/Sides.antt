@@ -1,24 +1,23 @@
 -- Symbolic runs on one side of a fork.
-use Rattle.std.proofs.Common.{◌≡◌, ℕ, ◌+◌, ◌-◌, ◌*◌, ◌<◌, ◌≤◌, Bool, true, false, ◌&&◌, List, [], ◌∷◌, length, refl, sym, ap, subst, ◌∙◌, arith}
+use Rattle.std.proofs.Common.{◌≡◌, ℕ, ◌+◌, ◌-◌, ◌*◌, ◌<◌, Bool, true, false, ◌&&◌, List, [], ◌∷◌, length, refl, sym, ap, subst, ◌∙◌, arith}
 use Rattle.std.specs.Prelude.{Option, None, Some, ◌==◌, not, count_by}
 use Rattle.std.specs.List.{list_all}
 use Rattle.std.proofs.lemmas.List.Elements.{All-push}
 use Rattle.std.proofs.lemmas.List.Folds.{list_all-append}
 use Rattle.bv_dag.specs.Graphs.{Graph, number_of, width_of}
 use Rattle.rv_machine.specs.Machine.{State}
-use Rattle.rv_machine.specs.Memory.{IsAssignment}
 use Rattle.sym_machine.specs.Steps.{IsBranch}
 use Rattle.sym_machine.proofs.Moving.{concrete-grown, open_grown}
 use Rattle.sym_state.specs.Growing.{Grows}
 use Rattle.sym_state.specs.Moves.{narrowed, with_terms}
-use Rattle.sym_state.specs.Programs.{Program, regions_of}
+use Rattle.sym_state.specs.Programs.{Program}
 use Rattle.sym_state.specs.Symbolic.{Symbolic, Goes, IsDecided, IsOpen, concrete, is_term, meets, most_steps, undecided}
 use Rattle.sym_state.specs.declared.value.Value.{Value}
-use Rattle.sym_state.proofs.Kept.{holds-grown, number_of-grown}
+use Rattle.sym_state.proofs.Kept.{holds-grown}
 use Rattle.tree_core.specs.declared.choice.Choice.{Choice}
 use Rattle.tree_core.specs.declared.choice.Choice.TheVariants.{No, Yes}
 use Rattle.node_split.specs.Narrowing.{GoesOn, IsNarrower, answers, is_side}
-use Rattle.node_split.proofs.Bytes.{all_true, both_true, is_one, not_true, one_side, other_one, turned}
+use Rattle.node_split.proofs.Bytes.{all_true, both_true, not_true, one_side, turned}
 
 -- one more term that is to be 1
 and_last : (a b c : Bool) → (a && (b && (c && true))) ≡ ((a && b) && c)
@@ -89,8 +88,8 @@ yes_narrower p s term sample was at small answer =
     let parts = both_true (meets s (sample ∷ [])) (number_of s.terms term (sample ∷ []) == 1) answer in record {
       is_open = open_decided p (narrowed s Yes term sample) (Some true) (open_narrowed p s Yes term sample was at.bit small parts.0 parts.1)
           (λ input assigned meeting.
-            let met = both_true (meets s input) (number_of s.terms term input == 1) (sym (meets-narrowed s Yes term sample input) ∙ meeting) in
-            subst (λ (b : Bool). Goes b (concrete p s input)) met.1 (at.goes input assigned met.0));
+          let met = both_true (meets s input) (number_of s.terms term input == 1) (sym (meets-narrowed s Yes term sample input) ∙ meeting) in
+          subst (λ (b : Bool). Goes b (concrete p s input)) met.1 (at.goes input assigned met.0));
       choices = refl;
       steps = refl;
       less = less-decided s.steps s.registers s.decided at.undecided;
@@ -108,10 +107,10 @@ no_narrower p s g term negated sample was at grows bit tells small answer =
       is_open = open_decided p (narrowed (with_terms s g) No negated sample) (Some false)
           (open_narrowed p (with_terms s g) No negated sample (open_grown p s g was grows) bit small (same (sample ∷ []) ∙ parts.0) (test (sample ∷ []) ∙ parts.1))
           (λ input assigned meeting.
-            let met = both_true (meets (with_terms s g) input) (number_of g negated input == 1) (sym (meets-narrowed (with_terms s g) No negated sample input) ∙ meeting) in
-            let none : (number_of s.terms term input == 1) ≡ false = not_true _ (sym (test input) ∙ met.1) in
-            subst (λ (c : State). Goes false c) (sym (concrete-grown p s g input was grows))
-            (subst (λ (b : Bool). Goes b (concrete p s input)) none (at.goes input assigned (sym (same input) ∙ met.0))));
+          let met = both_true (meets (with_terms s g) input) (number_of g negated input == 1) (sym (meets-narrowed (with_terms s g) No negated sample input) ∙ meeting) in
+          let none : (number_of s.terms term input == 1) ≡ false = not_true _ (sym (test input) ∙ met.1) in
+          subst (λ (c : State). Goes false c) (sym (concrete-grown p s g input was grows))
+          (subst (λ (b : Bool). Goes b (concrete p s input)) none (at.goes input assigned (sym (same input) ∙ met.0))));
       choices = refl;
       steps = refl;
       less = less-decided s.steps s.registers s.decided at.undecided;

@@ -1,32 +1,31 @@
 -- The sides of values, and what is left.
-use Rattle.std.proofs.Common.{◌≡◌, ℕ, zero, suc, ◌+◌, ◌-◌, ◌<◌, ◌≤◌, inl, inr, Bool, true, false, ◌&&◌, ◌||◌, cond, List, [], ◌∷◌, ◌++◌, get_or, length, map, take, refl, sym, ap, subst, ◌∙◌, arith, rules}
-use Rattle.std.specs.Prelude.{All, Option, None, Some, ◌==◌, not, count_by, if◌then◌else◌}
-use Rattle.std.specs.List.{list_all, list_any}
+use Rattle.std.proofs.Common.{◌≡◌, ℕ, ◌+◌, ◌-◌, ◌<◌, ◌≤◌, inl, inr, Bool, true, false, ◌&&◌, ◌||◌, cond, List, [], ◌∷◌, ◌++◌, get_or, length, map, take, refl, sym, ap, subst, ◌∙◌, arith, rules}
+use Rattle.std.specs.Prelude.{All, Some, ◌==◌, not, count_by, if◌then◌else◌}
+use Rattle.std.specs.List.{list_all}
 use Rattle.std.proofs.lemmas.Grind.{take_at_read}
 use Rattle.std.proofs.lemmas.List.{append_assoc, append-nil, length-map, map-append, length-append}
-use Rattle.std.proofs.lemmas.List.Elements.{All-nil, All-cons, All-append, All-push, All-head, All-tail}
+use Rattle.std.proofs.lemmas.List.Elements.{All-nil, All-cons, All-append, All-head, All-tail}
 use Rattle.std.proofs.lemmas.List.Folds.{list_all-append, list_any-append}
 use Rattle.std.proofs.lemmas.List.Sums.{sum_by-append, sum_by-cons}
 use Rattle.bv_dag.specs.Graphs.{Graph, IsDag, number_of, width_of}
-use Rattle.bv_dag.specs.Queries.{AreBits, holds}
+use Rattle.bv_dag.specs.Queries.{AreBits}
 use Rattle.rv_machine.specs.Memory.{IsAssignment}
 use Rattle.smt_text.specs.Leaves.{covers}
 use Rattle.sym_state.specs.Growing.{Grows}
 use Rattle.sym_state.specs.Moves.{with_terms}
 use Rattle.sym_state.specs.Programs.{Program, regions_of}
-use Rattle.sym_state.specs.Symbolic.{Symbolic, IsOpen, meets}
-use Rattle.sym_state.proofs.Kept.{AreBits-grown, bit_width-grown, holds-grown, number_of-grown}
+use Rattle.sym_state.specs.Symbolic.{Symbolic, meets}
+use Rattle.sym_state.proofs.Kept.{AreBits-grown, number_of-grown}
 use Rattle.sym_state.proofs.Pushes.{Grows-none, Grows-trans}
-use Rattle.tree_core.specs.declared.cause.Cause.{Cause}
 use Rattle.tree_core.specs.declared.cause.Cause.TheVariants.{Targets}
 use Rattle.tree_core.specs.declared.choice.Choice.{Choice}
 use Rattle.tree_core.specs.declared.choice.Choice.TheVariants.{Rest, Value}
-use Rattle.node_split.specs.Evidence.{AreIncreasing, is_among}
+use Rattle.node_split.specs.Evidence.{is_among}
 use Rattle.node_split.specs.LeafParts.{Part}
-use Rattle.node_split.specs.Parts.{AreSides, IsKid, IsLeaf, IsSplit, content_covers, mark_of, one_if, value_mark}
+use Rattle.node_split.specs.Parts.{IsKid, IsLeaf, IsSplit, content_covers, mark_of, one_if, value_mark}
 use Rattle.node_split.specs.Resting.{AreSidesOf, IsRest, IsSideOf, IsWithout}
 use Rattle.node_split.specs.Values.{AreValues, numbers_in}
-use Rattle.node_split.specs.declared.parts.Content.TheVariants.{Run, Leaf}
+use Rattle.node_split.specs.declared.parts.Content.TheVariants.{Leaf}
 use Rattle.node_split.specs.declared.parts.Kid.{Kid}
 use Rattle.node_split.specs.declared.question.ValueAt.{ValueAt}
 use Rattle.node_split.proofs.Bytes.{IsByte, one_byte}
@@ -187,10 +186,15 @@ values_and_rest p steps targets s term found kids part few values is rest =
       each = All-append (IsKid p steps targets (map (λ (k : Kid). k.choice) (kids ++ rest_kid part ∷ [])) s) kids (rest_kid part ∷ [])
           (sides-kids p steps targets (map (λ (k : Kid). k.choice) (kids ++ rest_kid part ∷ [])) s term found kids few is)
           (All-cons (IsKid p steps targets (map (λ (k : Kid). k.choice) (kids ++ rest_kid part ∷ [])) s) (rest_kid part) []
-            (record { choices = rest.choices; right = (subst (λ cs. IsLeaf p steps targets cs part) (sym choices) rest.leaf, rest.cut) })
-            (All-nil (IsKid p steps targets (map (λ (k : Kid). k.choice) (kids ++ rest_kid part ∷ [])) s)));
-      sides = inr (inr (numbers_in found, values.increasing, omega (arith, values.some, length-map found (λ (f : ValueAt). f.value)), length-map found (λ (f : ValueAt). f.value) ∙ (values.others refl).0,
-          map-append mark_of kids (rest_kid part ∷ []) ∙ ap (λ ms. ms ++ (Rest, Some Targets) ∷ []) (sides-marks p s term found kids is)));
+          (record { choices = rest.choices; right = (subst (λ cs. IsLeaf p steps targets cs part) (sym choices) rest.leaf, rest.cut) })
+          (All-nil (IsKid p steps targets (map (λ (k : Kid). k.choice) (kids ++ rest_kid part ∷ [])) s)));
+      sides = inr (inr (
+        numbers_in found,
+        values.increasing,
+        omega (arith, values.some, length-map found (λ (f : ValueAt). f.value)),
+        length-map found (λ (f : ValueAt). f.value) ∙ (values.others refl).0,
+        map-append mark_of kids (rest_kid part ∷ []) ∙ ap (λ ms. ms ++ (Rest, Some Targets) ∷ []) (sides-marks p s term found kids is),
+      ));
     }
 
 -- the one value that there is

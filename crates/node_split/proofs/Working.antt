@@ -1,12 +1,11 @@
 -- A run that goes on until it forks, ends or is cut: what becomes of it then becomes of the run that it was.
-use Rattle.std.proofs.Common.{◌≡◌, ℕ, ◌+◌, ◌-◌, ◌*◌, ◌<◌, ◌≤◌, Bool, List, [], ◌∷◌, ◌++◌, get_or, length, map, refl, sym, ap, subst, ◌∙◌, arith}
-use Rattle.std.specs.Prelude.{All, Option, None, Some, count_by}
+use Rattle.std.proofs.Common.{◌≡◌, ℕ, ◌+◌, ◌<◌, ◌≤◌, Bool, List, [], ◌∷◌, ◌++◌, get_or, length, map, refl, sym, ap, subst, ◌∙◌, arith}
+use Rattle.std.specs.Prelude.{Option, None, Some}
 use Rattle.std.proofs.lemmas.List.Sums.{count_by-le-length}
-use Rattle.rv_machine.specs.Memory.{IsAssignment}
 use Rattle.sym_state.specs.Growing.{front_of, Grows}
-use Rattle.sym_state.specs.Moves.{IsGrown, IsSame, cut_back, with_terms}
-use Rattle.sym_state.specs.Programs.{Program, regions_of}
-use Rattle.sym_state.specs.Symbolic.{Symbolic, IsOpen, is_term, left_to_do, meets, most_steps, undecided}
+use Rattle.sym_state.specs.Moves.{IsGrown, IsSame, cut_back}
+use Rattle.sym_state.specs.Programs.{Program}
+use Rattle.sym_state.specs.Symbolic.{Symbolic, IsOpen, is_term, left_to_do, most_steps, undecided}
 use Rattle.sym_state.proofs.Kept.{front_before, run_before}
 use Rattle.tree_core.specs.declared.choice.Choice.{Choice}
 use Rattle.node_split.specs.LeafParts.{Part}

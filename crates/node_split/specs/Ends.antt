@@ -2,7 +2,7 @@
 use Rattle.std.specs.Prelude.{◌≡◌, ℕ, ◌%◌, List}
 use Rattle.bv_dag.specs.Graphs.{Graph, number_of, width_of}
 use Rattle.smt_text.specs.declared.leaf.LeafEnd.{LeafEnd}
-use Rattle.smt_text.specs.declared.leaf.LeafEnd.TheVariants.{Exits as LeafExits, Traps as LeafTraps, Cut}
+use Rattle.smt_text.specs.declared.leaf.LeafEnd.TheVariants.{Exits as LeafExits, Traps as LeafTraps}
 use Rattle.sym_machine.specs.declared.outcome.RunEnd.{RunEnd}
 use Rattle.sym_machine.specs.declared.outcome.RunEnd.TheVariants.{Exits, Traps}
 use Rattle.sym_state.specs.Symbolic.{Symbolic, value_at, worth_of}

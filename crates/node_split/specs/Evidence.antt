@@ -1,15 +1,11 @@
 -- What shows a leaf: a sample that it covers, or the values on which the budget of targets was spent.
-use Rattle.std.specs.Prelude.{◌≡◌, ℕ, ◌-◌, ◌<◌, Bool, not, ◌&&◌, ◌==◌, List, [], ◌∷◌, ◌++◌, All, IsTrue, length, map, take, true, false}
+use Rattle.std.specs.Prelude.{◌≡◌, ℕ, ◌-◌, ◌<◌, Bool, not, ◌&&◌, ◌==◌, List, [], ◌∷◌, ◌++◌, All, IsTrue, length, map, take, true}
 use Rattle.std.specs.List.{list_any}
 use Rattle.bv_dag.specs.Graphs.{width_of}
 use Rattle.bv_dag.specs.Queries.{Condition, holds}
 use Rattle.elf_load.specs.declared.region.Region.{Region}
 use Rattle.rv_machine.specs.Memory.{IsAssignment}
 use Rattle.smt_text.specs.Leaves.{LeafText, covers, worth}
-use Rattle.smt_text.specs.declared.leaf.LeafEnd.{LeafEnd}
-use Rattle.smt_text.specs.declared.leaf.LeafEnd.TheVariants.{Exits, Traps, Cut}
-use Rattle.tree_core.specs.declared.cause.Cause.{Cause}
-use Rattle.tree_core.specs.declared.cause.Cause.TheVariants.{Steps, Targets, Conflicts}
 use Rattle.tree_core.specs.declared.choice.Choice.{Choice}
 use Rattle.tree_core.specs.declared.choice.Choice.TheVariants.{Value, Rest}
 

@@ -9,7 +9,6 @@ use Rattle.rv_machine.specs.Runs.{run, IsRunOf}
 use Rattle.smt_text.specs.Leaves.{LeafText, covers, worth}
 use Rattle.smt_text.specs.declared.leaf.LeafEnd.{LeafEnd}
 use Rattle.smt_text.specs.declared.leaf.LeafEnd.TheVariants.{Exits, Traps, Cut}
-use Rattle.tree_core.specs.declared.cause.Cause.{Cause}
 use Rattle.tree_core.specs.declared.cause.Cause.TheVariants.{Steps, Targets, Conflicts}
 
 -- how the run of an assignment is said to end, and none where it is cut

@@ -1,5 +1,5 @@
 -- Symbolic runs on one side of a fork.
-use Rattle.std.specs.Prelude.{◌≡◌, ◌≢◌, ℕ, ◌+◌, ◌-◌, ◌%◌, ◌^◌, ◌==◌, ◌&&◌, ◌<◌, Bool, true, false, not, List, [], ◌∷◌, ◌++◌, Option, Some}
+use Rattle.std.specs.Prelude.{◌≡◌, ℕ, ◌==◌, ◌&&◌, ◌<◌, Bool, true, false, not, List, [], ◌∷◌, ◌++◌}
 use Rattle.bv_dag.specs.Graphs.{number_of}
 use Rattle.bv_dag.specs.Queries.{holds}
 use Rattle.bv_dag.specs.Graphs.{Graph}

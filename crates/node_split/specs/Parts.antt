@@ -1,5 +1,5 @@
 -- What becomes of a symbolic run that is worked on: a leaf, or kids that part what it stands for.
-use Rattle.std.specs.Prelude.{◌≡◌, ℕ, ◌+◌, ◌<◌, ◌≤◌, ◌⊎◌, Bool, true, false, List, [], ◌∷◌, ◌++◌, All, length, map, Option, None, Some, count_by}
+use Rattle.std.specs.Prelude.{◌≡◌, ℕ, ◌<◌, ◌≤◌, ◌⊎◌, Bool, true, false, List, [], ◌∷◌, ◌++◌, All, length, map, Option, None, Some, count_by}
 use Rattle.bv_dag.specs.Graphs.{Graph, width_of}
 use Rattle.rv_machine.specs.Memory.{IsAssignment}
 use Rattle.smt_text.specs.Leaves.{LeafText, covers}
@@ -8,10 +8,10 @@ use Rattle.smt_text.specs.declared.leaf.LeafEnd.TheVariants.{Exits, Traps, Cut}
 use Rattle.sym_state.specs.Programs.{Program, regions_of}
 use Rattle.sym_state.specs.Symbolic.{Symbolic, AreBytes, IsOpen, left_to_do, meets}
 use Rattle.tree_core.specs.declared.cause.Cause.{Cause}
-use Rattle.tree_core.specs.declared.cause.Cause.TheVariants.{Steps, Targets, Conflicts}
+use Rattle.tree_core.specs.declared.cause.Cause.TheVariants.{Steps, Targets}
 use Rattle.tree_core.specs.declared.choice.Choice.{Choice}
 use Rattle.tree_core.specs.declared.choice.Choice.TheVariants.{No, Yes, Value, Rest}
-use Rattle.node_split.specs.Evidence.{Spent, AreIncreasing, IsSample, SpendsTargets}
+use Rattle.node_split.specs.Evidence.{AreIncreasing, IsSample, SpendsTargets}
 use Rattle.node_split.specs.LeafParts.{Part}
 use Rattle.node_split.specs.Leaves.{IsFaithful}
 use Rattle.node_split.specs.declared.evidence.Evidence.{Evidence}

@@ -1,5 +1,5 @@
 -- The sides that values of a term have, and what is left beside them.
-use Rattle.std.specs.Prelude.{◌≡◌, ℕ, ◌<◌, ◌&&◌, ◌==◌, not, List, [], ◌∷◌, ◌++◌, All, length, map, Bool, count_by}
+use Rattle.std.specs.Prelude.{◌≡◌, ℕ, ◌&&◌, ◌==◌, not, List, [], ◌∷◌, ◌++◌, length, map}
 use Rattle.bv_dag.specs.Graphs.{number_of}
 use Rattle.std.specs.List.{list_all}
 use Rattle.bv_dag.specs.Queries.{AreBits}

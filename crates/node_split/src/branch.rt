@@ -46,13 +46,7 @@ fn yes_side(program: &Program, state: &State, term: usize, sample: u8) -> Result
 }
 
 // Goes on along one side, where no byte is on the other, and leaves the terms behind that were made to ask for it.
-fn go_on(
-    program: &Program,
-    state: State,
-    before: usize,
-    term: usize,
-    side: bool,
-) -> State
+fn go_on(program: &Program, state: State, before: usize, term: usize, side: bool) -> State
     requires open { IsOpen program.now (cut_back state before) }
     requires grows { Grows (front_of state.terms before) state.terms }
     requires at { IsBranch program.now state term }

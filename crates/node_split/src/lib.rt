@@ -4,7 +4,6 @@
 mod branch;
 mod evidence;
 mod finish;
-pub mod laws;
 mod parts;
 mod pin;
 mod question;

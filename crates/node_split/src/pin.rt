@@ -44,7 +44,10 @@ fn value_side(program: &Program, state: &State, pin: &Pin, at: ValueAt) -> Resul
     let mut side = state.share()?;
     let equal = side.equals(pin.term, at.value)?;
     side.narrow(Choice::Value(at.value), equal, at.byte)?;
-    side.set(pin.register, Value::Number(at.value.wrapping_sub(pin.offset)));
+    side.set(
+        pin.register,
+        Value::Number(at.value.wrapping_sub(pin.offset)),
+    );
     Ok(side)
 }
 

@@ -1,4 +1,4 @@
-use Rattle.std.proofs.Common.{◌≡◌, ◌++◌, [], ◌∷◌, ◌∙◌, append-nil, append_assoc, refl, sym, ap, arith}
+use Rattle.std.proofs.Common.{◌++◌, [], ◌∷◌, ◌∙◌, append-nil, append_assoc, refl, sym, ap, arith}
 use Rattle.explorer.proofs.Adding.{adds_all, adds_none, adds_one, adds_run, adds_leaf, no_items}
 use Rattle.explorer.proofs.search.+add_leaves.Goals as goal
 

@@ -1,4 +1,3 @@
-use Rattle.node_split.specs.Narrowing.{IsNarrower, is_side}
 use Rattle.node_split.proofs.Parting.{two_sides}
 use Rattle.node_split.proofs.branch.both.Goals as goal
 

@@ -1,5 +1,3 @@
-use Rattle.std.proofs.Common.{subst}
-use Rattle.node_split.specs.Values.{AreValues}
 use Rattle.node_split.proofs.SidesOfValues.{all_values, values_and_rest}
 use Rattle.node_split.proofs.pin.part.Goals as goal
 

@@ -1,6 +1,5 @@
-use Rattle.std.proofs.Common.{refl, sym, subst, take}
+use Rattle.std.proofs.Common.{refl, take}
 use Rattle.std.proofs.lemmas.Grind.{take_at_read}
-use Rattle.node_split.specs.Resting.{AreSidesOf}
 use Rattle.node_split.proofs.SidesOfValues.{sides-push}
 use Rattle.node_split.proofs.pin.value_sides.Goals as goal
 

@@ -1,10 +1,6 @@
-use Rattle.std.proofs.Common.{◌∙◌, sym, ap, subst, arith, map, take}
-use Rattle.std.proofs.lemmas.Grind.{take_at_read}
-use Rattle.std.proofs.lemmas.List.{map-append}
+use Rattle.std.proofs.Common.{arith, take}
 use Rattle.sym_state.proofs.Kept.{bit_width-grown}
-use Rattle.node_split.specs.Resting.{IsWithout}
 use Rattle.node_split.specs.Values.{numbers_in}
-use Rattle.node_split.specs.declared.question.ValueAt.{ValueAt}
 use Rattle.node_split.proofs.SidesOfValues.{numbers-more, without_none, without-more}
 use Rattle.node_split.proofs.pin.without.Goals as goal
 

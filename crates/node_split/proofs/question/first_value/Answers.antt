@@ -1,4 +1,3 @@
-use Rattle.std.proofs.Common.{◌≡◌, ◌≤◌, List, []}
 use Rattle.node_split.proofs.Valuing.{first_value}
 use Rattle.node_split.proofs.question.first_value.Goals as goal
 

@@ -1,7 +1,6 @@
-use Rattle.std.proofs.Common.{◌≡◌, ◌∙◌, sym, arith, take, length, ◌<◌, ap, subst}
-use Rattle.std.specs.Prelude.{All}
+use Rattle.std.proofs.Common.{◌∙◌, sym, arith}
 use Rattle.node_split.specs.Values.{numbers_in}
-use Rattle.node_split.proofs.Increasing.{among-at, above-at}
+use Rattle.node_split.proofs.Increasing.{among-at}
 use Rattle.node_split.proofs.Valuing.{get_or-numbers, length-numbers, take-more, place_at, place_end}
 use Rattle.node_split.proofs.question.place_of.Goals as goal
 

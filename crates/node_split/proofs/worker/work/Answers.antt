@@ -1,6 +1,6 @@
 use Rattle.std.proofs.Common.{◌∙◌, ap, arith, length}
 use Rattle.sym_state.specs.Symbolic.{Symbolic}
-use Rattle.node_split.proofs.Working.{onward_self, onward_forked, less_forked, open_before, steps_grown}
+use Rattle.node_split.proofs.Working.{onward_self, onward_forked, open_before, steps_grown}
 use Rattle.node_split.proofs.worker.work.Goals as goal
 
 pub loop-state-init : goal.loop-state-init
