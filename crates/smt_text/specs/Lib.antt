@@ -1,0 +1,7 @@
+pub mod Leaves
+pub mod Names
+pub mod NodeText
+pub mod Lines
+pub mod LeafLines
+pub mod NodeFits
+pub mod Grammar

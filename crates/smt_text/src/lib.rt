@@ -1,0 +1,15 @@
+//! The texts of leaves, in SMT-LIB's logic QF_ABV, and the short texts that other files share with them.
+#![tactic(auto)]
+
+pub mod laws;
+mod leaf;
+mod lines;
+mod names;
+mod node_text;
+mod printing;
+#[cfg(test)]
+mod tests;
+
+pub use leaf::{LeafEnd, LeafText};
+pub use names::{write_choices, write_path};
+pub use printing::print_leaf;

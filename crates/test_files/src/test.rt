@@ -1,0 +1,39 @@
+//! A test.
+
+use elf_load::Regions;
+use rv_decode::{End, PathStep};
+use std::marker::Model;
+use tool_io::Bytes;
+
+/// An assignment of the input bytes, and what the run of it does.
+#[derive(Debug, Drop)]
+pub struct Test {
+    /// The rank of its leaf.
+    pub leaf: usize,
+    pub regions: Regions,
+    /// One byte for each place of the regions.
+    pub input: Bytes,
+    pub steps: u32,
+    /// What each conditional branch and each JALR of the run does.
+    pub path: Vec<PathStep>,
+    /// How the run ends; none where it is still running after these steps.
+    pub end: Option<End>,
+    /// What the run writes.
+    pub output: Bytes,
+}
+
+impl Model for Test {
+    ghost use Rattle.test_files.specs.Tests as spec;
+
+    ghost Value = { spec.Test };
+
+    ghost view = { λ t. record {
+      leaf = t.leaf;
+      regions = t.regions;
+      input = t.input;
+      steps = t.steps;
+      path = t.path.items;
+      end = t.end;
+      output = t.output;
+    } };
+}
