@@ -1,6 +1,6 @@
 //! How many leaves of which sort there are.
 
-ghost use Rattle.std.specs.Prelude.{◌≡◌, ◌<◌, ◌≤◌, ◌^◌, [], IfOk, map};
+ghost use Rattle.std.specs.Prelude.{◌≡◌, ◌≤◌, [], IfOk, map};
 ghost use Rattle.report_text.specs.Reports.{leaves_of};
 ghost use Rattle.report_text.specs.Summaries as spec;
 ghost use Rattle.report_text.specs.Summaries.{count, summary_text, with_one};
@@ -60,19 +60,18 @@ fn is_tested(end: LeafEnd) -> bool
     }
 }
 
-/// The summary of these leaves and one more.
+/// The summary of these leaves and one more. A number that its type can't hold is want of memory.
 fn with_leaf(before: Summary, leaf: &LeafText) -> Result<Summary, NoMemory>
     requires finished { before.finished ≤ before.leaves }
     requires cut { before.cut ≤ before.leaves }
     requires tests { before.tests ≤ before.leaves }
-    requires leaves { before.leaves < 2 ^ 63 }
     ensures { IfOk result (λ summary. summary ≡ with_one before leaf.now) }
 {
     let finished = is_finished(leaf.end);
     let tested = is_tested(leaf.end);
     let steps = if finished { leaf.steps } else { 0 };
     Ok(Summary {
-        leaves: before.leaves + 1,
+        leaves: before.leaves.checked_add(1).ok_or(NoMemory)?,
         finished: before.finished + usize::from(finished),
         cut: before.cut + usize::from(!finished),
         tests: before.tests + usize::from(tested),

@@ -1,0 +1,3 @@
+mod SixDigits
+mod Counting
+mod Walking
