@@ -74,6 +74,7 @@ fn write_event(alloc: Global, text: &mut String, event: &Event) -> Result<(), No
 }
 
 /// The text of the events, in their order.
+#[tactic(auto, unfolding(crate::specs::Events::events_text))]
 pub fn write_events(alloc: Global, events: &[Event]) -> Result<Bytes, NoMemory>
     ensures { IfOk result (λ text. text ≡ events_text events.now) }
 {

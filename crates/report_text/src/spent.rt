@@ -53,6 +53,7 @@ fn write_values(alloc: Global, text: &mut String, values: &[Found]) -> Result<()
 }
 
 /// The text of the values that were found.
+#[tactic(auto, unfolding(crate::specs::Spent::targets_text))]
 pub fn write_targets(alloc: Global, targets: &Targets) -> Result<Bytes, NoMemory>
     ensures { IfOk result (λ text. text ≡ targets_text targets.now) }
 {
