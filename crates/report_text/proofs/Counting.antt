@@ -61,8 +61,8 @@ kept_within f xs =
 pub count_within : (leaves : List LeafText) →
     ((count leaves).finished ≤ (count leaves).leaves) × ((count leaves).cut ≤ (count leaves).leaves) × ((count leaves).tests ≤ (count leaves).leaves)
 unfolding count
-count_within leaves =
-    ( kept_within has_ended leaves
-    , kept_within (λ l. not (has_ended l)) leaves
-    , kept_within (λ (l : LeafText). is_tested l.end) leaves
-    )
+count_within leaves = (
+  kept_within has_ended leaves,
+  kept_within (λ l. not (has_ended l)) leaves,
+  kept_within (λ (l : LeafText). is_tested l.end) leaves,
+)

@@ -83,10 +83,10 @@ text_of_report budgets workers regions entries =
     let of_leaves = items_text false (items_of (map entry_data entries)) in
     let of_regions = items_text false (items_of (map (λ region. string (region_text region)) regions)) in
     ap (λ text. text ++ codes "\n") (is_object budgets workers regions entries
-        ∙ ap (λ text. object_text text of_leaves of_regions (compact_text totals)) (text_of_budgets budgets workers)
-        ∙ ap (λ text. object_text (budgets_text budgets workers) text of_regions (compact_text totals)) (text_of_entries entries)
-        ∙ ap (λ text. object_text (budgets_text budgets workers) (with_commas (map entry_text entries) ++ codes "]") text (compact_text totals)) (text_of_regions regions)
-        ∙ ap (object_text (budgets_text budgets workers) (with_commas (map entry_text entries) ++ codes "]") (quoted_all (map region_text regions) ++ codes "]")) (text_of_totals (count (leaves_of entries))))
+    ∙ ap (λ text. object_text text of_leaves of_regions (compact_text totals)) (text_of_budgets budgets workers)
+    ∙ ap (λ text. object_text (budgets_text budgets workers) text of_regions (compact_text totals)) (text_of_entries entries)
+    ∙ ap (λ text. object_text (budgets_text budgets workers) (with_commas (map entry_text entries) ++ codes "]") text (compact_text totals)) (text_of_regions regions)
+    ∙ ap (object_text (budgets_text budgets workers) (with_commas (map entry_text entries) ++ codes "]") (quoted_all (map region_text regions) ++ codes "]")) (text_of_totals (count (leaves_of entries))))
     ∙ regroup (codes "{\"budgets\":") (codes ",\"leaves\":[") (codes "]") (codes ",\"regions\":[") (codes ",\"summary\":") (codes "}")
     (budgets_text budgets workers) (with_commas (map entry_text entries)) (quoted_all (map region_text regions)) (totals_text (count (leaves_of entries))) (codes "\n")
 

@@ -37,10 +37,14 @@ totals_data summary = object (
     member (codes "steps") (number (unsigned summary.steps)) (
     member (codes "tests") (number (unsigned summary.tests)) no_members)))))
 
--- the object, its keys in order
+-- the object of these, its keys in order
+abbrev pub object_data : (budgets leaves regions summary : Data) → Data
+object_data budgets leaves regions summary = object (
+    member (codes "budgets") budgets (
+    member (codes "leaves") leaves (
+    member (codes "regions") regions (
+    member (codes "summary") summary no_members))))
+
 abbrev pub report_data : Budgets → (workers : ℕ) → List Region → List Entry → Data
-report_data budgets workers regions entries = object (
-    member (codes "budgets") (budgets_data budgets workers) (
-    member (codes "leaves") (entries_data entries) (
-    member (codes "regions") (regions_data regions) (
-    member (codes "summary") (totals_data (count (leaves_of entries))) no_members))))
+report_data budgets workers regions entries =
+    object_data (budgets_data budgets workers) (entries_data entries) (regions_data regions) (totals_data (count (leaves_of entries)))

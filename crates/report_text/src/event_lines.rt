@@ -5,8 +5,8 @@ ghost use Rattle.report_text.specs.Events.{deed_text, event_text, events_text, k
 ghost use Rattle.report_text.specs.declared.event.Deed.TheVariants.{Split};
 
 use crate::event::{Deed, Event, Kid};
-use std::alloc::{AllocError as NoMemory, Global};
 use smt_text::{LeafEnd, write_choices};
+use std::alloc::{AllocError as NoMemory, Global};
 use tool_io::Bytes;
 use tree_core::Cause;
 
@@ -67,7 +67,11 @@ fn write_event(alloc: Global, text: &mut String, event: &Event) -> Result<(), No
         }
         Deed::Finish => write!(text, "finish {by} {node}\n"),
         Deed::Cut(cause) => {
-            write!(text, "cut {by} {node} {}\n", LeafEnd::Cut(*cause).kind_name())
+            write!(
+                text,
+                "cut {by} {node} {}\n",
+                LeafEnd::Cut(*cause).kind_name()
+            )
         }
         Deed::Release => write!(text, "release {by} {node}\n"),
     }

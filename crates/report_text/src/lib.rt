@@ -10,6 +10,8 @@ mod report_json;
 mod reported;
 mod spent;
 mod summary;
+#[cfg(test)]
+mod tests;
 
 pub use event::{Deed, Event, Kid, Kids};
 pub use event_lines::write_events;

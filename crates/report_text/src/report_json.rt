@@ -3,7 +3,7 @@
 ghost use Rattle.std.specs.Prelude.{◌≡◌, IfOk, map, string_bytes};
 ghost use Rattle.serde_json.specs.View.{view};
 ghost use Rattle.smt_text.specs.Names.{choices_text};
-ghost use Rattle.report_text.specs.ReportData.{budgets_data, entries_data, entry_data, report_data, totals_data};
+ghost use Rattle.report_text.specs.ReportData.{budgets_data, entries_data, entry_data, object_data, report_data, totals_data};
 ghost use Rattle.report_text.specs.Reports.{report_text};
 
 use crate::reported::Reported;
@@ -42,7 +42,7 @@ fn entry_value(alloc: Global, leaf: &LeafText, node: usize) -> Result<Value, NoM
 
 /// The objects of the leaves.
 fn entry_values<E: Reported>(alloc: Global, entries: &[E]) -> Result<Vec<Value>, NoMemory>
-    ensures { IfOk result (λ values. map view values.items ≡ map (λ e. entry_data (E.entry e)) entries.now) }
+    ensures { IfOk result (λ values. map view values.items ≡ map entry_data (map E.entry entries.now)) }
 {
     let mut values = Vec::new(alloc);
     for entry in entries {
@@ -76,6 +76,31 @@ fn totals_value(alloc: Global, summary: Summary) -> Result<Value, NoMemory>
     })
 }
 
+/// The leaves as a JSON list.
+fn entries_value<E: Reported>(alloc: Global, entries: &[E]) -> Result<Value, NoMemory>
+    ensures { IfOk result (λ value. view value ≡ entries_data (map E.entry entries.now)) }
+{
+    Ok(Value::Array(entry_values(alloc, entries)?))
+}
+
+/// The object of these four.
+fn object_value(
+    alloc: Global,
+    budgets: Value,
+    leaves: Value,
+    regions: Value,
+    summary: Value,
+) -> Result<Value, NoMemory>
+    ensures { IfOk result (λ value. view value ≡ object_data (view budgets) (view leaves) (view regions) (view summary)) }
+{
+    json!(in alloc; {
+        "budgets": budgets,
+        "leaves": leaves,
+        "regions": regions,
+        "summary": summary
+    })
+}
+
 /// The report as a JSON object.
 fn report_value<E: Reported>(
     alloc: Global,
@@ -87,15 +112,10 @@ fn report_value<E: Reported>(
     ensures { IfOk result (λ value. view value ≡ report_data budgets.now workers regions.now (map E.entry entries.now)) }
 {
     let budgets = budgets_value(alloc, budgets, workers)?;
-    let leaves = Value::Array(entry_values(alloc, entries)?);
+    let leaves = entries_value(alloc, entries)?;
     let regions = region_list(alloc, regions.as_slice())?;
     let summary = totals_value(alloc, summarize(entries)?)?;
-    json!(in alloc; {
-        "budgets": budgets,
-        "leaves": leaves,
-        "regions": regions,
-        "summary": summary
-    })
+    object_value(alloc, budgets, leaves, regions, summary)
 }
 
 /// The JSON text of a report of these leaves, which stand by rank, with the budgets and the number of workers that were

@@ -75,10 +75,7 @@ fn with_leaf(before: Summary, leaf: &LeafText) -> Result<Summary, NoMemory>
         finished: before.finished + usize::from(finished),
         cut: before.cut + usize::from(!finished),
         tests: before.tests + usize::from(tested),
-        steps: before
-            .steps
-            .checked_add(u64::from(steps))
-            .ok_or(NoMemory)?,
+        steps: before.steps.checked_add(u64::from(steps)).ok_or(NoMemory)?,
     })
 }
 
@@ -99,11 +96,7 @@ pub fn summary_line(alloc: Global, summary: &Summary) -> Result<Bytes, NoMemory>
 {
     let line = format!(in alloc;
         "leaves {} finished {} cut {} tests {} steps {}\n",
-        summary.leaves,
-        summary.finished,
-        summary.cut,
-        summary.tests,
-        summary.steps
+        summary.leaves, summary.finished, summary.cut, summary.tests, summary.steps
     )?;
     Ok(Bytes::from_vec(line.into_bytes()))
 }
