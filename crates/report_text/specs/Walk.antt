@@ -83,6 +83,14 @@ are_values targets kids =
 abbrev pub are_kids : (targets : ℕ) → List Kid → Bool
 are_kids targets kids = are_sides kids || are_values targets kids
 
+-- the kid for one value
+abbrev pub value_kid : ℕ → Kid
+value_kid value = record { choice = Value value; cut = None }
+
+-- the kid for all other values
+abbrev pub rest_kid : Option Cause → Kid
+rest_kid cut = record { choice = Rest; cut = cut }
+
 -- who may do what: one of the workers may claim a node that is free, all else is for the worker who holds it
 abbrev pub may_do : (workers by : ℕ) → Deed → Standing → Bool
 may_do workers by Claim Free = nat_lt by workers

@@ -47,7 +47,7 @@ impl Reported for Placed {
 }
 
 /// A leaf with no terms.
-fn placed(
+fn make_leaf(
     alloc: Global,
     node: usize,
     choices: &[Choice],
@@ -77,7 +77,7 @@ fn one_region(alloc: Global) -> Result<Regions, NoMemory> {
 #[test]
 fn a_report_of_one_leaf(rt: HostRuntime) -> Result<(), Fail> {
     let mut leaves = Vec::new(rt.alloc());
-    leaves.push(placed(rt.alloc(), 0, &[], 3, LeafEnd::Exits { status: 0 })?)?;
+    leaves.push(make_leaf(rt.alloc(), 0, &[], 3, LeafEnd::Exits { status: 0 })?)?;
     let regions = one_region(rt.alloc())?;
     let text = write_report(rt.alloc(), &BUDGETS, 1, &regions, &leaves)?;
     assert_eq!(rt; text.as_slice(), ONE_LEAF.as_bytes());
@@ -89,8 +89,8 @@ fn a_report_of_one_leaf(rt: HostRuntime) -> Result<(), Fail> {
 fn a_report_of_two_leaves(rt: HostRuntime) -> Result<(), Fail> {
     let exits = LeafEnd::Exits { status: 0 };
     let mut leaves = Vec::new(rt.alloc());
-    leaves.push(placed(rt.alloc(), 1, &[Choice::No], 6, exits)?)?;
-    leaves.push(placed(rt.alloc(), 2, &[Choice::Yes], 7, exits)?)?;
+    leaves.push(make_leaf(rt.alloc(), 1, &[Choice::No], 6, exits)?)?;
+    leaves.push(make_leaf(rt.alloc(), 2, &[Choice::Yes], 7, exits)?)?;
     let regions = one_region(rt.alloc())?;
     let text = write_report(rt.alloc(), &BUDGETS, 1, &regions, &leaves)?;
     assert_eq!(rt; text.as_slice(), TWO_LEAVES.as_bytes());
@@ -109,9 +109,9 @@ fn a_report_of_leaves_that_were_cut(rt: HostRuntime) -> Result<(), Fail> {
     let by_steps = LeafEnd::Cut(Cause::Steps);
     let by_conflicts = LeafEnd::Cut(Cause::Conflicts);
     let mut leaves = Vec::new(rt.alloc());
-    leaves.push(placed(rt.alloc(), 1, &[Choice::No], 4, traps)?)?;
-    leaves.push(placed(rt.alloc(), 3, &[Choice::Yes, value], 10_000, by_steps)?)?;
-    leaves.push(placed(rt.alloc(), 4, &[Choice::Yes, Choice::Rest], 9, by_conflicts)?)?;
+    leaves.push(make_leaf(rt.alloc(), 1, &[Choice::No], 4, traps)?)?;
+    leaves.push(make_leaf(rt.alloc(), 3, &[Choice::Yes, value], 10_000, by_steps)?)?;
+    leaves.push(make_leaf(rt.alloc(), 4, &[Choice::Yes, Choice::Rest], 9, by_conflicts)?)?;
     let regions = one_region(rt.alloc())?;
     let text = write_report(rt.alloc(), &BUDGETS, 1, &regions, &leaves)?;
     assert_eq!(rt; text.as_slice(), CUT.as_bytes());
