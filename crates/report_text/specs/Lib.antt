@@ -5,3 +5,4 @@ pub mod Summaries
 pub mod Reports
 pub mod FileNames
 pub mod ReportData
+pub mod WorkedWalks
