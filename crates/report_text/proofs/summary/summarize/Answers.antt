@@ -1,6 +1,5 @@
-use Rattle.std.proofs.Common.{◌≡◌, ◌∙◌, ◌≤◌, ap, sym, map, subst, take}
+use Rattle.std.proofs.Common.{◌∙◌, ◌≤◌, ap, sym, map, subst, take}
 use Rattle.report_text.specs.Reports.{leaves_of}
-use Rattle.report_text.specs.Summaries.{with_one}
 use Rattle.report_text.specs.declared.summary.Summary.{Summary}
 use Rattle.report_text.proofs.Counting.{count_within, counted_next}
 use Rattle.report_text.proofs.summary.summarize.Goals as goal
