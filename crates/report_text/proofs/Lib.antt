@@ -1,0 +1,4 @@
+mod SixDigits
+mod Counting
+mod Walking
+mod ReportTexts
