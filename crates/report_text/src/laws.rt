@@ -36,7 +36,7 @@ pub fn worked_walks()
     ensures values_are_not_quiet { IsFalse (is_quiet value_nodes) }
 {}
 
-/// Events that may not come, behind a claim of the root by worker 0.
+/// Events that may not come, first of all or once worker 0 has claimed the root.
 #[tactic(auto, unfolding(crate::specs::Walk::walk_from, crate::specs::Walk::step, crate::specs::Walk::are_values, crate::specs::Walk::values_first))]
 pub fn worked_refusals()
     ensures third_worker { walk 2 2 (event 2 0 Claim ∷ []) ≡ None }
