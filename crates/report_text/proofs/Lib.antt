@@ -1,4 +1,4 @@
 mod SixDigits
-mod Counting
+pub mod Counting
 mod Walking
 mod ReportTexts

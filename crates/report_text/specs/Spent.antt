@@ -3,21 +3,15 @@ use Rattle.std.specs.Prelude.{ℕ, List, ◌++◌, codes, decimal, length}
 use Rattle.std.specs.List.{flat_map}
 use Rattle.hex.specs.Hex.{encode_lower}
 use Rattle.smt_text.specs.Names.{eight_digits}
-use Rattle.report_text.specs.declared.spent.Found.{Found}
-
-pub record Targets : Type 0 where
-  -- the number of the term
-  pub term : ℕ
-  -- its values, and for each an assignment on which it has that value
-  pub found : List Found
+use Rattle.node_split.specs.Evidence.{Found, Spent}
 
 -- a value, and the bytes of the assignment
 abbrev pub found_text : Found → List ℕ
 found_text found = codes "v " ++ eight_digits found.value ++ codes " " ++ encode_lower found.input ++ codes "\n"
 
 -- how many values, the term's name in the text of its leaf, and a line for each value
-unfoldable pub targets_text : Targets → List ℕ
-targets_text targets =
-    codes "; spent targets " ++ decimal (length targets.found) ++ codes "\n"
-    ++ codes "; term n" ++ decimal targets.term ++ codes "\n"
-    ++ flat_map found_text targets.found
+unfoldable pub targets_text : Spent → List ℕ
+targets_text spent =
+    codes "; spent targets " ++ decimal (length spent.found) ++ codes "\n"
+    ++ codes "; term n" ++ decimal spent.term ++ codes "\n"
+    ++ flat_map found_text spent.found

@@ -18,5 +18,5 @@ pub use event_lines::write_events;
 pub use file_names::{events_name, leaf_name, report_name, spent_name, test_name};
 pub use report_json::write_report;
 pub use reported::Reported;
-pub use spent::{Found, Targets, write_targets};
-pub use summary::{Summary, summarize, summary_line};
+pub use spent::write_targets;
+pub use summary::{Summary, summarize, summary_line, with_leaf};

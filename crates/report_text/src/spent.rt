@@ -4,34 +4,9 @@ ghost use Rattle.std.specs.Prelude.{◌≡◌, ◌++◌, IfOk, OnOk, string_byte
 ghost use Rattle.std.specs.List.{flat_map};
 ghost use Rattle.report_text.specs.Spent.{found_text, targets_text};
 
+use node_split::{Found, Spent};
 use std::alloc::{AllocError as NoMemory, Global};
-use std::marker::Model;
 use tool_io::Bytes;
-
-/// A value that was found for a term, and an assignment on which the term has it.
-#[derive(Debug, Drop)]
-pub struct Found {
-    pub value: u32,
-    /// The input bytes.
-    pub input: Bytes,
-}
-
-/// The values that were found for a term, as many as there may be; the leaf stands for all others.
-#[derive(Debug, Drop)]
-pub struct Targets {
-    /// The number of the term among the leaf's.
-    pub term: usize,
-    /// By increasing value.
-    pub found: Vec<Found>,
-}
-
-impl Model for Targets {
-    ghost use Rattle.report_text.specs.Spent as spec;
-
-    ghost Value = { spec.Targets };
-
-    ghost view = { λ t. record { term = t.term; found = t.found.items } };
-}
 
 /// Appends a value with its assignment.
 fn write_found(alloc: Global, text: &mut String, found: &Found) -> Result<(), NoMemory>
@@ -54,12 +29,12 @@ fn write_values(alloc: Global, text: &mut String, values: &[Found]) -> Result<()
 
 /// The text of the values that were found.
 #[tactic(auto, unfolding(crate::specs::Spent::targets_text))]
-pub fn write_targets(alloc: Global, targets: &Targets) -> Result<Bytes, NoMemory>
-    ensures { IfOk result (λ text. text ≡ targets_text targets.now) }
+pub fn write_targets(alloc: Global, spent: &Spent) -> Result<Bytes, NoMemory>
+    ensures { IfOk result (λ text. text ≡ targets_text spent.now) }
 {
     let mut text = String::new(alloc);
-    write!(text, "; spent targets {}\n", targets.found.len())?;
-    write!(text, "; term n{}\n", targets.term)?;
-    write_values(alloc, &mut text, &targets.found)?;
+    write!(text, "; spent targets {}\n", spent.found.len())?;
+    write!(text, "; term n{}\n", spent.term)?;
+    write_values(alloc, &mut text, &spent.found)?;
     Ok(Bytes::from_vec(text.into_bytes()))
 }

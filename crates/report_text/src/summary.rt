@@ -27,7 +27,7 @@ pub struct Summary {
 
 impl Summary {
     /// Of no leaves.
-    fn empty() -> Summary
+    pub fn empty() -> Summary
         ensures { result ≡ count [] }
     {
         Summary {
@@ -61,7 +61,7 @@ fn is_tested(end: LeafEnd) -> bool
 }
 
 /// The summary of these leaves and one more. A number that its type can't hold is want of memory.
-fn with_leaf(before: Summary, leaf: &LeafText) -> Result<Summary, NoMemory>
+pub fn with_leaf(before: Summary, leaf: &LeafText) -> Result<Summary, NoMemory>
     requires finished { before.finished ≤ before.leaves }
     requires cut { before.cut ≤ before.leaves }
     requires tests { before.tests ≤ before.leaves }

@@ -1,6 +1,7 @@
 //! What was spent, byte for byte, and the names of a leaf's files.
 
-use crate::{Found, Targets, leaf_name, spent_name, test_name, write_targets};
+use crate::{leaf_name, spent_name, test_name, write_targets};
+use node_split::{Found, Spent};
 use std::alloc::{AllocError as NoMemory, Global};
 use std::test::Fail;
 use tool_io::Bytes;
@@ -25,12 +26,12 @@ fn values_are_written(rt: HostRuntime) -> Result<(), Fail> {
     let mut values = Vec::new(rt.alloc());
     values.push(found(rt.alloc(), 0x0001_0020, &[0x00, 0xff])?)?;
     values.push(found(rt.alloc(), 0x0001_0028, &[0x07, 0x0a])?)?;
-    let targets = Targets {
+    let spent = Spent {
         term: 12,
         found: values,
     };
     assert_eq!(rt;
-        write_targets(rt.alloc(), &targets)?.as_slice(),
+        write_targets(rt.alloc(), &spent)?.as_slice(),
         TWO.as_bytes()
     );
     Ok(())
