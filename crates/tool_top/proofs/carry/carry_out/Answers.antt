@@ -7,7 +7,7 @@ pub returns-in-Ok-clause-ok : goal.returns-in-Ok-clause-ok
 returns-in-Ok-clause-ok g c =
     let put = rw c.as_slice.ensures.value at c.in_ok-put_all.ensures.ok in
     record {
-      said = c.args.plan.now.text.items;
+      said = c.args.plan.now.text;
       begins = IsPrefix-whole _;
       whole = inl refl;
       changes = then_says _ _ _ _ _ _ put (rw c.as_slice-2.ensures.value at c.in-Ok.ensures.ok);

@@ -1,0 +1,264 @@
+-- A plan that was made, and then carried out.
+use Rattle.std.proofs.Common.{◌≡◌, ◌≢◌, ◌⊎◌, ℕ, List, [], inl, inr, refl, sym, ◌∙◌, ap, subst, take, arith}
+use Rattle.std.specs.Prelude.{Option, None, Some, IfSome, option_and_then}
+use Rattle.std.specs.Option.{option_map}
+use Rattle.tool_io.specs.Told.{Told, Seen, Put, Deeds, Gives, after, says, puts_all, IsPrefix, names_since}
+use Rattle.tool_io.specs.Causes.{Rose}
+use Rattle.tool_io.proofs.Deeds.{then_says, then_all, IsPrefix-nothing, IsPrefix-whole}
+use Rattle.tool_io.proofs.Since.{names_since-after, puts_since-after, said_since-after}
+use Rattle.elf_load.specs.declared.region.Region.{Region}
+use Rattle.tool_words.specs.Job.{Job, Explore}
+use Rattle.tool_top.specs.Plan.{Plan, names_of, IsPlan, IsPlanned, IsReported, Means, OnlyReads, no_memory, most_bytes}
+use Rattle.elf_load.specs.Images.{Image, Loads}
+use Rattle.elf_load.proofs.OneImage.{one_image}
+use Rattle.sym_state.specs.Programs.{Program}
+use Rattle.tool_words.specs.declared.limit.Budgets.{Budgets}
+use Rattle.tool_top.specs.Later.{IsTaken, IsInput}
+use Rattle.tool_top.specs.Reports.{Entry, IsReport, files_of, summary_of}
+use Rattle.tool_top.specs.Answer.{Answered, status_of, IsAnswered, IsFaulted, IsWanting, IsCarriedOut, IsCutByFault, IsWritten, OnWritten, HoldsProgram, HoldsNoProgram, HoldsMisfit}
+use Rattle.tool_top.specs.declared.verdict.Verdict.{Verdict}
+use Rattle.tool_top.specs.declared.verdict.Verdict.TheVariants.{Done, NoJob, Refused, Unfit, ReadFault}
+use Rattle.tool_top.specs.declared.verdict.Ending.{Ending}
+use Rattle.tool_top.specs.declared.verdict.Ending.TheVariants.{Planned, WriteFault, NoMemory}
+
+-- a plan stays one where the count of read faults stands still
+plan_later : (old mid new : Seen) (job : Option Job) (plan : Plan) → new.reads ≡ mid.reads → IsPlan old mid job plan → IsPlan old new job plan
+plan_later old mid new job plan same (inl means) = inl means
+plan_later old mid new job plan same (inr (rose, fault)) = inr (rw same rose, fault)
+
+-- a count of write faults that rose since the plan was made rose in the whole run
+rose_whole : (old mid new : Seen) → mid.writes ≡ old.writes → Rose mid.writes new.writes → Rose old.writes new.writes
+rose_whole old mid new same rose = rw (← same) rose
+
+means_names : (told : Told) (job : Option Job) (plan : Plan) → Means told job plan → IsPrefix plan.names (names_of job)
+means_names told None plan is = rw is (IsPrefix-whole _)
+means_names told (Some (Explore program out asked budgets workers)) plan (bytes, given, names, treated) = rw names (IsPrefix-whole _)
+
+pub plan_names : (old new : Seen) (job : Option Job) (plan : Plan) → IsPlan old new job plan → IsPrefix plan.names (names_of job)
+plan_names old new job plan (inl means) = means_names old.told job plan means
+plan_names old new job plan (inr (rose, fault)) = fault.0
+
+-- The verdict of a plan says which plan it is.
+done_reported : (old new : Seen) (program out : List ℕ) (asked : List Region) (budgets : Budgets) (workers : ℕ) (plan : Plan) → plan.verdict ≡ Done → IsPlan old new (Some (Explore program out asked budgets workers)) plan → (bytes : List ℕ) × Gives old.told program most_bytes bytes × IsReported out bytes asked budgets plan.verdict plan.puts plan.text
+done_reported old new program out asked budgets workers plan done (inl (bytes, given, names, inl report)) = (bytes, given, report)
+done_reported old new program out asked budgets workers plan done (inl (bytes, given, names, inr (inl refusal))) = let other = refusal.refused in cc
+done_reported old new program out asked budgets workers plan done (inl (bytes, given, names, inr (inr misfit))) = let other = misfit.is in cc
+done_reported old new program out asked budgets workers plan done (inr (rose, (begins, is))) = let other : plan.verdict ≡ ReadFault = ap (λ (p : Plan). p.verdict) is in cc
+
+refused_refusal : (old new : Seen) (program out : List ℕ) (asked : List Region) (budgets : Budgets) (workers : ℕ) (plan : Plan) → plan.verdict ≡ Refused → IsPlan old new (Some (Explore program out asked budgets workers)) plan → (bytes : List ℕ) × Gives old.told program most_bytes bytes × ((image : Image) → ¬ IsTaken bytes image)
+refused_refusal old new program out asked budgets workers plan refused (inl (bytes, given, names, inl report)) = let other = report.done in cc
+refused_refusal old new program out asked budgets workers plan refused (inl (bytes, given, names, inr (inl refusal))) = (bytes, given, refusal.none)
+refused_refusal old new program out asked budgets workers plan refused (inl (bytes, given, names, inr (inr misfit))) = let other = misfit.is in cc
+refused_refusal old new program out asked budgets workers plan refused (inr (rose, (begins, is))) = let other : plan.verdict ≡ ReadFault = ap (λ (p : Plan). p.verdict) is in cc
+
+unfit_misfit : (old new : Seen) (program out : List ℕ) (asked : List Region) (budgets : Budgets) (workers : ℕ) (plan : Plan) → plan.verdict ≡ Unfit → IsPlan old new (Some (Explore program out asked budgets workers)) plan → (bytes : List ℕ) × (image : Image) × Gives old.told program most_bytes bytes × IsTaken bytes image × ((place : ℕ) → ¬ IsInput image asked place)
+unfit_misfit old new program out asked budgets workers plan unfit (inl (bytes, given, names, inl report)) = let other = report.done in cc
+unfit_misfit old new program out asked budgets workers plan unfit (inl (bytes, given, names, inr (inl refusal))) = let other = refusal.refused in cc
+unfit_misfit old new program out asked budgets workers plan unfit (inl (bytes, given, names, inr (inr misfit))) = (bytes, misfit.image, given, misfit.taken, misfit.others)
+unfit_misfit old new program out asked budgets workers plan unfit (inr (rose, (begins, is))) = let other : plan.verdict ≡ ReadFault = ap (λ (p : Plan). p.verdict) is in cc
+
+fault_rose : (old new : Seen) (program out : List ℕ) (asked : List Region) (budgets : Budgets) (workers : ℕ) (plan : Plan) → plan.verdict ≡ ReadFault → IsPlan old new (Some (Explore program out asked budgets workers)) plan → Rose old.reads new.reads
+fault_rose old new program out asked budgets workers plan fault (inl (bytes, given, names, inl report)) = let other = report.done in cc
+fault_rose old new program out asked budgets workers plan fault (inl (bytes, given, names, inr (inl refusal))) = let other = refusal.refused in cc
+fault_rose old new program out asked budgets workers plan fault (inl (bytes, given, names, inr (inr misfit))) = let other = misfit.is in cc
+fault_rose old new program out asked budgets workers plan fault (inr (rose, read)) = rose
+
+no_job_none : (old new : Seen) (program out : List ℕ) (asked : List Region) (budgets : Budgets) (workers : ℕ) (plan : Plan) → plan.verdict ≡ NoJob → IsPlan old new (Some (Explore program out asked budgets workers)) plan → ⊥
+no_job_none old new program out asked budgets workers plan no_job (inl (bytes, given, names, inl report)) = let other = report.done in cc
+no_job_none old new program out asked budgets workers plan no_job (inl (bytes, given, names, inr (inl refusal))) = let other = refusal.refused in cc
+no_job_none old new program out asked budgets workers plan no_job (inl (bytes, given, names, inr (inr misfit))) = let other = misfit.is in cc
+no_job_none old new program out asked budgets workers plan no_job (inr (rose, (begins, is))) = let other : plan.verdict ≡ ReadFault = ap (λ (p : Plan). p.verdict) is in cc
+
+-- without a job the plan is one verdict or another, and puts nothing
+none_puts : (old new : Seen) (plan : Plan) → IsPlan old new None plan → plan.puts ≡ []
+none_puts old new plan (inl is) = ap (λ (p : Plan). p.puts) is
+none_puts old new plan (inr (rose, (begins, is))) = ap (λ (p : Plan). p.puts) is
+
+none_done : (old new : Seen) (plan : Plan) → plan.verdict ≡ Done → IsPlan old new None plan → ⊥
+none_done old new plan done (inl is) = let other : plan.verdict ≡ NoJob = ap (λ (p : Plan). p.verdict) is in cc
+none_done old new plan done (inr (rose, (begins, is))) = let other : plan.verdict ≡ ReadFault = ap (λ (p : Plan). p.verdict) is in cc
+
+none_refused : (old new : Seen) (plan : Plan) → plan.verdict ≡ Refused → IsPlan old new None plan → ⊥
+none_refused old new plan refused (inl is) = let other : plan.verdict ≡ NoJob = ap (λ (p : Plan). p.verdict) is in cc
+none_refused old new plan refused (inr (rose, (begins, is))) = let other : plan.verdict ≡ ReadFault = ap (λ (p : Plan). p.verdict) is in cc
+
+none_unfit : (old new : Seen) (plan : Plan) → plan.verdict ≡ Unfit → IsPlan old new None plan → ⊥
+none_unfit old new plan unfit (inl is) = let other : plan.verdict ≡ NoJob = ap (λ (p : Plan). p.verdict) is in cc
+none_unfit old new plan unfit (inr (rose, (begins, is))) = let other : plan.verdict ≡ ReadFault = ap (λ (p : Plan). p.verdict) is in cc
+
+-- a plan that puts files is done
+some_puts_done : (old new : Seen) (job : Option Job) (plan : Plan) → plan.puts ≢ [] → IsPlan old new job plan → plan.verdict ≡ Done
+some_puts_done old new None plan some planned = absurd (some (none_puts old new plan planned))
+some_puts_done old new (Some (Explore program out asked budgets workers)) plan some (inl (bytes, given, names, inl report)) = report.done
+some_puts_done old new (Some (Explore program out asked budgets workers)) plan some (inl (bytes, given, names, inr (inl refusal))) = absurd (some refusal.no_files)
+some_puts_done old new (Some (Explore program out asked budgets workers)) plan some (inl (bytes, given, names, inr (inr misfit))) = absurd (some misfit.no_files)
+some_puts_done old new (Some (Explore program out asked budgets workers)) plan some (inr (rose, (begins, is))) = absurd (some (ap (λ (p : Plan). p.puts) is))
+
+pub answered : (old mid new : Seen) (job : Option Job) (verdict : Verdict) (puts : List Put) (text : List ℕ) → IsPlanned old mid job verdict puts text → mid.writes ≡ old.writes → new.reads ≡ mid.reads → IsCarriedOut mid new verdict puts text [] → IsAnswered old new job verdict
+answered old mid new job verdict puts text planned writes reads out = record {
+  plan = record { verdict = verdict; names = planned.names; puts = puts; text = text };
+  is = refl;
+  planned = plan_later old mid new job _ reads planned.plan;
+  out = record {
+    said = out.said;
+    begins = out.begins;
+    whole = elim out.whole [ inl all ↦ inl all | inr cut ↦ inr (rose_whole old mid new writes cut.0, cut.1) ];
+    changes = then_all _ _ _ _ _ _ planned.changes out.changes;
+  };
+}
+
+pub faulted : (old mid new : Seen) (job : Option Job) (verdict : Verdict) (puts : List Put) (text : List ℕ) → IsPlanned old mid job verdict puts text → mid.writes ≡ old.writes → new.reads ≡ mid.reads → Rose mid.writes new.writes → (verdict ≡ Done) ⊎ (puts ≢ []) → IsCutByFault mid new puts text [] → IsFaulted old new job
+faulted old mid new job verdict puts text planned writes reads rose only out = record {
+  plan = record { verdict = verdict; names = planned.names; puts = puts; text = text };
+  rose = rose_whole old mid new writes rose;
+  only_done = elim only [ inl done ↦ done | inr some ↦ some_puts_done old mid job _ some planned.plan ];
+  planned = plan_later old mid new job _ reads planned.plan;
+  out = record {
+    puts = out.puts;
+    said = out.said;
+    files = out.files;
+    begins = out.begins;
+    in_order = out.in_order;
+    changes = then_all _ _ _ _ _ _ planned.changes out.changes;
+  };
+}
+
+-- memory was refused while the plan was carried out, and that was said
+pub wanting_later : (old mid late new : Seen) (job : Option Job) (verdict : Verdict) (puts : List Put) (text : List ℕ) → IsPlanned old mid job verdict puts text → late.reads ≡ mid.reads → new.reads ≡ late.reads → (made : List Put) × IsPrefix made puts × (late.told ≡ after mid.told (puts_all made)) → (said : List ℕ) × IsPrefix said no_memory × (new.told ≡ after late.told (says said)) → IsWanting old new job
+wanting_later old mid late new job verdict puts text planned reads reads' (made, begins, put) (said, cut, spoke) = record {
+  names = planned.names;
+  whole = puts;
+  reading = plan_names old mid job _ planned.plan;
+  writing = inr (record { verdict = verdict; names = planned.names; puts = puts; text = text }, plan_later old mid new job _ (reads' ∙ reads) planned.plan, refl, refl);
+  out = record {
+    puts = made;
+    said = said;
+    files = begins;
+    begins = cut;
+    changes = then_says _ _ _ _ _ _ (then_all _ _ _ _ _ _ planned.changes put) spoke;
+  };
+}
+
+-- memory was refused while the plan was made, and that was said
+pub wanting_early : (old mid new : Seen) (job : Option Job) → OnlyReads old mid job → (said : List ℕ) × IsPrefix said no_memory × (new.told ≡ after mid.told (says said)) → IsWanting old new job
+wanting_early old mid new job only (said, cut, spoke) = record {
+  names = only.names;
+  whole = [];
+  reading = only.begins;
+  writing = inl refl;
+  out = record { puts = []; said = said; files = IsPrefix-nothing []; begins = cut; changes = then_says _ _ _ _ _ _ only.changes spoke };
+}
+
+-- the names read are those of the job, from the first on
+pub answered_names : (old new : Seen) (job : Option Job) (ending : Ending) → Answered old new job ending → IfSome (names_since old.told new.told) (λ names. IsPrefix names (names_of job))
+answered_names old new job (Planned verdict) h = names_since-after _ _ (record { names = h.plan.names; puts = h.plan.puts; said = h.out.said }) _ h.out.changes (plan_names old new job h.plan h.planned)
+answered_names old new job WriteFault h = names_since-after _ _ (record { names = h.plan.names; puts = h.out.puts; said = h.out.said }) _ h.out.changes (plan_names old new job h.plan h.planned)
+answered_names old new job NoMemory h = names_since-after _ _ (record { names = h.names; puts = h.out.puts; said = h.out.said }) _ h.out.changes h.reading
+
+-- what was written, where the plan is done and all was put and said
+written : (old new : Seen) (name out bytes : List ℕ) (asked : List Region) (budgets : Budgets) (Claim : Program → Budgets → List Entry → Type 0) (plan : Plan) → ((p : Program) (entries : List Entry) → IsReport p budgets entries → Claim p budgets entries) → Gives old.told name most_bytes bytes → IsReported out bytes asked budgets plan.verdict plan.puts plan.text → IsCarriedOut old new Done plan.puts plan.text plan.names → IsWritten old.told new.told name out asked budgets Claim
+written old new name out bytes asked budgets Claim plan claims given reported carried =
+    let report = reported.report in
+    let deeds : Deeds = record { names = plan.names; puts = plan.puts; said = carried.said } in
+    let said : carried.said ≡ plan.text = elim carried.whole [ inl all ↦ all | inr cut ↦ absurd (cut.1 refl) ] in
+    record {
+      program = reported.program;
+      entries = report.entries;
+      bytes = bytes;
+      given = given;
+      taken = reported.taken;
+      fits = reported.fits;
+      files = puts_since-after old.told new.told deeds (λ puts. puts ≡ files_of out report.entries) carried.changes report.files;
+      summary = said_since-after old.told new.told deeds (λ said. said ≡ summary_of report.entries) carried.changes (said ∙ report.summary);
+      claim = claims reported.program report.entries report.claims;
+    }
+
+pub done_written : (old new : Seen) (job : Option Job) (Claim : Program → Budgets → List Entry → Type 0) → ((p : Program) (budgets : Budgets) (entries : List Entry) → IsReport p budgets entries → Claim p budgets entries) → IsAnswered old new job Done → OnWritten old.told new.told job Claim
+done_written old new None Claim claims h = none_done old new h.plan h.is h.planned
+done_written old new (Some (Explore program out asked budgets workers)) Claim claims h =
+    let r = done_reported old new program out asked budgets workers h.plan h.is h.planned in
+    written old new program out r.0 asked budgets Claim h.plan (λ p. claims p budgets) r.1 r.2 h.out
+
+-- what is refused is no program
+pub refused_no_program : (old new : Seen) (job : Option Job) → IsAnswered old new job Refused → HoldsNoProgram old.told job
+refused_no_program old new None h = none_refused old new h.plan h.is h.planned
+refused_no_program old new (Some (Explore program out asked budgets workers)) h = refused_refusal old new program out asked budgets workers h.plan h.is h.planned
+
+-- what doesn't fit is a program for another input
+pub unfit_holds : (old new : Seen) (job : Option Job) → IsAnswered old new job Unfit → HoldsMisfit old.told job
+unfit_holds old new None h = none_unfit old new h.plan h.is h.planned
+unfit_holds old new (Some (Explore program out asked budgets workers)) h = unfit_misfit old new program out asked budgets workers h.plan h.is h.planned
+
+-- Each status is that of one ending.
+pub answered_done : (old new : Seen) (job : Option Job) (ending : Ending) (status : ℕ) → Answered old new job ending → status ≡ status_of ending → status ≡ 0 → IsAnswered old new job Done
+answered_done old new job (Planned Done) status h is zero = h
+answered_done old new job (Planned NoJob) status h is zero = absurd (omega (arith, is, zero))
+answered_done old new job (Planned Refused) status h is zero = absurd (omega (arith, is, zero))
+answered_done old new job (Planned Unfit) status h is zero = absurd (omega (arith, is, zero))
+answered_done old new job (Planned ReadFault) status h is zero = absurd (omega (arith, is, zero))
+answered_done old new job WriteFault status h is zero = absurd (omega (arith, is, zero))
+answered_done old new job NoMemory status h is zero = absurd (omega (arith, is, zero))
+
+pub answered_refused : (old new : Seen) (job : Option Job) (ending : Ending) (status : ℕ) → Answered old new job ending → status ≡ status_of ending → status ≡ 3 → IsAnswered old new job Refused
+answered_refused old new job (Planned Done) status h is three = absurd (omega (arith, is, three))
+answered_refused old new job (Planned NoJob) status h is three = absurd (omega (arith, is, three))
+answered_refused old new job (Planned Refused) status h is three = h
+answered_refused old new job (Planned Unfit) status h is three = absurd (omega (arith, is, three))
+answered_refused old new job (Planned ReadFault) status h is three = absurd (omega (arith, is, three))
+answered_refused old new job WriteFault status h is three = absurd (omega (arith, is, three))
+answered_refused old new job NoMemory status h is three = absurd (omega (arith, is, three))
+
+pub answered_unfit : (old new : Seen) (job : Option Job) (ending : Ending) (status : ℕ) → Answered old new job ending → status ≡ status_of ending → status ≡ 4 → IsAnswered old new job Unfit
+answered_unfit old new job (Planned Done) status h is four = absurd (omega (arith, is, four))
+answered_unfit old new job (Planned NoJob) status h is four = absurd (omega (arith, is, four))
+answered_unfit old new job (Planned Refused) status h is four = absurd (omega (arith, is, four))
+answered_unfit old new job (Planned Unfit) status h is four = h
+answered_unfit old new job (Planned ReadFault) status h is four = absurd (omega (arith, is, four))
+answered_unfit old new job WriteFault status h is four = absurd (omega (arith, is, four))
+answered_unfit old new job NoMemory status h is four = absurd (omega (arith, is, four))
+
+pub answered_faulted : (old new : Seen) (job : Option Job) (ending : Ending) (status : ℕ) → Answered old new job ending → status ≡ status_of ending → status ≡ 6 → IsFaulted old new job
+answered_faulted old new job (Planned Done) status h is six = absurd (omega (arith, is, six))
+answered_faulted old new job (Planned NoJob) status h is six = absurd (omega (arith, is, six))
+answered_faulted old new job (Planned Refused) status h is six = absurd (omega (arith, is, six))
+answered_faulted old new job (Planned Unfit) status h is six = absurd (omega (arith, is, six))
+answered_faulted old new job (Planned ReadFault) status h is six = absurd (omega (arith, is, six))
+answered_faulted old new job WriteFault status h is six = h
+answered_faulted old new job NoMemory status h is six = absurd (omega (arith, is, six))
+
+-- a write fault is answered only where there is a job
+pub faulted_job : (old new : Seen) (job : Option Job) → IsFaulted old new job → job ≢ None
+faulted_job old new None h is = none_done old new h.plan h.only_done h.planned
+faulted_job old new (Some job) h is = cc
+
+-- what a name gives is what it holds
+given_held : (most : ℕ) (name held given : List ℕ) (holds : Option (List ℕ → Option (List ℕ))) → option_map (take most) (option_and_then (λ (h : List ℕ → Option (List ℕ)). h name) holds) ≡ Some held → IfSome holds (λ h. option_map (take most) (h name) ≡ Some given) → given ≡ held
+given_held most name held given None is g = cc
+given_held most name held given (Some h) is g = cc
+
+-- a program that is taken is not refused
+held_not_refused : (told : Told) (job : Option Job) → HoldsProgram told job → HoldsNoProgram told job → ⊥
+held_not_refused told None holds none = holds
+held_not_refused told (Some (Explore program out asked budgets workers)) (bytes, p, held, taken, fits) (given, gives, none) =
+    let same = given_held most_bytes program bytes given told.holds held gives in
+    none p.image (subst (λ (b : List ℕ). IsTaken b p.image) (sym same) taken)
+
+-- nor does it not fit
+held_not_unfit : (told : Told) (job : Option Job) → HoldsProgram told job → HoldsMisfit told job → ⊥
+held_not_unfit told None holds misfit = holds
+held_not_unfit told (Some (Explore program out asked budgets workers)) (bytes, p, held, taken, fits) (given, image, gives, is, others) =
+    let same = given_held most_bytes program bytes given told.holds held gives in
+    let one : p.image ≡ image = one_image bytes p.image image taken.loads (subst (λ (b : List ℕ). Loads b image) same is.loads) in
+    others p.place (subst (λ (i : Image). IsInput i asked p.place) one fits)
+
+-- where it is held, and no fault was counted, it is explored to the end
+pub complete : (old new : Seen) (job : Option Job) (ending : Ending) (status : ℕ) → Answered old new job ending → status ≡ status_of ending → HoldsProgram old.told job → ¬ Rose old.reads new.reads → ¬ Rose old.writes new.writes → (status ≡ 0) ⊎ (status ≡ 8)
+complete old new job (Planned Done) status h is holds read wrote = inl is
+complete old new None (Planned NoJob) status h is holds read wrote = absurd holds
+complete old new (Some (Explore program out asked budgets workers)) (Planned NoJob) status h is holds read wrote = absurd (no_job_none old new program out asked budgets workers h.plan h.is h.planned)
+complete old new job (Planned Refused) status h is holds read wrote = absurd (held_not_refused old.told job holds (refused_no_program old new job h))
+complete old new job (Planned Unfit) status h is holds read wrote = absurd (held_not_unfit old.told job holds (unfit_holds old new job h))
+complete old new None (Planned ReadFault) status h is holds read wrote = absurd holds
+complete old new (Some (Explore program out asked budgets workers)) (Planned ReadFault) status h is holds read wrote = absurd (read (fault_rose old new program out asked budgets workers h.plan h.is h.planned))
+complete old new job WriteFault status h is holds read wrote = absurd (wrote h.rose)
+complete old new job NoMemory status h is holds read wrote = inr is

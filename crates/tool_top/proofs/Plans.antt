@@ -1,0 +1,73 @@
+-- Making a plan, from what its parts are.
+use Rattle.std.proofs.Common.{◌≡◌, ◌≢◌, ℕ, List, [], ◌∙◌, sym, ap, inl, inr}
+use Rattle.std.specs.Prelude.{Option, None, Some, Result, Ok, Err, IfOk, OnErr}
+use Rattle.std.specs.declared.alloc.AllocError.{AllocError}
+use Rattle.tool_io.specs.Told.{Seen, after, IsPrefix}
+use Rattle.elf_load.specs.Fits.{unfit}
+use Rattle.elf_load.specs.Images.{Image, Loads}
+use Rattle.elf_load.specs.Refusals.{refusal}
+use Rattle.elf_load.specs.declared.refused.Refused.{Refused as WhyRefused}
+use Rattle.elf_load.specs.declared.region.Region.{Region}
+use Rattle.elf_load.specs.declared.unfit.Unfit.{Unfit as WhyUnfit}
+use Rattle.tool_words.specs.Job.{Job}
+use Rattle.elf_load.proofs.OneImage.{one_image}
+use Rattle.tool_words.specs.declared.limit.Budgets.{Budgets}
+use Rattle.tool_top.specs.Later.{IsTaken, IsInput, IsDataByte, HasLaterWord}
+use Rattle.tool_top.specs.Plan.{Treats, refused_line, unfit_line, names_of, IsPlanned, OnlyReads, usage}
+use Rattle.tool_top.specs.declared.plan.Plan.{Plan as Made}
+use Rattle.tool_top.specs.declared.verdict.Verdict.TheVariants.{NoJob, Refused, Unfit}
+
+-- the words have no job
+pub planned_usage : (old new : Seen) (job : Option Job) (made : Result Made AllocError) → job ≡ None → new.told ≡ after old.told (record { names = []; puts = []; said = [] }) → IfOk made (λ p. p.verdict ≡ NoJob) → IfOk made (λ p. p.files.items ≡ []) → IfOk made (λ p. p.text ≡ usage) → IfOk made (λ p. IsPlanned old new job p.verdict p.files.items p.text)
+planned_usage old new None (Err e) none c v f t = tt
+planned_usage old new None (Ok p) none c v f t = record {
+  names = [];
+  plan = inl (λ i. record { verdict = v i; names = []; puts = f i; text = t i });
+  changes = c;
+}
+planned_usage old new (Some job) made none c v f t = cc
+
+-- some names were read, whatever came then
+pub only_reads : {T : Type 0} (old new : Seen) (job : Option Job) (names : List (List ℕ)) (made : Result T AllocError) → IsPrefix names (names_of job) → new.told ≡ after old.told (record { names = names; puts = []; said = [] }) → OnErr made (OnlyReads old new job)
+only_reads old new job names (Ok p) begins c = tt
+only_reads old new job names (Err e) begins c = record { names = names; begins = begins; changes = c }
+
+-- the program's file is refused
+pub treats_refused : (out bytes : List ℕ) (asked : List Region) (budgets : Budgets) (why : WhyRefused) (made : Result Made AllocError) → refusal bytes ≡ Some why → IfOk made (λ p. p.verdict ≡ Refused) → IfOk made (λ p. p.files.items ≡ []) → IfOk made (λ p. p.text ≡ refused_line (Some why)) → IfOk made (λ p. Treats out bytes asked budgets p.verdict p.files.items p.text)
+treats_refused out bytes asked budgets why (Err e) is v f t = tt
+treats_refused out bytes asked budgets why (Ok made) is v f t = inr (inl (record {
+  none = λ image taken. let fine : refusal bytes ≡ None = taken.loads.fine in cc;
+  refused = v;
+  no_files = f;
+  line = t ∙ ap refused_line (sym is);
+}))
+
+-- the program is to be taken later
+pub treats_later : (out bytes : List ℕ) (asked : List Region) (budgets : Budgets) (image : Image) (made : Result Made AllocError) → Loads bytes image → HasLaterWord image → IfOk made (λ p. p.verdict ≡ Refused) → IfOk made (λ p. p.files.items ≡ []) → IfOk made (λ p. p.text ≡ refused_line None) → IfOk made (λ p. Treats out bytes asked budgets p.verdict p.files.items p.text)
+treats_later out bytes asked budgets image (Err e) loads later v f t = tt
+treats_later out bytes asked budgets image (Ok made) loads later v f t = inr (inl (record {
+  none = λ other taken. taken.none_later (subst HasLaterWord (one_image bytes image other loads taken.loads) later);
+  refused = v;
+  no_files = f;
+  line = t ∙ ap refused_line (sym loads.fine);
+}))
+
+-- the program is one that is taken, but not for this input
+pub treats_misfit : (out bytes : List ℕ) (asked : List Region) (budgets : Budgets) (image : Image) (why : Option WhyUnfit) (made : Result Made AllocError) → IsTaken bytes image → unfit image asked ≡ why → ((place : ℕ) → ¬ IsInput image asked place) → IfOk made (λ p. p.verdict ≡ Unfit) → IfOk made (λ p. p.files.items ≡ []) → IfOk made (λ p. p.text ≡ unfit_line why) → IfOk made (λ p. Treats out bytes asked budgets p.verdict p.files.items p.text)
+treats_misfit out bytes asked budgets image why (Err e) taken is others v f t = tt
+treats_misfit out bytes asked budgets image why (Ok made) taken is others v f t = inr (inr (record {
+  image = image;
+  taken = taken;
+  others = others;
+  is = v;
+  no_files = f;
+  line = t ∙ ap unfit_line (sym is);
+}))
+
+-- an input that doesn't fit is none that is taken
+pub unfit_other : (image : Image) (asked : List Region) (why : WhyUnfit) → unfit image asked ≡ Some why → (place : ℕ) → ¬ IsInput image asked place
+unfit_other image asked why is place input = let fits = input.fits in cc
+
+-- nor is one that is no byte of data
+pub no_data_byte : (image : Image) (asked : List Region) → ((place : ℕ) → ¬ IsDataByte image asked place) → (place : ℕ) → ¬ IsInput image asked place
+no_data_byte image asked none place input = none place input.byte
