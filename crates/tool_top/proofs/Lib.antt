@@ -4,3 +4,4 @@ pub mod Explored
 pub mod Entries
 pub mod SampleWords
 pub mod LaterWords
+pub mod Running

@@ -15,4 +15,4 @@ returns-then-is_later_page-clause-yes c = λ _.
     later_in_image c.args.image.now c.in-Some.field-0-0.now c.in-Some.page.now pages.0 (c.is_later_page.ensures.yes c.if-is_later_page.true)
 
 pub returns-clause-no : goal.returns-clause-no
-returns-clause-no c = λ _. none_later c.args.image.now (c.loop-page.invariant.1 (rw c.in-None.ensures.steps at tt))
+returns-clause-no c = λ _. none_later c.args.image.now (c.loop-page.invariant.1 (subst NoneLater (sym c.in-None.ensures.steps.0) tt))
