@@ -20,7 +20,8 @@ use Rattle.tool_words.specs.declared.limit.Budgets.{Budgets}
 use Rattle.tree_core.specs.declared.cause.Cause.{Cause}
 use Rattle.tree_core.specs.declared.cause.Cause.TheVariants.{Steps, Targets, Conflicts}
 use Rattle.tree_core.specs.declared.choice.Choice.{Choice}
-use Rattle.tool_top.specs.Reports.{Beside, Tested, OnTargets, Entry, IsReport, IsExplored, IsRun, IsTested, IsTestable, IsLongEnough, HasSpent, ShowBudgets, AreRanked, beside_of, entries_of, entry_of, leaves_of, leaves_in, test_of}
+use Rattle.tool_io.specs.Told.{Put}
+use Rattle.tool_top.specs.Reports.{Beside, Tested, OnTargets, Entry, IsReport, IsReportOf, files_of, summary_of, IsExplored, IsRun, IsTested, IsTestable, IsLongEnough, HasSpent, ShowBudgets, AreRanked, beside_of, entries_of, entry_of, leaves_of, leaves_in, test_of}
 use Rattle.tool_top.proofs.Entries.{leaves_of-entries_of}
 
 -- a right leaf, whichever the sides of its fork
@@ -121,4 +122,16 @@ explored_testable p steps targets parts h = λ at d below.
     record {
       bytes = right.1.bytes;
       sample = long_enough p targets right.0 (get_or parts at d).leaf (get_or parts at d).leaf.end (get_or parts at d).evidence right.1.shown;
+    }
+
+-- the files and the line that were made of them are their report
+pub report_of : (out : List ℕ) (p : Program) (budgets : Budgets) (parts : List Part) (place : ℕ) (puts : List Put) (text : List ℕ) → IsExplored p budgets.steps budgets.targets parts → place ≡ p.place →
+    puts ≡ files_of out (entries_of (record { start = place; count = 1 } ∷ []) 0 parts) → text ≡ summary_of (entries_of (record { start = place; count = 1 } ∷ []) 0 parts) → IsReportOf out p budgets puts text
+report_of out p budgets parts place puts text explored same files summary =
+    let entries : ℕ → List Entry = λ at. entries_of (record { start = at; count = 1 } ∷ []) 0 parts in
+    record {
+      entries = entries_of (regions_of p) 0 parts;
+      claims = explored_report p budgets parts explored;
+      files = files ∙ ap (λ (at : ℕ). files_of out (entries at)) same;
+      summary = summary ∙ ap (λ (at : ℕ). summary_of (entries at)) same;
     }

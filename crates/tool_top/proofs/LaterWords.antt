@@ -1,6 +1,6 @@
 -- Words that are taken later, and what can be run where there are none.
 use Rattle.std.proofs.Common.{◌≡◌, ℕ, ◌+◌, ◌*◌, ◌/◌, ◌%◌, ◌<◌, ◌≤◌, T, cond, not, ◌&&◌, Bool, true, false, List, [], ◌∷◌, drop, refl, sym, ap, ◌∙◌, subst, arith, inl, inr}
-use Rattle.std.specs.Prelude.{Option, None, Some, slice_index, IsSome, is_some}
+use Rattle.std.specs.Prelude.{Option, None, Some, slice_index, IsSome}
 use Rattle.std.proofs.Math.Nat.{eq-or-lt_of_le}
 use Rattle.std.specs.Cmp.{nat_cmp_total, tied_itself}
 use Rattle.std.specs.FinMap.{get, get-entries, entries, entries_sorted, nat_cmp-IsAntisymmetric}
@@ -14,7 +14,7 @@ use Rattle.std.proofs.lemmas.List.{get_or-drop}
 use Rattle.byteorder.specs.Endian.{little_number}
 use Rattle.elf_load.specs.Images.{Image}
 use Rattle.elf_load.specs.declared.page.Page.{Page}
-use Rattle.rv_decode.specs.Eight.{IsOneOfEight, IsEight}
+use Rattle.rv_decode.specs.Eight.{IsEight}
 use Rattle.rv_decode.specs.Instructions.{instr}
 use Rattle.rv_decode.specs.declared.instr.Instr.{Instr}
 use Rattle.rv_machine.specs.Memory.{byte_of, byte_in, flags_of, has_x, can_execute, word_at}

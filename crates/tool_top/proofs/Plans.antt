@@ -13,9 +13,12 @@ use Rattle.tool_words.specs.Job.{Job}
 use Rattle.elf_load.proofs.OneImage.{one_image}
 use Rattle.tool_words.specs.declared.limit.Budgets.{Budgets}
 use Rattle.tool_top.specs.Later.{IsTaken, IsInput, IsDataByte, HasLaterWord}
+use Rattle.sym_state.specs.Programs.{IsRunnable, Program}
+use Rattle.tool_top.specs.Reports.{IsReportOf}
+use Rattle.tool_top.proofs.Running.{runnable}
 use Rattle.tool_top.specs.Plan.{Treats, refused_line, unfit_line, names_of, IsPlanned, OnlyReads, usage}
 use Rattle.tool_top.specs.declared.plan.Plan.{Plan as Made}
-use Rattle.tool_top.specs.declared.verdict.Verdict.TheVariants.{NoJob, Refused, Unfit}
+use Rattle.tool_top.specs.declared.verdict.Verdict.TheVariants.{Done, NoJob, Refused, Unfit}
 
 -- the words have no job
 pub planned_usage : (old new : Seen) (job : Option Job) (made : Result Made AllocError) → job ≡ None → new.told ≡ after old.told (record { names = []; puts = []; said = [] }) → IfOk made (λ p. p.verdict ≡ NoJob) → IfOk made (λ p. p.files.items ≡ []) → IfOk made (λ p. p.text ≡ usage) → IfOk made (λ p. IsPlanned old new job p.verdict p.files.items p.text)
@@ -69,5 +72,24 @@ pub unfit_other : (image : Image) (asked : List Region) (why : WhyUnfit) → unf
 unfit_other image asked why is place input = let fits = input.fits in cc
 
 -- nor is one that is no byte of data
-pub no_data_byte : (image : Image) (asked : List Region) → ((place : ℕ) → ¬ IsDataByte image asked place) → (place : ℕ) → ¬ IsInput image asked place
-no_data_byte image asked none place input = none place input.byte
+pub no_data_byte : (image : Image) (asked slice : List Region) → slice ≡ asked → ((place : ℕ) → ¬ IsDataByte image slice place) → (place : ℕ) → ¬ IsInput image asked place
+no_data_byte image asked slice same none place input = none place (subst (λ (rs : List Region). IsDataByte image rs place) (sym same) input.byte)
+
+-- an input that fits and is a byte of data is one that is taken
+input_of : (image : Image) (asked slice : List Region) (place : ℕ) → unfit image asked ≡ None → slice ≡ asked → IsDataByte image slice place → IsInput image asked place
+input_of image asked slice place fits same byte = record { fits = fits; byte = subst (λ (rs : List Region). IsDataByte image rs place) same byte }
+
+-- so it can be run
+pub runs_here : (bytes : List ℕ) (image : Image) (asked slice : List Region) (place : ℕ) → IsTaken bytes image → unfit image asked ≡ None → slice ≡ asked → IsDataByte image slice place → IsRunnable (record { image = image; place = place })
+runs_here bytes image asked slice place taken fits same byte = runnable image asked place taken.none_later (input_of image asked slice place fits same byte)
+
+-- the report of a program that is taken, for an input that is taken
+pub treats_reported : (out bytes : List ℕ) (asked slice : List Region) (budgets : Budgets) (image : Image) (place : ℕ) (p : Program) (made : Result Made AllocError) → IsTaken bytes image → unfit image asked ≡ None → slice ≡ asked → IsDataByte image slice place → p ≡ record { image = image; place = place } → IfOk made (λ q. q.verdict ≡ Done) → IfOk made (λ q. IsReportOf out p budgets q.files.items q.text) → IfOk made (λ q. Treats out bytes asked budgets q.verdict q.files.items q.text)
+treats_reported out bytes asked slice budgets image place p (Err e) taken fits same byte is v r = tt
+treats_reported out bytes asked slice budgets image place p (Ok made) taken fits same byte is v r = inl (record {
+  program = record { image = image; place = place };
+  taken = taken;
+  fits = input_of image asked slice place fits same byte;
+  done = v;
+  report = subst (λ (q : Program). IsReportOf out q budgets made.files.items made.text) is r;
+})

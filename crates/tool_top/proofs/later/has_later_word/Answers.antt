@@ -1,4 +1,4 @@
-use Rattle.std.proofs.Common.{◌≡◌, ◌∷◌, ◌∙◌, sym, subst}
+use Rattle.std.proofs.Common.{◌≡◌, ◌∙◌, sym, subst}
 use Rattle.std.specs.FinMap.{entries}
 use Rattle.tool_top.proofs.LaterWords.{ArePages, NoneLater, entries_are_pages, later_in_image, none_later}
 use Rattle.tool_top.proofs.later.has_later_word.Goals as goal
