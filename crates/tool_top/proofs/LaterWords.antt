@@ -60,12 +60,15 @@ none_on_page page count all none place later =
     (subst (λ (n : ℕ). IsOther (instr n)) (sym (ap (λ k. little_number 4 (drop k page.bytes)) at ∙ word_there page place)) later.other)
 
 pub other_on_page : (page : Page) (i : ℕ) → i < 64 → has_x (Some page.flags) ≡ true → IsOther (instr (little_number 4 (drop (4 * i) page.bytes))) → (place : ℕ) × IsLaterOnPage page place
-other_on_page page i small can other = (4 * i, record {
-  within = omega (arith, small);
-  aligned = omega arith;
-  executable = can;
-  other = subst (λ (n : ℕ). IsOther (instr n)) (word_there page (4 * i)) other;
-})
+other_on_page page i small can other = (
+  4 * i,
+  record {
+    within = omega (arith, small);
+    aligned = omega arith;
+    executable = can;
+    other = subst (λ (n : ℕ). IsOther (instr n)) (word_there page (4 * i)) other;
+  },
+)
 
 -- from pages to images
 abbrev found_flags : (image : Image) (n : ℕ) (page : Page) → get image.pages n ≡ Some page → flags_of image n ≡ Some page.flags
@@ -91,12 +94,14 @@ word_in_image image n place page is small aligned =
 -- such a word of a page is one of the image
 pub later_in_image : (image : Image) (n : ℕ) (page : Page) → get image.pages n ≡ Some page → (place : ℕ) × IsLaterOnPage page place → HasLaterWord image
 later_in_image image n page is (place, later) =
-    let at : (256 * n + place) / 256 ≡ n = omega (arith, later.within) in
-    (256 * n + place, record {
-      aligned = omega (arith, later.aligned);
-      executable = ap (λ k. has_x (flags_of image k)) at ∙ ap has_x (found_flags image n page is) ∙ later.executable;
-      other = subst (λ (w : ℕ). IsOther (instr w)) (sym (word_in_image image n place page is later.within later.aligned)) later.other;
-    })
+    let at : (256 * n + place) / 256 ≡ n = omega (arith, later.within) in (
+      256 * n + place,
+      record {
+        aligned = omega (arith, later.aligned);
+        executable = ap (λ k. has_x (flags_of image k)) at ∙ ap has_x (found_flags image n page is) ∙ later.executable;
+        other = subst (λ (w : ℕ). IsOther (instr w)) (sym (word_in_image image n place page is later.within later.aligned)) later.other;
+      },
+    )
 
 -- and the other way round
 later_on_page : (image : Image) (pc : ℕ) (found : Option Page) → get image.pages (pc / 256) ≡ found → IsLaterWord image pc → (page : Page) × (found ≡ Some page) × IsLaterOnPage page (pc % 256)
@@ -106,13 +111,16 @@ later_on_page image pc None is later =
 later_on_page image pc (Some page) is later =
     let here : 256 * (pc / 256) + pc % 256 ≡ pc = omega arith in
     let small : pc % 256 < 256 = omega arith in
-    let aligned : pc % 256 % 4 ≡ 0 = omega (arith, later.aligned) in
-    (page, refl, record {
-      within = small;
-      aligned = aligned;
-      executable = sym (ap (λ o. has_x (option_map (λ (p : Page). p.flags) o)) is) ∙ later.executable;
-      other = subst (λ (w : ℕ). IsOther (instr w)) (ap (word_at (byte_of image)) (sym here) ∙ word_in_image image (pc / 256) (pc % 256) page is small aligned) later.other;
-    })
+    let aligned : pc % 256 % 4 ≡ 0 = omega (arith, later.aligned) in (
+      page,
+      refl,
+      record {
+        within = small;
+        aligned = aligned;
+        executable = sym (ap (λ o. has_x (option_map (λ (p : Page). p.flags) o)) is) ∙ later.executable;
+        other = subst (λ (w : ℕ). IsOther (instr w)) (ap (word_at (byte_of image)) (sym here) ∙ word_in_image image (pc / 256) (pc % 256) page is small aligned) later.other;
+      },
+    )
 
 pub page_of_later : (image : Image) → (later : HasLaterWord image) → (page : Page) × (get image.pages (later.0 / 256) ≡ Some page) × IsLaterOnPage page (later.0 % 256)
 page_of_later image (pc, later) = later_on_page image pc (get image.pages (pc / 256)) refl later
@@ -132,9 +140,9 @@ not_less k q less same = subst T (ap is_lt (tied_itself nat_cmp_total k)) (subst
 
 other_key : (k q : ℕ) → T (is_lt (nat_cmp k q)) → eq_by_cmp nat_cmp q k ≡ false
 other_key k q less = elim (eq_by_cmp nat_cmp q k) as (λ b. eq_by_cmp nat_cmp q k ≡ b → eq_by_cmp nat_cmp q k ≡ false) [
-    | true ↦ λ is. absurd (not_less k q less (nat_cmp-IsAntisymmetric q k (is_equal _ is)))
-    | false ↦ λ is. is
-  ] refl
+  | true ↦ λ is. absurd (not_less k q less (nat_cmp-IsAntisymmetric q k (is_equal _ is)))
+  | false ↦ λ is. is
+] refl
 
 kept : (e : ℕ × Page) (es fs : List (ℕ × Page)) → T (below_all nat_cmp e.0 fs) → AllByRecursion (λ f. find nat_cmp f.0 es ≡ Some f.1) fs → AllByRecursion (λ f. find nat_cmp f.0 (e ∷ es) ≡ Some f.1) fs
 kept e es [] below all = tt

@@ -11,7 +11,11 @@ use sym_state::Program;
 
 /// The leaves of the program by rank, each with what shows it.
 // A placeholder: it finds no leaf, and says that memory was refused. The walk of the fork tree is to stand here.
-pub fn explore(alloc: Global, program: &Program, budgets: Budgets) -> Result<Vec<LeafPart>, NoMemory>
+pub fn explore(
+    alloc: Global,
+    program: &Program,
+    budgets: Budgets,
+) -> Result<Vec<LeafPart>, NoMemory>
     requires runnable { IsRunnable program.now }
     requires steps { budgets.steps ≤ most_steps }
     requires targets { 1 ≤ budgets.targets }

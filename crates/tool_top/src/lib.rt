@@ -3,8 +3,8 @@
 
 mod carry;
 mod explore;
-pub mod laws;
 mod later;
+pub mod laws;
 mod plan;
 mod refusals;
 mod report;
@@ -14,3 +14,5 @@ mod verdict;
 
 pub use run::run_tool;
 
+#[cfg(test)]
+mod tests;

@@ -178,7 +178,15 @@ pub fn make_plan<F: Files>(alloc: Global, words: &[String], files: &mut F) -> Re
                 budgets,
                 workers,
             },
-        ) => plan_explore(alloc, program.as_str(), out.as_str(), &regions, budgets, workers, files),
+        ) => plan_explore(
+            alloc,
+            program.as_str(),
+            out.as_str(),
+            &regions,
+            budgets,
+            workers,
+            files,
+        ),
         Err(WordsError::Usage) => says_only(alloc, Verdict::NoJob, USAGE),
         Err(WordsError::NoMemory) => Err(NoMemory),
     }

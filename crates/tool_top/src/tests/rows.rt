@@ -1,0 +1,214 @@
+//! Programs that are explored: the line said, the names of the files, and how each of some of them begins.
+
+use crate::tests::programs::{CALLED, COMPARED, COUNTED, FORKED, STRAIGHT};
+use crate::tests::runs::{EXPLORE, files, run};
+use std::test::Fail;
+
+/// A run of the tool on a program.
+struct Row {
+    program: &'static [u32],
+    words: &'static [&'static str],
+    said: &'static str,
+    puts: usize,
+    /// Some of the files by their places among those put, with their names and how they begin.
+    files: &'static [(usize, &'static str, &'static str)],
+}
+
+const FIFTY_STEPS: [&str; 7] = [
+    "rvklee",
+    "explore",
+    "--steps",
+    "50",
+    "p.elf",
+    "out",
+    "00011000:1",
+];
+
+const FEWER_STEPS: [&str; 7] = [
+    "rvklee",
+    "explore",
+    "--steps",
+    "49",
+    "p.elf",
+    "out",
+    "00011000:1",
+];
+
+const FOUR_TARGETS: [&str; 7] = [
+    "rvklee",
+    "explore",
+    "--targets",
+    "4",
+    "p.elf",
+    "out",
+    "00011000:1",
+];
+
+const ROWS: [Row; 6] = [
+    Row {
+        program: &STRAIGHT,
+        words: &EXPLORE,
+        said: "leaves 1 finished 1 cut 0 tests 1 steps 3\n",
+        puts: 2,
+        files: &[
+            (
+                0,
+                "out/leaf-000000.smt2",
+                "; rvklee leaf 1\n; kind finished\n; choices .\n; path .\n; steps 3\n; end exit\n",
+            ),
+            (
+                1,
+                "out/test-000000.json",
+                "{\"end\":\"exit 7\",\"format\":1,\"input\":\"00\",\"leaf\":0,\"output\":\"\",\"path\":\"\",\"regions\":[\"00011000:1\"],\"steps\":3}\n",
+            ),
+        ],
+    },
+    Row {
+        program: &FORKED,
+        words: &EXPLORE,
+        said: "leaves 2 finished 2 cut 0 tests 2 steps 13\n",
+        puts: 4,
+        files: &[
+            (
+                0,
+                "out/leaf-000000.smt2",
+                "; rvklee leaf 1\n; kind finished\n; choices N.\n; path N.\n; steps 6\n; end exit\n",
+            ),
+            (
+                1,
+                "out/test-000000.json",
+                "{\"end\":\"exit 0\",\"format\":1,\"input\":\"00\",\"leaf\":0,\"output\":\"\",\"path\":\"N\",\"regions\":[\"00011000:1\"],\"steps\":6}\n",
+            ),
+            (
+                2,
+                "out/leaf-000001.smt2",
+                "; rvklee leaf 1\n; kind finished\n; choices Y.\n; path T.\n; steps 7\n; end exit\n",
+            ),
+            (
+                3,
+                "out/test-000001.json",
+                "{\"end\":\"exit 1\",\"format\":1,\"input\":\"41\",\"leaf\":1,\"output\":\"\",\"path\":\"T\",\"regions\":[\"00011000:1\"],\"steps\":7}\n",
+            ),
+        ],
+    },
+    Row {
+        program: &COMPARED,
+        words: &EXPLORE,
+        said: "leaves 3 finished 3 cut 0 tests 3 steps 26\n",
+        puts: 6,
+        files: &[
+            (
+                0,
+                "out/leaf-000000.smt2",
+                "; rvklee leaf 1\n; kind finished\n; choices N.\n; path NT.\n; steps 9\n; end exit\n",
+            ),
+            (
+                1,
+                "out/test-000000.json",
+                "{\"end\":\"exit 1\",\"format\":1,\"input\":\"0",
+            ),
+            (
+                2,
+                "out/leaf-000001.smt2",
+                "; rvklee leaf 1\n; kind finished\n; choices YN.\n; path TN.\n; steps 9\n; end exit\n",
+            ),
+            (3, "out/test-000001.json", "{\"end\":\"exit 2\","),
+            (
+                4,
+                "out/leaf-000002.smt2",
+                "; rvklee leaf 1\n; kind finished\n; choices YY.\n; path TT.\n; steps 8\n; end exit\n",
+            ),
+            (5, "out/test-000002.json", "{\"end\":\"exit 0\","),
+        ],
+    },
+    Row {
+        program: &COUNTED,
+        words: &FIFTY_STEPS,
+        said: "leaves 17 finished 16 cut 1 tests 17 steps 440\n",
+        puts: 34,
+        files: &[
+            (
+                0,
+                "out/leaf-000000.smt2",
+                "; rvklee leaf 1\n; kind steps\n; choices NNNNNNNNNNNNNNNN.\n; path NNNNNNNNNNNNNNNN.\n; steps 50\n; end running\n",
+            ),
+            (
+                1,
+                "out/test-000000.json",
+                "{\"end\":\"running\",\"format\":1,\"input\":\"",
+            ),
+            (
+                32,
+                "out/leaf-000016.smt2",
+                "; rvklee leaf 1\n; kind finished\n; choices Y.\n; path T.\n; steps 5\n; end exit\n",
+            ),
+            (
+                33,
+                "out/test-000016.json",
+                "{\"end\":\"exit 0\",\"format\":1,\"input\":\"00\",\"leaf\":16,",
+            ),
+        ],
+    },
+    Row {
+        program: &COUNTED,
+        words: &FEWER_STEPS,
+        said: "leaves 17 finished 15 cut 2 tests 17 steps 390\n",
+        puts: 34,
+        files: &[
+            (
+                0,
+                "out/leaf-000000.smt2",
+                "; rvklee leaf 1\n; kind steps\n; choices NNNNNNNNNNNNNNNN.\n",
+            ),
+            (
+                2,
+                "out/leaf-000001.smt2",
+                "; rvklee leaf 1\n; kind steps\n; choices NNNNNNNNNNNNNNNY.\n",
+            ),
+        ],
+    },
+    Row {
+        program: &CALLED,
+        words: &FOUR_TARGETS,
+        said: "leaves 5 finished 4 cut 1 tests 4 steps 12\n",
+        puts: 10,
+        files: &[
+            (
+                0,
+                "out/leaf-000000.smt2",
+                "; rvklee leaf 1\n; kind finished\n; choices =00000000.\n; path .\n; steps 3\n; end Call\n",
+            ),
+            (
+                1,
+                "out/test-000000.json",
+                "{\"end\":\"trap Call\",\"format\":1,\"input\":\"00\",\"leaf\":0,\"output\":\"\",\"path\":\"\",\"regions\":[\"00011000:1\"],\"steps\":3}\n",
+            ),
+            (
+                8,
+                "out/leaf-000004.smt2",
+                "; rvklee leaf 1\n; kind targets\n; choices R.\n",
+            ),
+            (9, "out/spent-000004.txt", "; spent targets 4\n; term n"),
+        ],
+    },
+];
+
+#[test]
+fn programs_are_explored(rt: HostRuntime) -> Result<(), Fail> {
+    for row in &ROWS {
+        let mut held = files(rt.alloc(), row.program, &[])?;
+        assert_eq!(rt; run(&rt, row.words, &mut held)?, 0, "{}", row.said);
+        assert_eq!(rt; held.said(), row.said.as_bytes(), "{}", row.said);
+        assert_eq!(rt; held.puts().len(), row.puts, "{}", row.said);
+        for &(at, name, beginning) in row.files {
+            let file = held.puts().get(at).expect(&rt, "a file that was put");
+            assert_eq!(rt; file.name(), name, "{}", row.said);
+            assert!(rt;
+                file.bytes().starts_with(beginning.as_bytes()),
+                "{name}, {}",
+                row.said
+            );
+        }
+    }
+    Ok(())
+}
