@@ -9,7 +9,11 @@ use Rattle.tool_io.proofs.Since.{names_since-after, puts_since-after, said_since
 use Rattle.elf_load.specs.declared.region.Region.{Region}
 use Rattle.tool_words.specs.Job.{Job, Explore}
 use Rattle.tool_top.specs.Plan.{Plan, names_of, IsPlan, IsPlanned, IsReported, Means, OnlyReads, no_memory, most_bytes}
-use Rattle.tool_top.specs.Programs.{IsProgram, regions}
+use Rattle.elf_load.specs.Images.{Image, Loads}
+use Rattle.elf_load.proofs.OneImage.{one_image}
+use Rattle.sym_state.specs.Programs.{Program}
+use Rattle.tool_words.specs.declared.limit.Budgets.{Budgets}
+use Rattle.tool_top.specs.Later.{IsTaken, IsInput}
 use Rattle.tool_top.specs.Reports.{Entry, IsReport, files_of, summary_of}
 use Rattle.tool_top.specs.Answer.{Answered, status_of, IsAnswered, IsFaulted, IsWanting, IsCarriedOut, IsCutByFault, IsWritten, OnWritten, HoldsProgram, HoldsNoProgram, HoldsMisfit}
 use Rattle.tool_top.specs.declared.verdict.Verdict.{Verdict}
@@ -28,42 +32,42 @@ rose_whole old mid new same rose = rw (← same) rose
 
 means_names : (told : Told) (job : Option Job) (plan : Plan) → Means told job plan → IsPrefix plan.names (names_of job)
 means_names told None plan is = rw is (IsPrefix-whole _)
-means_names told (Some (Explore program out asked)) plan (bytes, given, names, treated) = rw names (IsPrefix-whole _)
+means_names told (Some (Explore program out asked budgets workers)) plan (bytes, given, names, treated) = rw names (IsPrefix-whole _)
 
 pub plan_names : (old new : Seen) (job : Option Job) (plan : Plan) → IsPlan old new job plan → IsPrefix plan.names (names_of job)
 plan_names old new job plan (inl means) = means_names old.told job plan means
 plan_names old new job plan (inr (rose, fault)) = fault.0
 
 -- The verdict of a plan says which plan it is.
-done_reported : (old new : Seen) (program out : List ℕ) (asked : List Region) (plan : Plan) → plan.verdict ≡ Done → IsPlan old new (Some (Explore program out asked)) plan → (bytes : List ℕ) × Gives old.told program most_bytes bytes × IsReported out bytes asked plan.verdict plan.puts plan.text
-done_reported old new program out asked plan done (inl (bytes, given, names, inl report)) = (bytes, given, report)
-done_reported old new program out asked plan done (inl (bytes, given, names, inr (inl refusal))) = let other = refusal.refused in cc
-done_reported old new program out asked plan done (inl (bytes, given, names, inr (inr misfit))) = let other = misfit.is in cc
-done_reported old new program out asked plan done (inr (rose, (begins, is))) = let other : plan.verdict ≡ ReadFault = ap (λ (p : Plan). p.verdict) is in cc
+done_reported : (old new : Seen) (program out : List ℕ) (asked : List Region) (budgets : Budgets) (workers : ℕ) (plan : Plan) → plan.verdict ≡ Done → IsPlan old new (Some (Explore program out asked budgets workers)) plan → (bytes : List ℕ) × Gives old.told program most_bytes bytes × IsReported out bytes asked budgets plan.verdict plan.puts plan.text
+done_reported old new program out asked budgets workers plan done (inl (bytes, given, names, inl report)) = (bytes, given, report)
+done_reported old new program out asked budgets workers plan done (inl (bytes, given, names, inr (inl refusal))) = let other = refusal.refused in cc
+done_reported old new program out asked budgets workers plan done (inl (bytes, given, names, inr (inr misfit))) = let other = misfit.is in cc
+done_reported old new program out asked budgets workers plan done (inr (rose, (begins, is))) = let other : plan.verdict ≡ ReadFault = ap (λ (p : Plan). p.verdict) is in cc
 
-refused_refusal : (old new : Seen) (program out : List ℕ) (asked : List Region) (plan : Plan) → plan.verdict ≡ Refused → IsPlan old new (Some (Explore program out asked)) plan → (bytes : List ℕ) × Gives old.told program most_bytes bytes × ((words : List ℕ) → ¬ IsProgram bytes words)
-refused_refusal old new program out asked plan refused (inl (bytes, given, names, inl report)) = let other = report.done in cc
-refused_refusal old new program out asked plan refused (inl (bytes, given, names, inr (inl refusal))) = (bytes, given, refusal.none)
-refused_refusal old new program out asked plan refused (inl (bytes, given, names, inr (inr misfit))) = let other = misfit.is in cc
-refused_refusal old new program out asked plan refused (inr (rose, (begins, is))) = let other : plan.verdict ≡ ReadFault = ap (λ (p : Plan). p.verdict) is in cc
+refused_refusal : (old new : Seen) (program out : List ℕ) (asked : List Region) (budgets : Budgets) (workers : ℕ) (plan : Plan) → plan.verdict ≡ Refused → IsPlan old new (Some (Explore program out asked budgets workers)) plan → (bytes : List ℕ) × Gives old.told program most_bytes bytes × ((image : Image) → ¬ IsTaken bytes image)
+refused_refusal old new program out asked budgets workers plan refused (inl (bytes, given, names, inl report)) = let other = report.done in cc
+refused_refusal old new program out asked budgets workers plan refused (inl (bytes, given, names, inr (inl refusal))) = (bytes, given, refusal.none)
+refused_refusal old new program out asked budgets workers plan refused (inl (bytes, given, names, inr (inr misfit))) = let other = misfit.is in cc
+refused_refusal old new program out asked budgets workers plan refused (inr (rose, (begins, is))) = let other : plan.verdict ≡ ReadFault = ap (λ (p : Plan). p.verdict) is in cc
 
-unfit_misfit : (old new : Seen) (program out : List ℕ) (asked : List Region) (plan : Plan) → plan.verdict ≡ Unfit → IsPlan old new (Some (Explore program out asked)) plan → (bytes words : List ℕ) × Gives old.told program most_bytes bytes × IsProgram bytes words × (asked ≢ regions)
-unfit_misfit old new program out asked plan unfit (inl (bytes, given, names, inl report)) = let other = report.done in cc
-unfit_misfit old new program out asked plan unfit (inl (bytes, given, names, inr (inl refusal))) = let other = refusal.refused in cc
-unfit_misfit old new program out asked plan unfit (inl (bytes, given, names, inr (inr misfit))) = (bytes, misfit.words, given, misfit.taken, misfit.others)
-unfit_misfit old new program out asked plan unfit (inr (rose, (begins, is))) = let other : plan.verdict ≡ ReadFault = ap (λ (p : Plan). p.verdict) is in cc
+unfit_misfit : (old new : Seen) (program out : List ℕ) (asked : List Region) (budgets : Budgets) (workers : ℕ) (plan : Plan) → plan.verdict ≡ Unfit → IsPlan old new (Some (Explore program out asked budgets workers)) plan → (bytes : List ℕ) × (image : Image) × Gives old.told program most_bytes bytes × IsTaken bytes image × ((place : ℕ) → ¬ IsInput image asked place)
+unfit_misfit old new program out asked budgets workers plan unfit (inl (bytes, given, names, inl report)) = let other = report.done in cc
+unfit_misfit old new program out asked budgets workers plan unfit (inl (bytes, given, names, inr (inl refusal))) = let other = refusal.refused in cc
+unfit_misfit old new program out asked budgets workers plan unfit (inl (bytes, given, names, inr (inr misfit))) = (bytes, misfit.image, given, misfit.taken, misfit.others)
+unfit_misfit old new program out asked budgets workers plan unfit (inr (rose, (begins, is))) = let other : plan.verdict ≡ ReadFault = ap (λ (p : Plan). p.verdict) is in cc
 
-fault_rose : (old new : Seen) (program out : List ℕ) (asked : List Region) (plan : Plan) → plan.verdict ≡ ReadFault → IsPlan old new (Some (Explore program out asked)) plan → Rose old.reads new.reads
-fault_rose old new program out asked plan fault (inl (bytes, given, names, inl report)) = let other = report.done in cc
-fault_rose old new program out asked plan fault (inl (bytes, given, names, inr (inl refusal))) = let other = refusal.refused in cc
-fault_rose old new program out asked plan fault (inl (bytes, given, names, inr (inr misfit))) = let other = misfit.is in cc
-fault_rose old new program out asked plan fault (inr (rose, read)) = rose
+fault_rose : (old new : Seen) (program out : List ℕ) (asked : List Region) (budgets : Budgets) (workers : ℕ) (plan : Plan) → plan.verdict ≡ ReadFault → IsPlan old new (Some (Explore program out asked budgets workers)) plan → Rose old.reads new.reads
+fault_rose old new program out asked budgets workers plan fault (inl (bytes, given, names, inl report)) = let other = report.done in cc
+fault_rose old new program out asked budgets workers plan fault (inl (bytes, given, names, inr (inl refusal))) = let other = refusal.refused in cc
+fault_rose old new program out asked budgets workers plan fault (inl (bytes, given, names, inr (inr misfit))) = let other = misfit.is in cc
+fault_rose old new program out asked budgets workers plan fault (inr (rose, read)) = rose
 
-no_job_none : (old new : Seen) (program out : List ℕ) (asked : List Region) (plan : Plan) → plan.verdict ≡ NoJob → IsPlan old new (Some (Explore program out asked)) plan → ⊥
-no_job_none old new program out asked plan no_job (inl (bytes, given, names, inl report)) = let other = report.done in cc
-no_job_none old new program out asked plan no_job (inl (bytes, given, names, inr (inl refusal))) = let other = refusal.refused in cc
-no_job_none old new program out asked plan no_job (inl (bytes, given, names, inr (inr misfit))) = let other = misfit.is in cc
-no_job_none old new program out asked plan no_job (inr (rose, (begins, is))) = let other : plan.verdict ≡ ReadFault = ap (λ (p : Plan). p.verdict) is in cc
+no_job_none : (old new : Seen) (program out : List ℕ) (asked : List Region) (budgets : Budgets) (workers : ℕ) (plan : Plan) → plan.verdict ≡ NoJob → IsPlan old new (Some (Explore program out asked budgets workers)) plan → ⊥
+no_job_none old new program out asked budgets workers plan no_job (inl (bytes, given, names, inl report)) = let other = report.done in cc
+no_job_none old new program out asked budgets workers plan no_job (inl (bytes, given, names, inr (inl refusal))) = let other = refusal.refused in cc
+no_job_none old new program out asked budgets workers plan no_job (inl (bytes, given, names, inr (inr misfit))) = let other = misfit.is in cc
+no_job_none old new program out asked budgets workers plan no_job (inr (rose, (begins, is))) = let other : plan.verdict ≡ ReadFault = ap (λ (p : Plan). p.verdict) is in cc
 
 -- without a job the plan is one verdict or another, and puts nothing
 none_puts : (old new : Seen) (plan : Plan) → IsPlan old new None plan → plan.puts ≡ []
@@ -85,10 +89,10 @@ none_unfit old new plan unfit (inr (rose, (begins, is))) = let other : plan.verd
 -- a plan that puts files is done
 some_puts_done : (old new : Seen) (job : Option Job) (plan : Plan) → plan.puts ≢ [] → IsPlan old new job plan → plan.verdict ≡ Done
 some_puts_done old new None plan some planned = absurd (some (none_puts old new plan planned))
-some_puts_done old new (Some (Explore program out asked)) plan some (inl (bytes, given, names, inl report)) = report.done
-some_puts_done old new (Some (Explore program out asked)) plan some (inl (bytes, given, names, inr (inl refusal))) = absurd (some refusal.no_files)
-some_puts_done old new (Some (Explore program out asked)) plan some (inl (bytes, given, names, inr (inr misfit))) = absurd (some misfit.no_files)
-some_puts_done old new (Some (Explore program out asked)) plan some (inr (rose, (begins, is))) = absurd (some (ap (λ (p : Plan). p.puts) is))
+some_puts_done old new (Some (Explore program out asked budgets workers)) plan some (inl (bytes, given, names, inl report)) = report.done
+some_puts_done old new (Some (Explore program out asked budgets workers)) plan some (inl (bytes, given, names, inr (inl refusal))) = absurd (some refusal.no_files)
+some_puts_done old new (Some (Explore program out asked budgets workers)) plan some (inl (bytes, given, names, inr (inr misfit))) = absurd (some misfit.no_files)
+some_puts_done old new (Some (Explore program out asked budgets workers)) plan some (inr (rose, (begins, is))) = absurd (some (ap (λ (p : Plan). p.puts) is))
 
 pub answered : (old mid new : Seen) (job : Option Job) (verdict : Verdict) (puts : List Put) (text : List ℕ) → IsPlanned old mid job verdict puts text → mid.writes ≡ old.writes → new.reads ≡ mid.reads → IsCarriedOut mid new verdict puts text [] → IsAnswered old new job verdict
 answered old mid new job verdict puts text planned writes reads out = record {
@@ -152,13 +156,13 @@ answered_names old new job WriteFault h = names_since-after _ _ (record { names 
 answered_names old new job NoMemory h = names_since-after _ _ (record { names = h.names; puts = h.out.puts; said = h.out.said }) _ h.out.changes h.reading
 
 -- what was written, where the plan is done and all was put and said
-written : (old new : Seen) (program out bytes : List ℕ) (asked : List Region) (Claim : List ℕ → List Entry → Type 0) (plan : Plan) → ((words : List ℕ) (entries : List Entry) → IsReport words entries → Claim words entries) → Gives old.told program most_bytes bytes → IsReported out bytes asked plan.verdict plan.puts plan.text → IsCarriedOut old new Done plan.puts plan.text plan.names → IsWritten old.told new.told program out asked Claim
-written old new program out bytes asked Claim plan claims given reported carried =
+written : (old new : Seen) (name out bytes : List ℕ) (asked : List Region) (budgets : Budgets) (Claim : Program → Budgets → List Entry → Type 0) (plan : Plan) → ((p : Program) (entries : List Entry) → IsReport p budgets entries → Claim p budgets entries) → Gives old.told name most_bytes bytes → IsReported out bytes asked budgets plan.verdict plan.puts plan.text → IsCarriedOut old new Done plan.puts plan.text plan.names → IsWritten old.told new.told name out asked budgets Claim
+written old new name out bytes asked budgets Claim plan claims given reported carried =
     let report = reported.report in
     let deeds : Deeds = record { names = plan.names; puts = plan.puts; said = carried.said } in
     let said : carried.said ≡ plan.text = elim carried.whole [ inl all ↦ all | inr cut ↦ absurd (cut.1 refl) ] in
     record {
-      words = reported.words;
+      program = reported.program;
       entries = report.entries;
       bytes = bytes;
       given = given;
@@ -166,24 +170,24 @@ written old new program out bytes asked Claim plan claims given reported carried
       fits = reported.fits;
       files = puts_since-after old.told new.told deeds (λ puts. puts ≡ files_of out report.entries) carried.changes report.files;
       summary = said_since-after old.told new.told deeds (λ said. said ≡ summary_of report.entries) carried.changes (said ∙ report.summary);
-      claim = claims reported.words report.entries report.claims;
+      claim = claims reported.program report.entries report.claims;
     }
 
-pub done_written : (old new : Seen) (job : Option Job) (Claim : List ℕ → List Entry → Type 0) → ((words : List ℕ) (entries : List Entry) → IsReport words entries → Claim words entries) → IsAnswered old new job Done → OnWritten old.told new.told job Claim
+pub done_written : (old new : Seen) (job : Option Job) (Claim : Program → Budgets → List Entry → Type 0) → ((p : Program) (budgets : Budgets) (entries : List Entry) → IsReport p budgets entries → Claim p budgets entries) → IsAnswered old new job Done → OnWritten old.told new.told job Claim
 done_written old new None Claim claims h = none_done old new h.plan h.is h.planned
-done_written old new (Some (Explore program out asked)) Claim claims h =
-    let r = done_reported old new program out asked h.plan h.is h.planned in
-    written old new program out r.0 asked Claim h.plan claims r.1 r.2 h.out
+done_written old new (Some (Explore program out asked budgets workers)) Claim claims h =
+    let r = done_reported old new program out asked budgets workers h.plan h.is h.planned in
+    written old new program out r.0 asked budgets Claim h.plan (λ p. claims p budgets) r.1 r.2 h.out
 
 -- what is refused is no program
 pub refused_no_program : (old new : Seen) (job : Option Job) → IsAnswered old new job Refused → HoldsNoProgram old.told job
 refused_no_program old new None h = none_refused old new h.plan h.is h.planned
-refused_no_program old new (Some (Explore program out asked)) h = refused_refusal old new program out asked h.plan h.is h.planned
+refused_no_program old new (Some (Explore program out asked budgets workers)) h = refused_refusal old new program out asked budgets workers h.plan h.is h.planned
 
 -- what doesn't fit is a program for another input
 pub unfit_holds : (old new : Seen) (job : Option Job) → IsAnswered old new job Unfit → HoldsMisfit old.told job
 unfit_holds old new None h = none_unfit old new h.plan h.is h.planned
-unfit_holds old new (Some (Explore program out asked)) h = unfit_misfit old new program out asked h.plan h.is h.planned
+unfit_holds old new (Some (Explore program out asked budgets workers)) h = unfit_misfit old new program out asked budgets workers h.plan h.is h.planned
 
 -- Each status is that of one ending.
 pub answered_done : (old new : Seen) (job : Option Job) (ending : Ending) (status : ℕ) → Answered old new job ending → status ≡ status_of ending → status ≡ 0 → IsAnswered old new job Done
@@ -235,23 +239,26 @@ given_held most name held given (Some h) is g = cc
 -- a program that is taken is not refused
 held_not_refused : (told : Told) (job : Option Job) → HoldsProgram told job → HoldsNoProgram told job → ⊥
 held_not_refused told None holds none = holds
-held_not_refused told (Some (Explore program out asked)) (bytes, words, held, taken, fits) (given, gives, none) =
+held_not_refused told (Some (Explore program out asked budgets workers)) (bytes, p, held, taken, fits) (given, gives, none) =
     let same = given_held most_bytes program bytes given told.holds held gives in
-    none words (subst (λ (b : List ℕ). IsProgram b words) (sym same) taken)
+    none p.image (subst (λ (b : List ℕ). IsTaken b p.image) (sym same) taken)
 
 -- nor does it not fit
 held_not_unfit : (told : Told) (job : Option Job) → HoldsProgram told job → HoldsMisfit told job → ⊥
 held_not_unfit told None holds misfit = holds
-held_not_unfit told (Some (Explore program out asked)) (bytes, words, held, taken, fits) (given, others, gives, is, differ) = differ fits
+held_not_unfit told (Some (Explore program out asked budgets workers)) (bytes, p, held, taken, fits) (given, image, gives, is, others) =
+    let same = given_held most_bytes program bytes given told.holds held gives in
+    let one : p.image ≡ image = one_image bytes p.image image taken.loads (subst (λ (b : List ℕ). Loads b image) same is.loads) in
+    others p.place (subst (λ (i : Image). IsInput i asked p.place) one fits)
 
 -- where it is held, and no fault was counted, it is explored to the end
 pub complete : (old new : Seen) (job : Option Job) (ending : Ending) (status : ℕ) → Answered old new job ending → status ≡ status_of ending → HoldsProgram old.told job → ¬ Rose old.reads new.reads → ¬ Rose old.writes new.writes → (status ≡ 0) ⊎ (status ≡ 8)
 complete old new job (Planned Done) status h is holds read wrote = inl is
 complete old new None (Planned NoJob) status h is holds read wrote = absurd holds
-complete old new (Some (Explore program out asked)) (Planned NoJob) status h is holds read wrote = absurd (no_job_none old new program out asked h.plan h.is h.planned)
+complete old new (Some (Explore program out asked budgets workers)) (Planned NoJob) status h is holds read wrote = absurd (no_job_none old new program out asked budgets workers h.plan h.is h.planned)
 complete old new job (Planned Refused) status h is holds read wrote = absurd (held_not_refused old.told job holds (refused_no_program old new job h))
 complete old new job (Planned Unfit) status h is holds read wrote = absurd (held_not_unfit old.told job holds (unfit_holds old new job h))
 complete old new None (Planned ReadFault) status h is holds read wrote = absurd holds
-complete old new (Some (Explore program out asked)) (Planned ReadFault) status h is holds read wrote = absurd (read (fault_rose old new program out asked h.plan h.is h.planned))
+complete old new (Some (Explore program out asked budgets workers)) (Planned ReadFault) status h is holds read wrote = absurd (read (fault_rose old new program out asked budgets workers h.plan h.is h.planned))
 complete old new job WriteFault status h is holds read wrote = absurd (wrote h.rose)
 complete old new job NoMemory status h is holds read wrote = inr is

@@ -1,5 +1,5 @@
 -- Making a plan, from what its parts are.
-use Rattle.std.proofs.Common.{◌≡◌, ◌≢◌, ℕ, List, [], ◌∙◌, sym, ap, inl, inr}
+use Rattle.std.proofs.Common.{◌≡◌, ◌≢◌, ℕ, List, [], ◌∙◌, sym, ap, subst, inl, inr}
 use Rattle.std.specs.Prelude.{Option, None, Some, Result, Ok, Err, IfOk, OnErr}
 use Rattle.std.specs.declared.alloc.AllocError.{AllocError}
 use Rattle.tool_io.specs.Told.{Seen, after, IsPrefix}
@@ -10,15 +10,18 @@ use Rattle.elf_load.specs.declared.refused.Refused.{Refused as WhyRefused}
 use Rattle.elf_load.specs.declared.region.Region.{Region}
 use Rattle.elf_load.specs.declared.unfit.Unfit.{Unfit as WhyUnfit}
 use Rattle.tool_words.specs.Job.{Job}
-use Rattle.tool_top.specs.Programs.{IsProgram, regions}
-use Rattle.tool_top.proofs.RowSegments.{not_refused}
-use Rattle.tool_top.proofs.RowImage.{taken_fits}
+use Rattle.elf_load.proofs.OneImage.{one_image}
+use Rattle.tool_words.specs.declared.limit.Budgets.{Budgets}
+use Rattle.tool_top.specs.Later.{IsTaken, IsInput, IsDataByte, HasLaterWord}
+use Rattle.sym_state.specs.Programs.{IsRunnable, Program}
+use Rattle.tool_top.specs.Reports.{IsReportOf}
+use Rattle.tool_top.proofs.Running.{runnable}
 use Rattle.tool_top.specs.Plan.{Treats, refused_line, unfit_line, names_of, IsPlanned, OnlyReads, usage}
 use Rattle.tool_top.specs.declared.plan.Plan.{Plan as Made}
-use Rattle.tool_top.specs.declared.verdict.Verdict.TheVariants.{NoJob, Refused, Unfit}
+use Rattle.tool_top.specs.declared.verdict.Verdict.TheVariants.{Done, NoJob, Refused, Unfit}
 
 -- the words have no job
-pub planned_usage : (old new : Seen) (job : Option Job) (made : Result Made AllocError) → job ≡ None → new.told ≡ after old.told (record { names = []; puts = []; said = [] }) → IfOk made (λ p. p.verdict ≡ NoJob) → IfOk made (λ p. p.files.items ≡ []) → IfOk made (λ p. p.text.items ≡ usage) → IfOk made (λ p. IsPlanned old new job p.verdict p.files.items p.text.items)
+pub planned_usage : (old new : Seen) (job : Option Job) (made : Result Made AllocError) → job ≡ None → new.told ≡ after old.told (record { names = []; puts = []; said = [] }) → IfOk made (λ p. p.verdict ≡ NoJob) → IfOk made (λ p. p.files.items ≡ []) → IfOk made (λ p. p.text ≡ usage) → IfOk made (λ p. IsPlanned old new job p.verdict p.files.items p.text)
 planned_usage old new None (Err e) none c v f t = tt
 planned_usage old new None (Ok p) none c v f t = record {
   names = [];
@@ -33,29 +36,60 @@ only_reads old new job names (Ok p) begins c = tt
 only_reads old new job names (Err e) begins c = record { names = names; begins = begins; changes = c }
 
 -- the program's file is refused
-pub treats_refused : (out bytes : List ℕ) (asked : List Region) (why : WhyRefused) (made : Result Made AllocError) → refusal bytes ≡ Some why → IfOk made (λ p. p.verdict ≡ Refused) → IfOk made (λ p. p.files.items ≡ []) → IfOk made (λ p. p.text.items ≡ refused_line (Some why)) → IfOk made (λ p. Treats out bytes asked p.verdict p.files.items p.text.items)
-treats_refused out bytes asked why (Err e) is v f t = tt
-treats_refused out bytes asked why (Ok made) is v f t = inr (inl (record {
-  none = λ words p. let fine : refusal bytes ≡ None = not_refused bytes words p in cc;
+pub treats_refused : (out bytes : List ℕ) (asked : List Region) (budgets : Budgets) (why : WhyRefused) (made : Result Made AllocError) → refusal bytes ≡ Some why → IfOk made (λ p. p.verdict ≡ Refused) → IfOk made (λ p. p.files.items ≡ []) → IfOk made (λ p. p.text ≡ refused_line (Some why)) → IfOk made (λ p. Treats out bytes asked budgets p.verdict p.files.items p.text)
+treats_refused out bytes asked budgets why (Err e) is v f t = tt
+treats_refused out bytes asked budgets why (Ok made) is v f t = inr (inl (record {
+  none = λ image taken. let fine : refusal bytes ≡ None = taken.loads.fine in cc;
   refused = v;
   no_files = f;
   line = t ∙ ap refused_line (sym is);
 }))
 
--- an input that doesn't fit isn't the one that is taken
-pub unfit_other : (bytes words : List ℕ) (asked : List Region) (image : Image) (why : WhyUnfit) → IsProgram bytes words → Loads bytes image → unfit image asked ≡ Some why → asked ≢ regions
-unfit_other bytes words asked image why p loads is same = let fits : unfit image regions ≡ None = taken_fits bytes words image p loads in let both : unfit image regions ≡ Some why = ap (unfit image) (sym same) ∙ is in cc
+-- the program is to be taken later
+pub treats_later : (out bytes : List ℕ) (asked : List Region) (budgets : Budgets) (image : Image) (made : Result Made AllocError) → Loads bytes image → HasLaterWord image → IfOk made (λ p. p.verdict ≡ Refused) → IfOk made (λ p. p.files.items ≡ []) → IfOk made (λ p. p.text ≡ refused_line None) → IfOk made (λ p. Treats out bytes asked budgets p.verdict p.files.items p.text)
+treats_later out bytes asked budgets image (Err e) loads later v f t = tt
+treats_later out bytes asked budgets image (Ok made) loads later v f t = inr (inl (record {
+  none = λ other taken. taken.none_later (subst HasLaterWord (one_image bytes image other loads taken.loads) later);
+  refused = v;
+  no_files = f;
+  line = t ∙ ap refused_line (sym loads.fine);
+}))
 
 -- the program is one that is taken, but not for this input
-pub treats_misfit : (out bytes words : List ℕ) (asked : List Region) (image : Image) (why : Option WhyUnfit) (made : Result Made AllocError) → IsProgram bytes words → Loads bytes image → unfit image asked ≡ why → asked ≢ regions → IfOk made (λ p. p.verdict ≡ Unfit) → IfOk made (λ p. p.files.items ≡ []) → IfOk made (λ p. p.text.items ≡ unfit_line why) → IfOk made (λ p. Treats out bytes asked p.verdict p.files.items p.text.items)
-treats_misfit out bytes words asked image why (Err e) p loads is others v f t = tt
-treats_misfit out bytes words asked image why (Ok made) p loads is others v f t = inr (inr (record {
-  words = words;
-  taken = p;
+pub treats_misfit : (out bytes : List ℕ) (asked : List Region) (budgets : Budgets) (image : Image) (why : Option WhyUnfit) (made : Result Made AllocError) → IsTaken bytes image → unfit image asked ≡ why → ((place : ℕ) → ¬ IsInput image asked place) → IfOk made (λ p. p.verdict ≡ Unfit) → IfOk made (λ p. p.files.items ≡ []) → IfOk made (λ p. p.text ≡ unfit_line why) → IfOk made (λ p. Treats out bytes asked budgets p.verdict p.files.items p.text)
+treats_misfit out bytes asked budgets image why (Err e) taken is others v f t = tt
+treats_misfit out bytes asked budgets image why (Ok made) taken is others v f t = inr (inr (record {
+  image = image;
+  taken = taken;
   others = others;
   is = v;
   no_files = f;
-  image = image;
-  loads = loads;
   line = t ∙ ap unfit_line (sym is);
 }))
+
+-- an input that doesn't fit is none that is taken
+pub unfit_other : (image : Image) (asked : List Region) (why : WhyUnfit) → unfit image asked ≡ Some why → (place : ℕ) → ¬ IsInput image asked place
+unfit_other image asked why is place input = let fits = input.fits in cc
+
+-- nor is one that is no byte of data
+pub no_data_byte : (image : Image) (asked slice : List Region) → slice ≡ asked → ((place : ℕ) → ¬ IsDataByte image slice place) → (place : ℕ) → ¬ IsInput image asked place
+no_data_byte image asked slice same none place input = none place (subst (λ (rs : List Region). IsDataByte image rs place) (sym same) input.byte)
+
+-- an input that fits and is a byte of data is one that is taken
+input_of : (image : Image) (asked slice : List Region) (place : ℕ) → unfit image asked ≡ None → slice ≡ asked → IsDataByte image slice place → IsInput image asked place
+input_of image asked slice place fits same byte = record { fits = fits; byte = subst (λ (rs : List Region). IsDataByte image rs place) same byte }
+
+-- so it can be run
+pub runs_here : (bytes : List ℕ) (image : Image) (asked slice : List Region) (place : ℕ) → IsTaken bytes image → unfit image asked ≡ None → slice ≡ asked → IsDataByte image slice place → IsRunnable (record { image = image; place = place })
+runs_here bytes image asked slice place taken fits same byte = runnable image asked place taken.none_later (input_of image asked slice place fits same byte)
+
+-- the report of a program that is taken, for an input that is taken
+pub treats_reported : (out bytes : List ℕ) (asked slice : List Region) (budgets : Budgets) (image : Image) (place : ℕ) (p : Program) (made : Result Made AllocError) → IsTaken bytes image → unfit image asked ≡ None → slice ≡ asked → IsDataByte image slice place → p ≡ record { image = image; place = place } → IfOk made (λ q. q.verdict ≡ Done) → IfOk made (λ q. IsReportOf out p budgets q.files.items q.text) → IfOk made (λ q. Treats out bytes asked budgets q.verdict q.files.items q.text)
+treats_reported out bytes asked slice budgets image place p (Err e) taken fits same byte is v r = tt
+treats_reported out bytes asked slice budgets image place p (Ok made) taken fits same byte is v r = inl (record {
+  program = record { image = image; place = place };
+  taken = taken;
+  fits = input_of image asked slice place fits same byte;
+  done = v;
+  report = subst (λ (q : Program). IsReportOf out q budgets made.files.items made.text) is r;
+})

@@ -4,14 +4,15 @@ use Rattle.bv_dag.specs.BitVectors.{BitVector}
 use Rattle.bv_dag.specs.Graphs.{Graph, width_of}
 use Rattle.bv_dag.specs.Nodes.{values, word_at}
 use Rattle.bv_dag.proofs.TermLaws.{width-val}
-use Rattle.tool_top.specs.Reports.{EndsByByte}
+use Rattle.node_split.specs.Parts.{EndsByByte}
 use Rattle.tool_top.specs.Samples.{IsByteEnd}
-use Rattle.tool_top.specs.declared.leaf.LeafEnd.{LeafEnd}
-use Rattle.tool_top.specs.declared.leaf.LeafEnd.TheVariants.{Exits, Traps}
+use Rattle.smt_text.specs.declared.leaf.LeafEnd.{LeafEnd}
+use Rattle.smt_text.specs.declared.leaf.LeafEnd.TheVariants.{Exits, Traps, Cut}
 
 byte_end_here : (graph : Graph) (input : List ℕ) (end : LeafEnd) → EndsByByte graph end → IsByteEnd (values input graph.nodes) end
 byte_end_here graph input (Exits status) h = width-val graph status input ∙ h
 byte_end_here graph input (Traps trap) h = h
+byte_end_here graph input (Cut cause) h = h
 
 -- a byte among the words ends it, if anything does
 pub byte_end : (graph : Graph) (input : List ℕ) (end : LeafEnd) (words : List BitVector) (same : LeafEnd) →

@@ -6,7 +6,10 @@ use Rattle.tool_io.specs.Causes.{Rose}
 use Rattle.elf_load.specs.declared.region.Region.{Region}
 use Rattle.tool_words.specs.Job.{Job, Explore}
 use Rattle.tool_top.specs.Plan.{Plan, IsPlan, names_of, no_memory, most_bytes}
-use Rattle.tool_top.specs.Programs.{IsProgram, regions}
+use Rattle.tool_words.specs.declared.limit.Budgets.{Budgets}
+use Rattle.elf_load.specs.Images.{Image}
+use Rattle.sym_state.specs.Programs.{Program}
+use Rattle.tool_top.specs.Later.{IsTaken, IsInput}
 use Rattle.tool_top.specs.Reports.{Entry, files_of, summary_of}
 use Rattle.tool_top.specs.declared.verdict.Verdict.{Verdict}
 use Rattle.tool_top.specs.declared.verdict.Verdict.TheVariants.{Done, NoJob, Refused, Unfit, ReadFault}
@@ -80,40 +83,40 @@ Answered old new job (Planned verdict) = IsAnswered old new job verdict
 Answered old new job WriteFault = IsFaulted old new job
 Answered old new job NoMemory = IsWanting old new job
 
--- The claims are facts of entries, that is, of leaves and their tests, and of the words of the program.
--- The words are those of the file that the program's name gave, and the regions asked are the input that is taken. The entries are the ones that were written:
--- where the object tells its files, the files put are their texts, one for each leaf and each test, and no others;
--- where it tells what was said, the line said is their summary. The claim holds of these words and entries.
-pub record IsWritten (old new : Told) (program out : List ℕ) (asked : List Region) (Claim : List ℕ → List Entry → Type 0) : Type 0 where
-  pub words : List ℕ
+-- The claims are facts of a program, budgets and entries, that is, of leaves and what stands beside them.
+-- The program is that of the file that its name gave, with the input that was asked, and the budgets are the job's. The entries are the ones that
+-- were written: where the object tells its files, the files put are their texts, two for each leaf, and no others;
+-- where it tells what was said, the line said is their summary. The claim holds of this program, these budgets and these entries.
+pub record IsWritten (old new : Told) (name out : List ℕ) (asked : List Region) (budgets : Budgets) (Claim : Program → Budgets → List Entry → Type 0) : Type 0 where
+  pub program : Program
   pub entries : List Entry
   pub bytes : List ℕ
-  pub given : Gives old program most_bytes bytes
-  pub taken : IsProgram bytes words
-  pub fits : asked ≡ regions
+  pub given : Gives old name most_bytes bytes
+  pub taken : IsTaken bytes program.image
+  pub fits : IsInput program.image asked program.place
   pub files : IfSome (puts_since old new) (λ puts. puts ≡ files_of out entries)
   pub summary : IfSome (said_since old new) (λ said. said ≡ summary_of entries)
-  pub claim : Claim words entries
+  pub claim : Claim program budgets entries
 
 -- there is a job, and the claim holds of what was written for it
-abbrev pub OnWritten : Told → Told → Option Job → (List ℕ → List Entry → Type 0) → Type 0
+abbrev pub OnWritten : Told → Told → Option Job → (Program → Budgets → List Entry → Type 0) → Type 0
 OnWritten old new None Claim = ⊥
-OnWritten old new (Some (Explore program out asked)) Claim = IsWritten old new program out asked Claim
+OnWritten old new (Some (Explore program out asked budgets workers)) Claim = IsWritten old new program out asked budgets Claim
 
 -- there is a job, and the bytes that its program's name gives are the file of no program that is taken
 abbrev pub HoldsNoProgram : Told → Option Job → Type 0
 HoldsNoProgram told None = ⊥
-HoldsNoProgram told (Some (Explore program out asked)) =
-    (bytes : List ℕ) × Gives told program most_bytes bytes × ((words : List ℕ) → ¬ IsProgram bytes words)
+HoldsNoProgram told (Some (Explore program out asked budgets workers)) =
+    (bytes : List ℕ) × Gives told program most_bytes bytes × ((image : Image) → ¬ IsTaken bytes image)
 
 -- there is a job, and the bytes that its program's name gives are the file of a program that is taken, but not for the input that is asked
 abbrev pub HoldsMisfit : Told → Option Job → Type 0
 HoldsMisfit told None = ⊥
-HoldsMisfit told (Some (Explore program out asked)) =
-    (bytes words : List ℕ) × Gives told program most_bytes bytes × IsProgram bytes words × (asked ≢ regions)
+HoldsMisfit told (Some (Explore program out asked budgets workers)) =
+    (bytes : List ℕ) × (image : Image) × Gives told program most_bytes bytes × IsTaken bytes image × ((place : ℕ) → ¬ IsInput image asked place)
 
 -- there is a job, and it is told that its program's name holds the file of a program that is taken, for the input that is asked
 abbrev pub HoldsProgram : Told → Option Job → Type 0
 HoldsProgram told None = ⊥
-HoldsProgram told (Some (Explore program out asked)) =
-    (bytes words : List ℕ) × (option_map (take most_bytes) (told_held told program) ≡ Some bytes) × IsProgram bytes words × (asked ≡ regions)
+HoldsProgram told (Some (Explore program out asked budgets workers)) =
+    (bytes : List ℕ) × (p : Program) × (option_map (take most_bytes) (told_held told program) ≡ Some bytes) × IsTaken bytes p.image × IsInput p.image asked p.place

@@ -1,16 +1,5 @@
-pub mod Arithmetic
-pub mod Machine
-pub mod Leaves
-pub mod LeafText
-pub mod LeafParts
-pub mod Tests
-pub mod TestParts
-pub mod Programs
+pub mod Later
 pub mod Reports
-pub mod Symbolic
-pub mod Tame
-pub mod Forks
-pub mod Work
 pub mod Plan
 pub mod Answer
 pub mod Samples

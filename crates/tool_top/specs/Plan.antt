@@ -3,14 +3,16 @@ use Rattle.std.specs.Prelude.{◌≡◌, ◌≢◌, ℕ, ◌⊎◌, List, [], �
 use Rattle.tool_io.specs.Told.{Told, Seen, Put, after, Gives, IsPrefix}
 use Rattle.tool_io.specs.Causes.{Rose}
 use Rattle.elf_load.specs.Fits.{unfit}
-use Rattle.elf_load.specs.Images.{Image, Loads}
+use Rattle.elf_load.specs.Images.{Image}
 use Rattle.elf_load.specs.Names.{refused_number, refused_name, unfit_number, unfit_name}
 use Rattle.elf_load.specs.Refusals.{refusal}
 use Rattle.elf_load.specs.declared.refused.Refused.{Refused as WhyRefused}
 use Rattle.elf_load.specs.declared.region.Region.{Region}
 use Rattle.elf_load.specs.declared.unfit.Unfit.{Unfit as WhyUnfit}
 use Rattle.tool_words.specs.Job.{Job, Explore}
-use Rattle.tool_top.specs.Programs.{IsProgram, regions}
+use Rattle.tool_words.specs.declared.limit.Budgets.{Budgets}
+use Rattle.sym_state.specs.Programs.{Program}
+use Rattle.tool_top.specs.Later.{IsTaken, IsInput}
 use Rattle.tool_top.specs.Reports.{IsReportOf}
 use Rattle.tool_top.specs.declared.verdict.Verdict.{Verdict}
 use Rattle.tool_top.specs.declared.verdict.Verdict.TheVariants.{Done, NoJob, Refused, Unfit, ReadFault}
@@ -18,7 +20,7 @@ use Rattle.tool_top.specs.declared.verdict.Verdict.TheVariants.{Done, NoJob, Ref
 -- the names that a job reads, in their order
 abbrev pub names_of : Option Job → List (List ℕ)
 names_of None = []
-names_of (Some (Explore program out asked)) = program ∷ []
+names_of (Some (Explore program out asked budgets workers)) = program ∷ []
 
 -- the names that were read, and what is to be put and said
 pub record Plan : Type 0 where
@@ -65,42 +67,40 @@ abbrev pub says_only : Verdict → List (List ℕ) → List ℕ → Plan
 says_only verdict names text = record { verdict = verdict; names = names; puts = []; text = text }
 
 -- the bytes are the file of a program that is taken, for the input that is asked, and its report is put into `out`
-pub record IsReported (out bytes : List ℕ) (asked : List Region) (verdict : Verdict) (puts : List Put) (text : List ℕ) : Type 0 where
-  pub words : List ℕ
-  pub taken : IsProgram bytes words
-  pub fits : asked ≡ regions
+pub record IsReported (out bytes : List ℕ) (asked : List Region) (budgets : Budgets) (verdict : Verdict) (puts : List Put) (text : List ℕ) : Type 0 where
+  pub program : Program
+  pub taken : IsTaken bytes program.image
+  pub fits : IsInput program.image asked program.place
   pub done : verdict ≡ Done
-  pub report : IsReportOf out words puts text
+  pub report : IsReportOf out program budgets puts text
 
 -- the bytes are the file of no program that is taken, and why is said
 pub record IsRefusal (bytes : List ℕ) (verdict : Verdict) (puts : List Put) (text : List ℕ) : Type 0 where
-  pub none : (words : List ℕ) → ¬ IsProgram bytes words
+  pub none : (image : Image) → ¬ IsTaken bytes image
   pub refused : verdict ≡ Refused
   pub no_files : puts ≡ []
   pub line : text ≡ refused_line (refusal bytes)
 
 -- the bytes are the file of a program that is taken, but not for the input that is asked, and why is said
 pub record IsMisfit (bytes : List ℕ) (asked : List Region) (verdict : Verdict) (puts : List Put) (text : List ℕ) : Type 0 where
-  pub words : List ℕ
-  pub taken : IsProgram bytes words
-  pub others : asked ≢ regions
+  pub image : Image
+  pub taken : IsTaken bytes image
+  pub others : (place : ℕ) → ¬ IsInput image asked place
   pub is : verdict ≡ Unfit
   pub no_files : puts ≡ []
-  pub image : Image
-  pub loads : Loads bytes image
   pub line : text ≡ unfit_line (unfit image asked)
 
--- what is put and said for the bytes of a program's file and the regions that are asked
-abbrev pub Treats : (out bytes : List ℕ) → List Region → Verdict → List Put → List ℕ → Type 0
-Treats out bytes asked verdict puts text =
-    IsReported out bytes asked verdict puts text ⊎ (IsRefusal bytes verdict puts text ⊎ IsMisfit bytes asked verdict puts text)
+-- what is put and said for the bytes of a program's file, the regions that are asked, and the budgets
+abbrev pub Treats : (out bytes : List ℕ) → List Region → Budgets → Verdict → List Put → List ℕ → Type 0
+Treats out bytes asked budgets verdict puts text =
+    IsReported out bytes asked budgets verdict puts text ⊎ (IsRefusal bytes verdict puts text ⊎ IsMisfit bytes asked verdict puts text)
 
 -- what is meant, where all that the job reads was read
 abbrev pub Means : Told → Option Job → Plan → Type 0
 Means told None plan = plan ≡ says_only NoJob [] usage
-Means told (Some (Explore program out asked)) plan =
+Means told (Some (Explore program out asked budgets workers)) plan =
     (bytes : List ℕ) × Gives told program most_bytes bytes
-    × (plan.names ≡ program ∷ []) × Treats out bytes asked plan.verdict plan.puts plan.text
+    × (plan.names ≡ program ∷ []) × Treats out bytes asked budgets plan.verdict plan.puts plan.text
 
 -- a read failed, of the names from the first on
 abbrev pub IsReadFault : Option Job → Plan → Type 0

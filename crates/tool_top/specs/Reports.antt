@@ -1,107 +1,168 @@
--- What a report of the leaves of a program has, and what its leaves and tests are.
-use Rattle.std.specs.Prelude.{◌≡◌, ℕ, ◌+◌, ◌-◌, List, [], ◌∷◌, ◌++◌, All, length, map, replicate, Some, IsTrue, codes, decimal, sum_by, slice_get}
-use Rattle.bv_dag.specs.Graphs.{Graph, width_of}
-use Rattle.tool_io.specs.Told.{Put}
-use Rattle.tool_top.specs.Machine.{Image, IsAssignment}
-use Rattle.tool_top.specs.Leaves.{Leaf, covers, worth, end_on, IsFaithful, IsExactCover, AreRanked}
-use Rattle.tool_top.specs.LeafText.{leaf_text}
-use Rattle.tool_top.specs.Tests.{Test, IsRun, test_text}
-use Rattle.tool_top.specs.Programs.{image_of, regions}
+-- What a report of the leaves of a program has, and what stands beside its leaves.
+use Rattle.std.specs.Prelude.{◌≡◌, ℕ, ◌+◌, List, [], ◌∷◌, All, length, map, Some, IsTrue, count_by, slice_get}
 use Rattle.elf_load.specs.declared.region.Region.{Region}
-use Rattle.tool_top.specs.declared.leaf.LeafEnd.{LeafEnd}
-use Rattle.tool_top.specs.declared.leaf.LeafEnd.TheVariants.{Exits, Traps}
+use Rattle.node_split.specs.Evidence.{Spent, SpendsTargets}
+use Rattle.node_split.specs.LeafParts.{Part}
+use Rattle.node_split.specs.Leaves.{IsFaithful, end_on}
+use Rattle.node_split.specs.Parts.{IsLeaf, HasBytes}
+use Rattle.node_split.specs.declared.evidence.Evidence.{Evidence}
+use Rattle.node_split.specs.declared.evidence.Evidence.TheVariants.{Sample, Targets as Targeted}
+use Rattle.report_text.specs.FileNames.{leaf_name, test_name, spent_name}
+use Rattle.report_text.specs.Spent.{targets_text}
+use Rattle.report_text.specs.Summaries.{count, summary_text}
+use Rattle.rv_machine.specs.Memory.{IsAssignment}
+use Rattle.rv_machine.specs.Runs.{run, IsRunOf}
+use Rattle.smt_text.specs.LeafLines.{leaf_text}
+use Rattle.smt_text.specs.Leaves.{LeafText, covers, worth}
+use Rattle.smt_text.specs.declared.leaf.LeafEnd.{LeafEnd}
+use Rattle.smt_text.specs.declared.leaf.LeafEnd.TheVariants.{Exits, Traps, Cut}
+use Rattle.sym_state.specs.Programs.{Program, regions_of}
+use Rattle.test_files.specs.Tests.{Test, test_text}
+use Rattle.tool_io.specs.Told.{Put}
+use Rattle.tool_words.specs.declared.limit.Budgets.{Budgets}
+use Rattle.tree_core.specs.Choices.{precedes}
+use Rattle.tree_core.specs.declared.cause.Cause.{Cause}
+use Rattle.tree_core.specs.declared.cause.Cause.TheVariants.{Steps, Targets, Conflicts}
+use Rattle.tree_core.specs.declared.choice.Choice.{Choice}
 
--- a leaf and its test, as they are written
+-- what stands beside a leaf
+pub data Beside : Type 0 where
+  -- a run of it
+  Tested : Test → Beside
+  -- the values on which the budget of targets was spent
+  OnTargets : Spent → Beside
+
+-- a leaf and what stands beside it, as they are written
 pub record Entry : Type 0 where
-  pub leaf : Leaf
-  pub test : Test
+  pub leaf : LeafText
+  pub beside : Beside
 
-abbrev pub leaves_of : List Entry → List Leaf
+abbrev pub leaves_of : List Entry → List LeafText
 leaves_of entries = map (λ (e : Entry). e.leaf) entries
 
 -- The claims of a report, one by one.
-abbrev pub AreFaithful : Image → List Region → List Entry → Type 0
-AreFaithful image regions entries = All (IsFaithful image regions) (leaves_of entries)
 
--- the test behind each leaf is a run of that leaf
-abbrev pub AreRuns : Image → List Region → List Entry → Type 0
-AreRuns image regions entries = (rank : ℕ) (e : Entry) → slice_get entries rank ≡ Some e → IsRun image regions e.leaf rank e.test
+-- each assignment is covered by exactly one of the leaves
+abbrev pub IsExactCover : Program → List LeafText → Type 0
+IsExactCover p leaves = (input : List ℕ) → IsAssignment (regions_of p) input → count_by (λ leaf. covers leaf input) leaves ≡ 1
 
--- all of the claims, for a program of these words
-pub record IsReport (words : List ℕ) (entries : List Entry) : Type 0 where
-  pub exact_cover : IsExactCover regions (leaves_of entries)
-  pub faithful : AreFaithful (image_of words) regions entries
-  pub runs : AreRuns (image_of words) regions entries
+-- the runs of each leaf are as it says, within the budget of steps
+abbrev pub AreFaithful : Program → Budgets → List LeafText → Type 0
+AreFaithful p budgets leaves = All (IsFaithful p.image (regions_of p) budgets.steps) leaves
+
+-- the test is a run of this leaf, which has this rank: its input is one that the leaf covers, and its run is as the test says
+pub record IsRun (p : Program) (leaf : LeafText) (rank : ℕ) (test : Test) : Type 0 where
+  pub same_rank : test.leaf ≡ rank
+  pub same_regions : test.regions ≡ regions_of p
+  pub same_steps : test.steps ≡ leaf.steps
+  pub same_path : test.path ≡ leaf.path
+  pub assignment : IsAssignment (regions_of p) test.input
+  pub covered : IsTrue (covers leaf test.input)
+  pub runs : IsRunOf (run p.image (regions_of p) test.input test.steps) test.steps test.path test.end test.output
+
+-- beside a leaf stands a run of it, unless it was cut where it had spent its targets
+abbrev pub IsTested : Program → LeafText → LeafEnd → (rank : ℕ) → Beside → Type 0
+IsTested p leaf (Exits status) rank (Tested test) = IsRun p leaf rank test
+IsTested p leaf (Traps trap) rank (Tested test) = IsRun p leaf rank test
+IsTested p leaf (Cut Steps) rank (Tested test) = IsRun p leaf rank test
+IsTested p leaf (Cut Targets) rank (OnTargets spent) = Unit {0}
+IsTested p leaf _ rank _ = ⊥
+
+-- this holds at each rank
+abbrev pub AreRuns : Program → List Entry → Type 0
+AreRuns p entries = (rank : ℕ) (e : Entry) → slice_get entries rank ≡ Some e → IsTested p e.leaf e.leaf.end rank e.beside
+
+-- a cut leaf has spent its budget: it has made all steps, or beside it stand as many values of a term as it may have
+abbrev pub HasSpent : Program → Budgets → LeafText → LeafEnd → Beside → Type 0
+HasSpent p budgets leaf (Exits status) beside = Unit {0}
+HasSpent p budgets leaf (Traps trap) beside = Unit {0}
+HasSpent p budgets leaf (Cut Steps) beside = leaf.steps ≡ budgets.steps
+HasSpent p budgets leaf (Cut Targets) (OnTargets spent) = (sides : List Choice) × SpendsTargets (regions_of p) budgets.targets sides leaf spent
+HasSpent p budgets leaf (Cut _) beside = ⊥
+
+abbrev pub ShowBudgets : Program → Budgets → List Entry → Type 0
+ShowBudgets p budgets entries = All (λ (e : Entry). HasSpent p budgets e.leaf e.leaf.end e.beside) entries
+
+-- each leaf stands before all those behind it, by their choices
+abbrev pub AreRanked : List LeafText → Type 0
+AreRanked [] = Unit {0}
+AreRanked (leaf ∷ leaves) = All (λ (later : LeafText). IsTrue (precedes leaf.choices later.choices)) leaves × AreRanked leaves
+
+-- all of the claims, for this program and these budgets
+pub record IsReport (p : Program) (budgets : Budgets) (entries : List Entry) : Type 0 where
+  pub exact_cover : IsExactCover p (leaves_of entries)
+  pub faithful : AreFaithful p budgets (leaves_of entries)
+  pub runs : AreRuns p entries
+  pub cuts : ShowBudgets p budgets entries
   pub ranked : AreRanked (leaves_of entries)
 
--- a number in six digits, or in more where it has more
-abbrev pub six_digits : ℕ → List ℕ
-six_digits n = replicate (6 - length (decimal n)) 48 ++ decimal n
+-- The files of a report, which stand in the folder `out`.
+abbrev pub leaf_put : List ℕ → ℕ → LeafText → Put
+leaf_put out rank leaf = record { name = leaf_name out rank; bytes = leaf_text leaf }
 
-abbrev pub leaf_put : List ℕ → ℕ → Leaf → Put
-leaf_put out rank leaf = record { name = out ++ codes "/leaf-" ++ six_digits rank ++ codes ".smt2"; bytes = leaf_text leaf }
+abbrev pub beside_put : List ℕ → ℕ → Beside → Put
+beside_put out rank (Tested test) = record { name = test_name out rank; bytes = test_text test }
+beside_put out rank (OnTargets spent) = record { name = spent_name out rank; bytes = targets_text spent }
 
-abbrev pub test_put : List ℕ → ℕ → Test → Put
-test_put out rank test = record { name = out ++ codes "/test-" ++ six_digits rank ++ codes ".json"; bytes = test_text test }
-
--- the files of leaves and tests, whose ranks begin with this one
+-- two for each leaf, whose ranks begin with this one
 unfoldable pub files_from : List ℕ → ℕ → List Entry → List Put
 files_from out rank [] = []
-files_from out rank (e ∷ es) = leaf_put out rank e.leaf ∷ test_put out rank e.test ∷ files_from out (rank + 1) es
+files_from out rank (e ∷ es) = leaf_put out rank e.leaf ∷ beside_put out rank e.beside ∷ files_from out (rank + 1) es
 
 abbrev pub files_of : List ℕ → List Entry → List Put
 files_of out entries = files_from out 0 entries
 
 -- the line that is said
 abbrev pub summary_of : List Entry → List ℕ
-summary_of entries =
-    codes "leaves " ++ decimal (length entries) ++ codes " finished " ++ decimal (length entries)
-    ++ codes " cut 0 tests " ++ decimal (length entries) ++ codes " steps " ++ decimal (sum_by (λ (e : Entry). e.leaf.steps) entries) ++ codes "\n"
+summary_of entries = summary_text (count (leaves_of entries))
 
--- A leaf that was found, and an assignment that it covers.
-pub record Part : Type 0 where
-  pub leaf : Leaf
-  pub sample : List ℕ
+-- it has a byte for each input
+abbrev pub IsLongEnough : Evidence → Type 0
+IsLongEnough (Sample input) = length input ≡ 1
+IsLongEnough (Targeted spent) = Unit {0}
 
--- a byte ends it, if anything does
-abbrev pub EndsByByte : Graph → LeafEnd → Type 0
-EndsByByte graph (Exits status) = width_of graph status ≡ 8
-EndsByByte graph (Traps trap) = Unit {0}
-
--- its terms can be evaluated on its sample, and those of its status and output are bytes
+-- its terms can be evaluated on its sample, if it has one, and those of its status and output are bytes
 pub record IsTestable (part : Part) : Type 0 where
-  pub each_input : length part.sample ≡ part.leaf.condition.graph.inputs
-  pub byte_end : EndsByByte part.leaf.condition.graph part.leaf.end
-  pub byte_outputs : All (λ id. width_of part.leaf.condition.graph id ≡ 8) part.leaf.outputs
+  pub bytes : HasBytes part.leaf
+  pub sample : IsLongEnough part.evidence
 
--- the test that its sample makes
-abbrev pub test_of : List Region → ℕ → Part → Test
-test_of regions rank part = record {
+-- the test that a sample makes
+abbrev pub test_of : List Region → ℕ → LeafText → List ℕ → Test
+test_of regions rank leaf sample = record {
   leaf = rank;
   regions = regions;
-  input = part.sample;
-  steps = part.leaf.steps;
-  path = part.leaf.path;
-  end = end_on part.leaf part.sample part.leaf.end;
-  output = map (worth part.leaf part.sample) part.leaf.outputs;
+  input = sample;
+  steps = leaf.steps;
+  path = leaf.path;
+  end = end_on leaf sample leaf.end;
+  output = map (worth leaf sample) leaf.outputs;
 }
 
--- leaves and the tests of their samples, whose ranks begin with this one
-unfoldable pub entries_of : List Region → ℕ → List Part → List Entry
-entries_of asked rank [] = []
-entries_of asked rank (p ∷ ps) = record { leaf = p.leaf; test = test_of asked rank p } ∷ entries_of asked (rank + 1) ps
+-- what the evidence of a leaf makes
+abbrev pub beside_of : List Region → ℕ → LeafText → Evidence → Beside
+beside_of regions rank leaf (Sample sample) = Tested (test_of regions rank leaf sample)
+beside_of regions rank leaf (Targeted spent) = OnTargets spent
 
--- each assignment is covered by exactly one of the leaves, and each leaf is faithful and has a sample that it covers
-pub record IsExplored (image : Image) (regions : List Region) (parts : List Part) : Type 0 where
-  pub exact_cover : IsExactCover regions (map (λ (p : Part). p.leaf) parts)
-  pub faithful : All (λ (p : Part). IsFaithful image regions p.leaf) parts
-  pub sampled : All (λ (p : Part). IsAssignment regions p.sample × IsTrue (covers p.leaf p.sample)) parts
-  pub testable : All IsTestable parts
-  pub ranked : AreRanked (map (λ (p : Part). p.leaf) parts)
+abbrev pub entry_of : List Region → ℕ → Part → Entry
+entry_of regions rank part = record { leaf = part.leaf; beside = beside_of regions rank part.leaf part.evidence }
+
+-- the entries of leaves, whose ranks begin with this one
+unfoldable pub entries_of : List Region → ℕ → List Part → List Entry
+entries_of regions rank [] = []
+entries_of regions rank (p ∷ ps) = entry_of regions rank p ∷ entries_of regions (rank + 1) ps
+
+abbrev pub leaves_in : List Part → List LeafText
+leaves_in parts = map (λ (part : Part). part.leaf) parts
+
+-- each assignment is covered by exactly one of the leaves, each of them is right, and they stand by rank
+pub record IsExplored (p : Program) (steps targets : ℕ) (parts : List Part) : Type 0 where
+  pub exact_cover : (input : List ℕ) → IsAssignment (regions_of p) input → count_by (λ (part : Part). covers part.leaf input) parts ≡ 1
+  pub each : All (λ (part : Part). (sides : List Choice) × IsLeaf p steps targets sides part) parts
+  pub ranked : AreRanked (leaves_in parts)
 
 -- these files and this text are the report, in the folder `out`, of entries for which all of the claims hold
-pub record IsReportOf (out words : List ℕ) (puts : List Put) (text : List ℕ) : Type 0 where
+pub record IsReportOf (out : List ℕ) (p : Program) (budgets : Budgets) (puts : List Put) (text : List ℕ) : Type 0 where
   pub entries : List Entry
-  pub claims : IsReport words entries
+  pub claims : IsReport p budgets entries
   pub files : puts ≡ files_of out entries
   pub summary : text ≡ summary_of entries

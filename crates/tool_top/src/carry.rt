@@ -30,9 +30,9 @@ fn put_all<F: Files>(files: &mut F, report: &[NamedFile]) -> Result<(), Fault>
 /// Puts the plan's files and says its text. A text that is no report's stands even where saying it failed.
 pub fn carry_out<F: Files>(files: &mut F, plan: &Plan) -> Result<(), Fault>
     ensures ok { OnOk result (IsCarriedOut (F.seen files.old) (F.seen files.new)
-        plan.now.verdict plan.now.files.items plan.now.text.items []) }
+        plan.now.verdict plan.now.files.items plan.now.text []) }
     ensures failed { IsErrOf result Fault.Failed → IsCutByFault (F.seen files.old) (F.seen files.new)
-        plan.now.files.items plan.now.text.items [] }
+        plan.now.files.items plan.now.text [] }
     ensures no_memory { IsErrOf result Fault.NoMemory → (puts : List Put) × IsPrefix puts plan.now.files.items
         × ((F.seen files.new).told ≡ after (F.seen files.old).told (puts_all puts)) }
     // A plan that puts no file and isn't done stands even where its line failed.

@@ -1,45 +1,56 @@
 //! The files of a report, and its summary.
 
-ghost use Rattle.std.specs.Prelude.{◌≡◌, All, IfOk, OnOk, [], ◌∷◌, ◌++◌, codes, string_bytes, sum_by};
-ghost use Rattle.tool_top.specs.Programs.{regions};
-ghost use Rattle.tool_top.specs.Reports.{Part, IsTestable, entries_of, files_of, leaf_put, six_digits, summary_of, test_of, test_put};
+ghost use Rattle.std.specs.Prelude.{◌≡◌, All, IfOk, OnOk, [], ◌∷◌, ◌++◌};
+ghost use Rattle.report_text.specs.Summaries.{count};
+ghost use Rattle.tool_top.specs.Reports.{IsTestable, beside_of, beside_put, entries_of, files_of, leaf_put, leaves_in, summary_of};
 
-use crate::leaf_text::print_leaf;
-use crate::part::LeafPart;
 use crate::sample_test::make_test;
-use crate::test_text::write_test;
+use node_split::{Evidence, LeafPart};
+use report_text::{
+    Summary, leaf_name, spent_name, summary_line, test_name, with_leaf, write_targets,
+};
+use smt_text::print_leaf;
 use std::alloc::{AllocError as NoMemory, Global};
-use tool_io::NamedFile;
+use test_files::write_test;
+use tool_io::{Bytes, NamedFile};
 
 /// What is put and said of the leaves of a program.
 #[derive(Drop)]
 pub struct Report {
     pub files: Vec<NamedFile>,
-    pub summary: Vec<u8>,
+    pub summary: Bytes,
 }
 
-/// A rank in six digits, or in more where it has more.
-fn padded_rank(alloc: Global, rank: usize) -> Result<String, NoMemory>
-    ensures { IfOk result (λ digits. string_bytes digits ≡ six_digits rank) }
+/// The file of the leaf.
+fn leaf_file(alloc: Global, out: &str, rank: usize, part: &LeafPart) -> Result<NamedFile, NoMemory>
+    ensures { IfOk result (λ file. file ≡ leaf_put out.now rank part.now.leaf) }
 {
-    let digits = format!(in alloc; "{rank:06}")?;
-    Ok(digits)
+    let text = print_leaf(alloc, &part.leaf)?;
+    Ok(NamedFile::new(leaf_name(alloc, out, rank)?, text))
 }
 
-/// The name of the file of a leaf.
-fn leaf_name(alloc: Global, out: &str, rank: usize) -> Result<String, NoMemory>
-    ensures { IfOk result (λ name. string_bytes name ≡ out.now ++ codes "/leaf-" ++ six_digits rank ++ codes ".smt2") }
+/// The file of what shows the leaf: its sample's test, or what was spent on it.
+fn beside_file(
+    alloc: Global,
+    out: &str,
+    place: u32,
+    rank: usize,
+    part: &LeafPart,
+) -> Result<NamedFile, NoMemory>
+    requires { IsTestable part.now }
+    ensures { IfOk result (λ file. file ≡ beside_put out.now rank (beside_of (record { start = place; count = 1 } ∷ []) rank part.now.leaf part.now.evidence)) }
 {
-    let digits = padded_rank(alloc, rank)?;
-    format!(in alloc; "{out}/leaf-{digits}.smt2")
-}
-
-/// The name of the file of a test.
-fn test_name(alloc: Global, out: &str, rank: usize) -> Result<String, NoMemory>
-    ensures { IfOk result (λ name. string_bytes name ≡ out.now ++ codes "/test-" ++ six_digits rank ++ codes ".json") }
-{
-    let digits = padded_rank(alloc, rank)?;
-    format!(in alloc; "{out}/test-{digits}.json")
+    match &part.evidence {
+        Evidence::Sample(sample) => {
+            let test = make_test(alloc, place, rank, &part.leaf, sample)?;
+            let text = write_test(alloc, &test)?;
+            Ok(NamedFile::new(test_name(alloc, out, rank)?, text))
+        }
+        Evidence::Targets(spent) => {
+            let text = write_targets(alloc, spent)?;
+            Ok(NamedFile::new(spent_name(alloc, out, rank)?, text))
+        }
+    }
 }
 
 /// Puts the files of a part behind the others.
@@ -47,64 +58,61 @@ fn push_files(
     alloc: Global,
     files: &mut Vec<NamedFile>,
     out: &str,
+    place: u32,
     rank: usize,
     part: &LeafPart,
 ) -> Result<(), NoMemory>
     requires { IsTestable part.now }
-    ensures { OnOk result (files.new.items ≡ files.old.items ++ leaf_put out.now rank part.now.leaf ∷ test_put out.now rank (test_of regions rank part.now) ∷ []) }
+    ensures { OnOk result (files.new.items ≡ files.old.items ++ leaf_put out.now rank part.now.leaf
+        ∷ beside_put out.now rank (beside_of (record { start = place; count = 1 } ∷ []) rank part.now.leaf part.now.evidence) ∷ []) }
 {
-    let leaf = print_leaf(alloc, &part.leaf)?;
-    files.push(NamedFile::new(leaf_name(alloc, out, rank)?, leaf))?;
-    let test = write_test(alloc, &make_test(alloc, rank, part)?)?;
-    files.push(NamedFile::new(test_name(alloc, out, rank)?, test))?;
+    files.push(leaf_file(alloc, out, rank, part)?)?;
+    files.push(beside_file(alloc, out, place, rank, part)?)?;
     Ok(())
 }
 
 /// The files of these parts.
-fn make_files(alloc: Global, out: &str, parts: &[LeafPart]) -> Result<Vec<NamedFile>, NoMemory>
+fn make_files(
+    alloc: Global,
+    out: &str,
+    place: u32,
+    parts: &[LeafPart],
+) -> Result<Vec<NamedFile>, NoMemory>
     requires { All IsTestable parts.now }
-    ensures { IfOk result (λ files. files.items ≡ files_of out.now (entries_of regions 0 parts.now)) }
+    ensures { IfOk result (λ files. files.items ≡ files_of out.now (entries_of (record { start = place; count = 1 } ∷ []) 0 parts.now)) }
 {
     let mut files = Vec::new(alloc);
     for (rank, part) in parts.iter().enumerate() {
-        push_files(alloc, &mut files, out, rank, part)?;
+        push_files(alloc, &mut files, out, place, rank, part)?;
     }
     Ok(files)
 }
 
-/// The steps of all leaves.
-fn total_steps(parts: &[LeafPart]) -> Result<u64, NoMemory>
-    ensures { IfOk result (λ steps. steps ≡ sum_by (λ (p : Part). p.leaf.steps) parts.now) }
+/// How many leaves of which sort the parts have.
+fn summarize(parts: &[LeafPart]) -> Result<Summary, NoMemory>
+    ensures { IfOk result (λ summary. summary ≡ count (leaves_in parts.now)) }
 {
-    let mut total = 0_u64;
+    let mut summary = Summary::empty();
     for part in parts {
-        total = total
-            .checked_add(u64::from(part.leaf.steps))
-            .ok_or(NoMemory)?;
+        summary = with_leaf(summary, &part.leaf)?;
     }
-    Ok(total)
+    Ok(summary)
 }
 
-/// The line that is said.
-fn make_summary(alloc: Global, parts: &[LeafPart]) -> Result<Vec<u8>, NoMemory>
-    ensures { IfOk result (λ summary. summary.items ≡ summary_of (entries_of regions 0 parts.now)) }
-{
-    let count = parts.len();
-    let steps = total_steps(parts)?;
-    let line = format!(in alloc;
-        "leaves {count} finished {count} cut 0 tests {count} steps {steps}\n"
-    )?;
-    Ok(line.into_bytes())
-}
-
-/// The report of these leaves, which stand by rank, in the folder `out`.
-pub fn make_report(alloc: Global, out: &str, parts: &[LeafPart]) -> Result<Report, NoMemory>
+/// The report of these leaves, which stand by rank, in the folder `out`; their input byte is at `place`.
+pub fn make_report(
+    alloc: Global,
+    out: &str,
+    place: u32,
+    parts: &[LeafPart],
+) -> Result<Report, NoMemory>
     requires { All IsTestable parts.now }
-    ensures files { IfOk result (λ report. report.files.items ≡ files_of out.now (entries_of regions 0 parts.now)) }
-    ensures summary { IfOk result (λ report. report.summary.items ≡ summary_of (entries_of regions 0 parts.now)) }
+    ensures files { IfOk result (λ report. report.files.items ≡ files_of out.now (entries_of (record { start = place; count = 1 } ∷ []) 0 parts.now)) }
+    ensures summary { IfOk result (λ report. report.summary ≡ summary_of (entries_of (record { start = place; count = 1 } ∷ []) 0 parts.now)) }
 {
+    let summary = summarize(parts)?;
     Ok(Report {
-        files: make_files(alloc, out, parts)?,
-        summary: make_summary(alloc, parts)?,
+        files: make_files(alloc, out, place, parts)?,
+        summary: summary_line(alloc, &summary)?,
     })
 }

@@ -1,5 +1,6 @@
-//! Tests over whole runs and over texts.
+//! Tests over whole runs of the tool.
 
+mod programs;
 mod refusals;
 mod rows;
-mod texts;
+mod runs;

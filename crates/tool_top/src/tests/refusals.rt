@@ -1,6 +1,7 @@
 //! Programs and inputs that are refused, by the line that is said.
 
-use crate::tests::rows::{EXPLORE, FORKED, STRAIGHT, row_file, run};
+use crate::tests::programs::{ADDED, DIVIDED, STORED, STRAIGHT, row_file};
+use crate::tests::runs::{EXPLORE, files, run};
 use std::alloc::Global;
 use std::test::Fail;
 use tool_io::MemFiles;
@@ -13,13 +14,11 @@ fn holding(alloc: Global, bytes: &[u8]) -> Result<MemFiles, Fail> {
 }
 
 // The file of a program that exits with 7: its length, bytes that are set at places, and what it is refused for.
-const FILES: [(usize, &[(usize, u8)], &str); 31] = [
+const FILES: [(usize, &[(usize, u8)], &str); 26] = [
     (0, &[], "2 Short"),
     (51, &[], "2 Short"),
     (115, &[], "11 HeadersPastEnd"),
     (127, &[], "14 BytesPastEnd"),
-    (128, &[], "19 Later"),
-    (1_048_576, &[], "19 Later"),
     (1_048_577, &[], "1 TooBig"),
     (128, &[(0, 0)], "3 Magic"),
     (128, &[(4, 2)], "4 Class"),
@@ -29,7 +28,6 @@ const FILES: [(usize, &[(usize, u8)], &str); 31] = [
     (128, &[(16, 3)], "7 FileType"),
     (128, &[(18, 0)], "8 Machine"),
     (128, &[(36, 1)], "9 Flags"),
-    (128, &[(36, 6)], "19 Later"),
     (128, &[(36, 8)], "9 Flags"),
     (128, &[(40, 51)], "10 HeaderSize"),
     (128, &[(42, 40)], "10 HeaderSize"),
@@ -49,27 +47,63 @@ const FILES: [(usize, &[(usize, u8)], &str); 31] = [
         "15 AddressRange",
     ),
     (128, &[(92, 8), (93, 0)], "16 Overlap"),
-    (128, &[(104, 0), (105, 255), (106, 63)], "19 Later"),
     (128, &[(104, 0), (105, 0), (106, 64)], "17 TooManyPages"),
-    (128, &[(52, 0)], "19 Later"),
     (128, &[(52, 0), (84, 0)], "18 Nothing"),
 ];
+
+// Such files that load: each has one leaf.
+const LOADED: [(usize, &[(usize, u8)]); 4] = [
+    (128, &[]),
+    (1_048_576, &[]),
+    (128, &[(36, 6)]),
+    (128, &[(104, 0), (105, 255), (106, 63)]),
+];
+
+// The file of the program of this length, with these bytes set.
+fn edited(alloc: Global, length: usize, edits: &[(usize, u8)]) -> Result<Vec<u8>, Fail> {
+    let mut bytes = row_file(alloc, &STRAIGHT)?;
+    bytes.resize(length, 0)?;
+    for &(at, value) in edits {
+        if at < bytes.len() {
+            bytes[at] = value;
+        }
+    }
+    Ok(bytes)
+}
 
 #[test]
 fn files_that_are_refused(rt: HostRuntime) -> Result<(), Fail> {
     let alloc = rt.alloc();
     for &(length, edits, why) in &FILES {
-        let mut bytes = row_file(alloc, &STRAIGHT)?;
-        bytes.resize(length, 0)?;
-        for &(at, value) in edits {
-            if at < bytes.len() {
-                bytes[at] = value;
-            }
-        }
-        let mut files = holding(alloc, bytes.as_slice())?;
+        let mut files = holding(alloc, edited(alloc, length, edits)?.as_slice())?;
         assert_eq!(rt; run(&rt, &EXPLORE, &mut files)?, 3, "{why}");
         let line = format!(in alloc; "program refused {why}\n")?;
         assert_eq!(rt; files.said(), line.as_bytes(), "{why}");
+    }
+    Ok(())
+}
+
+#[test]
+fn files_that_load(rt: HostRuntime) -> Result<(), Fail> {
+    let alloc = rt.alloc();
+    for &(length, edits) in &LOADED {
+        let mut files = holding(alloc, edited(alloc, length, edits)?.as_slice())?;
+        assert_eq!(rt; run(&rt, &EXPLORE, &mut files)?, 0);
+        assert_eq!(rt;
+            files.said(),
+            b"leaves 1 finished 1 cut 0 tests 1 steps 3\n".as_slice()
+        );
+    }
+    Ok(())
+}
+
+// Programs with an instruction that is taken later.
+#[test]
+fn programs_that_are_taken_later(rt: HostRuntime) -> Result<(), Fail> {
+    for program in [&DIVIDED[..], &ADDED[..], &STORED[..]] {
+        let mut files = files(rt.alloc(), program, &[])?;
+        assert_eq!(rt; run(&rt, &EXPLORE, &mut files)?, 3);
+        assert_eq!(rt; files.said(), b"program refused 19 Later\n".as_slice());
     }
     Ok(())
 }
@@ -78,7 +112,7 @@ fn files_that_are_refused(rt: HostRuntime) -> Result<(), Fail> {
 #[test]
 fn inputs_that_are_refused(rt: HostRuntime) -> Result<(), Fail> {
     let alloc = rt.alloc();
-    let bytes = row_file(alloc, &FORKED)?;
+    let bytes = row_file(alloc, &STRAIGHT)?;
     let nine = [
         "rvklee",
         "explore",
@@ -105,7 +139,16 @@ fn inputs_that_are_refused(rt: HostRuntime) -> Result<(), Fail> {
     let none = ["rvklee", "explore", "p.elf", "out", "00011000:0"];
     let long = ["rvklee", "explore", "p.elf", "out", "00011000:257"];
     let far = ["rvklee", "explore", "p.elf", "out", "00012000:1"];
-    let later = ["rvklee", "explore", "p.elf", "out", "00011000:2"];
+    let later = ["rvklee", "explore", "p.elf", "out", "00011000:256"];
+    let two = [
+        "rvklee",
+        "explore",
+        "p.elf",
+        "out",
+        "00011000:1",
+        "00011001:1",
+    ];
+    let code = ["rvklee", "explore", "p.elf", "out", "00010003:1"];
     for (words, line) in [
         (&nine[..], "inputs refused 1 TooMany\n"),
         (&none[..], "inputs refused 2 Empty\n"),
@@ -113,6 +156,8 @@ fn inputs_that_are_refused(rt: HostRuntime) -> Result<(), Fail> {
         (&far[..], "inputs refused 4 Unmapped\n"),
         (&twice[..], "inputs refused 5 Overlap\n"),
         (&later[..], "inputs refused 6 Later\n"),
+        (&two[..], "inputs refused 6 Later\n"),
+        (&code[..], "inputs refused 6 Later\n"),
     ] {
         let mut files = holding(alloc, bytes.as_slice())?;
         assert_eq!(rt; run(&rt, words, &mut files)?, 4, "{line}");

@@ -1,202 +1,214 @@
-//! Runs of the tool over files in memory, and one over real files.
+//! Programs that are explored: the line said, the names of the files, and how each of some of them begins.
 
-use crate::*;
-use std::alloc::Global;
-use std::fs;
-use std::sync::Wait;
+use crate::tests::programs::{CALLED, COMPARED, COUNTED, FORKED, STRAIGHT};
+use crate::tests::runs::{EXPLORE, files, run};
 use std::test::Fail;
-use std::thread::Threads;
-use tool_io::{Files, HostFiles, MemFiles};
-use work_gate::OpenGate;
 
-// A program without a branch, and with other words first than are taken.
-pub(crate) const STRAIGHT: [u32; 3] = [0x0070_0513, 0x05D0_0893, 0x0000_0073];
+/// A run of the tool on a program.
+struct Row {
+    program: &'static [u32],
+    words: &'static [&'static str],
+    said: &'static str,
+    puts: usize,
+    /// Some of the files by their places among those put, with their names and how they begin.
+    files: &'static [(usize, &'static str, &'static str)],
+}
 
-// A program that exits with 1 where its input byte is 'A', and else with 0.
-pub(crate) const FORKED: [u32; 9] = [
-    0x0001_12B7,
-    0x0002_C383,
-    0x0410_0313,
-    0x0063_8663,
-    0x05D0_0893,
-    0x0000_0073,
-    0x0010_0513,
-    0x05D0_0893,
-    0x0000_0073,
+const FIFTY_STEPS: [&str; 7] = [
+    "rvklee",
+    "explore",
+    "--steps",
+    "50",
+    "p.elf",
+    "out",
+    "00011000:1",
 ];
 
-const SUMMARY: &str = "leaves 2 finished 2 cut 0 tests 2 steps 13\n";
+const FEWER_STEPS: [&str; 7] = [
+    "rvklee",
+    "explore",
+    "--steps",
+    "49",
+    "p.elf",
+    "out",
+    "00011000:1",
+];
 
-const TEST_0: &str =
-    "{\"end\":\"exit 0\",\"format\":1,\"input\":\"00\",\"leaf\":0,\"output\":\"\",\"path\":\"N\",\"regions\":[\"00011000:1\"],\"steps\":6}\n";
+const FOUR_TARGETS: [&str; 7] = [
+    "rvklee",
+    "explore",
+    "--targets",
+    "4",
+    "p.elf",
+    "out",
+    "00011000:1",
+];
 
-const TEST_1: &str =
-    "{\"end\":\"exit 1\",\"format\":1,\"input\":\"41\",\"leaf\":1,\"output\":\"\",\"path\":\"T\",\"regions\":[\"00011000:1\"],\"steps\":7}\n";
-
-pub(crate) const EXPLORE: [&str; 5] = ["rvklee", "explore", "p.elf", "out", "00011000:1"];
-
-const OTHER_INPUT: [&str; 5] = ["rvklee", "explore", "p.elf", "out", "00011000:2"];
-
-const NO_INPUT: [&str; 5] = ["rvklee", "explore", "p.elf", "out", "00011000:10000"];
-
-const NOTHING: [u32; 0] = [];
-
-fn push_words(bytes: &mut Vec<u8>, words: &[u32]) -> Result<(), Fail> {
-    for word in words {
-        bytes.extend_from_slice(&word.to_le_bytes())?;
-    }
-    Ok(())
-}
-
-// The file of these words: the ELF header, a header for the code, one for 512 bytes of data, and the code.
-pub(crate) fn row_file(alloc: Global, words: &[u32]) -> Result<Vec<u8>, Fail> {
-    let size = words.iter().fold(0u32, |size, _| size.wrapping_add(4));
-    let mut bytes = Vec::new(alloc);
-    push_words(&mut bytes, &[0x464C_457F, 0x0001_0101, 0, 0])?;
-    push_words(&mut bytes, &[0x00F3_0002, 1, 0x0001_0000, 52, 0, 0])?;
-    push_words(&mut bytes, &[0x0020_0034, 2, 0])?;
-    push_words(
-        &mut bytes,
-        &[1, 116, 0x0001_0000, 0x0001_0000, size, size, 5, 4],
-    )?;
-    push_words(&mut bytes, &[1, 0, 0x0001_1000, 0x0001_1000, 0, 512, 6, 4])?;
-    push_words(&mut bytes, words)?;
-    Ok(bytes)
-}
-
-fn strings(alloc: Global, words: &[&str]) -> Result<Vec<String>, Fail> {
-    let mut strings = Vec::new(alloc);
-    for word in words {
-        strings.push(String::from_str(alloc, word)?)?;
-    }
-    Ok(strings)
-}
-
-// Files that hold the program of these words as p.elf, if there are any, and fail at these calls.
-fn files(alloc: Global, program: &[u32], to_fail: &[u64]) -> Result<MemFiles, Fail> {
-    let mut files = MemFiles::new(alloc, Vec::from_slice(alloc, to_fail)?);
-    if !program.is_empty() {
-        files.hold("p.elf", row_file(alloc, program)?.as_slice())?;
-    }
-    Ok(files)
-}
-
-// The status of the tool's run.
-pub(crate) fn run<R: Threads + Wait + Sync + AllocGlobal, F: Files>(
-    rt: &R,
-    words: &[&str],
-    files: &mut F,
-) -> Result<u8, Fail> {
-    let words = strings(rt.alloc(), words)?;
-    Ok(run_tool(rt, rt.alloc(), words.as_slice(), files, &OpenGate))
-}
+const ROWS: [Row; 6] = [
+    Row {
+        program: &STRAIGHT,
+        words: &EXPLORE,
+        said: "leaves 1 finished 1 cut 0 tests 1 steps 3\n",
+        puts: 2,
+        files: &[
+            (
+                0,
+                "out/leaf-000000.smt2",
+                "; rvklee leaf 1\n; kind finished\n; choices .\n; path .\n; steps 3\n; end exit\n",
+            ),
+            (
+                1,
+                "out/test-000000.json",
+                "{\"end\":\"exit 7\",\"format\":1,\"input\":\"00\",\"leaf\":0,\"output\":\"\",\"path\":\"\",\"regions\":[\"00011000:1\"],\"steps\":3}\n",
+            ),
+        ],
+    },
+    Row {
+        program: &FORKED,
+        words: &EXPLORE,
+        said: "leaves 2 finished 2 cut 0 tests 2 steps 13\n",
+        puts: 4,
+        files: &[
+            (
+                0,
+                "out/leaf-000000.smt2",
+                "; rvklee leaf 1\n; kind finished\n; choices N.\n; path N.\n; steps 6\n; end exit\n",
+            ),
+            (
+                1,
+                "out/test-000000.json",
+                "{\"end\":\"exit 0\",\"format\":1,\"input\":\"00\",\"leaf\":0,\"output\":\"\",\"path\":\"N\",\"regions\":[\"00011000:1\"],\"steps\":6}\n",
+            ),
+            (
+                2,
+                "out/leaf-000001.smt2",
+                "; rvklee leaf 1\n; kind finished\n; choices Y.\n; path T.\n; steps 7\n; end exit\n",
+            ),
+            (
+                3,
+                "out/test-000001.json",
+                "{\"end\":\"exit 1\",\"format\":1,\"input\":\"41\",\"leaf\":1,\"output\":\"\",\"path\":\"T\",\"regions\":[\"00011000:1\"],\"steps\":7}\n",
+            ),
+        ],
+    },
+    Row {
+        program: &COMPARED,
+        words: &EXPLORE,
+        said: "leaves 3 finished 3 cut 0 tests 3 steps 26\n",
+        puts: 6,
+        files: &[
+            (
+                0,
+                "out/leaf-000000.smt2",
+                "; rvklee leaf 1\n; kind finished\n; choices N.\n; path NT.\n; steps 9\n; end exit\n",
+            ),
+            (
+                1,
+                "out/test-000000.json",
+                "{\"end\":\"exit 1\",\"format\":1,\"input\":\"0",
+            ),
+            (
+                2,
+                "out/leaf-000001.smt2",
+                "; rvklee leaf 1\n; kind finished\n; choices YN.\n; path TN.\n; steps 9\n; end exit\n",
+            ),
+            (3, "out/test-000001.json", "{\"end\":\"exit 2\","),
+            (
+                4,
+                "out/leaf-000002.smt2",
+                "; rvklee leaf 1\n; kind finished\n; choices YY.\n; path TT.\n; steps 8\n; end exit\n",
+            ),
+            (5, "out/test-000002.json", "{\"end\":\"exit 0\","),
+        ],
+    },
+    Row {
+        program: &COUNTED,
+        words: &FIFTY_STEPS,
+        said: "leaves 17 finished 16 cut 1 tests 17 steps 440\n",
+        puts: 34,
+        files: &[
+            (
+                0,
+                "out/leaf-000000.smt2",
+                "; rvklee leaf 1\n; kind steps\n; choices NNNNNNNNNNNNNNNN.\n; path NNNNNNNNNNNNNNNN.\n; steps 50\n; end running\n",
+            ),
+            (
+                1,
+                "out/test-000000.json",
+                "{\"end\":\"running\",\"format\":1,\"input\":\"",
+            ),
+            (
+                32,
+                "out/leaf-000016.smt2",
+                "; rvklee leaf 1\n; kind finished\n; choices Y.\n; path T.\n; steps 5\n; end exit\n",
+            ),
+            (
+                33,
+                "out/test-000016.json",
+                "{\"end\":\"exit 0\",\"format\":1,\"input\":\"00\",\"leaf\":16,",
+            ),
+        ],
+    },
+    Row {
+        program: &COUNTED,
+        words: &FEWER_STEPS,
+        said: "leaves 17 finished 15 cut 2 tests 17 steps 390\n",
+        puts: 34,
+        files: &[
+            (
+                0,
+                "out/leaf-000000.smt2",
+                "; rvklee leaf 1\n; kind steps\n; choices NNNNNNNNNNNNNNNN.\n",
+            ),
+            (
+                2,
+                "out/leaf-000001.smt2",
+                "; rvklee leaf 1\n; kind steps\n; choices NNNNNNNNNNNNNNNY.\n",
+            ),
+        ],
+    },
+    Row {
+        program: &CALLED,
+        words: &FOUR_TARGETS,
+        said: "leaves 5 finished 4 cut 1 tests 4 steps 12\n",
+        puts: 10,
+        files: &[
+            (
+                0,
+                "out/leaf-000000.smt2",
+                "; rvklee leaf 1\n; kind finished\n; choices =00000000.\n; path .\n; steps 3\n; end Call\n",
+            ),
+            (
+                1,
+                "out/test-000000.json",
+                "{\"end\":\"trap Call\",\"format\":1,\"input\":\"00\",\"leaf\":0,\"output\":\"\",\"path\":\"\",\"regions\":[\"00011000:1\"],\"steps\":3}\n",
+            ),
+            (
+                8,
+                "out/leaf-000004.smt2",
+                "; rvklee leaf 1\n; kind targets\n; choices R.\n",
+            ),
+            (9, "out/spent-000004.txt", "; spent targets 4\n; term n"),
+        ],
+    },
+];
 
 #[test]
-fn a_report_is_put_and_its_summary_said(rt: HostRuntime) -> Result<(), Fail> {
-    let mut files = files(rt.alloc(), &FORKED, &[])?;
-    assert_eq!(rt; run(&rt, &EXPLORE, &mut files)?, 0);
-    assert_eq!(rt; files.said(), SUMMARY.as_bytes());
-    let puts = files.puts();
-    assert_eq!(rt; puts.len(), 4);
-    for (file, name) in puts.iter().zip([
-        "out/leaf-000000.smt2",
-        "out/test-000000.json",
-        "out/leaf-000001.smt2",
-        "out/test-000001.json",
-    ]) {
-        assert_eq!(rt; file.name(), name);
-    }
-    assert_eq!(rt; puts[1].bytes(), TEST_0.as_bytes());
-    assert_eq!(rt; puts[3].bytes(), TEST_1.as_bytes());
-    Ok(())
-}
-
-// What is said, and how many names are read and files put, where no report is put in whole.
-#[test]
-fn other_runs_say_one_line(rt: HostRuntime) -> Result<(), Fail> {
-    let usage =
-        "usage: rvklee explore [--steps N] [--targets N] [--conflicts N] [--workers N] PROGRAM OUT INPUT..\n       rvklee replay PROGRAM TEST\n       rvklee bench NUMBER WORKERS OUT\n";
-    let unfit = "inputs refused 6 Later\n";
-    let refused = "program refused 19 Later\n";
-    let fault = "read fault\n";
-    for (words, program, to_fail, status, said, names, puts) in [
-        (&EXPLORE[..1], &FORKED[..], 9, 2, usage, 0, 0),
-        (&EXPLORE[..4], &FORKED[..], 9, 2, usage, 0, 0),
-        (&NO_INPUT[..], &FORKED[..], 9, 2, usage, 0, 0),
-        (&OTHER_INPUT[..], &FORKED[..], 9, 4, unfit, 1, 0),
-        (&OTHER_INPUT[..], &FORKED[..], 2, 4, "", 1, 0),
-        (&OTHER_INPUT[..], &STRAIGHT[..], 9, 3, refused, 1, 0),
-        (&EXPLORE[..1], &FORKED[..], 1, 2, "", 0, 0),
-        (&EXPLORE[..], &STRAIGHT[..], 9, 3, refused, 1, 0),
-        (&EXPLORE[..], &STRAIGHT[..], 2, 3, "", 1, 0),
-        (&EXPLORE[..], &NOTHING[..], 9, 5, fault, 1, 0),
-        (&EXPLORE[..], &FORKED[..], 1, 5, fault, 1, 0),
-        (&EXPLORE[..], &FORKED[..], 2, 6, "", 1, 0),
-        (&EXPLORE[..], &FORKED[..], 3, 6, "", 1, 1),
-        (&EXPLORE[..], &FORKED[..], 6, 6, "", 1, 4),
-        (&EXPLORE[..], &FORKED[..], 7, 0, SUMMARY, 1, 4),
-    ] {
-        let mut files = files(rt.alloc(), program, &[to_fail])?;
-        assert_eq!(rt;
-            run(&rt, words, &mut files)?,
-            status,
-            "status {status}, call {to_fail}"
-        );
-        assert_eq!(rt;
-            files.said(),
-            said.as_bytes(),
-            "status {status}, call {to_fail}"
-        );
-        assert_eq!(rt;
-            files.names().len(),
-            names,
-            "status {status}, call {to_fail}"
-        );
-        assert_eq!(rt; files.puts().len(), puts, "status {status}, call {to_fail}");
-    }
-    Ok(())
-}
-
-// Where the second file fails, the first stands whole.
-#[test]
-fn a_put_that_fails_leaves_those_before(rt: HostRuntime) -> Result<(), Fail> {
-    let alloc = rt.alloc();
-    let mut whole = files(alloc, &FORKED, &[])?;
-    assert_eq!(rt; run(&rt, &EXPLORE, &mut whole)?, 0);
-    let mut cut = files(alloc, &FORKED, &[3])?;
-    assert_eq!(rt; run(&rt, &EXPLORE, &mut cut)?, 6);
-    let (all, first) = (whole.puts(), cut.puts());
-    assert_eq!(rt; all.len(), 4);
-    assert_eq!(rt; first.len(), 1);
-    assert_eq!(rt; first[0].name(), "out/leaf-000000.smt2");
-    assert_eq!(rt; first[0].bytes(), all[0].bytes());
-    assert_eq!(rt; cut.said(), b"".as_slice());
-    Ok(())
-}
-
-#[test]
-fn real_files_are_read_and_put(rt: HostRuntime) -> Result<(), Fail> {
-    let alloc = rt.alloc();
-    let mut files = HostFiles::new(&rt, alloc);
-    files.put("p.elf", row_file(alloc, &FORKED)?.as_slice())?;
-    let words = ["rvklee", "explore", "p.elf", ".", "00011000:1"];
-    assert_eq!(rt; run(&rt, &words, &mut files)?, 0);
-    assert_eq!(rt;
-        files.read("./test-000000.json", 1000)?.as_slice(),
-        TEST_0.as_bytes()
-    );
-    assert_eq!(rt;
-        files.read("./test-000001.json", 1000)?.as_slice(),
-        TEST_1.as_bytes()
-    );
-    for name in [
-        "p.elf",
-        "leaf-000000.smt2",
-        "test-000000.json",
-        "leaf-000001.smt2",
-        "test-000001.json",
-    ] {
-        fs::remove_file(&rt, name)?;
+fn programs_are_explored(rt: HostRuntime) -> Result<(), Fail> {
+    for row in &ROWS {
+        let mut held = files(rt.alloc(), row.program, &[])?;
+        assert_eq!(rt; run(&rt, row.words, &mut held)?, 0, "{}", row.said);
+        assert_eq!(rt; held.said(), row.said.as_bytes(), "{}", row.said);
+        assert_eq!(rt; held.puts().len(), row.puts, "{}", row.said);
+        for &(at, name, beginning) in row.files {
+            let file = held.puts().get(at).expect(&rt, "a file that was put");
+            assert_eq!(rt; file.name(), name, "{}", row.said);
+            assert!(rt;
+                file.bytes().starts_with(beginning.as_bytes()),
+                "{name}, {}",
+                row.said
+            );
+        }
     }
     Ok(())
 }

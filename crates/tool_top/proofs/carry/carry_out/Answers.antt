@@ -7,16 +7,16 @@ pub returns-in-Ok-clause-ok : goal.returns-in-Ok-clause-ok
 returns-in-Ok-clause-ok g c =
     let put = rw c.as_slice.ensures.value at c.in_ok-put_all.ensures.ok in
     record {
-      said = c.args.plan.now.text.items;
+      said = c.args.plan.now.text;
       begins = IsPrefix-whole _;
       whole = inl refl;
-      changes = then_says _ _ _ _ _ _ put (rw c.as_slice-2.ensures.value at c.in-Ok.ensures.ok);
+      changes = then_says _ _ _ _ _ _ put (rw c.as_slice-2.ensures at c.in-Ok.ensures.ok);
     }
 
 pub returns-then-eq-clause-failed : goal.returns-then-eq-clause-failed
 returns-then-eq-clause-failed g c = λ _.
     let put = rw c.as_slice.ensures.value at c.in_ok-put_all.ensures.ok in
-    let some = (rw c.as_slice-2.ensures.value at c.in-Err-Failed.ensures.failed) (ap Err c.in-Err-Failed.field-0-is) in
+    let some = (rw c.as_slice-2.ensures at c.in-Err-Failed.ensures.failed) (ap Err c.in-Err-Failed.field-0-is) in
     record {
       puts = c.args.plan.now.files.items;
       said = some.0;
@@ -29,7 +29,7 @@ returns-then-eq-clause-failed g c = λ _.
 pub returns-else-eq-clause-ok : goal.returns-else-eq-clause-ok
 returns-else-eq-clause-ok g c =
     let put = rw c.as_slice.ensures.value at c.in_ok-put_all.ensures.ok in
-    let some = (rw c.as_slice-2.ensures.value at c.in-Err-Failed.ensures.failed) (ap Err c.in-Err-Failed.field-0-is) in
+    let some = (rw c.as_slice-2.ensures at c.in-Err-Failed.ensures.failed) (ap Err c.in-Err-Failed.field-0-is) in
     record {
       said = some.0;
       begins = some.1;

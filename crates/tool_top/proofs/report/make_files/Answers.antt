@@ -1,5 +1,4 @@
-use Rattle.std.proofs.Common.{◌∙◌, ◌++◌, ◌+◌, ap, sym, drop}
-use Rattle.tool_top.specs.Programs.{regions}
+use Rattle.std.proofs.Common.{◌∙◌, ◌++◌, ◌∷◌, [], ◌+◌, ap, sym, drop}
 use Rattle.tool_top.specs.Reports.{entries_of, files_from}
 use Rattle.tool_top.proofs.Entries.{files_next, files_end}
 use Rattle.tool_top.proofs.report.make_files.Goals as goal
@@ -9,9 +8,10 @@ loop-rank-preserved c =
     let rank = c.loop-rank.rank in
     let out = c.args.out.now in
     let parts = c.args.parts.now in
+    let regions = record { start = c.args.place; count = 1 } ∷ [] in
     ap (λ files. files ++ files_from out (rank + 1) (entries_of regions (rank + 1) (drop (rank + 1) parts))) c.in_ok-push_files.ensures
     ∙ files_next out regions parts rank c.index-parts-rank.result c.loop-rank.files.items c.loop-rank-test.true c.index-parts-rank.is
     ∙ c.loop-rank.invariant
 
 pub returns : goal.returns
-returns c = sym (files_end c.args.out.now regions c.args.parts.now c.loop-rank.rank c.loop-rank.files.items c.loop-rank-test.false) ∙ c.loop-rank.invariant
+returns c = sym (files_end c.args.out.now (record { start = c.args.place; count = 1 } ∷ []) c.args.parts.now c.loop-rank.rank c.loop-rank.files.items c.loop-rank-test.false) ∙ c.loop-rank.invariant

@@ -1,0 +1,4 @@
+mod SixDigits
+pub mod Counting
+mod Walking
+mod ReportTexts

@@ -1,0 +1,50 @@
+-- The report as a JSON value.
+use Rattle.std.specs.Prelude.{ℕ, List, codes, map}
+use Rattle.serde_json.specs.Data.{Data, number, unsigned, string, array, object, member, no_members}
+use Rattle.serde_json.specs.View.{items_of}
+use Rattle.elf_load.specs.declared.region.Region.{Region}
+use Rattle.smt_text.specs.Names.{choices_text, end_name, kind_name}
+use Rattle.test_files.specs.TestData.{regions_data}
+use Rattle.tool_words.specs.declared.limit.Budgets.{Budgets}
+use Rattle.report_text.specs.Reports.{Entry, leaves_of}
+use Rattle.report_text.specs.Summaries.{count}
+use Rattle.report_text.specs.declared.summary.Summary.{Summary}
+
+abbrev pub budgets_data : Budgets → (workers : ℕ) → Data
+budgets_data budgets workers = object (
+    member (codes "conflicts") (number (unsigned budgets.conflicts)) (
+    member (codes "steps") (number (unsigned budgets.steps)) (
+    member (codes "targets") (number (unsigned budgets.targets)) (
+    member (codes "workers") (number (unsigned workers)) no_members))))
+
+abbrev pub entry_data : Entry → Data
+entry_data entry = object (
+    member (codes "choices") (string (choices_text entry.leaf.choices)) (
+    member (codes "end") (string (end_name entry.leaf.end)) (
+    member (codes "kind") (string (kind_name entry.leaf.end)) (
+    member (codes "node") (number (unsigned entry.node)) (
+    member (codes "steps") (number (unsigned entry.leaf.steps)) no_members)))))
+
+-- the leaves, an object each
+abbrev pub entries_data : List Entry → Data
+entries_data entries = array (items_of (map entry_data entries))
+
+abbrev pub totals_data : Summary → Data
+totals_data summary = object (
+    member (codes "cut") (number (unsigned summary.cut)) (
+    member (codes "finished") (number (unsigned summary.finished)) (
+    member (codes "leaves") (number (unsigned summary.leaves)) (
+    member (codes "steps") (number (unsigned summary.steps)) (
+    member (codes "tests") (number (unsigned summary.tests)) no_members)))))
+
+-- the object of these, its keys in order
+abbrev pub object_data : (budgets leaves regions summary : Data) → Data
+object_data budgets leaves regions summary = object (
+    member (codes "budgets") budgets (
+    member (codes "leaves") leaves (
+    member (codes "regions") regions (
+    member (codes "summary") summary no_members))))
+
+abbrev pub report_data : Budgets → (workers : ℕ) → List Region → List Entry → Data
+report_data budgets workers regions entries =
+    object_data (budgets_data budgets workers) (entries_data entries) (regions_data regions) (totals_data (count (leaves_of entries)))

@@ -1,0 +1,62 @@
+-- The JSON text of a report: the budgets, the leaves by rank, the regions and the summary.
+use Rattle.std.specs.Prelude.{ℕ, List, [], ◌∷◌, ◌++◌, codes, decimal, map}
+use Rattle.json.specs.Print.{quoted}
+use Rattle.elf_load.specs.declared.region.Region.{Region}
+use Rattle.smt_text.specs.Leaves.{LeafText}
+use Rattle.smt_text.specs.Names.{choices_text, end_name, kind_name}
+use Rattle.test_files.specs.Tests.{quoted_all, region_text}
+use Rattle.tool_words.specs.declared.limit.Budgets.{Budgets}
+use Rattle.report_text.specs.Summaries.{count}
+use Rattle.report_text.specs.declared.summary.Summary.{Summary}
+
+-- A leaf, and the number of its node in the events.
+pub record Entry : Type 0 where
+  pub leaf : LeafText
+  pub node : ℕ
+
+abbrev pub leaves_of : List Entry → List LeafText
+leaves_of entries = map (λ (entry : Entry). entry.leaf) entries
+
+-- texts with commas between
+abbrev pub with_commas : List (List ℕ) → List ℕ
+with_commas [] = []
+with_commas (text ∷ []) = text
+with_commas (text ∷ next ∷ texts) = text ++ codes "," ++ with_commas (next ∷ texts)
+
+-- the object of the budgets
+abbrev pub budgets_text : Budgets → (workers : ℕ) → List ℕ
+budgets_text budgets workers =
+    codes "{\"conflicts\":" ++ decimal budgets.conflicts
+    ++ codes ",\"steps\":" ++ decimal budgets.steps
+    ++ codes ",\"targets\":" ++ decimal budgets.targets
+    ++ codes ",\"workers\":" ++ decimal workers
+    ++ codes "}"
+
+-- the object of a leaf
+abbrev pub entry_text : Entry → List ℕ
+entry_text entry =
+    codes "{\"choices\":" ++ quoted (choices_text entry.leaf.choices)
+    ++ codes ",\"end\":" ++ quoted (end_name entry.leaf.end)
+    ++ codes ",\"kind\":" ++ quoted (kind_name entry.leaf.end)
+    ++ codes ",\"node\":" ++ decimal entry.node
+    ++ codes ",\"steps\":" ++ decimal entry.leaf.steps
+    ++ codes "}"
+
+-- the object of the summary
+abbrev pub totals_text : Summary → List ℕ
+totals_text summary =
+    codes "{\"cut\":" ++ decimal summary.cut
+    ++ codes ",\"finished\":" ++ decimal summary.finished
+    ++ codes ",\"leaves\":" ++ decimal summary.leaves
+    ++ codes ",\"steps\":" ++ decimal summary.steps
+    ++ codes ",\"tests\":" ++ decimal summary.tests
+    ++ codes "}"
+
+-- a JSON object (RFC 8259) with its keys in order and no blanks, and a line feed
+unfoldable pub report_text : Budgets → (workers : ℕ) → List Region → List Entry → List ℕ
+report_text budgets workers regions entries =
+    codes "{\"budgets\":" ++ budgets_text budgets workers
+    ++ codes ",\"leaves\":[" ++ with_commas (map entry_text entries)
+    ++ codes "],\"regions\":[" ++ quoted_all (map region_text regions)
+    ++ codes "],\"summary\":" ++ totals_text (count (leaves_of entries))
+    ++ codes "}\n"

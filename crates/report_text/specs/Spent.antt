@@ -1,0 +1,17 @@
+-- What was spent on a leaf that stands for all other values of a term: the values that were found.
+use Rattle.std.specs.Prelude.{ℕ, List, ◌++◌, codes, decimal, length}
+use Rattle.std.specs.List.{flat_map}
+use Rattle.hex.specs.Hex.{encode_lower}
+use Rattle.smt_text.specs.Names.{eight_digits}
+use Rattle.node_split.specs.Evidence.{Found, Spent}
+
+-- a value, and the bytes of the assignment
+abbrev pub found_text : Found → List ℕ
+found_text found = codes "v " ++ eight_digits found.value ++ codes " " ++ encode_lower found.input ++ codes "\n"
+
+-- how many values, the term's name in the text of its leaf, and a line for each value
+unfoldable pub targets_text : Spent → List ℕ
+targets_text spent =
+    codes "; spent targets " ++ decimal (length spent.found) ++ codes "\n"
+    ++ codes "; term n" ++ decimal spent.term ++ codes "\n"
+    ++ flat_map found_text spent.found

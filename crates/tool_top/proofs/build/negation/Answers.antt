@@ -1,5 +1,0 @@
-use Rattle.tool_top.proofs.Growing.{other_bit}
-use Rattle.tool_top.proofs.build.negation.Goals as goal
-
-pub returns-clause-number : goal.returns-clause-number
-returns-clause-number c = other_bit c.args.terms.now c.push.new.terms c.args.bit c.push.result c.requires.bit c.push.ensures.number

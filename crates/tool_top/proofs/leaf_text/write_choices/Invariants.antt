@@ -1,6 +1,0 @@
-use Rattle.std.proofs.Common.{◌≡◌, ◌++◌, string_bytes, take}
-use Rattle.tool_top.specs.LeafText.{choices_text}
-use Rattle.tool_top.proofs.leaf_text.write_choices.Given as goal
-
-abbrev pub invariant-loop-choice : goal.invariant-loop-choice
-invariant-loop-choice l = string_bytes l.text ≡ string_bytes l.initial.text ++ choices_text (take l.choice-index l.choices)

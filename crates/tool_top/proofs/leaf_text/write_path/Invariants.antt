@@ -1,6 +1,0 @@
-use Rattle.std.proofs.Common.{◌≡◌, ◌++◌, string_bytes, take}
-use Rattle.tool_top.specs.LeafText.{path_text}
-use Rattle.tool_top.proofs.leaf_text.write_path.Given as goal
-
-abbrev pub invariant-loop-step : goal.invariant-loop-step
-invariant-loop-step l = string_bytes l.text ≡ string_bytes l.initial.text ++ path_text (take l.step-index l.path)
