@@ -102,42 +102,66 @@ fn term_of(value: Value) -> Result<usize, Fail> {
     }
 }
 
-// An input byte, and what is made of it: the byte less 1, whether it is below 'B', whether it is 'A' by two ways, whether it isn't,
-// and the low byte of what is one less.
-const ROWS: [(u8, [u64; 6]); 4] = [
-    (0x41, [0x40, 1, 1, 1, 0, 0x40]),
-    (0x42, [0x41, 0, 0, 0, 1, 0x41]),
-    (0x00, [0xFFFF_FFFF, 1, 0, 0, 1, 0xFF]),
-    (0xFF, [0xFE, 0, 0, 0, 1, 0xFE]),
+/// What is made of the input byte.
+#[derive(Clone, Copy, Debug)]
+enum Made {
+    LessOne,
+    IsBelowB,
+    IsA,
+    EqualsA,
+    IsNotA,
+    LowByteOfLessOne,
+}
+
+const ROWS: [(Made, [(u8, u64); 2]); 6] = [
+    (Made::LessOne, [(0x41, 0x40), (0, 0xFFFF_FFFF)]),
+    (Made::IsBelowB, [(0x41, 1), (0x42, 0)]),
+    (Made::IsA, [(0x41, 1), (0x42, 0)]),
+    (Made::EqualsA, [(0x41, 1), (0xC1, 0)]),
+    (Made::IsNotA, [(0x41, 0), (0, 1)]),
+    (Made::LowByteOfLessOne, [(0x41, 0x40), (0, 0xFF)]),
 ];
 
-#[test]
-fn terms_of_the_input_byte(rt: HostRuntime) -> Result<(), Fail> {
-    let mut state = first(rt.alloc())?;
+fn make(rt: &impl Abort, state: &mut State, value: Value, made: Made) -> Result<usize, Fail> {
+    see_value(rt, state, value);
+    match made {
+        Made::LessOne => term_of(state.sum(value, 0xFFFF_FFFF)?),
+        Made::IsBelowB => term_of(state.is_below(value, 0x42)?),
+        Made::IsA => Ok(state.equality(value, Value::Number(0x41))?),
+        Made::EqualsA => {
+            let term = term_of(value)?;
+            see(rt, state, term, 32);
+            Ok(state.equals(term, 0x41)?)
+        }
+        Made::IsNotA => {
+            let same = state.equality(value, Value::Number(0x41))?;
+            Ok(state.negation(same)?)
+        }
+        Made::LowByteOfLessOne => {
+            let less = state.sum(value, 0xFFFF_FFFF)?;
+            Ok(state.low_byte(less)?)
+        }
+    }
+}
+
+fn input(rt: &impl Abort, state: &mut State) -> Result<Value, NoMemory> {
     let _ = state.terms.nodes();
     assert_eq!(rt; state.terms.inputs(), 1);
     let byte = state.input_byte()?;
-    let value = state.widened(byte)?;
-    let wide = term_of(value)?;
-    see(&rt, &state, wide, 32);
-    let before = state.sum(value, 0xFFFF_FFFF)?;
-    see(&rt, &state, wide, 32);
-    let below = state.is_below(value, 0x42)?;
-    see(&rt, &state, wide, 32);
-    let same = state.equality(value, Value::Number(0x41))?;
-    see(&rt, &state, wide, 32);
-    let equal = state.equals(wide, 0x41)?;
-    see(&rt, &state, equal, 1);
-    let other = state.negation(equal)?;
-    see_value(&rt, &state, before);
-    let low = state.low_byte(before)?;
-    let terms = [term_of(before)?, term_of(below)?, same, equal, other, low];
-    for (input, wanted) in ROWS {
-        for (&term, want) in terms.iter().zip(wanted) {
+    state.widened(byte)
+}
+
+#[test]
+fn terms_of_the_input_byte(rt: HostRuntime) -> Result<(), Fail> {
+    for (made, row) in ROWS {
+        let mut state = first(rt.alloc())?;
+        let value = input(&rt, &mut state)?;
+        let term = make(&rt, &mut state, value, made)?;
+        for (byte, wanted) in row {
             assert_eq!(rt;
-                eval(&rt, rt.alloc(), &state, term, input)?,
-                want,
-                "term {term} at {input}"
+                eval(&rt, rt.alloc(), &state, term, byte)?,
+                wanted,
+                "{made:?} of {byte}"
             );
         }
     }
