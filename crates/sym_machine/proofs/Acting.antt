@@ -33,20 +33,21 @@ pub writes_register : (p : Program) (s : Symbolic) (g : Graph) (rd : ℕ) (v : V
     → Stepped p s (moved s (sum32 s.pc 4) (set_value s.registers rd v) g s.output s.path) GoesOn
 writes_register p s g rd v was grows wide small few does = (
   open_moved p s (sum32 s.pc 4) (set_value s.registers rd v) g s.output s.path was grows
-    (length-set_value s.registers rd v ∙ was.all_registers)
-    (All-set_value (IsWide g) s.registers rd v wide (wide-grown s.terms g s.registers grows was.wide))
-    (λ input assigned. All-set_value (IsSmall g input) s.registers rd v (small input assigned) (small-grown s.terms g input s.registers grows was.wide (was.small input assigned)))
-    (zero-set_value s.registers rd v was.zero)
-    (AreBytes-grown s.terms g s.output grows was.bytes)
-    (sum_small s.pc 4) few
-    (λ input assigned meeting.
+      (length-set_value s.registers rd v ∙ was.all_registers)
+      (All-set_value (IsWide g) s.registers rd v wide (wide-grown s.terms g s.registers grows was.wide))
+      (λ input assigned. All-set_value (IsSmall g input) s.registers rd v (small input assigned) (small-grown s.terms g input s.registers grows was.wide (was.small input assigned)))
+      (zero-set_value s.registers rd v was.zero)
+      (AreBytes-grown s.terms g s.output grows was.bytes)
+      (sum_small s.pc 4) few
+      (λ input assigned meeting.
       let same : written (map (worth_of s.terms input) s.registers) rd (worth_of g input v) ≡ map (worth_of g input) (set_value s.registers rd v)
       = ap (λ rs. written rs rd (worth_of g input v)) (sym (map-grown s.terms g input s.registers grows was.wide)) ∙ sym (map-set_value (worth_of g input) s.registers rd v) in
       does input assigned
       ∙ ap (λ rs. Running (onward (concrete p s input) rs)) same
       ∙ ap (λ ns. Running (record (concrete p s input) { pc = sum32 s.pc 4; registers = map (worth_of g input) (set_value s.registers rd v); output = ns })) (sym (numbers-grown s.terms g input s.output grows was.bytes))),
   same_moved p s (sum32 s.pc 4) (set_value s.registers rd v) g s.output s.path was grows,
-  refl)
+  refl,
+)
 
 -- an instruction that traps
 pub stops_by_trap : (p : Program) (s : Symbolic) (trap : Trap) → IsOpen p s
@@ -55,7 +56,8 @@ pub stops_by_trap : (p : Program) (s : Symbolic) (trap : Trap) → IsOpen p s
 stops_by_trap p s trap was does = (
   ends_moved p s s.path (Traps trap) was (λ input assigned meeting. (concrete p s input, does input assigned, refl, refl)),
   same_moved p s s.pc s.registers s.terms s.output s.path was (Grows-none s.terms was.dag),
-  refl)
+  refl,
+)
 
 -- JAL, to a target that is a multiple of 4 and to one that is not
 to_linked : (s t : State) (rd target : ℕ) → (target % 4 == 0) ≡ true → t ≡ record s { registers = written s.registers rd (sum32 s.pc 4); pc = target } → linked s rd target ≡ Running t
@@ -69,16 +71,17 @@ pub links : (p : Program) (s : Symbolic) (rd target : ℕ) → IsOpen p s → s.
     → Stepped p s (moved s target (set_value s.registers rd (Number (sum32 s.pc 4))) s.terms s.output s.path) GoesOn
 links p s rd target was few small aligned does = (
   open_moved p s target (set_value s.registers rd (Number (sum32 s.pc 4))) s.terms s.output s.path was (Grows-none s.terms was.dag)
-    (length-set_value s.registers rd (Number (sum32 s.pc 4)) ∙ was.all_registers)
-    (All-set_value (IsWide s.terms) s.registers rd (Number (sum32 s.pc 4)) (sum_small s.pc 4) was.wide)
-    (λ input assigned. All-set_value (IsSmall s.terms input) s.registers rd (Number (sum32 s.pc 4)) (sum_small s.pc 4) (was.small input assigned))
-    (zero-set_value s.registers rd (Number (sum32 s.pc 4)) was.zero)
-    was.bytes small few
-    (λ input assigned meeting. does input assigned
+      (length-set_value s.registers rd (Number (sum32 s.pc 4)) ∙ was.all_registers)
+      (All-set_value (IsWide s.terms) s.registers rd (Number (sum32 s.pc 4)) (sum_small s.pc 4) was.wide)
+      (λ input assigned. All-set_value (IsSmall s.terms input) s.registers rd (Number (sum32 s.pc 4)) (sum_small s.pc 4) (was.small input assigned))
+      (zero-set_value s.registers rd (Number (sum32 s.pc 4)) was.zero)
+      was.bytes small few
+      (λ input assigned meeting. does input assigned
       ∙ to_linked (concrete p s input) (concrete p (moved s target (set_value s.registers rd (Number (sum32 s.pc 4))) s.terms s.output s.path) input) rd target aligned
-        (ap (λ rs. record (concrete p s input) { registers = rs; pc = target }) (map-set_value (worth_of s.terms input) s.registers rd (Number (sum32 s.pc 4))))),
+      (ap (λ rs. record (concrete p s input) { registers = rs; pc = target }) (map-set_value (worth_of s.terms input) s.registers rd (Number (sum32 s.pc 4))))),
   same_moved p s target (set_value s.registers rd (Number (sum32 s.pc 4))) s.terms s.output s.path was (Grows-none s.terms was.dag),
-  refl)
+  refl,
+)
 
 -- A branch along one side, to a target that is a multiple of 4 and to one that is not.
 pub goes_on : (p : Program) (s : Symbolic) (target : ℕ) → IsOpen p s → s.steps < most_steps
@@ -86,9 +89,10 @@ pub goes_on : (p : Program) (s : Symbolic) (target : ℕ) → IsOpen p s → s.s
     → Stepped p s (moved s (sum32 s.pc 4) s.registers s.terms s.output (s.path ++ NotTaken ∷ [])) GoesOn
 goes_on p s target was few does = (
   open_moved p s (sum32 s.pc 4) s.registers s.terms s.output (s.path ++ NotTaken ∷ []) was (Grows-none s.terms was.dag)
-    was.all_registers was.wide was.small was.zero was.bytes (sum_small s.pc 4) few does,
+      was.all_registers was.wide was.small was.zero was.bytes (sum_small s.pc 4) few does,
   same_moved p s (sum32 s.pc 4) s.registers s.terms s.output (s.path ++ NotTaken ∷ []) was (Grows-none s.terms was.dag),
-  refl)
+  refl,
+)
 
 to_taken : (s : State) (target : ℕ) → (target % 4 == 0) ≡ true → branch s true target ≡ Running (record (noted s Taken) { pc = target })
 to_taken s target aligned = rw aligned refl
@@ -101,19 +105,21 @@ pub is_taken : (p : Program) (s : Symbolic) (target : ℕ) → IsOpen p s → s.
     → Stepped p s (moved s target s.registers s.terms s.output (s.path ++ Taken ∷ [])) GoesOn
 is_taken p s target was few small aligned does = (
   open_moved p s target s.registers s.terms s.output (s.path ++ Taken ∷ []) was (Grows-none s.terms was.dag)
-    was.all_registers was.wide was.small was.zero was.bytes small few
-    (λ input assigned meeting. does input assigned meeting ∙ to_taken (concrete p s input) target aligned),
+      was.all_registers was.wide was.small was.zero was.bytes small few
+      (λ input assigned meeting. does input assigned meeting ∙ to_taken (concrete p s input) target aligned),
   same_moved p s target s.registers s.terms s.output (s.path ++ Taken ∷ []) was (Grows-none s.terms was.dag),
-  refl)
+  refl,
+)
 
 pub stops_taken : (p : Program) (s : Symbolic) (target : ℕ) → IsOpen p s → (target % 4 == 0) ≡ false
     → ((input : List ℕ) → IsAssignment (regions_of p) input → meets s input ≡ true → next (concrete p s input) ≡ branch (concrete p s input) true target)
     → Stepped p s (moved s s.pc s.registers s.terms s.output (s.path ++ Taken ∷ [])) (Stops (Traps FetchMisaligned))
 stops_taken p s target was misaligned does = (
   ends_moved p s (s.path ++ Taken ∷ []) (Traps FetchMisaligned) was (λ input assigned meeting.
-    (noted (concrete p s input) Taken, does input assigned meeting ∙ refuses_taken (concrete p s input) target misaligned, refl, refl)),
+      (noted (concrete p s input) Taken, does input assigned meeting ∙ refuses_taken (concrete p s input) target misaligned, refl, refl)),
   same_moved p s s.pc s.registers s.terms s.output (s.path ++ Taken ∷ []) was (Grows-none s.terms was.dag),
-  refl)
+  refl,
+)
 
 -- tests of numbers
 pub test_true : (n : ℕ) → n ≡ 0 → (n == 0) ≡ true

@@ -76,5 +76,6 @@ at_branch p s g test rs1 rs2 offset term was grows bit undecided number fetched 
     goes = λ input assigned meeting.
         subst (Goes (number_of g term input == 1)) (sym (concrete-grown p s g input was grows))
         (goes_with (concrete p s input) (number_of g term input == 1) test rs1 rs2 offset (fetched input assigned)
-          (cc (x-worth p s input rs1, x-worth p s input rs2, one_test (passes test (worth_of s.terms input (value_at s.registers rs1)) (worth_of s.terms input (value_at s.registers rs2))), number input)));
-  })
+        (cc (x-worth p s input rs1, x-worth p s input rs2, one_test (passes test (worth_of s.terms input (value_at s.registers rs1)) (worth_of s.terms input (value_at s.registers rs2))), number input)));
+  },
+)

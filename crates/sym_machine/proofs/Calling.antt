@@ -96,18 +96,23 @@ at_call_pin p s register term was small is =
     let wide : IsWide s.terms (Term term) = subst (IsWide s.terms) is (wide_at p s register was small) in
     at_pin p s s.terms register 0 term was (Grows-none s.terms was.dag) wide small (omega arith) (ap is_term is) (wide_at p s register was small)
     (λ input assigned.
-      let fits : IsSmall s.terms input (Term term) = subst (IsSmall s.terms input) is (was.small input assigned register (Number 0) (omega (arith, small, was.all_registers))) in
-      whole (number_of s.terms term input) fits ∙ ap (λ v. sum32 (worth_of s.terms input v) 0) (sym is))
+    let fits : IsSmall s.terms input (Term term) = subst (IsSmall s.terms input) is (was.small input assigned register (Number 0) (omega (arith, small, was.all_registers))) in
+    whole (number_of s.terms term input) fits ∙ ap (λ v. sum32 (worth_of s.terms input v) 0) (sym is))
 
 -- The calls.
 pub exits : (p : Program) (s : Symbolic) → IsOpen p s → value_at s.registers 17 ≡ Number 93
     → ((input : List ℕ) → IsAssignment (regions_of p) input → next (concrete p s input) ≡ call (concrete p s input) (x (concrete p s input) 17))
     → Stepped p s (moved s s.pc s.registers s.terms s.output s.path) (Ended Exits)
 exits p s was is does = (
-  ends_moved p s s.path Exits was (λ input assigned meeting. (concrete p s input,
-    does input assigned ∙ ap (call (concrete p s input)) (x-number p s input 17 93 is) ∙ ap (λ n. Stops (Exit (n % 256)) (concrete p s input)) (x-worth p s input 10), refl, refl)),
+  ends_moved p s s.path Exits was (λ input assigned meeting. (
+    concrete p s input,
+    does input assigned ∙ ap (call (concrete p s input)) (x-number p s input 17 93 is) ∙ ap (λ n. Stops (Exit (n % 256)) (concrete p s input)) (x-worth p s input 10),
+    refl,
+    refl,
+  )),
   same_moved p s s.pc s.registers s.terms s.output s.path was (Grows-none s.terms was.dag),
-  refl)
+  refl,
+)
 
 other_call : (c : State) (a7 : ℕ) → (a7 == 93) ≡ false → (a7 == 64) ≡ false → call c a7 ≡ trapped Call c
 other_call c a7 no_exit no_write = rw (no_exit, no_write) refl
@@ -137,7 +142,7 @@ pub stops_file : (p : Program) (s : Symbolic) (file : ℕ) → IsOpen p s → va
     → Stepped p s (moved s s.pc s.registers s.terms s.output s.path) (Ended (Traps Call))
 stops_file p s file was is none does =
     stops_by_trap p s Call was (λ input assigned. does input assigned
-      ∙ no_file (concrete p s input) (x (concrete p s input) 10) (x (concrete p s input) 11) (x (concrete p s input) 12) (ap (λ f. f == 1 || f == 2) (x-number p s input 10 file is) ∙ none))
+    ∙ no_file (concrete p s input) (x (concrete p s input) 10) (x (concrete p s input) 11) (x (concrete p s input) 12) (ap (λ f. f == 1 || f == 2) (x-number p s input 10 file is) ∙ none))
 
 pub stops_write : (p : Program) (s : Symbolic) (file start count : ℕ) → IsOpen p s → value_at s.registers 10 ≡ Number file → value_at s.registers 11 ≡ Number start → value_at s.registers 12 ≡ Number count
     → (file == 1 || file == 2) ≡ true → list_all (is_mapped (flags_of p.image)) (addresses start (min count 4096)) ≡ false
@@ -145,7 +150,7 @@ pub stops_write : (p : Program) (s : Symbolic) (file start count : ℕ) → IsOp
     → Stepped p s (moved s s.pc s.registers s.terms s.output s.path) (Ended (Traps LoadAccess))
 stops_write p s file start count was is_file is_start is_count one unmapped does =
     stops_by_trap p s LoadAccess was (λ input assigned. does input assigned
-      ∙ cc (x-number p s input 10 file is_file, x-number p s input 11 start is_start, x-number p s input 12 count is_count, no_bytes (concrete p s input) file start count one unmapped))
+    ∙ cc (x-number p s input 10 file is_file, x-number p s input 11 start is_start, x-number p s input 12 count is_count, no_bytes (concrete p s input) file start count one unmapped))
 
 asked : (p : Program) (s : Symbolic) (input : List ℕ) (file start count : ℕ) → value_at s.registers 10 ≡ Number file → value_at s.registers 11 ≡ Number start → value_at s.registers 12 ≡ Number count
     → write (concrete p s input) (x (concrete p s input) 10) (x (concrete p s input) 11) (x (concrete p s input) 12) ≡ write (concrete p s input) file start count
@@ -158,19 +163,19 @@ pub writes : (p : Program) (s t : Symbolic) (file start count least : ℕ) → I
     → Stepped p s (moved t (sum32 t.pc 4) (set_value t.registers 10 (Number least)) t.terms t.output t.path) Running
 writes p s t file start count least was bytes few is_least is_file is_start is_count one mapped does = rw bytes.same (
   open_moved p s (sum32 s.pc 4) (set_value s.registers 10 (Number least)) t.terms (s.output ++ bytes.ids) s.path was bytes.grows
-    (length-set_value s.registers 10 (Number least) ∙ was.all_registers)
-    (All-set_value (IsWide t.terms) s.registers 10 (Number least) (omega (arith, is_least)) (wide-grown s.terms t.terms s.registers bytes.grows was.wide))
-    (λ input assigned. All-set_value (IsSmall t.terms input) s.registers 10 (Number least) (omega (arith, is_least)) (small-grown s.terms t.terms input s.registers bytes.grows was.wide (was.small input assigned)))
-    (zero-set_value s.registers 10 (Number least) was.zero)
-    (All-append (λ i. width_of t.terms i ≡ 8) s.output bytes.ids (AreBytes-grown s.terms t.terms s.output bytes.grows was.bytes) bytes.bytes)
-    (omega arith) few
-    (λ input assigned meeting.
+      (length-set_value s.registers 10 (Number least) ∙ was.all_registers)
+      (All-set_value (IsWide t.terms) s.registers 10 (Number least) (omega (arith, is_least)) (wide-grown s.terms t.terms s.registers bytes.grows was.wide))
+      (λ input assigned. All-set_value (IsSmall t.terms input) s.registers 10 (Number least) (omega (arith, is_least)) (small-grown s.terms t.terms input s.registers bytes.grows was.wide (was.small input assigned)))
+      (zero-set_value s.registers 10 (Number least) was.zero)
+      (All-append (λ i. width_of t.terms i ≡ 8) s.output bytes.ids (AreBytes-grown s.terms t.terms s.output bytes.grows was.bytes) bytes.bytes)
+      (omega arith) few
+      (λ input assigned meeting.
       let same : written (map (worth_of s.terms input) s.registers) 10 least ≡ map (worth_of t.terms input) (set_value s.registers 10 (Number least))
       = ap (λ rs. written rs 10 least) (sym (map-grown s.terms t.terms input s.registers bytes.grows was.wide)) ∙ sym (map-set_value (worth_of t.terms input) s.registers 10 (Number least)) in
       let out : numbers_of s.terms input s.output ++ map (placed (regions_of p) input (byte_of p.image)) (addresses start least) ≡ numbers_of t.terms input (s.output ++ bytes.ids)
       = ap (λ ns. ns ++ map (placed (regions_of p) input (byte_of p.image)) (addresses start least)) (sym (numbers-grown s.terms t.terms input s.output bytes.grows was.bytes))
-        ∙ ap (λ ns. numbers_of t.terms input s.output ++ ns) (sym (bytes.numbers input))
-        ∙ sym (map-append (λ i. number_of t.terms i input) s.output bytes.ids) in
+      ∙ ap (λ ns. numbers_of t.terms input s.output ++ ns) (sym (bytes.numbers input))
+      ∙ sym (map-append (λ i. number_of t.terms i input) s.output bytes.ids) in
       does input assigned
       ∙ asked p s input file start count is_file is_start is_count
       ∙ all_bytes (concrete p s input) file start count one (ap (λ n. list_all (is_mapped (flags_of p.image)) (addresses start n)) (sym is_least) ∙ mapped)
@@ -178,7 +183,8 @@ writes p s t file start count least was bytes few is_least is_file is_start is_c
       ∙ ap (λ rs. GoesOn (onward (record (concrete p s input) { output = numbers_of s.terms input s.output ++ map (placed (regions_of p) input (byte_of p.image)) (addresses start least) }) rs)) same
       ∙ ap (λ ns. GoesOn (onward (record (concrete p s input) { output = ns }) (map (worth_of t.terms input) (set_value s.registers 10 (Number least))))) out),
   same_moved p s (sum32 s.pc 4) (set_value s.registers 10 (Number least)) t.terms (s.output ++ bytes.ids) s.path was bytes.grows,
-  refl)
+  refl,
+)
 
 pub is_not : (n m : ℕ) → (n ≡ m → ⊥) → (n == m) ≡ false
 is_not n m other = search (rules, other)

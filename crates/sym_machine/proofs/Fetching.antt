@@ -1,6 +1,6 @@
 -- Instructions that are fetched from a page of the image, and what the input byte changes of that: nothing.
-use Rattle.std.proofs.Common.{◌≡◌, ℕ, ◌+◌, ◌-◌, ◌*◌, ◌/◌, ◌%◌, ◌^◌, ◌<◌, Bool, true, false, ◌&&◌, List, [], ◌∷◌, drop, refl, sym, subst, ap, ◌∙◌, arith, rules}
-use Rattle.std.specs.Prelude.{Option, None, Some, Result, Ok, Err, ◌==◌, if◌then◌else◌, nat_lt, nat_le, slice_index, is_some}
+use Rattle.std.proofs.Common.{◌≡◌, ℕ, ◌+◌, ◌-◌, ◌/◌, ◌%◌, ◌^◌, ◌<◌, Bool, true, false, List, [], ◌∷◌, drop, refl, sym, subst, ap, ◌∙◌, arith, rules}
+use Rattle.std.specs.Prelude.{Option, None, Some, Ok, Err, ◌==◌, if◌then◌else◌, slice_index}
 use Rattle.std.specs.FinMap.{get}
 use Rattle.std.specs.Option.{ok_or, option_map, unwrap_or}
 use Rattle.std.proofs.lemmas.Bool.Decides.{nat_tests}
@@ -10,7 +10,6 @@ use Rattle.elf_load.specs.Images.{Image}
 use Rattle.elf_load.specs.declared.page.Page.{Page}
 use Rattle.rv_decode.specs.Eight.{IsOneOfEight}
 use Rattle.rv_decode.specs.Instructions.{instr}
-use Rattle.rv_decode.specs.declared.ends.Trap.{Trap}
 use Rattle.rv_decode.specs.declared.ends.Trap.TheVariants.{Illegal, FetchAccess, FetchMisaligned}
 use Rattle.rv_decode.specs.declared.instr.Instr.{Instr}
 use Rattle.rv_machine.specs.Machine.{fetch}

@@ -6,3 +6,4 @@ pub mod Fetching
 pub mod Branching
 pub mod Loading
 pub mod Calling
+pub mod Pages

@@ -40,7 +40,8 @@ at_pin p s g register offset term was grows width is_register small kind wide su
     small = small;
     no_number = kind;
     sums = λ input assigned. sums input assigned ∙ ap (λ n. sum32 n offset) (sym (worth_of-grown s.terms g input (value_at s.registers register) grows wide));
-  })
+  },
+)
 
 -- the machine's load of a byte
 loads_byte : (c : State) (rd address : ℕ) → is_mapped c.flags address ≡ true → load c Lbu rd address ≡ GoesOn (onward c (written c.registers rd (c.byte address)))
@@ -58,7 +59,7 @@ stops_load p s g rd rs1 offset address was grows is unmapped does =
     from_more_terms p s g (moved (with_terms s g) s.pc s.registers g s.output s.path) (Ended (Traps LoadAccess)) was grows
     (stops_by_trap p (with_terms s g) LoadAccess (open_grown p s g was grows)
     (λ input assigned. ap next (concrete-grown p s g input was grows) ∙ does input assigned ∙ ap (load (concrete p s input) Lbu rd) (is input)
-      ∙ loads_nothing (concrete p s input) rd address unmapped ∙ ap (trapped LoadAccess) (sym (concrete-grown p s g input was grows))))
+    ∙ loads_nothing (concrete p s input) rd address unmapped ∙ ap (trapped LoadAccess) (sym (concrete-grown p s g input was grows))))
 
 -- a byte, over more terms
 pub loads : (p : Program) (s : Symbolic) (g : Graph) (rd rs1 offset address : ℕ) (v : Value) → IsOpen p s → Grows s.terms g → IsWide g v → ((input : List ℕ) → IsAssignment (regions_of p) input → IsSmall g input v) → s.steps < most_steps
@@ -69,7 +70,7 @@ pub loads : (p : Program) (s : Symbolic) (g : Graph) (rd rs1 offset address : �
 loads p s g rd rs1 offset address v was grows wide small few is mapped worth does =
     writes_register p s g rd v was grows wide small few
     (λ input assigned. does input assigned ∙ ap (load (concrete p s input) Lbu rd) (is input) ∙ loads_byte (concrete p s input) rd address mapped
-      ∙ ap (λ n. GoesOn (onward (concrete p s input) (written (concrete p s input).registers rd n))) (sym (worth input)))
+    ∙ ap (λ n. GoesOn (onward (concrete p s input) (written (concrete p s input).registers rd n))) (sym (worth input)))
 
 -- a register's value is wide
 pub wide_at : (p : Program) (s : Symbolic) (r : ℕ) → IsOpen p s → r < 32 → IsWide s.terms (value_at s.registers r)
@@ -90,7 +91,7 @@ pub computes : (p : Program) (s : Symbolic) (g : Graph) (rd rs1 : ℕ) (result :
 computes p s g rd rs1 result operand v was grows wide small few is worth does =
     writes_register p s g rd v was grows wide (λ input assigned. omega (arith, worth input, small (worth_of s.terms input operand))) few
     (λ input assigned. does input assigned ∙ ap (λ n. to_register (concrete p s input) rd (result n)) (x-worth p s input rs1 ∙ ap (worth_of s.terms input) (sym is))
-      ∙ ap (to_register (concrete p s input) rd) (sym (worth input)))
+    ∙ ap (to_register (concrete p s input) rd) (sym (worth input)))
 
 one_small : (b : Bool) → one_where b < 2 ^ 32
 one_small true = omega arith

@@ -76,7 +76,7 @@ open_moved p s pc rs g output path was grows all wide small zero bytes in_memory
 -- The last step: the machine's runs end in it.
 pub ends_moved : (p : Program) (s : Symbolic) (path : List PathStep) (end : RunEnd) → IsOpen p s
     → ((input : List ℕ) → IsAssignment (regions_of p) input → meets s input ≡ true →
-        (t : State) × (next (concrete p s input) ≡ Stops (end_on s input end) t) × (t.path ≡ path) × (t.output ≡ numbers_of s.terms input s.output))
+    (t : State) × (next (concrete p s input) ≡ Stops (end_on s input end) t) × (t.path ≡ path) × (t.output ≡ numbers_of s.terms input s.output))
     → IsEnding p (moved s s.pc s.registers s.terms s.output path) end
 ends_moved p s path end was does = record {
   dag = was.dag;

@@ -38,12 +38,7 @@ fn are_mapped(program: &Program, start: u32, count: u32) -> bool
 }
 
 /// Appends the bytes at so many addresses to the output.
-fn write_bytes(
-    program: &Program,
-    state: &mut State,
-    start: u32,
-    count: u32,
-) -> Result<(), NoMemory>
+fn write_bytes(program: &Program, state: &mut State, start: u32, count: u32) -> Result<(), NoMemory>
     requires open { IsOpen program.now state.old }
     ensures { OnOk result (WritesBytes program.now state.old state.new start count) }
 {

@@ -23,12 +23,7 @@ use std::alloc::AllocError as NoMemory;
 use sym_state::{Program, State, Value};
 
 /// Goes to a target, and writes the next instruction's address into a register.
-fn jump_and_link(
-    program: &Program,
-    state: &mut State,
-    rd: Register,
-    target: u32,
-) -> Step
+fn jump_and_link(program: &Program, state: &mut State, rd: Register, target: u32) -> Step
     requires open { IsOpen program.now state.old }
     requires few { state.old.steps < most_steps }
     requires jumps { (input : List ℕ) → IsAssignment (regions_of program.now) input →
@@ -45,12 +40,7 @@ fn jump_and_link(
 }
 
 /// Goes along one side of a branch.
-fn take(
-    program: &Program,
-    state: &mut State,
-    side: bool,
-    target: u32,
-) -> Result<Step, NoMemory>
+fn take(program: &Program, state: &mut State, side: bool, target: u32) -> Result<Step, NoMemory>
     requires open { IsOpen program.now state.old }
     requires few { state.old.steps < most_steps }
     requires goes { (input : List ℕ) → IsAssignment (regions_of program.now) input → meets state.old input ≡ true →
@@ -83,12 +73,7 @@ fn passes(test: Test, left: u32, right: u32) -> bool
 }
 
 /// Whether two values pass the test of a BEQ or BNE, as a bit.
-fn test_term(
-    state: &mut State,
-    test: Test,
-    left: Value,
-    right: Value,
-) -> Result<usize, NoMemory>
+fn test_term(state: &mut State, test: Test, left: Value, right: Value) -> Result<usize, NoMemory>
     requires dag { IsDag state.old.terms }
     requires test { IsBeqOrBne test }
     requires left { IsWide state.old.terms left }

@@ -8,3 +8,6 @@ mod outcome;
 
 pub use execute::step;
 pub use outcome::{RunEnd, Step};
+
+#[cfg(test)]
+mod tests;

@@ -22,7 +22,9 @@ pub enum RunEnd {
 pub enum Step {
     Running,
     /// A conditional branch comes next that is taken where the term `condition` is 1. It is not yet carried out.
-    Branch { condition: usize },
+    Branch {
+        condition: usize,
+    },
     /// The term, which is the sum of a register and an offset, has to be a number. The instruction is not yet carried out.
     Pin {
         register: Register,

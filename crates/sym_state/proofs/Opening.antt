@@ -1,6 +1,6 @@
 -- The run of all assignments, before its first step.
-use Rattle.std.proofs.Common.{◌≡◌, ℕ, ◌<◌, ◌^◌, true, ◌&&◌, List, [], ◌∷◌, refl, sym, subst, arith}
-use Rattle.std.specs.Prelude.{All, replicate, ◌==◌, Result, Ok, Err, IfOk}
+use Rattle.std.proofs.Common.{◌≡◌, ◌<◌, ◌^◌, refl, sym, subst, arith}
+use Rattle.std.specs.Prelude.{All, replicate, Result, Ok, Err, IfOk}
 use Rattle.std.proofs.lemmas.List.Elements.{All-nil, All-set, All-replicate}
 use Rattle.bv_dag.specs.Graphs.{width_of}
 use Rattle.bv_dag.proofs.TermLaws.{IsDag-none}

@@ -1,5 +1,5 @@
 -- How symbolic runs change: terms are added, a step is made, a run is narrowed to one side of a fork.
-use Rattle.std.specs.Prelude.{◌≡◌, ℕ, ◌+◌, Bool, List, [], ◌∷◌, ◌++◌, Option, None, Some, true}
+use Rattle.std.specs.Prelude.{◌≡◌, ℕ, ◌+◌, List, [], ◌∷◌, ◌++◌, None}
 use Rattle.bv_dag.specs.Graphs.{Graph}
 use Rattle.rv_decode.specs.declared.ends.PathStep.{PathStep}
 use Rattle.rv_machine.specs.Memory.{IsAssignment}

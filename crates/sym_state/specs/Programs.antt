@@ -1,5 +1,5 @@
 -- A program and where its input byte stands, and which of them can be run.
-use Rattle.std.specs.Prelude.{◌≡◌, ℕ, ◌%◌, ◌/◌, ◌^◌, ◌<◌, ◌==◌, true, false, List, [], ◌∷◌, Option, None, Some, refl}
+use Rattle.std.specs.Prelude.{◌≡◌, ℕ, ◌%◌, ◌^◌, ◌<◌, true, false, List, [], ◌∷◌, Option, None, Some, refl}
 use Rattle.std.specs.Coded.{Coded, code_by, coded×, coded_ℕ}
 use Rattle.elf_load.specs.Images.{Image, image_code}
 use Rattle.elf_load.specs.declared.region.Region.{Region}

@@ -1,5 +1,5 @@
 -- What a symbolic run stands for: one run of the machine for each assignment that meets its condition.
-use Rattle.std.specs.Prelude.{◌≡◌, ℕ, ◌+◌, ◌*◌, ◌%◌, ◌^◌, ◌<◌, ◌≤◌, Bool, true, false, List, [], ◌∷◌, All, length, map, replicate, slice_index_or, slice_set, Option, None, Some, Result, Ok, Err, count_by, ◌==◌, ◌-◌, if◌then◌else◌}
+use Rattle.std.specs.Prelude.{◌≡◌, ℕ, ◌+◌, ◌*◌, ◌^◌, ◌<◌, ◌≤◌, Bool, true, false, List, [], ◌∷◌, All, length, map, replicate, slice_index_or, slice_set, Option, None, Some, Result, Ok, count_by, ◌==◌, ◌-◌, if◌then◌else◌}
 use Rattle.bv_dag.specs.Graphs.{Graph, IsDag, number_of, width_of}
 use Rattle.bv_dag.specs.Queries.{Condition, AreBits, holds}
 use Rattle.rv_decode.specs.declared.ends.PathStep.{PathStep}

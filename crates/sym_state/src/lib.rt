@@ -9,3 +9,6 @@ mod value;
 pub use program::Program;
 pub use state::State;
 pub use value::Value;
+
+#[cfg(test)]
+mod tests;

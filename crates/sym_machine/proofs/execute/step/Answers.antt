@@ -8,7 +8,7 @@ use Rattle.sym_machine.proofs.Stepping.{next_traps}
 use Rattle.sym_machine.proofs.execute.step.Goals as goal
 
 pub execute-requires-clause-known : goal.execute-requires-clause-known
-execute-requires-clause-known c = 
+execute-requires-clause-known c =
     let pc = ap (λ (s : Symbolic). s.pc) c.state.view_is in
     known_fetched c.args.program.now c.args.state.now.pc c.in-Ok.instr c.requires.runnable c.requires.open.in_memory (ap (fetch (flags_of c.args.program.now.image) (byte_of c.args.program.now.image)) (sym pc) ∙ sym c.fetch.ensures ∙ c.in-Ok.is)
 
