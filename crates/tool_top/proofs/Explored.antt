@@ -21,7 +21,9 @@ use Rattle.tree_core.specs.declared.cause.Cause.{Cause}
 use Rattle.tree_core.specs.declared.cause.Cause.TheVariants.{Steps, Targets, Conflicts}
 use Rattle.tree_core.specs.declared.choice.Choice.{Choice}
 use Rattle.tool_io.specs.Told.{Put}
-use Rattle.tool_top.specs.Reports.{Beside, Tested, OnTargets, Entry, IsReport, IsReportOf, files_of, summary_of, IsExplored, IsRun, IsTested, IsTestable, IsLongEnough, HasSpent, ShowBudgets, AreRanked, beside_of, entries_of, entry_of, leaves_of, leaves_in, test_of}
+use Rattle.explorer.specs.Explored.{IsExplored}
+use Rattle.explorer.specs.Ranks.{AreRanked}
+use Rattle.tool_top.specs.Reports.{Beside, Tested, OnTargets, Entry, IsReport, IsReportOf, files_of, summary_of, IsRun, IsTested, IsTestable, IsLongEnough, HasSpent, ShowBudgets, beside_of, entries_of, entry_of, leaves_of, leaves_in, test_of}
 use Rattle.tool_top.proofs.Entries.{leaves_of-entries_of}
 
 -- a right leaf, whichever the sides of its fork

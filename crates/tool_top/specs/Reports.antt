@@ -1,6 +1,7 @@
 -- What a report of the leaves of a program has, and what stands beside its leaves.
 use Rattle.std.specs.Prelude.{◌≡◌, ℕ, ◌+◌, List, [], ◌∷◌, All, length, map, Some, IsTrue, count_by, slice_get}
 use Rattle.elf_load.specs.declared.region.Region.{Region}
+use Rattle.explorer.specs.Ranks.{AreRanked}
 use Rattle.node_split.specs.Evidence.{Spent, SpendsTargets}
 use Rattle.node_split.specs.LeafParts.{Part}
 use Rattle.node_split.specs.Leaves.{IsFaithful, end_on}
@@ -83,11 +84,6 @@ HasSpent p budgets leaf (Cut _) beside = ⊥
 abbrev pub ShowBudgets : Program → Budgets → List Entry → Type 0
 ShowBudgets p budgets entries = All (λ (e : Entry). HasSpent p budgets e.leaf e.leaf.end e.beside) entries
 
--- each leaf stands before all those behind it, by their choices
-abbrev pub AreRanked : List LeafText → Type 0
-AreRanked [] = Unit {0}
-AreRanked (leaf ∷ leaves) = All (λ (later : LeafText). IsTrue (precedes leaf.choices later.choices)) leaves × AreRanked leaves
-
 -- all of the claims, for this program and these budgets
 pub record IsReport (p : Program) (budgets : Budgets) (entries : List Entry) : Type 0 where
   pub exact_cover : IsExactCover p (leaves_of entries)
@@ -153,12 +149,6 @@ entries_of regions rank (p ∷ ps) = entry_of regions rank p ∷ entries_of regi
 
 abbrev pub leaves_in : List Part → List LeafText
 leaves_in parts = map (λ (part : Part). part.leaf) parts
-
--- each assignment is covered by exactly one of the leaves, each of them is right, and they stand by rank
-pub record IsExplored (p : Program) (steps targets : ℕ) (parts : List Part) : Type 0 where
-  pub exact_cover : (input : List ℕ) → IsAssignment (regions_of p) input → count_by (λ (part : Part). covers part.leaf input) parts ≡ 1
-  pub each : All (λ (part : Part). (sides : List Choice) × IsLeaf p steps targets sides part) parts
-  pub ranked : AreRanked (leaves_in parts)
 
 -- these files and this text are the report, in the folder `out`, of entries for which all of the claims hold
 pub record IsReportOf (out : List ℕ) (p : Program) (budgets : Budgets) (puts : List Put) (text : List ℕ) : Type 0 where

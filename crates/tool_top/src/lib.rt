@@ -2,7 +2,6 @@
 #![tactic(auto)]
 
 mod carry;
-mod explore;
 mod later;
 pub mod laws;
 mod plan;

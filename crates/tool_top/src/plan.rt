@@ -9,12 +9,12 @@ ghost use Rattle.tool_top.specs.Later.{IsInput, IsTaken};
 ghost use Rattle.tool_top.specs.Plan.{IsPlanned, OnlyReads, Treats, refused_line, unfit_line};
 ghost use Rattle.tool_top.specs.Reports.{IsReportOf};
 
-use crate::explore::explore;
 use crate::later::{data_byte, has_later_word};
 use crate::refusals::{say_refused, say_unfit};
 use crate::report::make_report;
 use crate::verdict::Verdict;
 use elf_load::{Image, LoadError, Refused, Regions, Unfit, fit, load};
+use explorer::explore;
 use std::alloc::{AllocError as NoMemory, Global};
 use sym_state::Program;
 use tool_io::{Bytes, Fault, Files, NamedFile};

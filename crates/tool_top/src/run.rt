@@ -5,7 +5,8 @@ ghost use Rattle.tool_io.specs.Told.{names_since, IsPrefix};
 ghost use Rattle.tool_io.specs.Causes.{Rose};
 ghost use Rattle.tool_words.specs.Job.{job_of};
 ghost use Rattle.tool_top.specs.Plan.{names_of};
-ghost use Rattle.tool_top.specs.Reports.{IsReport, IsExactCover, AreFaithful, AreRanked, AreRuns, ShowBudgets, leaves_of};
+ghost use Rattle.explorer.specs.Ranks.{AreRanked};
+ghost use Rattle.tool_top.specs.Reports.{IsReport, IsExactCover, AreFaithful, AreRuns, ShowBudgets, leaves_of};
 ghost use Rattle.tool_top.specs.Answer.{Answered, IsAnswered, IsFaulted, IsWanting, OnWritten, HoldsProgram, HoldsNoProgram, HoldsMisfit};
 
 use crate::carry::{carry_out, say_no_memory};

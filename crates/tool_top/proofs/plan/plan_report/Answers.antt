@@ -1,6 +1,7 @@
 use Rattle.std.proofs.Common.{subst}
 use Rattle.node_split.specs.declared.parts.Budgets.{Budgets}
-use Rattle.tool_top.specs.Reports.{IsExplored}
+use Rattle.explorer.specs.Explored.{IsExplored}
+
 use Rattle.tool_top.proofs.Explored.{explored_testable, report_of}
 use Rattle.tool_top.proofs.plan.plan_report.Goals as goal
 
