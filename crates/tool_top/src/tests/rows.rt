@@ -2,7 +2,9 @@
 
 use crate::tests::programs::{CALLED, COMPARED, COUNTED, FORKED, STRAIGHT};
 use crate::tests::runs::{EXPLORE, files, run};
+use std::process::Abort;
 use std::test::Fail;
+use tool_io::NamedFile;
 
 /// A run of the tool on a program.
 struct Row {
@@ -193,22 +195,29 @@ const ROWS: [Row; 6] = [
     },
 ];
 
+// Each of these files is the one put at its place, and begins so.
+fn check_files(rt: &impl Abort, puts: &[NamedFile], files: &[(usize, &str, &str)]) {
+    for &(at, name, beginning) in files {
+        assert!(rt; at < puts.len());
+        assert!(rt; puts[at].name() == name);
+        assert!(rt; puts[at].bytes().starts_with(beginning.as_bytes()));
+    }
+}
+
 #[test]
 fn programs_are_explored(rt: HostRuntime) -> Result<(), Fail> {
-    for row in &ROWS {
-        let mut held = files(rt.alloc(), row.program, &[])?;
-        assert_eq!(rt; run(&rt, row.words, &mut held)?, 0, "{}", row.said);
-        assert_eq!(rt; held.said(), row.said.as_bytes(), "{}", row.said);
-        assert_eq!(rt; held.puts().len(), row.puts, "{}", row.said);
-        for &(at, name, beginning) in row.files {
-            let file = held.puts().get(at).expect(&rt, "a file that was put");
-            assert_eq!(rt; file.name(), name, "{}", row.said);
-            assert!(rt;
-                file.bytes().starts_with(beginning.as_bytes()),
-                "{name}, {}",
-                row.said
-            );
-        }
+    for &Row {
+        program,
+        words,
+        said,
+        puts,
+        files: beginnings,
+    } in &ROWS {
+        let mut held = files(rt.alloc(), program, &[])?;
+        assert_eq!(rt; run(&rt, words, &mut held)?, 0);
+        assert_eq!(rt; held.said(), said.as_bytes());
+        assert_eq!(rt; held.puts().len(), puts);
+        check_files(&rt, held.puts(), beginnings);
     }
     Ok(())
 }
