@@ -1,24 +1,22 @@
 -- What each instruction does to a symbolic run.
-use Rattle.std.proofs.Common.{◌≡◌, ℕ, ◌+◌, ◌%◌, ◌^◌, ◌<◌, Bool, true, false, List, [], ◌∷◌, ◌++◌, length, map, refl, sym, ap, ◌∙◌, arith, rules}
-use Rattle.std.specs.Prelude.{All, Some, None, Ok, Err, if◌then◌else◌, ◌==◌, slice_index}
+use Rattle.std.proofs.Common.{◌≡◌, ℕ, ◌%◌, ◌^◌, ◌<◌, true, false, List, [], ◌∷◌, ◌++◌, map, refl, sym, ap, ◌∙◌, arith, rules}
+use Rattle.std.specs.Prelude.{◌==◌}
 use Rattle.bv_dag.specs.Graphs.{Graph}
-use Rattle.rv_decode.specs.declared.ends.PathStep.{PathStep}
 use Rattle.rv_decode.specs.declared.ends.PathStep.TheVariants.{Taken, NotTaken}
 use Rattle.rv_decode.specs.declared.ends.Trap.{Trap}
 use Rattle.rv_decode.specs.declared.ends.Trap.TheVariants.{FetchMisaligned}
-use Rattle.rv_decode.specs.declared.ends.End.TheVariants.{Trapped}
 use Rattle.rv_machine.specs.Arithmetic.{sum32}
-use Rattle.rv_machine.specs.Machine.{State, Running, Ended, next, onward, written, x, linked, branch, trapped, noted}
+use Rattle.rv_machine.specs.Machine.{State, Running, next, onward, written, linked, branch, trapped, noted}
 use Rattle.rv_machine.specs.Memory.{IsAssignment}
 use Rattle.sym_state.specs.Growing.{Grows}
-use Rattle.sym_state.specs.Moves.{IsSame, moved}
+use Rattle.sym_state.specs.Moves.{moved}
 use Rattle.sym_state.specs.Programs.{Program, regions_of}
-use Rattle.sym_state.specs.Symbolic.{Symbolic, IsOpen, IsSmall, IsWide, concrete, meets, most_steps, set_value, value_at, worth_of}
+use Rattle.sym_state.specs.Symbolic.{Symbolic, IsOpen, IsSmall, IsWide, concrete, meets, most_steps, set_value, worth_of}
 use Rattle.sym_state.specs.declared.value.Value.{Value}
-use Rattle.sym_state.specs.declared.value.Value.TheVariants.{Number, Term}
+use Rattle.sym_state.specs.declared.value.Value.TheVariants.{Number}
 use Rattle.sym_state.proofs.Kept.{map-grown}
 use Rattle.sym_state.proofs.Pushes.{Grows-none}
-use Rattle.sym_machine.specs.Steps.{IsEnding, Stepped, end_on}
+use Rattle.sym_machine.specs.Steps.{Stepped}
 use Rattle.sym_machine.specs.declared.outcome.RunEnd.TheVariants.{Traps}
 use Rattle.sym_machine.specs.declared.outcome.Step.TheVariants.{Running as GoesOn, Ended as Stops}
 use Rattle.sym_machine.proofs.Moving.{open_moved, same_moved, ends_moved, numbers-grown, AreBytes-grown, small-grown, wide-grown}

@@ -1,22 +1,19 @@
 -- Conditional branches of symbolic runs.
-use Rattle.std.proofs.Common.{◌≡◌, ℕ, ◌≤◌, Bool, true, false, List, map, get_or, refl, sym, ap, ◌∙◌, subst, arith}
-use Rattle.std.specs.Prelude.{Option, None, Some, Result, Ok, Err, IfOk, ◌==◌, ◌-◌, if◌then◌else◌, not}
+use Rattle.std.proofs.Common.{◌≡◌, ℕ, ◌≤◌, Bool, true, false, List, refl, sym, ap, ◌∙◌, subst, arith}
+use Rattle.std.specs.Prelude.{None, Some, ◌==◌}
 use Rattle.std.proofs.Math.ListN.{get_or-map}
 use Rattle.bv_dag.specs.Graphs.{Graph, number_of, width_of}
-use Rattle.rv_decode.specs.declared.ends.Trap.{Trap}
-use Rattle.rv_decode.specs.declared.instr.Instr.{Instr}
 use Rattle.rv_decode.specs.declared.instr.Instr.TheVariants.{Branch}
 use Rattle.rv_decode.specs.declared.ops.Test.{Test}
 use Rattle.rv_machine.specs.Arithmetic.{sum32, passes, one_where}
-use Rattle.rv_machine.specs.Machine.{State, next, branch, x, fetch}
+use Rattle.rv_machine.specs.Machine.{State, next, branch, x}
 use Rattle.rv_machine.specs.Memory.{IsAssignment}
 use Rattle.sym_state.specs.Growing.{Grows}
 use Rattle.sym_state.specs.Moves.{with_terms}
 use Rattle.sym_state.specs.Programs.{Program, regions_of}
-use Rattle.sym_state.specs.Symbolic.{Symbolic, IsOpen, IsWide, IsDecided, Goes, GoesBy, concrete, meets, value_at, worth_of}
-use Rattle.sym_state.specs.declared.value.Value.{Value}
-use Rattle.sym_state.specs.declared.value.Value.TheVariants.{Number, Term}
-use Rattle.sym_machine.specs.Steps.{IsBranch, IsFetched, Stepped}
+use Rattle.sym_state.specs.Symbolic.{Symbolic, IsOpen, IsDecided, Goes, GoesBy, concrete, meets, value_at, worth_of}
+use Rattle.sym_state.specs.declared.value.Value.TheVariants.{Number}
+use Rattle.sym_machine.specs.Steps.{IsFetched, Stepped}
 use Rattle.sym_machine.specs.declared.outcome.Step.TheVariants.{Branch as AtBranch}
 use Rattle.sym_machine.proofs.Moving.{open_grown, same_grown, is_grown, concrete-grown}
 use Rattle.sym_machine.proofs.Stepping.{next_executes}

@@ -1,12 +1,11 @@
 -- Environment calls of symbolic runs.
-use Rattle.std.proofs.Common.{◌≡◌, ℕ, zero, suc, ◌+◌, ◌*◌, ◌%◌, ◌^◌, ◌<◌, ◌≤◌, Bool, true, false, ◌&&◌, ◌||◌, List, [], ◌∷◌, ◌++◌, length, map, refl, sym, ap, ◌∙◌, subst, arith, rules, add-one}
-use Rattle.std.specs.Prelude.{All, Option, None, Some, ◌==◌, if◌then◌else◌, min}
+use Rattle.std.proofs.Common.{◌≡◌, ℕ, zero, suc, ◌+◌, ◌%◌, ◌^◌, ◌<◌, Bool, true, false, ◌&&◌, ◌||◌, List, [], ◌∷◌, ◌++◌, map, refl, sym, ap, ◌∙◌, subst, arith, rules, add-one}
+use Rattle.std.specs.Prelude.{Option, ◌==◌, min}
 use Rattle.std.specs.List.{list_all}
 use Rattle.std.proofs.lemmas.List.{map-append, append_assoc, append-nil}
 use Rattle.std.proofs.lemmas.List.Folds.{list_all-append}
 use Rattle.std.proofs.lemmas.List.Elements.{All-nil, All-cons, All-append}
 use Rattle.bv_dag.specs.Graphs.{Graph, number_of, width_of}
-use Rattle.rv_decode.specs.declared.ends.End.{End}
 use Rattle.rv_decode.specs.declared.ends.End.TheVariants.{Exit}
 use Rattle.rv_decode.specs.declared.ends.Trap.TheVariants.{Call, LoadAccess}
 use Rattle.rv_machine.specs.Arithmetic.{sum32}
@@ -15,12 +14,11 @@ use Rattle.rv_machine.specs.Memory.{IsAssignment, byte_of, flags_of, is_mapped, 
 use Rattle.sym_state.specs.Growing.{Grows}
 use Rattle.sym_state.specs.Moves.{moved, with_terms}
 use Rattle.sym_state.specs.Programs.{Program, regions_of}
-use Rattle.sym_state.specs.Symbolic.{Symbolic, IsOpen, IsSmall, IsWide, AreBytes, concrete, is_term, meets, most_steps, numbers_of, set_value, value_at, worth_of}
-use Rattle.sym_state.specs.declared.value.Value.{Value}
+use Rattle.sym_state.specs.Symbolic.{Symbolic, IsOpen, IsSmall, IsWide, concrete, is_term, most_steps, numbers_of, set_value, value_at, worth_of}
 use Rattle.sym_state.specs.declared.value.Value.TheVariants.{Number, Term}
 use Rattle.sym_state.proofs.Kept.{map-grown}
 use Rattle.sym_state.proofs.Pushes.{Grows-none, Grows-trans}
-use Rattle.sym_machine.specs.Steps.{IsEnding, Stepped}
+use Rattle.sym_machine.specs.Steps.{Stepped}
 use Rattle.sym_machine.specs.Writing.{WritesBytes}
 use Rattle.sym_machine.specs.declared.outcome.RunEnd.TheVariants.{Exits, Traps}
 use Rattle.sym_machine.specs.declared.outcome.Step.TheVariants.{Running, Pin, Ended}

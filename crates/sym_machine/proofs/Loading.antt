@@ -1,6 +1,6 @@
 -- LBU in symbolic runs, and terms that have to be numbers.
-use Rattle.std.proofs.Common.{◌≡◌, ℕ, ◌^◌, ◌<◌, Bool, true, false, List, map, refl, sym, ap, ◌∙◌, arith}
-use Rattle.std.specs.Prelude.{if◌then◌else◌, nat_lt, slice_index}
+use Rattle.std.proofs.Common.{◌≡◌, ℕ, ◌^◌, ◌<◌, Bool, true, false, List, refl, sym, ap, ◌∙◌, arith}
+use Rattle.std.specs.Prelude.{nat_lt, slice_index}
 use Rattle.bv_dag.specs.Graphs.{Graph, number_of, width_of}
 use Rattle.rv_decode.specs.declared.ends.Trap.TheVariants.{LoadAccess}
 use Rattle.rv_decode.specs.declared.ops.LoadWidth.{LoadWidth}
@@ -14,11 +14,11 @@ use Rattle.rv_machine.specs.Memory.{IsAssignment, byte_of, flags_of, is_mapped, 
 use Rattle.sym_state.specs.Growing.{Grows}
 use Rattle.sym_state.specs.Moves.{moved, with_terms}
 use Rattle.sym_state.specs.Programs.{Program, regions_of}
-use Rattle.sym_state.specs.Symbolic.{Symbolic, IsOpen, IsSmall, IsWide, concrete, is_term, meets, most_steps, set_value, value_at, worth_of}
+use Rattle.sym_state.specs.Symbolic.{Symbolic, IsOpen, IsSmall, IsWide, concrete, is_term, most_steps, set_value, value_at, worth_of}
 use Rattle.sym_state.specs.declared.value.Value.{Value}
-use Rattle.sym_state.specs.declared.value.Value.TheVariants.{Number, Term}
-use Rattle.sym_state.proofs.Kept.{map-grown, worth_of-grown}
-use Rattle.sym_machine.specs.Steps.{IsPin, Stepped}
+use Rattle.sym_state.specs.declared.value.Value.TheVariants.{Number}
+use Rattle.sym_state.proofs.Kept.{worth_of-grown}
+use Rattle.sym_machine.specs.Steps.{Stepped}
 use Rattle.sym_machine.specs.declared.outcome.RunEnd.TheVariants.{Traps}
 use Rattle.sym_machine.specs.declared.outcome.Step.TheVariants.{Running, Pin, Ended}
 use Rattle.sym_machine.proofs.Acting.{stops_by_trap, writes_register}

@@ -1,17 +1,16 @@
 -- A symbolic run that makes a step stays one, and one whose runs all end has ended.
-use Rattle.std.proofs.Common.{◌≡◌, ℕ, ◌+◌, ◌<◌, ◌^◌, List, [], ◌∷◌, Bool, true, get_or, length, map, refl, sym, ap, ◌∙◌, arith, subst}
+use Rattle.std.proofs.Common.{◌≡◌, ℕ, ◌+◌, ◌<◌, ◌^◌, List, [], ◌∷◌, Bool, true, get_or, length, refl, sym, ap, ◌∙◌, arith, subst}
 use Rattle.std.specs.Prelude.{All, Option, Some, None}
 use Rattle.std.proofs.lemmas.List.Elements.{All-head, All-tail}
-use Rattle.bv_dag.specs.Graphs.{Graph, IsDag, number_of, width_of}
-use Rattle.rv_decode.specs.declared.ends.End.{End}
+use Rattle.bv_dag.specs.Graphs.{Graph, width_of}
 use Rattle.rv_decode.specs.declared.ends.PathStep.{PathStep}
 use Rattle.rv_machine.specs.Machine.{State, Running as GoesOn, Ended as Stops, next}
 use Rattle.rv_machine.specs.Memory.{IsAssignment}
-use Rattle.rv_machine.specs.Runs.{Run, IsRunOf, run}
+use Rattle.rv_machine.specs.Runs.{IsRunOf, run}
 use Rattle.sym_state.specs.Growing.{Grows}
 use Rattle.sym_state.specs.Moves.{IsSame, IsGrown, moved, with_terms}
 use Rattle.sym_state.specs.Programs.{Program, regions_of}
-use Rattle.sym_state.specs.Symbolic.{Symbolic, IsOpen, IsSmall, IsWide, AreBytes, IsDecided, Goes, concrete, meets, most_steps, numbers_of, value_at, worth_of}
+use Rattle.sym_state.specs.Symbolic.{Symbolic, IsOpen, IsSmall, IsWide, AreBytes, IsDecided, Goes, concrete, meets, most_steps, numbers_of, value_at}
 use Rattle.sym_state.specs.declared.value.Value.{Value}
 use Rattle.sym_state.specs.declared.value.Value.TheVariants.{Number}
 use Rattle.sym_state.proofs.Kept.{map-grown, IsSmall-grown, IsWide-grown, AreBits-grown, holds-grown, bit_width-grown, number_of-grown}

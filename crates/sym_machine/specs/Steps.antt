@@ -1,5 +1,5 @@
 -- What one instruction leads a symbolic run to.
-use Rattle.std.specs.Prelude.{◌≡◌, ℕ, ◌+◌, ◌%◌, ◌^◌, ◌<◌, ◌≤◌, ◌==◌, Bool, true, false, List, [], ◌∷◌, All, length, None, Some, Ok}
+use Rattle.std.specs.Prelude.{◌≡◌, ℕ, ◌+◌, ◌%◌, ◌^◌, ◌<◌, ◌≤◌, ◌==◌, true, List, [], ◌∷◌, All, length, None, Some, Ok}
 use Rattle.bv_dag.specs.Graphs.{IsDag, number_of, width_of}
 use Rattle.bv_dag.specs.Queries.{AreBits}
 use Rattle.rv_decode.specs.declared.ends.End.{End}
@@ -11,7 +11,7 @@ use Rattle.rv_machine.specs.Memory.{IsAssignment}
 use Rattle.rv_machine.specs.Runs.{run, IsRunOf}
 use Rattle.sym_state.specs.Moves.{IsGrown, IsSame}
 use Rattle.sym_state.specs.Programs.{Program, regions_of}
-use Rattle.sym_state.specs.Symbolic.{Symbolic, IsOpen, IsWide, AreBytes, Goes, concrete, is_term, meets, most_steps, numbers_of, value_at, worth_of}
+use Rattle.sym_state.specs.Symbolic.{Symbolic, IsOpen, IsWide, AreBytes, Goes, concrete, is_term, meets, numbers_of, value_at, worth_of}
 use Rattle.sym_machine.specs.declared.outcome.RunEnd.{RunEnd}
 use Rattle.sym_machine.specs.declared.outcome.RunEnd.TheVariants.{Exits, Traps}
 use Rattle.sym_machine.specs.declared.outcome.Step.{Step}

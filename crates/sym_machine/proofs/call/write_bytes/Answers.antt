@@ -1,4 +1,4 @@
-use Rattle.std.proofs.Common.{◌≡◌, List, ℕ, arith}
+use Rattle.std.proofs.Common.{arith}
 use Rattle.sym_machine.proofs.Calling.{writes_none, writes_more}
 use Rattle.sym_machine.proofs.call.write_bytes.Goals as goal
 

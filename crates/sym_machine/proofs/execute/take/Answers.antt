@@ -1,6 +1,4 @@
-use Rattle.std.proofs.Common.{◌≡◌, Bool, true, false, ◌∙◌, arith, ap, List, ℕ}
-use Rattle.rv_machine.specs.Machine.{next, branch}
-use Rattle.sym_state.specs.Symbolic.{concrete}
+use Rattle.std.proofs.Common.{arith}
 use Rattle.sym_machine.proofs.Acting.{goes_on, is_taken, stops_taken, test_true, test_false}
 use Rattle.sym_machine.proofs.execute.take.Goals as goal
 

@@ -1,6 +1,6 @@
 use Rattle.std.proofs.Common.{refl, ◌∙◌, sym, rules}
 use Rattle.sym_machine.proofs.Acting.{test_true, test_false}
-use Rattle.sym_machine.proofs.Fetching.{fetch_misaligned, fetch_refused, fetch_word, no_page, of_page, fetched_word, test_one}
+use Rattle.sym_machine.proofs.Fetching.{fetch_misaligned, fetch_refused, no_page, of_page, fetched_word, test_one}
 use Rattle.sym_machine.proofs.memory.fetch.Goals as goal
 
 pub returns-then-pc-ne0 : goal.returns-then-pc-ne0
