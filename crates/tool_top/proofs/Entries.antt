@@ -1,5 +1,5 @@
 -- The entries of leaves, one by one.
-use Rattle.std.proofs.Common.{◌≡◌, ◌∙◌, ℕ, suc, ◌+◌, ◌<◌, ◌≤◌, List, [], ◌∷◌, ◌++◌, get_or, drop, length, map, take, ap, sym, refl, append_assoc, add-one, drop-cons}
+use Rattle.std.proofs.Common.{◌≡◌, ◌∙◌, ℕ, suc, ◌+◌, ◌<◌, ◌≤◌, List, [], ◌∷◌, ◌++◌, get_or, drop, length, take, ap, sym, refl, append_assoc, add-one, drop-cons}
 use Rattle.std.proofs.lemmas.List.{append-nil, drop_all, map-append, take_more}
 use Rattle.tool_io.specs.Told.{Put}
 use Rattle.elf_load.specs.declared.region.Region.{Region}
@@ -8,7 +8,7 @@ use Rattle.smt_text.specs.Leaves.{LeafText}
 use Rattle.report_text.proofs.Counting.{count_more}
 use Rattle.report_text.specs.Summaries.{count, with_one}
 use Rattle.report_text.specs.declared.summary.Summary.{Summary}
-use Rattle.tool_top.specs.Reports.{Entry, beside_of, beside_put, entries_of, entry_of, files_from, leaf_put, leaves_in, leaves_of}
+use Rattle.tool_top.specs.Reports.{beside_of, beside_put, entries_of, files_from, leaf_put, leaves_in, leaves_of}
 
 -- they have the leaves
 pub leaves_of-entries_of : (regions : List Region) (rank : ℕ) (parts : List Part) → leaves_of (entries_of regions rank parts) ≡ leaves_in parts

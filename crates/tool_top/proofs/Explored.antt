@@ -1,29 +1,27 @@
 -- The report of the leaves that were found.
-use Rattle.std.proofs.Common.{◌≡◌, ℕ, zero, suc, ◌+◌, Bool, List, [], ◌∷◌, get_or, map, refl, sym, ◌∙◌, ap, subst, arith}
-use Rattle.std.specs.Prelude.{All, Some, IsTrue, count_by, slice_get}
+use Rattle.std.proofs.Common.{◌≡◌, ℕ, zero, suc, ◌+◌, Bool, List, [], ◌∷◌, get_or, refl, sym, ◌∙◌, ap, subst, arith}
+use Rattle.std.specs.Prelude.{All, Some, count_by, slice_get}
 use Rattle.std.proofs.lemmas.List.Elements.{All-map}
 use Rattle.std.proofs.lemmas.Option.{slice_get_within, get_or_from_slice_get, slice_get-get_or}
 use Rattle.tree_core.proofs.Counting.{count_by-map}
 use Rattle.elf_load.specs.declared.region.Region.{Region}
-use Rattle.node_split.specs.Evidence.{Spent, IsSample}
+use Rattle.node_split.specs.Evidence.{IsSample}
 use Rattle.node_split.specs.LeafParts.{Part}
 use Rattle.node_split.specs.Leaves.{IsFaithful}
 use Rattle.node_split.specs.Parts.{IsLeaf, Shows}
 use Rattle.node_split.specs.declared.evidence.Evidence.{Evidence}
 use Rattle.node_split.specs.declared.evidence.Evidence.TheVariants.{Sample, Targets as Targeted}
-use Rattle.rv_machine.specs.Memory.{IsAssignment}
 use Rattle.smt_text.specs.Leaves.{LeafText, covers}
 use Rattle.smt_text.specs.declared.leaf.LeafEnd.{LeafEnd}
 use Rattle.smt_text.specs.declared.leaf.LeafEnd.TheVariants.{Exits, Traps, Cut}
 use Rattle.sym_state.specs.Programs.{Program, regions_of}
 use Rattle.tool_words.specs.declared.limit.Budgets.{Budgets}
-use Rattle.tree_core.specs.declared.cause.Cause.{Cause}
 use Rattle.tree_core.specs.declared.cause.Cause.TheVariants.{Steps, Targets, Conflicts}
 use Rattle.tree_core.specs.declared.choice.Choice.{Choice}
 use Rattle.tool_io.specs.Told.{Put}
 use Rattle.explorer.specs.Explored.{IsExplored}
 use Rattle.explorer.specs.Ranks.{AreRanked}
-use Rattle.tool_top.specs.Reports.{Beside, Tested, OnTargets, Entry, IsReport, IsReportOf, files_of, summary_of, IsRun, IsTested, IsTestable, IsLongEnough, HasSpent, ShowBudgets, beside_of, entries_of, entry_of, leaves_of, leaves_in, test_of}
+use Rattle.tool_top.specs.Reports.{Entry, IsReport, IsReportOf, files_of, summary_of, IsRun, IsTested, IsTestable, IsLongEnough, HasSpent, ShowBudgets, beside_of, entries_of, entry_of, leaves_in, test_of}
 use Rattle.tool_top.proofs.Entries.{leaves_of-entries_of}
 
 -- a right leaf, whichever the sides of its fork

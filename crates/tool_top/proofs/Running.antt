@@ -1,15 +1,13 @@
 -- What is taken can be run.
-use Rattle.std.proofs.Common.{◌≡◌, ◌≢◌, ℕ, zero, suc, ◌+◌, ◌/◌, ◌%◌, ◌<◌, ◌^◌, ◌⊎◌, Bool, true, false, not, ◌&&◌, ◌||◌, cond, List, [], ◌∷◌, refl, sym, ap, subst, ◌∙◌, arith, inl, inr}
+use Rattle.std.proofs.Common.{◌≡◌, ℕ, ◌/◌, ◌<◌, ◌^◌, Bool, true, false, not, ◌&&◌, ◌||◌, List, [], ◌∷◌, refl, sym, ap, ◌∙◌, arith}
 use Rattle.std.specs.Prelude.{Option, None, Some, is_some, nat_lt, if◌then◌else◌}
 use Rattle.std.specs.FinMap.{get, contains_key}
-use Rattle.std.specs.List.{list_any}
 use Rattle.std.specs.Option.{option_map}
 use Rattle.std.proofs.lemmas.Bool.Decides.{nat_tests}
-use Rattle.elf_load.specs.Fits.{unfit, is_mapped, is_unmapped, unfit_empty, unfit_overlap, unfit_too_long, unfit_too_many, unfit_unmapped}
+use Rattle.elf_load.specs.Fits.{unfit, is_mapped, unfit_empty, unfit_overlap, unfit_too_long, unfit_too_many, unfit_unmapped}
 use Rattle.elf_load.specs.Images.{Image}
 use Rattle.elf_load.specs.declared.page.Page.{Page}
 use Rattle.elf_load.specs.declared.region.Region.{Region}
-use Rattle.elf_load.specs.declared.unfit.Unfit.{Unfit}
 use Rattle.elf_load.specs.declared.unfit.Unfit.TheVariants.{TooMany, Empty, TooLong, Unmapped, Overlap}
 use Rattle.rv_decode.specs.Eight.{IsOneOfEight, IsBeqOrBne, IsLbu, IsAddiOrSltiu}
 use Rattle.rv_decode.specs.Instructions.{instr}
@@ -23,7 +21,7 @@ use Rattle.rv_decode.specs.declared.ops.Test.{Test}
 use Rattle.rv_decode.specs.declared.ops.Test.TheVariants.{Beq, Bne, Blt, Bge, Bltu, Bgeu}
 use Rattle.rv_machine.specs.Memory.{flags_of, byte_of, can_execute, word_at}
 use Rattle.rv_machine.specs.Memory as memory
-use Rattle.sym_state.specs.Programs.{IsKnown, IsRunnable, Program}
+use Rattle.sym_state.specs.Programs.{IsKnown, IsRunnable}
 use Rattle.tool_top.specs.Later.{HasLaterWord, IsInput, IsOther}
 
 -- It is decided which instructions are of the eight.

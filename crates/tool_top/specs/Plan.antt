@@ -1,5 +1,5 @@
 -- What the tool means to put and say for a job.
-use Rattle.std.specs.Prelude.{◌≡◌, ◌≢◌, ℕ, ◌⊎◌, List, [], ◌∷◌, ◌++◌, Option, None, Some, codes, decimal}
+use Rattle.std.specs.Prelude.{◌≡◌, ℕ, ◌⊎◌, List, [], ◌∷◌, ◌++◌, Option, None, Some, codes, decimal}
 use Rattle.tool_io.specs.Told.{Told, Seen, Put, after, Gives, IsPrefix}
 use Rattle.tool_io.specs.Causes.{Rose}
 use Rattle.elf_load.specs.Fits.{unfit}

@@ -5,7 +5,7 @@ use Rattle.explorer.specs.Ranks.{AreRanked}
 use Rattle.node_split.specs.Evidence.{Spent, SpendsTargets}
 use Rattle.node_split.specs.LeafParts.{Part}
 use Rattle.node_split.specs.Leaves.{IsFaithful, end_on}
-use Rattle.node_split.specs.Parts.{IsLeaf, HasBytes}
+use Rattle.node_split.specs.Parts.{HasBytes}
 use Rattle.node_split.specs.declared.evidence.Evidence.{Evidence}
 use Rattle.node_split.specs.declared.evidence.Evidence.TheVariants.{Sample, Targets as Targeted}
 use Rattle.report_text.specs.FileNames.{leaf_name, test_name, spent_name}
@@ -21,9 +21,7 @@ use Rattle.sym_state.specs.Programs.{Program, regions_of}
 use Rattle.test_files.specs.Tests.{Test, test_text}
 use Rattle.tool_io.specs.Told.{Put}
 use Rattle.tool_words.specs.declared.limit.Budgets.{Budgets}
-use Rattle.tree_core.specs.Choices.{precedes}
-use Rattle.tree_core.specs.declared.cause.Cause.{Cause}
-use Rattle.tree_core.specs.declared.cause.Cause.TheVariants.{Steps, Targets, Conflicts}
+use Rattle.tree_core.specs.declared.cause.Cause.TheVariants.{Steps, Targets}
 use Rattle.tree_core.specs.declared.choice.Choice.{Choice}
 
 -- what stands beside a leaf
