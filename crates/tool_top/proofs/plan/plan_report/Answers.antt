@@ -1,7 +1,6 @@
 use Rattle.std.proofs.Common.{subst}
 use Rattle.node_split.specs.declared.parts.Budgets.{Budgets}
 use Rattle.explorer.specs.Explored.{IsExplored}
-
 use Rattle.tool_top.proofs.Explored.{explored_testable, report_of}
 use Rattle.tool_top.proofs.plan.plan_report.Goals as goal
 
