@@ -1,2 +1,4 @@
 pub mod Ranking
 pub mod Adding
+pub mod Walking
+pub mod Telling

@@ -1,4 +1,4 @@
 mod SixDigits
 pub mod Counting
-mod Walking
+pub mod Walking
 mod ReportTexts

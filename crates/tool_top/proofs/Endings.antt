@@ -4,6 +4,7 @@ use Rattle.std.specs.Prelude.{Option, None, Some, IfSome, option_and_then}
 use Rattle.std.specs.Option.{option_map}
 use Rattle.tool_io.specs.Told.{Told, Seen, Put, Deeds, Gives, after, says, puts_all, IsPrefix, names_since}
 use Rattle.tool_io.specs.Causes.{Rose}
+use Rattle.report_text.specs.declared.event.Event.{Event}
 use Rattle.tool_io.proofs.Deeds.{then_says, then_all, IsPrefix-nothing, IsPrefix-whole}
 use Rattle.tool_io.proofs.Since.{names_since-after, puts_since-after, said_since-after}
 use Rattle.elf_load.specs.declared.region.Region.{Region}
@@ -11,7 +12,7 @@ use Rattle.tool_words.specs.Job.{Job, Explore}
 use Rattle.tool_top.specs.Plan.{Plan, names_of, IsPlan, IsPlanned, IsReported, Means, OnlyReads, no_memory, most_bytes}
 use Rattle.elf_load.specs.Images.{Image, Loads}
 use Rattle.elf_load.proofs.OneImage.{one_image}
-use Rattle.sym_state.specs.Programs.{Program}
+use Rattle.sym_state.specs.Programs.{Program, regions_of}
 use Rattle.tool_words.specs.declared.limit.Budgets.{Budgets}
 use Rattle.tool_top.specs.Later.{IsTaken, IsInput}
 use Rattle.tool_top.specs.Reports.{Entry, IsReport, files_of, summary_of}
@@ -39,7 +40,7 @@ plan_names old new job plan (inl means) = means_names old.told job plan means
 plan_names old new job plan (inr (rose, fault)) = fault.0
 
 -- The verdict of a plan says which plan it is.
-done_reported : (old new : Seen) (program out : List ℕ) (asked : List Region) (budgets : Budgets) (workers : ℕ) (plan : Plan) → plan.verdict ≡ Done → IsPlan old new (Some (Explore program out asked budgets workers)) plan → (bytes : List ℕ) × Gives old.told program most_bytes bytes × IsReported out bytes asked budgets plan.verdict plan.puts plan.text
+done_reported : (old new : Seen) (program out : List ℕ) (asked : List Region) (budgets : Budgets) (workers : ℕ) (plan : Plan) → plan.verdict ≡ Done → IsPlan old new (Some (Explore program out asked budgets workers)) plan → (bytes : List ℕ) × Gives old.told program most_bytes bytes × IsReported out bytes asked budgets workers plan.verdict plan.puts plan.text
 done_reported old new program out asked budgets workers plan done (inl (bytes, given, names, inl report)) = (bytes, given, report)
 done_reported old new program out asked budgets workers plan done (inl (bytes, given, names, inr (inl refusal))) = let other = refusal.refused in cc
 done_reported old new program out asked budgets workers plan done (inl (bytes, given, names, inr (inr misfit))) = let other = misfit.is in cc
@@ -156,28 +157,32 @@ answered_names old new job WriteFault h = names_since-after _ _ (record { names 
 answered_names old new job NoMemory h = names_since-after _ _ (record { names = h.names; puts = h.out.puts; said = h.out.said }) _ h.out.changes h.reading
 
 -- what was written, where the plan is done and all was put and said
-written : (old new : Seen) (name out bytes : List ℕ) (asked : List Region) (budgets : Budgets) (Claim : Program → Budgets → List Entry → Type 0) (plan : Plan) → ((p : Program) (entries : List Entry) → IsReport p budgets entries → Claim p budgets entries) → Gives old.told name most_bytes bytes → IsReported out bytes asked budgets plan.verdict plan.puts plan.text → IsCarriedOut old new Done plan.puts plan.text plan.names → IsWritten old.told new.told name out asked budgets Claim
-written old new name out bytes asked budgets Claim plan claims given reported carried =
+written : (old new : Seen) (name out bytes : List ℕ) (asked : List Region) (budgets : Budgets) (workers : ℕ) (Claim : Program → Budgets → ℕ → List Event → List Entry → Type 0) (plan : Plan)
+    → ((p : Program) (events : List Event) (entries : List Entry) → IsReport p budgets workers events entries → Claim p budgets workers events entries) → Gives old.told name most_bytes bytes
+    → IsReported out bytes asked budgets workers plan.verdict plan.puts plan.text → IsCarriedOut old new Done plan.puts plan.text plan.names → IsWritten old.told new.told name out asked budgets workers Claim
+written old new name out bytes asked budgets workers Claim plan claims given reported carried =
     let report = reported.report in
     let deeds : Deeds = record { names = plan.names; puts = plan.puts; said = carried.said } in
     let said : carried.said ≡ plan.text = elim carried.whole [ inl all ↦ all | inr cut ↦ absurd (cut.1 refl) ] in
     record {
       program = reported.program;
+      events = report.events;
       entries = report.entries;
       bytes = bytes;
       given = given;
       taken = reported.taken;
       fits = reported.fits;
-      files = puts_since-after old.told new.told deeds (λ puts. puts ≡ files_of out report.entries) carried.changes report.files;
+      files = puts_since-after old.told new.told deeds (λ puts. puts ≡ files_of out budgets workers (regions_of reported.program) report.events report.entries) carried.changes report.files;
       summary = said_since-after old.told new.told deeds (λ said. said ≡ summary_of report.entries) carried.changes (said ∙ report.summary);
-      claim = claims reported.program report.entries report.claims;
+      claim = claims reported.program report.events report.entries report.claims;
     }
 
-pub done_written : (old new : Seen) (job : Option Job) (Claim : Program → Budgets → List Entry → Type 0) → ((p : Program) (budgets : Budgets) (entries : List Entry) → IsReport p budgets entries → Claim p budgets entries) → IsAnswered old new job Done → OnWritten old.told new.told job Claim
+pub done_written : (old new : Seen) (job : Option Job) (Claim : Program → Budgets → ℕ → List Event → List Entry → Type 0)
+    → ((p : Program) (budgets : Budgets) (workers : ℕ) (events : List Event) (entries : List Entry) → IsReport p budgets workers events entries → Claim p budgets workers events entries) → IsAnswered old new job Done → OnWritten old.told new.told job Claim
 done_written old new None Claim claims h = none_done old new h.plan h.is h.planned
 done_written old new (Some (Explore program out asked budgets workers)) Claim claims h =
     let r = done_reported old new program out asked budgets workers h.plan h.is h.planned in
-    written old new program out r.0 asked budgets Claim h.plan (λ p. claims p budgets) r.1 r.2 h.out
+    written old new program out r.0 asked budgets workers Claim h.plan (λ p. claims p budgets workers) r.1 r.2 h.out
 
 -- what is refused is no program
 pub refused_no_program : (old new : Seen) (job : Option Job) → IsAnswered old new job Refused → HoldsNoProgram old.told job

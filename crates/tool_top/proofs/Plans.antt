@@ -36,9 +36,9 @@ only_reads old new job names (Ok p) begins c = tt
 only_reads old new job names (Err e) begins c = record { names = names; begins = begins; changes = c }
 
 -- the program's file is refused
-pub treats_refused : (out bytes : List ℕ) (asked : List Region) (budgets : Budgets) (why : WhyRefused) (made : Result Made AllocError) → refusal bytes ≡ Some why → IfOk made (λ p. p.verdict ≡ Refused) → IfOk made (λ p. p.files.items ≡ []) → IfOk made (λ p. p.text ≡ refused_line (Some why)) → IfOk made (λ p. Treats out bytes asked budgets p.verdict p.files.items p.text)
-treats_refused out bytes asked budgets why (Err e) is v f t = tt
-treats_refused out bytes asked budgets why (Ok made) is v f t = inr (inl (record {
+pub treats_refused : (out bytes : List ℕ) (asked : List Region) (budgets : Budgets) (workers : ℕ) (why : WhyRefused) (made : Result Made AllocError) → refusal bytes ≡ Some why → IfOk made (λ p. p.verdict ≡ Refused) → IfOk made (λ p. p.files.items ≡ []) → IfOk made (λ p. p.text ≡ refused_line (Some why)) → IfOk made (λ p. Treats out bytes asked budgets workers p.verdict p.files.items p.text)
+treats_refused out bytes asked budgets workers why (Err e) is v f t = tt
+treats_refused out bytes asked budgets workers why (Ok made) is v f t = inr (inl (record {
   none = λ image taken. let fine : refusal bytes ≡ None = taken.loads.fine in cc;
   refused = v;
   no_files = f;
@@ -46,9 +46,9 @@ treats_refused out bytes asked budgets why (Ok made) is v f t = inr (inl (record
 }))
 
 -- the program is to be taken later
-pub treats_later : (out bytes : List ℕ) (asked : List Region) (budgets : Budgets) (image : Image) (made : Result Made AllocError) → Loads bytes image → HasLaterWord image → IfOk made (λ p. p.verdict ≡ Refused) → IfOk made (λ p. p.files.items ≡ []) → IfOk made (λ p. p.text ≡ refused_line None) → IfOk made (λ p. Treats out bytes asked budgets p.verdict p.files.items p.text)
-treats_later out bytes asked budgets image (Err e) loads later v f t = tt
-treats_later out bytes asked budgets image (Ok made) loads later v f t = inr (inl (record {
+pub treats_later : (out bytes : List ℕ) (asked : List Region) (budgets : Budgets) (workers : ℕ) (image : Image) (made : Result Made AllocError) → Loads bytes image → HasLaterWord image → IfOk made (λ p. p.verdict ≡ Refused) → IfOk made (λ p. p.files.items ≡ []) → IfOk made (λ p. p.text ≡ refused_line None) → IfOk made (λ p. Treats out bytes asked budgets workers p.verdict p.files.items p.text)
+treats_later out bytes asked budgets workers image (Err e) loads later v f t = tt
+treats_later out bytes asked budgets workers image (Ok made) loads later v f t = inr (inl (record {
   none = λ other taken. taken.none_later (subst HasLaterWord (one_image bytes image other loads taken.loads) later);
   refused = v;
   no_files = f;
@@ -56,9 +56,9 @@ treats_later out bytes asked budgets image (Ok made) loads later v f t = inr (in
 }))
 
 -- the program is one that is taken, but not for this input
-pub treats_misfit : (out bytes : List ℕ) (asked : List Region) (budgets : Budgets) (image : Image) (why : Option WhyUnfit) (made : Result Made AllocError) → IsTaken bytes image → unfit image asked ≡ why → ((place : ℕ) → ¬ IsInput image asked place) → IfOk made (λ p. p.verdict ≡ Unfit) → IfOk made (λ p. p.files.items ≡ []) → IfOk made (λ p. p.text ≡ unfit_line why) → IfOk made (λ p. Treats out bytes asked budgets p.verdict p.files.items p.text)
-treats_misfit out bytes asked budgets image why (Err e) taken is others v f t = tt
-treats_misfit out bytes asked budgets image why (Ok made) taken is others v f t = inr (inr (record {
+pub treats_misfit : (out bytes : List ℕ) (asked : List Region) (budgets : Budgets) (workers : ℕ) (image : Image) (why : Option WhyUnfit) (made : Result Made AllocError) → IsTaken bytes image → unfit image asked ≡ why → ((place : ℕ) → ¬ IsInput image asked place) → IfOk made (λ p. p.verdict ≡ Unfit) → IfOk made (λ p. p.files.items ≡ []) → IfOk made (λ p. p.text ≡ unfit_line why) → IfOk made (λ p. Treats out bytes asked budgets workers p.verdict p.files.items p.text)
+treats_misfit out bytes asked budgets workers image why (Err e) taken is others v f t = tt
+treats_misfit out bytes asked budgets workers image why (Ok made) taken is others v f t = inr (inr (record {
   image = image;
   taken = taken;
   others = others;
@@ -84,12 +84,12 @@ pub runs_here : (bytes : List ℕ) (image : Image) (asked slice : List Region) (
 runs_here bytes image asked slice place taken fits same byte = runnable image asked place taken.none_later (input_of image asked slice place fits same byte)
 
 -- the report of a program that is taken, for an input that is taken
-pub treats_reported : (out bytes : List ℕ) (asked slice : List Region) (budgets : Budgets) (image : Image) (place : ℕ) (p : Program) (made : Result Made AllocError) → IsTaken bytes image → unfit image asked ≡ None → slice ≡ asked → IsDataByte image slice place → p ≡ record { image = image; place = place } → IfOk made (λ q. q.verdict ≡ Done) → IfOk made (λ q. IsReportOf out p budgets q.files.items q.text) → IfOk made (λ q. Treats out bytes asked budgets q.verdict q.files.items q.text)
-treats_reported out bytes asked slice budgets image place p (Err e) taken fits same byte is v r = tt
-treats_reported out bytes asked slice budgets image place p (Ok made) taken fits same byte is v r = inl (record {
+pub treats_reported : (out bytes : List ℕ) (asked slice : List Region) (budgets : Budgets) (workers : ℕ) (image : Image) (place : ℕ) (p : Program) (made : Result Made AllocError) → IsTaken bytes image → unfit image asked ≡ None → slice ≡ asked → IsDataByte image slice place → p ≡ record { image = image; place = place } → IfOk made (λ q. q.verdict ≡ Done) → IfOk made (λ q. IsReportOf out p budgets workers q.files.items q.text) → IfOk made (λ q. Treats out bytes asked budgets workers q.verdict q.files.items q.text)
+treats_reported out bytes asked slice budgets workers image place p (Err e) taken fits same byte is v r = tt
+treats_reported out bytes asked slice budgets workers image place p (Ok made) taken fits same byte is v r = inl (record {
   program = record { image = image; place = place };
   taken = taken;
   fits = input_of image asked slice place fits same byte;
   done = v;
-  report = subst (λ (q : Program). IsReportOf out q budgets made.files.items made.text) is r;
+  report = subst (λ (q : Program). IsReportOf out q budgets workers made.files.items made.text) is r;
 })

@@ -3,12 +3,13 @@ use Rattle.std.specs.Prelude.{◌≡◌, ◌≢◌, ℕ, ◌⊎◌, List, [], ta
 use Rattle.std.specs.Option.{option_map}
 use Rattle.tool_io.specs.Told.{Told, Seen, Put, after, Gives, IsPrefix, IsCutShort, puts_since, said_since, told_held}
 use Rattle.tool_io.specs.Causes.{Rose}
+use Rattle.report_text.specs.declared.event.Event.{Event}
 use Rattle.elf_load.specs.declared.region.Region.{Region}
 use Rattle.tool_words.specs.Job.{Job, Explore}
 use Rattle.tool_top.specs.Plan.{Plan, IsPlan, names_of, no_memory, most_bytes}
 use Rattle.tool_words.specs.declared.limit.Budgets.{Budgets}
 use Rattle.elf_load.specs.Images.{Image}
-use Rattle.sym_state.specs.Programs.{Program}
+use Rattle.sym_state.specs.Programs.{Program, regions_of}
 use Rattle.tool_top.specs.Later.{IsTaken, IsInput}
 use Rattle.tool_top.specs.Reports.{Entry, files_of, summary_of}
 use Rattle.tool_top.specs.declared.verdict.Verdict.{Verdict}
@@ -83,25 +84,26 @@ Answered old new job (Planned verdict) = IsAnswered old new job verdict
 Answered old new job WriteFault = IsFaulted old new job
 Answered old new job NoMemory = IsWanting old new job
 
--- The claims are facts of a program, budgets and entries, that is, of leaves and what stands beside them.
--- The program is that of the file that its name gave, with the input that was asked, and the budgets are the job's. The entries are the ones that
--- were written: where the object tells its files, the files put are their texts, two for each leaf, and no others;
--- where it tells what was said, the line said is their summary. The claim holds of this program, these budgets and these entries.
-pub record IsWritten (old new : Told) (name out : List ℕ) (asked : List Region) (budgets : Budgets) (Claim : Program → Budgets → List Entry → Type 0) : Type 0 where
+-- The claims are facts of a program, budgets, a number of workers, events and entries, that is, of leaves and what stands beside them.
+-- The program is that of the file that its name gave, with the input that was asked, and the budgets and the number of workers are the job's.
+-- The events and entries are those that were written: where the object tells its files, the files put are their texts, and no others;
+-- where it tells what was said, the line said is the summary. The claim holds of all of these.
+pub record IsWritten (old new : Told) (name out : List ℕ) (asked : List Region) (budgets : Budgets) (workers : ℕ) (Claim : Program → Budgets → ℕ → List Event → List Entry → Type 0) : Type 0 where
   pub program : Program
+  pub events : List Event
   pub entries : List Entry
   pub bytes : List ℕ
   pub given : Gives old name most_bytes bytes
   pub taken : IsTaken bytes program.image
   pub fits : IsInput program.image asked program.place
-  pub files : IfSome (puts_since old new) (λ puts. puts ≡ files_of out entries)
+  pub files : IfSome (puts_since old new) (λ puts. puts ≡ files_of out budgets workers (regions_of program) events entries)
   pub summary : IfSome (said_since old new) (λ said. said ≡ summary_of entries)
-  pub claim : Claim program budgets entries
+  pub claim : Claim program budgets workers events entries
 
 -- there is a job, and the claim holds of what was written for it
-abbrev pub OnWritten : Told → Told → Option Job → (Program → Budgets → List Entry → Type 0) → Type 0
+abbrev pub OnWritten : Told → Told → Option Job → (Program → Budgets → ℕ → List Event → List Entry → Type 0) → Type 0
 OnWritten old new None Claim = ⊥
-OnWritten old new (Some (Explore program out asked budgets workers)) Claim = IsWritten old new program out asked budgets Claim
+OnWritten old new (Some (Explore program out asked budgets workers)) Claim = IsWritten old new program out asked budgets workers Claim
 
 -- there is a job, and the bytes that its program's name gives are the file of no program that is taken
 abbrev pub HoldsNoProgram : Told → Option Job → Type 0

@@ -67,12 +67,12 @@ abbrev pub says_only : Verdict → List (List ℕ) → List ℕ → Plan
 says_only verdict names text = record { verdict = verdict; names = names; puts = []; text = text }
 
 -- the bytes are the file of a program that is taken, for the input that is asked, and its report is put into `out`
-pub record IsReported (out bytes : List ℕ) (asked : List Region) (budgets : Budgets) (verdict : Verdict) (puts : List Put) (text : List ℕ) : Type 0 where
+pub record IsReported (out bytes : List ℕ) (asked : List Region) (budgets : Budgets) (workers : ℕ) (verdict : Verdict) (puts : List Put) (text : List ℕ) : Type 0 where
   pub program : Program
   pub taken : IsTaken bytes program.image
   pub fits : IsInput program.image asked program.place
   pub done : verdict ≡ Done
-  pub report : IsReportOf out program budgets puts text
+  pub report : IsReportOf out program budgets workers puts text
 
 -- the bytes are the file of no program that is taken, and why is said
 pub record IsRefusal (bytes : List ℕ) (verdict : Verdict) (puts : List Put) (text : List ℕ) : Type 0 where
@@ -90,17 +90,17 @@ pub record IsMisfit (bytes : List ℕ) (asked : List Region) (verdict : Verdict)
   pub no_files : puts ≡ []
   pub line : text ≡ unfit_line (unfit image asked)
 
--- what is put and said for the bytes of a program's file, the regions that are asked, and the budgets
-abbrev pub Treats : (out bytes : List ℕ) → List Region → Budgets → Verdict → List Put → List ℕ → Type 0
-Treats out bytes asked budgets verdict puts text =
-    IsReported out bytes asked budgets verdict puts text ⊎ (IsRefusal bytes verdict puts text ⊎ IsMisfit bytes asked verdict puts text)
+-- what is put and said for the bytes of a program's file, the regions that are asked, the budgets and the number of workers
+abbrev pub Treats : (out bytes : List ℕ) → List Region → Budgets → (workers : ℕ) → Verdict → List Put → List ℕ → Type 0
+Treats out bytes asked budgets workers verdict puts text =
+    IsReported out bytes asked budgets workers verdict puts text ⊎ (IsRefusal bytes verdict puts text ⊎ IsMisfit bytes asked verdict puts text)
 
 -- what is meant, where all that the job reads was read
 abbrev pub Means : Told → Option Job → Plan → Type 0
 Means told None plan = plan ≡ says_only NoJob [] usage
 Means told (Some (Explore program out asked budgets workers)) plan =
     (bytes : List ℕ) × Gives told program most_bytes bytes
-    × (plan.names ≡ program ∷ []) × Treats out bytes asked budgets plan.verdict plan.puts plan.text
+    × (plan.names ≡ program ∷ []) × Treats out bytes asked budgets workers plan.verdict plan.puts plan.text
 
 -- a read failed, of the names from the first on
 abbrev pub IsReadFault : Option Job → Plan → Type 0

@@ -1,16 +1,21 @@
 -- What a report of the leaves of a program has, and what stands beside its leaves.
-use Rattle.std.specs.Prelude.{◌≡◌, ℕ, ◌+◌, List, [], ◌∷◌, All, length, map, Some, IsTrue, count_by, slice_get}
+use Rattle.std.specs.Prelude.{◌≡◌, ℕ, ◌+◌, List, [], ◌∷◌, ◌++◌, All, length, map, Some, IsTrue, count_by, slice_get}
 use Rattle.elf_load.specs.declared.region.Region.{Region}
+use Rattle.explorer.specs.Histories.{IsHistory}
 use Rattle.explorer.specs.Ranks.{AreRanked}
+use Rattle.explorer.specs.declared.exploration.LeafAt.{LeafAt}
 use Rattle.node_split.specs.Evidence.{Spent, SpendsTargets}
 use Rattle.node_split.specs.LeafParts.{Part}
 use Rattle.node_split.specs.Leaves.{IsFaithful, end_on}
 use Rattle.node_split.specs.Parts.{HasBytes}
 use Rattle.node_split.specs.declared.evidence.Evidence.{Evidence}
 use Rattle.node_split.specs.declared.evidence.Evidence.TheVariants.{Sample, Targets as Targeted}
-use Rattle.report_text.specs.FileNames.{leaf_name, test_name, spent_name}
+use Rattle.report_text.specs.Events.{events_text}
+use Rattle.report_text.specs.FileNames.{events_name, leaf_name, report_name, test_name, spent_name}
+use Rattle.report_text.specs.Reports.{report_text, Entry as Noted}
 use Rattle.report_text.specs.Spent.{targets_text}
 use Rattle.report_text.specs.Summaries.{count, summary_text}
+use Rattle.report_text.specs.declared.event.Event.{Event}
 use Rattle.rv_machine.specs.Memory.{IsAssignment}
 use Rattle.rv_machine.specs.Runs.{run, IsRunOf}
 use Rattle.smt_text.specs.LeafLines.{leaf_text}
@@ -31,13 +36,18 @@ pub data Beside : Type 0 where
   -- the values on which the budget of targets was spent
   OnTargets : Spent → Beside
 
--- a leaf and what stands beside it, as they are written
+-- a leaf, the number of its node in the events, and what stands beside it, as they are written
 pub record Entry : Type 0 where
   pub leaf : LeafText
+  pub node : ℕ
   pub beside : Beside
 
 abbrev pub leaves_of : List Entry → List LeafText
 leaves_of entries = map (λ (e : Entry). e.leaf) entries
+
+-- what the report's JSON says of them
+abbrev pub noted_in : List Entry → List Noted
+noted_in entries = map (λ (e : Entry). record { leaf = e.leaf; node = e.node }) entries
 
 -- The claims of a report, one by one.
 
@@ -82,12 +92,17 @@ HasSpent p budgets leaf (Cut _) beside = ⊥
 abbrev pub ShowBudgets : Program → Budgets → List Entry → Type 0
 ShowBudgets p budgets entries = All (λ (e : Entry). HasSpent p budgets e.leaf e.leaf.end e.beside) entries
 
--- all of the claims, for this program and these budgets
-pub record IsReport (p : Program) (budgets : Budgets) (entries : List Entry) : Type 0 where
+-- the events are one run of so many workers through the fork tree that leaves nothing to be done, and the leaves of its tree are those that are written
+abbrev pub HasHistory : Budgets → (workers : ℕ) → List Event → List Entry → Type 0
+HasHistory budgets workers events entries = IsHistory workers budgets.targets events (noted_in entries)
+
+-- all of the claims, for this program, these budgets and so many workers
+pub record IsReport (p : Program) (budgets : Budgets) (workers : ℕ) (events : List Event) (entries : List Entry) : Type 0 where
   pub exact_cover : IsExactCover p (leaves_of entries)
   pub faithful : AreFaithful p budgets (leaves_of entries)
   pub runs : AreRuns p entries
   pub cuts : ShowBudgets p budgets entries
+  pub history : HasHistory budgets workers events entries
   pub ranked : AreRanked (leaves_of entries)
 
 -- The files of a report, which stand in the folder `out`.
@@ -103,8 +118,16 @@ unfoldable pub files_from : List ℕ → ℕ → List Entry → List Put
 files_from out rank [] = []
 files_from out rank (e ∷ es) = leaf_put out rank e.leaf ∷ beside_put out rank e.beside ∷ files_from out (rank + 1) es
 
-abbrev pub files_of : List ℕ → List Entry → List Put
-files_of out entries = files_from out 0 entries
+abbrev pub events_put : List ℕ → List Event → Put
+events_put out events = record { name = events_name out; bytes = events_text events }
+
+abbrev pub report_put : List ℕ → Budgets → (workers : ℕ) → List Region → List Noted → Put
+report_put out budgets workers regions noted = record { name = report_name out; bytes = report_text budgets workers regions noted }
+
+-- the events, the leaves with what stands beside them, and the JSON
+abbrev pub files_of : List ℕ → Budgets → (workers : ℕ) → List Region → List Event → List Entry → List Put
+files_of out budgets workers regions events entries =
+    events_put out events ∷ files_from out 0 entries ++ report_put out budgets workers regions (noted_in entries) ∷ []
 
 -- the line that is said
 abbrev pub summary_of : List Entry → List ℕ
@@ -137,20 +160,21 @@ abbrev pub beside_of : List Region → ℕ → LeafText → Evidence → Beside
 beside_of regions rank leaf (Sample sample) = Tested (test_of regions rank leaf sample)
 beside_of regions rank leaf (Targeted spent) = OnTargets spent
 
-abbrev pub entry_of : List Region → ℕ → Part → Entry
-entry_of regions rank part = record { leaf = part.leaf; beside = beside_of regions rank part.leaf part.evidence }
+abbrev pub entry_of : List Region → ℕ → LeafAt → Entry
+entry_of regions rank l = record { leaf = l.part.leaf; node = l.node; beside = beside_of regions rank l.part.leaf l.part.evidence }
 
 -- the entries of leaves, whose ranks begin with this one
-unfoldable pub entries_of : List Region → ℕ → List Part → List Entry
+unfoldable pub entries_of : List Region → ℕ → List LeafAt → List Entry
 entries_of regions rank [] = []
-entries_of regions rank (p ∷ ps) = entry_of regions rank p ∷ entries_of regions (rank + 1) ps
+entries_of regions rank (l ∷ ls) = entry_of regions rank l ∷ entries_of regions (rank + 1) ls
 
-abbrev pub leaves_in : List Part → List LeafText
-leaves_in parts = map (λ (part : Part). part.leaf) parts
+abbrev pub leaves_in : List LeafAt → List LeafText
+leaves_in leaves = map (λ (l : LeafAt). l.part.leaf) leaves
 
 -- these files and this text are the report, in the folder `out`, of entries for which all of the claims hold
-pub record IsReportOf (out : List ℕ) (p : Program) (budgets : Budgets) (puts : List Put) (text : List ℕ) : Type 0 where
+pub record IsReportOf (out : List ℕ) (p : Program) (budgets : Budgets) (workers : ℕ) (puts : List Put) (text : List ℕ) : Type 0 where
+  pub events : List Event
   pub entries : List Entry
-  pub claims : IsReport p budgets entries
-  pub files : puts ≡ files_of out entries
+  pub claims : IsReport p budgets workers events entries
+  pub files : puts ≡ files_of out budgets workers (regions_of p) events entries
   pub summary : text ≡ summary_of entries

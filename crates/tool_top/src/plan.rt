@@ -1,6 +1,6 @@
 //! What a run is to put and say.
 
-ghost use Rattle.std.specs.Prelude.{◌≡◌, None, [], Some, IfOk, OnErr, map, string_bytes};
+ghost use Rattle.std.specs.Prelude.{◌≡◌, ◌≤◌, None, [], Some, IfOk, OnErr, map, string_bytes};
 ghost use Rattle.tool_words.specs.Job.{Explore, job_of};
 ghost use Rattle.tool_words.specs.Limits.{IsBudgets};
 ghost use Rattle.elf_load.specs.Images.{Loads};
@@ -66,14 +66,16 @@ fn plan_report(
     out: &str,
     program: &Program,
     budgets: Budgets,
+    workers: u32,
 ) -> Result<Plan, NoMemory>
     requires runnable { IsRunnable program.now }
     requires within { IsBudgets budgets }
+    requires some { 1 ≤ workers }
     ensures verdict { IfOk result (λ p. p.verdict ≡ Verdict.Done) }
-    ensures report { IfOk result (λ p. IsReportOf out.now program.now budgets p.files.items p.text) }
+    ensures report { IfOk result (λ p. IsReportOf out.now program.now budgets workers p.files.items p.text) }
 {
-    let parts = explore(alloc, program, budgets_of_runs(budgets))?;
-    let report = make_report(alloc, out, program.place(), parts.as_slice())?;
+    let found = explore(alloc, program, budgets_of_runs(budgets))?;
+    let report = make_report(alloc, out, program.place(), &budgets, workers, &found)?;
     Ok(Plan {
         verdict: Verdict::Done,
         files: report.files,
@@ -105,36 +107,40 @@ fn plan_taken(
     out: &str,
     asked: &Regions,
     budgets: Budgets,
+    workers: u32,
     bytes: &[u8],
     image: Image,
 ) -> Result<Plan, NoMemory>
     requires taken { IsTaken bytes.now image }
     requires within { IsBudgets budgets }
-    ensures { IfOk result (λ p. Treats out.now bytes.now asked.now budgets p.verdict p.files.items p.text) }
+    requires some { 1 ≤ workers }
+    ensures { IfOk result (λ p. Treats out.now bytes.now asked.now budgets workers p.verdict p.files.items p.text) }
 {
     match fit(&image, asked) {
         Err(why) => refuse_input(alloc, Some(why)),
         Ok(()) => match data_byte(&image, asked.as_slice()) {
             None => refuse_input(alloc, None),
-            Some(place) => plan_report(alloc, out, &Program::new(image, place), budgets),
+            Some(place) => plan_report(alloc, out, &Program::new(image, place), budgets, workers),
         },
     }
 }
 
-// What is to be done for a program's bytes, the regions that are asked, and the budgets.
+// What is to be done for a program's bytes, the regions that are asked, the budgets and the number of workers.
 fn plan_bytes(
     alloc: Global,
     out: &str,
     asked: &Regions,
     budgets: Budgets,
+    workers: u32,
     bytes: &[u8],
 ) -> Result<Plan, NoMemory>
-    requires { IsBudgets budgets }
-    ensures { IfOk result (λ p. Treats out.now bytes.now asked.now budgets p.verdict p.files.items p.text) }
+    requires within { IsBudgets budgets }
+    requires some { 1 ≤ workers }
+    ensures { IfOk result (λ p. Treats out.now bytes.now asked.now budgets workers p.verdict p.files.items p.text) }
 {
     match load(alloc, bytes) {
         Ok(image) if has_later_word(&image) => refuse(alloc, None),
-        Ok(image) => plan_taken(alloc, out, asked, budgets, bytes, image),
+        Ok(image) => plan_taken(alloc, out, asked, budgets, workers, bytes, image),
         Err(LoadError::Refused(why)) => refuse(alloc, Some(why)),
         Err(LoadError::NoMemory) => Err(NoMemory),
     }
@@ -149,14 +155,15 @@ fn plan_explore<F: Files>(
     workers: u32,
     files: &mut F,
 ) -> Result<Plan, NoMemory>
-    requires { IsBudgets budgets }
+    requires within { IsBudgets budgets }
+    requires some { 1 ≤ workers }
     ensures ok { IfOk result (λ p. IsPlanned (F.seen files.old) (F.seen files.new)
         (Some (Explore program.now out.now asked.now budgets workers)) p.verdict p.files.items p.text) }
     ensures err { OnErr result (OnlyReads (F.seen files.old) (F.seen files.new) (Some (Explore program.now out.now asked.now budgets workers))) }
     ensures writes { (F.seen files.new).writes ≡ (F.seen files.old).writes }
 {
     match files.read(program, MOST_BYTES) {
-        Ok(bytes) => plan_bytes(alloc, out, asked, budgets, bytes.as_slice()),
+        Ok(bytes) => plan_bytes(alloc, out, asked, budgets, workers, bytes.as_slice()),
         Err(Fault::Failed) => says_only(alloc, Verdict::ReadFault, b"read fault\n"),
         Err(Fault::NoMemory) => Err(NoMemory),
     }

@@ -1,18 +1,21 @@
 //! The files of a report, and its summary.
 
-ghost use Rattle.std.specs.Prelude.{◌≡◌, All, IfOk, OnOk, [], ◌∷◌, ◌++◌};
-ghost use Rattle.report_text.specs.Summaries.{count};
-ghost use Rattle.tool_top.specs.Reports.{IsTestable, beside_of, beside_put, entries_of, files_of, leaf_put, leaves_in, summary_of};
+ghost use Rattle.std.specs.Prelude.{◌≡◌, All, IfOk, OnOk, [], ◌∷◌, ◌++◌, map};
+ghost use Rattle.explorer.specs.Telling.{entry_of as noted_of};
+ghost use Rattle.tool_top.specs.Reports.{IsTestable, beside_of, beside_put, entries_of, events_put, files_from, files_of, leaf_put, report_put, summary_of};
 
-use crate::sample_test::make_test;
+use crate::sample_test::{make_test, one_region};
+use explorer::{Exploration, LeafAt};
 use node_split::{Evidence, LeafPart};
 use report_text::{
-    Summary, leaf_name, spent_name, summary_line, test_name, with_leaf, write_targets,
+    Event, events_name, leaf_name, report_name, spent_name, summarize, summary_line, test_name,
+    write_events, write_report, write_targets,
 };
 use smt_text::print_leaf;
 use std::alloc::{AllocError as NoMemory, Global};
 use test_files::write_test;
 use tool_io::{Bytes, NamedFile};
+use tool_words::Budgets;
 
 /// What is put and said of the leaves of a program.
 #[derive(Drop)]
@@ -53,7 +56,7 @@ fn beside_file(
     }
 }
 
-/// Puts the files of a part behind the others.
+/// Puts the files of a leaf behind the others.
 fn push_files(
     alloc: Global,
     files: &mut Vec<NamedFile>,
@@ -71,48 +74,68 @@ fn push_files(
     Ok(())
 }
 
-/// The files of these parts.
-fn make_files(
+/// Puts the files of these leaves behind the others.
+fn push_leaves(
+    alloc: Global,
+    files: &mut Vec<NamedFile>,
+    out: &str,
+    place: u32,
+    leaves: &[LeafAt],
+) -> Result<(), NoMemory>
+    requires { All (λ l. IsTestable l.part) leaves.now }
+    ensures { OnOk result (files.new.items ≡ files.old.items ++ files_from out.now 0 (entries_of (record { start = place; count = 1 } ∷ []) 0 leaves.now)) }
+{
+    for (rank, leaf) in leaves.iter().enumerate() {
+        push_files(alloc, files, out, place, rank, &leaf.part)?;
+    }
+    Ok(())
+}
+
+/// The file of the events.
+fn events_file(alloc: Global, out: &str, events: &[Event]) -> Result<NamedFile, NoMemory>
+    ensures { IfOk result (λ file. file ≡ events_put out.now events.now) }
+{
+    let text = write_events(alloc, events)?;
+    Ok(NamedFile::new(events_name(alloc, out)?, text))
+}
+
+/// The file of the report's JSON.
+fn report_file(
     alloc: Global,
     out: &str,
     place: u32,
-    parts: &[LeafPart],
-) -> Result<Vec<NamedFile>, NoMemory>
-    requires { All IsTestable parts.now }
-    ensures { IfOk result (λ files. files.items ≡ files_of out.now (entries_of (record { start = place; count = 1 } ∷ []) 0 parts.now)) }
+    budgets: &Budgets,
+    workers: u32,
+    leaves: &[LeafAt],
+) -> Result<NamedFile, NoMemory>
+    ensures { IfOk result (λ file. file ≡ report_put out.now budgets.now workers (record { start = place; count = 1 } ∷ []) (map noted_of leaves.now)) }
 {
-    let mut files = Vec::new(alloc);
-    for (rank, part) in parts.iter().enumerate() {
-        push_files(alloc, &mut files, out, place, rank, part)?;
-    }
-    Ok(files)
+    let regions = one_region(alloc, place)?;
+    let text = write_report(alloc, budgets, workers, &regions, leaves)?;
+    Ok(NamedFile::new(report_name(alloc, out)?, text))
 }
 
-/// How many leaves of which sort the parts have.
-fn summarize(parts: &[LeafPart]) -> Result<Summary, NoMemory>
-    ensures { IfOk result (λ summary. summary ≡ count (leaves_in parts.now)) }
-{
-    let mut summary = Summary::empty();
-    for part in parts {
-        summary = with_leaf(summary, &part.leaf)?;
-    }
-    Ok(summary)
-}
-
-/// The report of these leaves, which stand by rank, in the folder `out`; their input byte is at `place`.
+/// The report of these leaves, which stand by rank, and these events, in the folder `out`; the input byte is at `place`.
 pub fn make_report(
     alloc: Global,
     out: &str,
     place: u32,
-    parts: &[LeafPart],
+    budgets: &Budgets,
+    workers: u32,
+    found: &Exploration,
 ) -> Result<Report, NoMemory>
-    requires { All IsTestable parts.now }
-    ensures files { IfOk result (λ report. report.files.items ≡ files_of out.now (entries_of (record { start = place; count = 1 } ∷ []) 0 parts.now)) }
-    ensures summary { IfOk result (λ report. report.summary ≡ summary_of (entries_of (record { start = place; count = 1 } ∷ []) 0 parts.now)) }
+    requires { All (λ l. IsTestable l.part) found.now.leaves.items }
+    ensures files { IfOk result (λ report. report.files.items ≡ files_of out.now budgets.now workers (record { start = place; count = 1 } ∷ []) found.now.events.items
+        (entries_of (record { start = place; count = 1 } ∷ []) 0 found.now.leaves.items)) }
+    ensures summary { IfOk result (λ report. report.summary ≡ summary_of (entries_of (record { start = place; count = 1 } ∷ []) 0 found.now.leaves.items)) }
 {
-    let summary = summarize(parts)?;
+    let summary = summarize(&found.leaves)?;
+    let mut files = Vec::new(alloc);
+    files.push(events_file(alloc, out, &found.events)?)?;
+    push_leaves(alloc, &mut files, out, place, &found.leaves)?;
+    files.push(report_file(alloc, out, place, budgets, workers, &found.leaves)?)?;
     Ok(Report {
-        files: make_files(alloc, out, place, parts)?,
+        files,
         summary: summary_line(alloc, &summary)?,
     })
 }

@@ -6,7 +6,7 @@ ghost use Rattle.tool_io.specs.Causes.{Rose};
 ghost use Rattle.tool_words.specs.Job.{job_of};
 ghost use Rattle.tool_top.specs.Plan.{names_of};
 ghost use Rattle.explorer.specs.Ranks.{AreRanked};
-ghost use Rattle.tool_top.specs.Reports.{IsReport, IsExactCover, AreFaithful, AreRuns, ShowBudgets, leaves_of};
+ghost use Rattle.tool_top.specs.Reports.{IsReport, IsExactCover, AreFaithful, AreRuns, HasHistory, ShowBudgets, leaves_of};
 ghost use Rattle.tool_top.specs.Answer.{Answered, IsAnswered, IsFaulted, IsWanting, OnWritten, HoldsProgram, HoldsNoProgram, HoldsMisfit};
 
 use crate::carry::{carry_out, say_no_memory};
@@ -69,19 +69,22 @@ pub fn run_tool<R: Threads + Wait + Sync, F: Files, G: Gate + Sync>(
 
     // Where it is done: each assignment of the input bytes meets the condition of exactly one leaf that was written,
     ensures exact_cover { result ≡ 0 → OnWritten (F.seen files.old).told (F.seen files.new).told (job_of (map string_bytes words.now))
-        (λ program budgets entries. IsExactCover program (leaves_of entries)) }
+        (λ program budgets workers events entries. IsExactCover program (leaves_of entries)) }
     // and its run has the path, the end, the output and the steps of that leaf,
     ensures faithful { result ≡ 0 → OnWritten (F.seen files.old).told (F.seen files.new).told (job_of (map string_bytes words.now))
-        (λ program budgets entries. AreFaithful program budgets (leaves_of entries)) }
+        (λ program budgets workers events entries. AreFaithful program budgets (leaves_of entries)) }
     // beside each leaf stands a test, which is a run of it, unless it was cut where it had spent its targets,
     ensures tests_are_runs { result ≡ 0 → OnWritten (F.seen files.old).told (F.seen files.new).told (job_of (map string_bytes words.now))
-        (λ program budgets entries. AreRuns program entries) }
+        (λ program budgets workers events entries. AreRuns program entries) }
     // each leaf that was cut has spent its budget,
     ensures cuts_show_their_budget { result ≡ 0 → OnWritten (F.seen files.old).told (F.seen files.new).told (job_of (map string_bytes words.now))
-        ShowBudgets }
+        (λ program budgets workers events entries. ShowBudgets program budgets entries) }
+    // the events are one run through the fork tree that leaves nothing to be done, and its leaves are those that were written,
+    ensures history { result ≡ 0 → OnWritten (F.seen files.old).told (F.seen files.new).told (job_of (map string_bytes words.now))
+        (λ program budgets workers events entries. HasHistory budgets workers events entries) }
     // the leaves stand in the order of their choices,
     ensures by_rank { result ≡ 0 → OnWritten (F.seen files.old).told (F.seen files.new).told (job_of (map string_bytes words.now))
-        (λ program budgets entries. AreRanked (leaves_of entries)) }
+        (λ program budgets workers events entries. AreRanked (leaves_of entries)) }
     // and all of this holds of one report, whose files are those that were put, and whose summary is the line that was said.
     ensures files_and_summary { result ≡ 0 → OnWritten (F.seen files.old).told (F.seen files.new).told (job_of (map string_bytes words.now))
         IsReport }

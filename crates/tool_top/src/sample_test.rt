@@ -56,7 +56,7 @@ fn words_on_sample(alloc: Global, leaf: &LeafText, sample: &Bytes) -> Result<Vec
 }
 
 /// The one region of the input byte at this place.
-fn one_region(alloc: Global, place: u32) -> Result<Regions, NoMemory>
+pub fn one_region(alloc: Global, place: u32) -> Result<Regions, NoMemory>
     ensures { IfOk result (λ regions. regions ≡ record { start = place; count = 1 } ∷ []) }
 {
     let region = Region {

@@ -16,6 +16,16 @@ struct Row {
     files: &'static [(usize, &'static str, &'static str)],
 }
 
+const ONE_WORKER: [&str; 7] = [
+    "rvklee",
+    "explore",
+    "--workers",
+    "1",
+    "p.elf",
+    "out",
+    "00011000:1",
+];
+
 const FIFTY_STEPS: [&str; 7] = [
     "rvklee",
     "explore",
@@ -49,19 +59,25 @@ const FOUR_TARGETS: [&str; 7] = [
 const ROWS: [Row; 6] = [
     Row {
         program: &STRAIGHT,
-        words: &EXPLORE,
+        words: &ONE_WORKER,
         said: "leaves 1 finished 1 cut 0 tests 1 steps 3\n",
-        puts: 2,
+        puts: 4,
         files: &[
+            (0, "out/events.txt", "claim 0 0\nfinish 0 0\n"),
             (
-                0,
+                1,
                 "out/leaf-000000.smt2",
                 "; rvklee leaf 1\n; kind finished\n; choices .\n; path .\n; steps 3\n; end exit\n",
             ),
             (
-                1,
+                2,
                 "out/test-000000.json",
                 "{\"end\":\"exit 7\",\"format\":1,\"input\":\"00\",\"leaf\":0,\"output\":\"\",\"path\":\"\",\"regions\":[\"00011000:1\"],\"steps\":3}\n",
+            ),
+            (
+                3,
+                "out/report.json",
+                "{\"budgets\":{\"conflicts\":2000,\"steps\":10000,\"targets\":16,\"workers\":1},\"leaves\":[{\"choices\":\"\",\"end\":\"exit\",\"kind\":\"finished\",\"node\":0,\"steps\":3}],\"regions\":[\"00011000:1\"],\"summary\":{\"cut\":0,\"finished\":1,\"leaves\":1,\"steps\":3,\"tests\":1}}\n",
             ),
         ],
     },
@@ -69,25 +85,30 @@ const ROWS: [Row; 6] = [
         program: &FORKED,
         words: &EXPLORE,
         said: "leaves 2 finished 2 cut 0 tests 2 steps 13\n",
-        puts: 4,
+        puts: 6,
         files: &[
             (
                 0,
+                "out/events.txt",
+                "claim 0 0\nsplit 0 0 1 N Y\nclaim 0 1\nfinish 0 1\nclaim 0 2\nfinish 0 2\n",
+            ),
+            (
+                1,
                 "out/leaf-000000.smt2",
                 "; rvklee leaf 1\n; kind finished\n; choices N.\n; path N.\n; steps 6\n; end exit\n",
             ),
             (
-                1,
+                2,
                 "out/test-000000.json",
                 "{\"end\":\"exit 0\",\"format\":1,\"input\":\"00\",\"leaf\":0,\"output\":\"\",\"path\":\"N\",\"regions\":[\"00011000:1\"],\"steps\":6}\n",
             ),
             (
-                2,
+                3,
                 "out/leaf-000001.smt2",
                 "; rvklee leaf 1\n; kind finished\n; choices Y.\n; path T.\n; steps 7\n; end exit\n",
             ),
             (
-                3,
+                4,
                 "out/test-000001.json",
                 "{\"end\":\"exit 1\",\"format\":1,\"input\":\"41\",\"leaf\":1,\"output\":\"\",\"path\":\"T\",\"regions\":[\"00011000:1\"],\"steps\":7}\n",
             ),
@@ -97,55 +118,55 @@ const ROWS: [Row; 6] = [
         program: &COMPARED,
         words: &EXPLORE,
         said: "leaves 3 finished 3 cut 0 tests 3 steps 26\n",
-        puts: 6,
+        puts: 8,
         files: &[
             (
-                0,
+                1,
                 "out/leaf-000000.smt2",
                 "; rvklee leaf 1\n; kind finished\n; choices N.\n; path NT.\n; steps 9\n; end exit\n",
             ),
             (
-                1,
+                2,
                 "out/test-000000.json",
                 "{\"end\":\"exit 1\",\"format\":1,\"input\":\"0",
             ),
             (
-                2,
+                3,
                 "out/leaf-000001.smt2",
                 "; rvklee leaf 1\n; kind finished\n; choices YN.\n; path TN.\n; steps 9\n; end exit\n",
             ),
-            (3, "out/test-000001.json", "{\"end\":\"exit 2\","),
+            (4, "out/test-000001.json", "{\"end\":\"exit 2\","),
             (
-                4,
+                5,
                 "out/leaf-000002.smt2",
                 "; rvklee leaf 1\n; kind finished\n; choices YY.\n; path TT.\n; steps 8\n; end exit\n",
             ),
-            (5, "out/test-000002.json", "{\"end\":\"exit 0\","),
+            (6, "out/test-000002.json", "{\"end\":\"exit 0\","),
         ],
     },
     Row {
         program: &COUNTED,
         words: &FIFTY_STEPS,
         said: "leaves 17 finished 16 cut 1 tests 17 steps 440\n",
-        puts: 34,
+        puts: 36,
         files: &[
             (
-                0,
+                1,
                 "out/leaf-000000.smt2",
                 "; rvklee leaf 1\n; kind steps\n; choices NNNNNNNNNNNNNNNN.\n; path NNNNNNNNNNNNNNNN.\n; steps 50\n; end running\n",
             ),
             (
-                1,
+                2,
                 "out/test-000000.json",
                 "{\"end\":\"running\",\"format\":1,\"input\":\"",
             ),
             (
-                32,
+                33,
                 "out/leaf-000016.smt2",
                 "; rvklee leaf 1\n; kind finished\n; choices Y.\n; path T.\n; steps 5\n; end exit\n",
             ),
             (
-                33,
+                34,
                 "out/test-000016.json",
                 "{\"end\":\"exit 0\",\"format\":1,\"input\":\"00\",\"leaf\":16,",
             ),
@@ -155,15 +176,15 @@ const ROWS: [Row; 6] = [
         program: &COUNTED,
         words: &FEWER_STEPS,
         said: "leaves 17 finished 15 cut 2 tests 17 steps 390\n",
-        puts: 34,
+        puts: 36,
         files: &[
             (
-                0,
+                1,
                 "out/leaf-000000.smt2",
                 "; rvklee leaf 1\n; kind steps\n; choices NNNNNNNNNNNNNNNN.\n",
             ),
             (
-                2,
+                3,
                 "out/leaf-000001.smt2",
                 "; rvklee leaf 1\n; kind steps\n; choices NNNNNNNNNNNNNNNY.\n",
             ),
@@ -173,24 +194,24 @@ const ROWS: [Row; 6] = [
         program: &CALLED,
         words: &FOUR_TARGETS,
         said: "leaves 5 finished 4 cut 1 tests 4 steps 12\n",
-        puts: 10,
+        puts: 12,
         files: &[
             (
-                0,
+                1,
                 "out/leaf-000000.smt2",
                 "; rvklee leaf 1\n; kind finished\n; choices =00000000.\n; path .\n; steps 3\n; end Call\n",
             ),
             (
-                1,
+                2,
                 "out/test-000000.json",
                 "{\"end\":\"trap Call\",\"format\":1,\"input\":\"00\",\"leaf\":0,\"output\":\"\",\"path\":\"\",\"regions\":[\"00011000:1\"],\"steps\":3}\n",
             ),
             (
-                8,
+                9,
                 "out/leaf-000004.smt2",
                 "; rvklee leaf 1\n; kind targets\n; choices R.\n",
             ),
-            (9, "out/spent-000004.txt", "; spent targets 4\n; term n"),
+            (10, "out/spent-000004.txt", "; spent targets 4\n; term n"),
         ],
     },
 ];

@@ -84,8 +84,9 @@ fn other_runs_say_one_line(rt: HostRuntime) -> Result<(), Fail> {
         (&EXPLORE[..], &FORKED[..], 1, 5, fault, 1, 0),
         (&EXPLORE[..], &FORKED[..], 2, 6, "", 1, 0),
         (&EXPLORE[..], &FORKED[..], 3, 6, "", 1, 1),
-        (&EXPLORE[..], &FORKED[..], 6, 6, "", 1, 4),
-        (&EXPLORE[..], &FORKED[..], 7, 0, SUMMARY, 1, 4),
+        (&EXPLORE[..], &FORKED[..], 7, 6, "", 1, 5),
+        (&EXPLORE[..], &FORKED[..], 8, 6, "", 1, 6),
+        (&EXPLORE[..], &FORKED[..], 9, 0, SUMMARY, 1, 6),
     ] {
         let mut files = files(rt.alloc(), program, &[to_fail])?;
         assert_eq!(rt;
@@ -108,19 +109,21 @@ fn other_runs_say_one_line(rt: HostRuntime) -> Result<(), Fail> {
     Ok(())
 }
 
-// Where the second file fails, the first stands whole.
+// Where the third file fails, the two before stand whole.
 #[test]
 fn a_put_that_fails_leaves_those_before(rt: HostRuntime) -> Result<(), Fail> {
     let alloc = rt.alloc();
     let mut whole = files(alloc, &FORKED, &[])?;
     assert_eq!(rt; run(&rt, &EXPLORE, &mut whole)?, 0);
-    let mut cut = files(alloc, &FORKED, &[3])?;
+    let mut cut = files(alloc, &FORKED, &[4])?;
     assert_eq!(rt; run(&rt, &EXPLORE, &mut cut)?, 6);
     let (all, first) = (whole.puts(), cut.puts());
-    assert_eq!(rt; all.len(), 4);
-    assert_eq!(rt; first.len(), 1);
-    assert_eq!(rt; first[0].name(), "out/leaf-000000.smt2");
+    assert_eq!(rt; all.len(), 6);
+    assert_eq!(rt; first.len(), 2);
+    assert_eq!(rt; first[0].name(), "out/events.txt");
     assert_eq!(rt; first[0].bytes(), all[0].bytes());
+    assert_eq!(rt; first[1].name(), "out/leaf-000000.smt2");
+    assert_eq!(rt; first[1].bytes(), all[1].bytes());
     assert_eq!(rt; cut.said(), b"".as_slice());
     Ok(())
 }
@@ -142,10 +145,12 @@ fn real_files_are_read_and_put(rt: HostRuntime) -> Result<(), Fail> {
     );
     for name in [
         "p.elf",
+        "events.txt",
         "leaf-000000.smt2",
         "test-000000.json",
         "leaf-000001.smt2",
         "test-000001.json",
+        "report.json",
     ] {
         fs::remove_file(&rt, name)?;
     }

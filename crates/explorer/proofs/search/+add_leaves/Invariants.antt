@@ -1,5 +1,6 @@
-use Rattle.std.proofs.Common.{◌≡◌, ◌++◌}
+use Rattle.std.proofs.Common.{◌≡◌, ◌++◌, ◌+◌, length}
 use Rattle.sym_state.specs.Symbolic.{left_to_do}
+use Rattle.explorer.specs.Telling.{AddsSides, parts_of}
 use Rattle.explorer.specs.Under.{AddsKids}
 use Rattle.explorer.proofs.search.+add_leaves.Given as goal
 
@@ -7,8 +8,10 @@ use Rattle.explorer.proofs.search.+add_leaves.Given as goal
 abbrev pub decreases-add_leaves : goal.decreases-add_leaves
 decreases-add_leaves l = left_to_do l.state
 
-abbrev pub invariant-loop-kid : goal.invariant-loop-kid
-invariant-loop-kid l = record {
-  adds : AddsKids l.program l.budgets.steps l.budgets.targets l.fn.state.choices l.yielded l.fn.parts.items l.parts.items;
-  in_turn : l.initial.kid-iterator.rest.items ≡ l.yielded ++ l.kid-iterator.rest.items;
+abbrev pub invariant-loop-side : goal.invariant-loop-side
+invariant-loop-side l = record {
+  adds : AddsKids l.program l.budgets.steps l.budgets.targets l.fn.state.choices l.yielded (parts_of l.fn.found.leaves.items) (parts_of l.found.leaves.items);
+  tells : AddsSides l.budgets.targets l.node l.fn.state.choices l.next l.side-iterator.rest.items l.fn.found l.found;
+  in_turn : l.initial.side-iterator.rest.items ≡ l.yielded ++ l.side-iterator.rest.items;
+  numbered : l.next + length l.side-iterator.rest.items ≡ l.initial.next + length l.initial.side-iterator.rest.items;
 }

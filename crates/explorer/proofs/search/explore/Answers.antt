@@ -1,5 +1,15 @@
+use Rattle.std.proofs.Common.{ap}
 use Rattle.explorer.proofs.Adding.{explored_all}
+use Rattle.explorer.proofs.Telling.{history}
+use Rattle.explorer.specs.Telling.{parts_of}
 use Rattle.explorer.proofs.search.explore.Goals as goal
 
-pub returns : goal.returns
-returns c = explored_all c.args.program.now c.args.budgets.steps c.args.budgets.targets c.in_ok-first.first c.add_leaves.new.parts.items c.in_ok-first.ensures.value (rw c.new-parts.ensures.items at c.in_ok-add_leaves.ensures)
+pub returns-clause-leaves : goal.returns-clause-leaves
+returns-clause-leaves c =
+    explored_all c.args.program.now c.args.budgets.steps c.args.budgets.targets c.in_ok-first.first (parts_of c.add_leaves.new.found.leaves.items) c.in_ok-first.ensures.value
+    (rw c.new-found.ensures.leaves at c.in_ok-add_leaves.ensures.leaves)
+
+pub returns-clause-events : goal.returns-clause-events
+returns-clause-events c =
+    history c.args.budgets.targets c.in_ok-first.first.choices c.new-found.result c.add_leaves.new.found c.new-found.ensures.events c.new-found.ensures.leaves c.new-found.ensures.nodes
+    (ap (λ s. s.choices) c.in_ok-first.ensures.value) c.in_ok-add_leaves.ensures.events

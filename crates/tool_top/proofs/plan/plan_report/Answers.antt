@@ -1,17 +1,21 @@
-use Rattle.std.proofs.Common.{subst}
+use Rattle.std.proofs.Common.{map, subst}
 use Rattle.node_split.specs.declared.parts.Budgets.{Budgets}
 use Rattle.explorer.specs.Explored.{IsExplored}
+use Rattle.explorer.specs.Histories.{HasHistory}
+use Rattle.explorer.specs.Telling.{parts_of, entry_of}
 use Rattle.tool_top.proofs.Explored.{explored_testable, report_of}
 use Rattle.tool_top.proofs.plan.plan_report.Goals as goal
 
 pub make_report-requires : goal.make_report-requires
-make_report-requires c = rw c.as_slice.ensures.value (explored_testable _ _ _ _ c.in_ok-parts.ensures)
+make_report-requires c = explored_testable _ _ _ c.in_ok-found.found.leaves.items c.in_ok-found.ensures.leaves
 
 pub returns-clause-report : goal.returns-clause-report
 returns-clause-report c =
     let program = c.args.program.now in
-    let parts = c.in_ok-parts.parts.items in
-    let explored : IsExplored program c.args.budgets.steps c.args.budgets.targets parts =
-    subst (λ (b : Budgets). IsExplored program b.steps b.targets parts) c.budgets_of_runs.ensures c.in_ok-parts.ensures in
-    report_of c.args.out.now program c.args.budgets parts c.place.result _ _ explored c.place.ensures
-    (rw c.as_slice.ensures.value at c.in_ok-report.ensures.files) (rw c.as_slice.ensures.value at c.in_ok-report.ensures.summary)
+    let found = c.in_ok-found.found in
+    let explored : IsExplored program c.args.budgets.steps c.args.budgets.targets (parts_of found.leaves.items) =
+    subst (λ (b : Budgets). IsExplored program b.steps b.targets (parts_of found.leaves.items)) c.budgets_of_runs.ensures c.in_ok-found.ensures.leaves in
+    let history : HasHistory c.args.budgets.targets found.events.items (map entry_of found.leaves.items) =
+    subst (λ (b : Budgets). HasHistory b.targets found.events.items (map entry_of found.leaves.items)) c.budgets_of_runs.ensures c.in_ok-found.ensures.events in
+    report_of c.args.out.now program c.args.budgets c.args.workers found c.place.result _ _ c.requires.some explored history c.place.ensures
+    c.in_ok-report.ensures.files c.in_ok-report.ensures.summary

@@ -19,32 +19,37 @@ returns-clause-unfit_where g c = λ four.
 
 pub returns-clause-exact_cover : goal.returns-clause-exact_cover
 returns-clause-exact_cover g c = λ zero.
-    done_written _ _ _ _ (λ program budgets entries report. report.exact_cover)
+    done_written _ _ _ _ (λ program budgets workers events entries report. report.exact_cover)
     (answered_done _ _ _ c.run_words.result _ c.run_words.ensures c.status.ensures zero)
 
 pub returns-clause-faithful : goal.returns-clause-faithful
 returns-clause-faithful g c = λ zero.
-    done_written _ _ _ _ (λ program budgets entries report. report.faithful)
+    done_written _ _ _ _ (λ program budgets workers events entries report. report.faithful)
     (answered_done _ _ _ c.run_words.result _ c.run_words.ensures c.status.ensures zero)
 
 pub returns-clause-tests_are_runs : goal.returns-clause-tests_are_runs
 returns-clause-tests_are_runs g c = λ zero.
-    done_written _ _ _ _ (λ program budgets entries report. report.runs)
+    done_written _ _ _ _ (λ program budgets workers events entries report. report.runs)
     (answered_done _ _ _ c.run_words.result _ c.run_words.ensures c.status.ensures zero)
 
 pub returns-clause-cuts_show_their_budget : goal.returns-clause-cuts_show_their_budget
 returns-clause-cuts_show_their_budget g c = λ zero.
-    done_written _ _ _ _ (λ program budgets entries report. report.cuts)
+    done_written _ _ _ _ (λ program budgets workers events entries report. report.cuts)
+    (answered_done _ _ _ c.run_words.result _ c.run_words.ensures c.status.ensures zero)
+
+pub returns-clause-history : goal.returns-clause-history
+returns-clause-history g c = λ zero.
+    done_written _ _ _ _ (λ program budgets workers events entries report. report.history)
     (answered_done _ _ _ c.run_words.result _ c.run_words.ensures c.status.ensures zero)
 
 pub returns-clause-by_rank : goal.returns-clause-by_rank
 returns-clause-by_rank g c = λ zero.
-    done_written _ _ _ _ (λ program budgets entries report. report.ranked)
+    done_written _ _ _ _ (λ program budgets workers events entries report. report.ranked)
     (answered_done _ _ _ c.run_words.result _ c.run_words.ensures c.status.ensures zero)
 
 pub returns-clause-files_and_summary : goal.returns-clause-files_and_summary
 returns-clause-files_and_summary g c = λ zero.
-    done_written _ _ _ IsReport (λ program budgets entries report. report)
+    done_written _ _ _ IsReport (λ program budgets workers events entries report. report)
     (answered_done _ _ _ c.run_words.result _ c.run_words.ensures c.status.ensures zero)
 
 pub returns-clause-complete : goal.returns-clause-complete
