@@ -4,7 +4,7 @@ use Rattle.std.specs.Prelude.{All, count_by, ◌==◌}
 use Rattle.std.proofs.lemmas.List.{map-append}
 use Rattle.std.proofs.lemmas.List.Elements.{All-nil, All-cons, All-append, All-head, All-tail}
 use Rattle.std.proofs.lemmas.List.Sums.{sum_by-append}
-use Rattle.rv_machine.specs.Memory.{IsAssignment}
+use Rattle.rv_spec.specs.Memory.{IsAssignment}
 use Rattle.smt_text.specs.Leaves.{LeafText, covers}
 use Rattle.sym_state.specs.Programs.{Program, regions_of}
 use Rattle.sym_state.specs.Symbolic.{Symbolic, first_run, meets}

@@ -1,6 +1,6 @@
 -- The leaves of a program.
 use Rattle.std.specs.Prelude.{◌≡◌, ℕ, List, All, map, count_by}
-use Rattle.rv_machine.specs.Memory.{IsAssignment}
+use Rattle.rv_spec.specs.Memory.{IsAssignment}
 use Rattle.smt_text.specs.Leaves.{covers}
 use Rattle.sym_state.specs.Programs.{Program, regions_of}
 use Rattle.tree_core.specs.declared.choice.Choice.{Choice}

@@ -3,7 +3,7 @@ use Rattle.std.proofs.Common.{◌≡◌, ℕ, zero, suc, ◌-◌, ◌<◌, ◌�
 use Rattle.std.specs.Prelude.{◌==◌, not}
 use Rattle.std.proofs.lemmas.Bool.Decides.{nat_tests}
 use Rattle.bv_dag.specs.Graphs.{number_of}
-use Rattle.rv_machine.specs.Memory.{IsAssignment}
+use Rattle.rv_spec.specs.Memory.{IsAssignment}
 use Rattle.sym_state.specs.Programs.{Program, regions_of}
 use Rattle.sym_state.specs.Symbolic.{Symbolic, meets}
 use Rattle.node_split.specs.Narrowing.{answers, is_side}

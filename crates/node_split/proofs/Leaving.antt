@@ -9,8 +9,8 @@ use Rattle.std.proofs.Math.Seq.{take-append_seam}
 use Rattle.bv_dag.specs.Graphs.{Graph, number_of, width_of}
 use Rattle.bv_dag.specs.Queries.{AreBits, holds}
 use Rattle.rv_decode.specs.declared.ends.End.{End}
-use Rattle.rv_machine.specs.Memory.{IsAssignment}
-use Rattle.rv_machine.specs.Runs.{Run, IsRunOf, run}
+use Rattle.rv_spec.specs.Memory.{IsAssignment}
+use Rattle.rv_spec.specs.Runs.{Run, IsRunOf, run}
 use Rattle.smt_text.specs.Leaves.{covers}
 use Rattle.smt_text.specs.declared.leaf.LeafEnd.{LeafEnd}
 use Rattle.smt_text.specs.declared.leaf.LeafEnd.TheVariants.{Exits as LeafExits, Traps as LeafTraps, Cut}

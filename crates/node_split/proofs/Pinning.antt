@@ -4,9 +4,9 @@ use Rattle.std.specs.Prelude.{Option, None, Some, ◌==◌, if◌then◌else◌,
 use Rattle.std.proofs.Math.Seq.{map-set_same}
 use Rattle.std.proofs.lemmas.List.Sums.{sum_by-set}
 use Rattle.bv_dag.specs.Graphs.{Graph, number_of, width_of}
-use Rattle.rv_machine.specs.Arithmetic.{sum32}
-use Rattle.rv_machine.specs.Machine.{State}
-use Rattle.rv_machine.specs.Memory.{IsAssignment}
+use Rattle.rv_spec.specs.Arithmetic.{sum32}
+use Rattle.rv_spec.specs.Machine.{State}
+use Rattle.rv_spec.specs.Memory.{IsAssignment}
 use Rattle.sym_machine.specs.Steps.{IsPin}
 use Rattle.sym_machine.proofs.Moving.{open_grown}
 use Rattle.sym_machine.proofs.Registers.{All-set_value, length-set_value, zero-set_value}

@@ -5,7 +5,7 @@ use Rattle.std.specs.List.{list_all}
 use Rattle.std.proofs.lemmas.List.Elements.{All-push}
 use Rattle.std.proofs.lemmas.List.Folds.{list_all-append}
 use Rattle.bv_dag.specs.Graphs.{Graph, number_of, width_of}
-use Rattle.rv_machine.specs.Machine.{State}
+use Rattle.rv_spec.specs.Machine.{State}
 use Rattle.sym_machine.specs.Steps.{IsBranch}
 use Rattle.sym_machine.proofs.Moving.{concrete-grown, open_grown}
 use Rattle.sym_state.specs.Growing.{Grows}

@@ -9,7 +9,7 @@ use Rattle.std.proofs.lemmas.List.Folds.{list_all-append, list_any-append}
 use Rattle.std.proofs.lemmas.List.Sums.{sum_by-append, sum_by-cons}
 use Rattle.bv_dag.specs.Graphs.{Graph, IsDag, number_of, width_of}
 use Rattle.bv_dag.specs.Queries.{AreBits}
-use Rattle.rv_machine.specs.Memory.{IsAssignment}
+use Rattle.rv_spec.specs.Memory.{IsAssignment}
 use Rattle.smt_text.specs.Leaves.{covers}
 use Rattle.sym_state.specs.Growing.{Grows}
 use Rattle.sym_state.specs.Moves.{with_terms}

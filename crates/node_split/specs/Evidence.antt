@@ -4,7 +4,7 @@ use Rattle.std.specs.List.{list_any}
 use Rattle.bv_dag.specs.Graphs.{width_of}
 use Rattle.bv_dag.specs.Queries.{Condition, holds}
 use Rattle.elf_load.specs.declared.region.Region.{Region}
-use Rattle.rv_machine.specs.Memory.{IsAssignment}
+use Rattle.rv_spec.specs.Memory.{IsAssignment}
 use Rattle.smt_text.specs.Leaves.{LeafText, covers, worth}
 use Rattle.tree_core.specs.declared.choice.Choice.{Choice}
 use Rattle.tree_core.specs.declared.choice.Choice.TheVariants.{Value, Rest}

@@ -4,8 +4,8 @@ use Rattle.elf_load.specs.Images.{Image}
 use Rattle.elf_load.specs.declared.region.Region.{Region}
 use Rattle.rv_decode.specs.declared.ends.End.{End}
 use Rattle.rv_decode.specs.declared.ends.End.TheVariants.{Exit, Trapped}
-use Rattle.rv_machine.specs.Memory.{IsAssignment}
-use Rattle.rv_machine.specs.Runs.{run, IsRunOf}
+use Rattle.rv_spec.specs.Memory.{IsAssignment}
+use Rattle.rv_spec.specs.Runs.{run, IsRunOf}
 use Rattle.smt_text.specs.Leaves.{LeafText, covers, worth}
 use Rattle.smt_text.specs.declared.leaf.LeafEnd.{LeafEnd}
 use Rattle.smt_text.specs.declared.leaf.LeafEnd.TheVariants.{Exits, Traps, Cut}

@@ -3,7 +3,7 @@ use Rattle.std.specs.Prelude.{◌≡◌, ℕ, ◌==◌, ◌&&◌, ◌<◌, Bool,
 use Rattle.bv_dag.specs.Graphs.{number_of}
 use Rattle.bv_dag.specs.Queries.{holds}
 use Rattle.bv_dag.specs.Graphs.{Graph}
-use Rattle.rv_machine.specs.Memory.{IsAssignment}
+use Rattle.rv_spec.specs.Memory.{IsAssignment}
 use Rattle.sym_state.specs.Programs.{Program, regions_of}
 use Rattle.sym_state.specs.Symbolic.{Symbolic, IsOpen, left_to_do, meets}
 use Rattle.tree_core.specs.declared.choice.Choice.{Choice}

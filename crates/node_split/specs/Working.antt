@@ -1,6 +1,6 @@
 -- A run that goes on for a while.
 use Rattle.std.specs.Prelude.{◌≡◌, ℕ, ◌≤◌, List}
-use Rattle.rv_machine.specs.Memory.{IsAssignment}
+use Rattle.rv_spec.specs.Memory.{IsAssignment}
 use Rattle.sym_state.specs.Programs.{Program, regions_of}
 use Rattle.sym_state.specs.Symbolic.{Symbolic, IsOpen, left_to_do, meets}
 

@@ -2,7 +2,7 @@
 
 ghost use Rattle.std.specs.Prelude.{◌≡◌, ◌==◌, ◌<◌, ◌≤◌, ℕ, List, All, IfOk, length, true, false};
 ghost use Rattle.bv_dag.specs.Graphs.{IsDag, number_of, width_of};
-ghost use Rattle.rv_machine.specs.Memory.{IsAssignment};
+ghost use Rattle.rv_spec.specs.Memory.{IsAssignment};
 ghost use Rattle.sym_machine.specs.Steps.{IsPin};
 ghost use Rattle.sym_state.specs.Growing.{Grows, front_of};
 ghost use Rattle.sym_state.specs.Moves.{cut_back};

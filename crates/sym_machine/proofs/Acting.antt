@@ -5,9 +5,9 @@ use Rattle.bv_dag.specs.Graphs.{Graph}
 use Rattle.rv_decode.specs.declared.ends.PathStep.TheVariants.{Taken, NotTaken}
 use Rattle.rv_decode.specs.declared.ends.Trap.{Trap}
 use Rattle.rv_decode.specs.declared.ends.Trap.TheVariants.{FetchMisaligned}
-use Rattle.rv_machine.specs.Arithmetic.{sum32}
-use Rattle.rv_machine.specs.Machine.{State, Running, next, onward, written, linked, branch, trapped, noted}
-use Rattle.rv_machine.specs.Memory.{IsAssignment}
+use Rattle.rv_spec.specs.Arithmetic.{sum32}
+use Rattle.rv_spec.specs.Machine.{State, Running, next, onward, written, linked, branch, trapped, noted}
+use Rattle.rv_spec.specs.Memory.{IsAssignment}
 use Rattle.sym_state.specs.Growing.{Grows}
 use Rattle.sym_state.specs.Moves.{moved}
 use Rattle.sym_state.specs.Programs.{Program, regions_of}

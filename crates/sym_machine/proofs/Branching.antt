@@ -5,9 +5,9 @@ use Rattle.std.proofs.Math.ListN.{get_or-map}
 use Rattle.bv_dag.specs.Graphs.{Graph, number_of, width_of}
 use Rattle.rv_decode.specs.declared.instr.Instr.TheVariants.{Branch}
 use Rattle.rv_decode.specs.declared.ops.Test.{Test}
-use Rattle.rv_machine.specs.Arithmetic.{sum32, passes, one_where}
-use Rattle.rv_machine.specs.Machine.{State, next, branch, x}
-use Rattle.rv_machine.specs.Memory.{IsAssignment}
+use Rattle.rv_spec.specs.Arithmetic.{sum32, passes, one_where}
+use Rattle.rv_spec.specs.Machine.{State, next, branch, x}
+use Rattle.rv_spec.specs.Memory.{IsAssignment}
 use Rattle.sym_state.specs.Growing.{Grows}
 use Rattle.sym_state.specs.Moves.{with_terms}
 use Rattle.sym_state.specs.Programs.{Program, regions_of}

@@ -8,9 +8,9 @@ use Rattle.std.proofs.lemmas.List.Elements.{All-nil, All-cons, All-append}
 use Rattle.bv_dag.specs.Graphs.{Graph, number_of, width_of}
 use Rattle.rv_decode.specs.declared.ends.End.TheVariants.{Exit}
 use Rattle.rv_decode.specs.declared.ends.Trap.TheVariants.{Call, LoadAccess}
-use Rattle.rv_machine.specs.Arithmetic.{sum32}
-use Rattle.rv_machine.specs.Machine.{State, Running as GoesOn, Ended as Stops, addresses, call, next, onward, trapped, write, written, x}
-use Rattle.rv_machine.specs.Memory.{IsAssignment, byte_of, flags_of, is_mapped, placed}
+use Rattle.rv_spec.specs.Arithmetic.{sum32}
+use Rattle.rv_spec.specs.Machine.{State, Running as GoesOn, Ended as Stops, addresses, call, next, onward, trapped, write, written, x}
+use Rattle.rv_spec.specs.Memory.{IsAssignment, byte_of, flags_of, is_mapped, placed}
 use Rattle.sym_state.specs.Growing.{Grows}
 use Rattle.sym_state.specs.Moves.{moved, with_terms}
 use Rattle.sym_state.specs.Programs.{Program, regions_of}

@@ -12,8 +12,8 @@ use Rattle.rv_decode.specs.Eight.{IsOneOfEight}
 use Rattle.rv_decode.specs.Instructions.{instr}
 use Rattle.rv_decode.specs.declared.ends.Trap.TheVariants.{Illegal, FetchAccess, FetchMisaligned}
 use Rattle.rv_decode.specs.declared.instr.Instr.{Instr}
-use Rattle.rv_machine.specs.Machine.{fetch}
-use Rattle.rv_machine.specs.Memory.{byte_of, byte_in, flags_of, has_x, can_execute, placed, is_in, word_at}
+use Rattle.rv_spec.specs.Machine.{fetch}
+use Rattle.rv_spec.specs.Memory.{byte_of, byte_in, flags_of, has_x, can_execute, placed, is_in, word_at}
 use Rattle.sym_state.specs.Programs.{Program, IsKnown, IsRunnable, regions_of}
 
 byte_on_page : (image : Image) (pc i : ℕ) (p : Page) → get image.pages (pc / 256) ≡ Some p → pc % 4 ≡ 0 → i < 4 → byte_of image (pc + i) ≡ slice_index p.bytes (pc % 256 + i)

@@ -8,9 +8,9 @@ use Rattle.rv_decode.specs.declared.ops.LoadWidth.TheVariants.{Lb, Lh, Lw, Lbu, 
 use Rattle.rv_decode.specs.Eight.{IsAddiOrSltiu, IsLbu}
 use Rattle.rv_decode.specs.declared.ops.ImmediateOp.{ImmediateOp}
 use Rattle.rv_decode.specs.declared.ops.ImmediateOp.TheVariants.{Addi, Slti, Sltiu, Xori, Ori, Andi}
-use Rattle.rv_machine.specs.Arithmetic.{one_where, sum32, with_immediate}
-use Rattle.rv_machine.specs.Machine.{State, Running as GoesOn, next, load, onward, written, to_register, trapped, x}
-use Rattle.rv_machine.specs.Memory.{IsAssignment, byte_of, flags_of, is_mapped, placed}
+use Rattle.rv_spec.specs.Arithmetic.{one_where, sum32, with_immediate}
+use Rattle.rv_spec.specs.Machine.{State, Running as GoesOn, next, load, onward, written, to_register, trapped, x}
+use Rattle.rv_spec.specs.Memory.{IsAssignment, byte_of, flags_of, is_mapped, placed}
 use Rattle.sym_state.specs.Growing.{Grows}
 use Rattle.sym_state.specs.Moves.{moved, with_terms}
 use Rattle.sym_state.specs.Programs.{Program, regions_of}

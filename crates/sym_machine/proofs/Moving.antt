@@ -4,9 +4,9 @@ use Rattle.std.specs.Prelude.{All, Option, Some, None}
 use Rattle.std.proofs.lemmas.List.Elements.{All-head, All-tail}
 use Rattle.bv_dag.specs.Graphs.{Graph, width_of}
 use Rattle.rv_decode.specs.declared.ends.PathStep.{PathStep}
-use Rattle.rv_machine.specs.Machine.{State, Running as GoesOn, Ended as Stops, next}
-use Rattle.rv_machine.specs.Memory.{IsAssignment}
-use Rattle.rv_machine.specs.Runs.{IsRunOf, run}
+use Rattle.rv_spec.specs.Machine.{State, Running as GoesOn, Ended as Stops, next}
+use Rattle.rv_spec.specs.Memory.{IsAssignment}
+use Rattle.rv_spec.specs.Runs.{IsRunOf, run}
 use Rattle.sym_state.specs.Growing.{Grows}
 use Rattle.sym_state.specs.Moves.{IsSame, IsGrown, moved, with_terms}
 use Rattle.sym_state.specs.Programs.{Program, regions_of}

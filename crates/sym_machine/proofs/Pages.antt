@@ -12,7 +12,7 @@ use Rattle.std.specs.declared.cmp.Ordering.TheVariants.{Less, Equal, Greater}
 use Rattle.elf_load.specs.Images.{Image}
 use Rattle.elf_load.specs.declared.page.Page.{Page}
 use Rattle.rv_decode.specs.Instructions.{instr}
-use Rattle.rv_machine.specs.Memory.{byte_of, can_execute, flags_of, has_x, word_at}
+use Rattle.rv_spec.specs.Memory.{byte_of, can_execute, flags_of, has_x, word_at}
 use Rattle.sym_state.specs.Programs.{IsKnown}
 
 -- the words of a page are known, if they can be executed

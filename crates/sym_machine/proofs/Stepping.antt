@@ -7,8 +7,8 @@ use Rattle.rv_decode.specs.declared.ends.End.{End}
 use Rattle.rv_decode.specs.declared.ends.End.TheVariants.{Trapped}
 use Rattle.rv_decode.specs.declared.ends.Trap.{Trap}
 use Rattle.rv_decode.specs.declared.instr.Instr.{Instr}
-use Rattle.rv_machine.specs.Machine.{State, Running, Ended, first_state, next, execute, execute_fetched, fetch}
-use Rattle.rv_machine.specs.Runs.{Run, IsRunOf, run, run_from, continued, after_outcome}
+use Rattle.rv_spec.specs.Machine.{State, Running, Ended, first_state, next, execute, execute_fetched, fetch}
+use Rattle.rv_spec.specs.Runs.{Run, IsRunOf, run, run_from, continued, after_outcome}
 
 -- of a run that has not ended
 run_more : (image : Image) (all : List Region) (input : List ℕ) (steps : ℕ) (s : State) → run image all input steps ≡ record { state = s; end = None; steps = steps } → run image all input (steps + 1) ≡ after_outcome (steps + 1) (next s)

@@ -4,11 +4,11 @@ use Rattle.bv_dag.specs.Graphs.{IsDag, number_of, width_of}
 use Rattle.bv_dag.specs.Queries.{AreBits}
 use Rattle.rv_decode.specs.declared.ends.End.{End}
 use Rattle.rv_decode.specs.declared.ends.End.TheVariants.{Exit, Trapped}
-use Rattle.rv_machine.specs.Arithmetic.{sum32}
+use Rattle.rv_spec.specs.Arithmetic.{sum32}
 use Rattle.rv_decode.specs.declared.instr.Instr.{Instr}
-use Rattle.rv_machine.specs.Machine.{State, fetch}
-use Rattle.rv_machine.specs.Memory.{IsAssignment}
-use Rattle.rv_machine.specs.Runs.{run, IsRunOf}
+use Rattle.rv_spec.specs.Machine.{State, fetch}
+use Rattle.rv_spec.specs.Memory.{IsAssignment}
+use Rattle.rv_spec.specs.Runs.{run, IsRunOf}
 use Rattle.sym_state.specs.Moves.{IsGrown, IsSame}
 use Rattle.sym_state.specs.Programs.{Program, regions_of}
 use Rattle.sym_state.specs.Symbolic.{Symbolic, IsOpen, IsWide, AreBytes, Goes, concrete, is_term, meets, numbers_of, value_at, worth_of}

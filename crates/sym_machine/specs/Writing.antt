@@ -1,7 +1,7 @@
 -- Bytes of memory behind the output of a symbolic run.
 use Rattle.std.specs.Prelude.{◌≡◌, ℕ, List, ◌++◌, map}
-use Rattle.rv_machine.specs.Machine.{addresses}
-use Rattle.rv_machine.specs.Memory.{byte_of, placed}
+use Rattle.rv_spec.specs.Machine.{addresses}
+use Rattle.rv_spec.specs.Memory.{byte_of, placed}
 use Rattle.sym_state.specs.Growing.{Grows}
 use Rattle.sym_state.specs.Programs.{Program, regions_of}
 use Rattle.sym_state.specs.Symbolic.{Symbolic, AreBytes, numbers_of}

@@ -2,9 +2,9 @@
 
 ghost use Rattle.std.specs.Prelude.{◌≡◌, ◌<◌, ◌==◌, ◌||◌, ℕ, List, IfOk, OnOk};
 ghost use Rattle.std.specs.List.{list_all};
-ghost use Rattle.rv_machine.specs.Machine as machine;
-ghost use Rattle.rv_machine.specs.Machine.{addresses, call, next, x};
-ghost use Rattle.rv_machine.specs.Memory.{IsAssignment, flags_of, is_mapped};
+ghost use Rattle.rv_spec.specs.Machine as machine;
+ghost use Rattle.rv_spec.specs.Machine.{addresses, call, next, x};
+ghost use Rattle.rv_spec.specs.Memory.{IsAssignment, flags_of, is_mapped};
 ghost use Rattle.sym_state.specs.Programs.{regions_of};
 ghost use Rattle.sym_state.specs.Symbolic.{IsOpen, concrete, most_steps};
 ghost use Rattle.sym_machine.specs.Steps.{Stepped};

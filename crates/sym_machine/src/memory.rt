@@ -3,8 +3,8 @@
 ghost use Rattle.std.specs.Prelude.{◌≡◌, ◌≤◌, ◌+◌, ℕ, List, drop, length, IfOk, OnOk};
 ghost use Rattle.bv_dag.specs.Graphs.{IsDag, width_of, number_of};
 ghost use Rattle.byteorder.specs.Endian.{little_number};
-ghost use Rattle.rv_machine.specs.Memory.{byte_of, flags_of, is_mapped, placed};
-ghost use Rattle.rv_machine.specs.Machine as machine;
+ghost use Rattle.rv_spec.specs.Memory.{byte_of, flags_of, is_mapped, placed};
+ghost use Rattle.rv_spec.specs.Machine as machine;
 ghost use Rattle.sym_state.specs.Growing.{Grows};
 ghost use Rattle.sym_state.specs.Moves.{with_terms};
 ghost use Rattle.sym_state.specs.Programs.{regions_of};

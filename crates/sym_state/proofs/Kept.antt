@@ -6,7 +6,7 @@ use Rattle.std.proofs.lemmas.List.Elements.{All-head, All-tail}
 use Rattle.bv_dag.specs.Graphs.{Graph, number_of, width_of}
 use Rattle.bv_dag.specs.Queries.{AreBits, holds}
 use Rattle.bv_dag.proofs.TermLaws.{there}
-use Rattle.rv_machine.specs.Arithmetic.{sum32, one_where}
+use Rattle.rv_spec.specs.Arithmetic.{sum32, one_where}
 use Rattle.sym_state.specs.Growing.{Grows, front_of}
 use Rattle.sym_state.specs.Moves.{IsGrown, with_terms, cut_back}
 use Rattle.sym_state.specs.Symbolic.{Symbolic, IsSmall, IsWide, worth_of}

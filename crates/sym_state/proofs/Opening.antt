@@ -4,7 +4,7 @@ use Rattle.std.specs.Prelude.{All, replicate, Result, Ok, Err, IfOk}
 use Rattle.std.proofs.lemmas.List.Elements.{All-nil, All-set, All-replicate}
 use Rattle.bv_dag.specs.Graphs.{width_of}
 use Rattle.bv_dag.proofs.TermLaws.{IsDag-none}
-use Rattle.rv_machine.specs.Runs.{run_from}
+use Rattle.rv_spec.specs.Runs.{run_from}
 use Rattle.sym_state.specs.Programs.{Program}
 use Rattle.sym_state.specs.Symbolic.{Symbolic, IsWide, IsSmall, IsOpen, first_run}
 use Rattle.sym_state.specs.declared.value.Value.{Value}

@@ -8,7 +8,7 @@ use Rattle.bv_dag.specs.Graphs.{Graph, IsDag, with_node, val, number_of, width_o
 use Rattle.bv_dag.specs.Nodes.{Fits, node_value, node_width, widths_of}
 use Rattle.bv_dag.specs.declared.nodes.Node.{Node}
 use Rattle.bv_dag.proofs.TermLaws.{IsDag-with_node, width_of-with_node, number_of-with_node, width_of-new, val-new, width-val}
-use Rattle.rv_machine.specs.Arithmetic.{sum32}
+use Rattle.rv_spec.specs.Arithmetic.{sum32}
 use Rattle.sym_state.specs.Growing.{Grows}
 
 pub Grows-with_node : (g : Graph) (n : Node) → IsDag g → Fits g.inputs (widths_of g.nodes) n → Grows g (with_node g n)

@@ -2,7 +2,7 @@
 use Rattle.std.specs.Prelude.{◌≡◌, ℕ, ◌+◌, List, [], ◌∷◌, ◌++◌, None}
 use Rattle.bv_dag.specs.Graphs.{Graph}
 use Rattle.rv_decode.specs.declared.ends.PathStep.{PathStep}
-use Rattle.rv_machine.specs.Memory.{IsAssignment}
+use Rattle.rv_spec.specs.Memory.{IsAssignment}
 use Rattle.tree_core.specs.declared.choice.Choice.{Choice}
 use Rattle.sym_state.specs.Growing.{Grows, front_of}
 use Rattle.sym_state.specs.Programs.{Program, regions_of}

@@ -6,7 +6,7 @@ use Rattle.elf_load.specs.declared.region.Region.{Region}
 use Rattle.rv_decode.specs.Eight.{IsOneOfEight}
 use Rattle.rv_decode.specs.Instructions.{instr}
 use Rattle.rv_decode.specs.declared.instr.Instr.{Instr}
-use Rattle.rv_machine.specs.Memory.{flags_of, byte_of, can_execute, is_mapped, word_at}
+use Rattle.rv_spec.specs.Memory.{flags_of, byte_of, can_execute, is_mapped, word_at}
 
 pub record Program : Type 0 where
   pub image : Image

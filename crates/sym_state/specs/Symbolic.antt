@@ -6,10 +6,10 @@ use Rattle.rv_decode.specs.declared.ends.PathStep.{PathStep}
 use Rattle.rv_decode.specs.declared.ends.Trap.{Trap}
 use Rattle.rv_decode.specs.declared.instr.Instr.{Instr}
 use Rattle.rv_decode.specs.declared.instr.Instr.TheVariants.{Branch}
-use Rattle.rv_machine.specs.Arithmetic.{passes}
-use Rattle.rv_machine.specs.Memory.{flags_of, byte_of, placed, IsAssignment}
-use Rattle.rv_machine.specs.Machine.{State, x, fetch}
-use Rattle.rv_machine.specs.Runs.{run}
+use Rattle.rv_spec.specs.Arithmetic.{passes}
+use Rattle.rv_spec.specs.Memory.{flags_of, byte_of, placed, IsAssignment}
+use Rattle.rv_spec.specs.Machine.{State, x, fetch}
+use Rattle.rv_spec.specs.Runs.{run}
 use Rattle.tree_core.specs.declared.choice.Choice.{Choice}
 use Rattle.sym_state.specs.Programs.{Program, regions_of}
 use Rattle.sym_state.specs.declared.value.Value.{Value}

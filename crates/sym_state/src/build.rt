@@ -4,7 +4,7 @@ ghost use Rattle.std.specs.Prelude.{◌≡◌, ℕ, ◌==◌, ◌^◌, ◌%◌, 
 ghost use Rattle.bv_dag.specs.BitVectors.{IsBitVector};
 ghost use Rattle.bv_dag.specs.Graphs.{IsDag, val, number_of, width_of};
 ghost use Rattle.bv_dag.specs.Nodes.{Fits, node_value, node_width, widths_of};
-ghost use Rattle.rv_machine.specs.Arithmetic.{sum32, one_where};
+ghost use Rattle.rv_spec.specs.Arithmetic.{sum32, one_where};
 ghost use Rattle.sym_state.specs.Growing.{Grows};
 ghost use Rattle.sym_state.specs.Symbolic.{IsWide, worth_of};
 

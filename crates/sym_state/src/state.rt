@@ -2,7 +2,7 @@
 
 ghost use Rattle.std.specs.Prelude.{◌≡◌, ◌==◌, ◌+◌, ◌-◌, ◌%◌, ◌<◌, ◌^◌, ℕ, true, false, List, [], ◌∷◌, ◌++◌, All, length, nat_lt, slice_index, IfOk, OnOk, Some, if◌then◌else◌};
 ghost use Rattle.bv_dag.specs.Graphs.{IsDag, width_of, number_of};
-ghost use Rattle.rv_machine.specs.Arithmetic.{sum32, one_where};
+ghost use Rattle.rv_spec.specs.Arithmetic.{sum32, one_where};
 ghost use Rattle.sym_state.specs.Growing.{Grows};
 ghost use Rattle.sym_state.specs.Moves.{with_terms, cut_back, narrowed, moved};
 ghost use Rattle.sym_state.specs.Symbolic.{set_value, value_at, worth_of, first_run, run_at, is_term, IsOpen, IsWide, most_steps};

@@ -17,7 +17,7 @@ use Rattle.elf_load.specs.declared.page.Page.{Page}
 use Rattle.rv_decode.specs.Eight.{IsEight}
 use Rattle.rv_decode.specs.Instructions.{instr}
 use Rattle.rv_decode.specs.declared.instr.Instr.{Instr}
-use Rattle.rv_machine.specs.Memory.{byte_of, byte_in, flags_of, has_x, can_execute, word_at}
+use Rattle.rv_spec.specs.Memory.{byte_of, byte_in, flags_of, has_x, can_execute, word_at}
 use Rattle.tool_top.specs.Later.{IsOther, IsLaterWord, HasLaterWord, IsLaterOnPage}
 
 -- the word of a page's bytes

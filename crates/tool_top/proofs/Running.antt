@@ -19,8 +19,8 @@ use Rattle.rv_decode.specs.declared.ops.LoadWidth.{LoadWidth}
 use Rattle.rv_decode.specs.declared.ops.LoadWidth.TheVariants.{Lb, Lh, Lw, Lbu, Lhu}
 use Rattle.rv_decode.specs.declared.ops.Test.{Test}
 use Rattle.rv_decode.specs.declared.ops.Test.TheVariants.{Beq, Bne, Blt, Bge, Bltu, Bgeu}
-use Rattle.rv_machine.specs.Memory.{flags_of, byte_of, can_execute, word_at}
-use Rattle.rv_machine.specs.Memory as memory
+use Rattle.rv_spec.specs.Memory.{flags_of, byte_of, can_execute, word_at}
+use Rattle.rv_spec.specs.Memory as memory
 use Rattle.sym_state.specs.Programs.{IsKnown, IsRunnable}
 use Rattle.tool_top.specs.Later.{HasLaterWord, IsInput, IsOther}
 

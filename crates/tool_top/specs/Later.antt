@@ -7,7 +7,7 @@ use Rattle.elf_load.specs.declared.region.Region.{Region}
 use Rattle.rv_decode.specs.Eight.{IsOneOfEight}
 use Rattle.rv_decode.specs.Instructions.{instr}
 use Rattle.rv_decode.specs.declared.instr.Instr.{Instr}
-use Rattle.rv_machine.specs.Memory.{flags_of, byte_of, byte_in, can_execute, has_x, word_at}
+use Rattle.rv_spec.specs.Memory.{flags_of, byte_of, byte_in, can_execute, has_x, word_at}
 
 -- it is an instruction, and none of the eight
 abbrev pub IsOther : Option Instr → Type 0

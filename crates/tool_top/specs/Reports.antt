@@ -16,8 +16,8 @@ use Rattle.report_text.specs.Reports.{report_text, Entry as Noted}
 use Rattle.report_text.specs.Spent.{targets_text}
 use Rattle.report_text.specs.Summaries.{count, summary_text}
 use Rattle.report_text.specs.declared.event.Event.{Event}
-use Rattle.rv_machine.specs.Memory.{IsAssignment}
-use Rattle.rv_machine.specs.Runs.{run, IsRunOf}
+use Rattle.rv_spec.specs.Memory.{IsAssignment}
+use Rattle.rv_spec.specs.Runs.{run, IsRunOf}
 use Rattle.smt_text.specs.LeafLines.{leaf_text}
 use Rattle.smt_text.specs.Leaves.{LeafText, covers, worth}
 use Rattle.smt_text.specs.declared.leaf.LeafEnd.{LeafEnd}

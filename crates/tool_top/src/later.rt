@@ -3,7 +3,7 @@
 ghost use Rattle.std.specs.Prelude.{◌≡◌, ◌+◌, ◌*◌, ◌<◌, ◌≤◌, ℕ, true, false, length, drop, IfSome, None};
 ghost use Rattle.byteorder.specs.Endian.{little_number};
 ghost use Rattle.rv_decode.specs.Instructions.{instr};
-ghost use Rattle.rv_machine.specs.Memory.{can_execute, flags_of};
+ghost use Rattle.rv_spec.specs.Memory.{can_execute, flags_of};
 ghost use Rattle.tool_top.specs.Later.{HasLaterWord, IsDataByte, IsLaterOnPage, IsOther};
 
 use byteorder::{ByteOrder, LittleEndian};

@@ -2,7 +2,7 @@
 
 ghost use Rattle.std.specs.Prelude.{◌≡◌, ◌<◌, ◌≤◌, ◌+◌, ◌/◌, ◌%◌, ◌^◌, ℕ, true, IsTrue};
 ghost use Rattle.rv_decode.specs.Instructions.{instr};
-ghost use Rattle.rv_machine.specs.Memory.{byte_of, can_execute, flags_of, word_at};
+ghost use Rattle.rv_spec.specs.Memory.{byte_of, can_execute, flags_of, word_at};
 ghost use Rattle.sym_state.specs.Programs.{IsKnown, IsRunnable};
 
 use crate::memory::{image_byte, is_mapped};

@@ -1,5 +1,5 @@
 use Rattle.std.proofs.Common.{arith}
-use Rattle.rv_machine.specs.Memory.{flags_of}
+use Rattle.rv_spec.specs.Memory.{flags_of}
 use Rattle.sym_machine.proofs.Calling.{mapped_none, mapped-more}
 use Rattle.sym_machine.proofs.call.are_mapped.Goals as goal
 

@@ -1,5 +1,5 @@
 use Rattle.std.proofs.Common.{◌∙◌, sym, ap, arith}
-use Rattle.rv_machine.specs.Machine.{call}
+use Rattle.rv_spec.specs.Machine.{call}
 use Rattle.sym_state.specs.Symbolic.{concrete}
 use Rattle.sym_state.specs.declared.value.Value.TheVariants.{Number}
 use Rattle.sym_machine.proofs.Branching.{x-number}

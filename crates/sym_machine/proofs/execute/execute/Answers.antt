@@ -1,6 +1,6 @@
 use Rattle.std.proofs.Common.{◌∙◌, sym, ap, arith}
 use Rattle.rv_decode.specs.declared.instr.Instr.TheVariants.{Load}
-use Rattle.rv_machine.specs.Machine.{execute, linked}
+use Rattle.rv_spec.specs.Machine.{execute, linked}
 use Rattle.sym_state.specs.Symbolic.{concrete}
 use Rattle.sym_state.specs.declared.value.Value.TheVariants.{Number}
 use Rattle.sym_state.proofs.Pushes.{Grows-none}

@@ -1,5 +1,5 @@
 use Rattle.std.proofs.Common.{arith}
-use Rattle.rv_machine.specs.Arithmetic.{with_immediate}
+use Rattle.rv_spec.specs.Arithmetic.{with_immediate}
 use Rattle.sym_machine.proofs.Loading.{computes, immediate_small, wide_at}
 use Rattle.sym_machine.proofs.execute.immediate.Goals as goal
 

@@ -1,5 +1,5 @@
 use Rattle.std.proofs.Common.{◌∙◌, sym, arith}
-use Rattle.rv_machine.specs.Memory.{byte_of}
+use Rattle.rv_spec.specs.Memory.{byte_of}
 use Rattle.sym_state.proofs.Pushes.{Grows-trans}
 use Rattle.sym_machine.proofs.Fetching.{at_place, not_at_place}
 use Rattle.sym_machine.proofs.Loading.{address_is, at_pin, input_small, stops_load, loads, wide_at}

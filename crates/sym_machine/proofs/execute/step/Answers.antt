@@ -1,7 +1,7 @@
 use Rattle.std.proofs.Common.{◌∙◌, sym, ap}
 use Rattle.sym_state.specs.Symbolic.{Symbolic, concrete}
-use Rattle.rv_machine.specs.Machine.{fetch}
-use Rattle.rv_machine.specs.Memory.{flags_of, byte_of}
+use Rattle.rv_spec.specs.Machine.{fetch}
+use Rattle.rv_spec.specs.Memory.{flags_of, byte_of}
 use Rattle.sym_machine.proofs.Acting.{stops_by_trap}
 use Rattle.sym_machine.proofs.Fetching.{fetch-placed, known_fetched}
 use Rattle.sym_machine.proofs.Stepping.{next_traps}

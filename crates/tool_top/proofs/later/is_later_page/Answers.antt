@@ -2,7 +2,7 @@ use Rattle.std.proofs.Common.{◌≡◌, ℕ, true, subst, arith}
 use Rattle.std.specs.Prelude.{Some}
 use Rattle.std.proofs.lemmas.Bool.Decides.{nat_tests}
 use Rattle.rv_decode.specs.Instructions.{instr}
-use Rattle.rv_machine.specs.Memory.{has_x}
+use Rattle.rv_spec.specs.Memory.{has_x}
 use Rattle.tool_top.specs.Later.{IsOther}
 use Rattle.tool_top.proofs.LaterWords.{none_next, none_on_page, other_on_page}
 use Rattle.tool_top.proofs.later.is_later_page.Goals as goal

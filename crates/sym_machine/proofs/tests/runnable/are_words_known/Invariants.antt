@@ -1,6 +1,6 @@
 use Rattle.std.specs.Prelude.{◌+◌, ◌*◌, ◌<◌, ℕ, IsTrue}
 use Rattle.rv_decode.specs.Instructions.{instr}
-use Rattle.rv_machine.specs.Memory.{byte_of, word_at}
+use Rattle.rv_spec.specs.Memory.{byte_of, word_at}
 use Rattle.sym_state.specs.Programs.{IsKnown}
 use Rattle.sym_machine.proofs.tests.runnable.are_words_known.Given as goal
 

@@ -1,6 +1,6 @@
 use Rattle.std.proofs.Common.{refl}
-use Rattle.rv_machine.proofs.laws.quotients.Goals as goal
-use Rattle.rv_machine.specs.Arithmetic.{is_negative, magnitude, quotient, quotient_signed, remainder, remainder_signed, with_sign}
+use Rattle.rv_spec.proofs.laws.quotients.Goals as goal
+use Rattle.rv_spec.specs.Arithmetic.{is_negative, magnitude, quotient, quotient_signed, remainder, remainder_signed, with_sign}
 
 pub returns-clause-by_zero : goal.returns-clause-by_zero
 unfolding quotient_signed remainder_signed quotient remainder

@@ -7,10 +7,10 @@ use Rattle.rv_decode.specs.Instructions.{instr}
 use Rattle.rv_decode.specs.declared.instr.Instr.{Instr}
 use Rattle.rv_decode.specs.declared.instr.Instr.TheVariants.{Jalr, Branch, Load, Store, Ecall}
 use Rattle.rv_decode.specs.declared.ends.End.{End}
-use Rattle.rv_machine.specs.Arithmetic.{sum32, passes}
-use Rattle.rv_machine.specs.Memory.{can_execute, word_at}
-use Rattle.rv_machine.specs.Machine.{State, x, even, first_state}
-use Rattle.rv_machine.specs.Runs.{Run, run_from}
+use Rattle.rv_spec.specs.Arithmetic.{sum32, passes}
+use Rattle.rv_spec.specs.Memory.{can_execute, word_at}
+use Rattle.rv_spec.specs.Machine.{State, x, even, first_state}
+use Rattle.rv_spec.specs.Runs.{Run, run_from}
 
 pub data Decision : Type 0 where
   -- a conditional branch is taken, or not

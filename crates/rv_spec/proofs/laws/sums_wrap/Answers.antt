@@ -1,6 +1,6 @@
 use Rattle.std.proofs.Common.{refl}
-use Rattle.rv_machine.proofs.laws.sums_wrap.Goals as goal
-use Rattle.rv_machine.specs.Arithmetic.{difference32}
+use Rattle.rv_spec.proofs.laws.sums_wrap.Goals as goal
+use Rattle.rv_spec.specs.Arithmetic.{difference32}
 
 pub returns-clause-sum : goal.returns-clause-sum
 returns-clause-sum c = refl

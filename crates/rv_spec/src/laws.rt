@@ -6,7 +6,7 @@ ghost use Rattle.rv_decode.specs.declared.ops.ImmediateOp.TheVariants.{Addi, Slt
 ghost use Rattle.rv_decode.specs.declared.ops.RegisterOp.TheVariants.{Sub, Sra, Sll, Mul, Mulh, Mulhsu, Mulhu, Div, Divu, Rem, Remu};
 ghost use Rattle.rv_decode.specs.declared.ops.ShiftOp.TheVariants.{Srai};
 ghost use Rattle.rv_decode.specs.declared.ops.Test.TheVariants.{Blt, Bge, Bgeu};
-ghost use Rattle.rv_machine.specs.Arithmetic.{combined, passes, shifted, with_immediate};
+ghost use Rattle.rv_spec.specs.Arithmetic.{combined, passes, shifted, with_immediate};
 
 /// Sums and differences wrap.
 pub fn sums_wrap()

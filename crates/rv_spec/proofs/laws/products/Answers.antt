@@ -1,6 +1,6 @@
 use Rattle.std.proofs.Common.{refl}
-use Rattle.rv_machine.proofs.laws.products.Goals as goal
-use Rattle.rv_machine.specs.Arithmetic.{is_negative, upper_half, wide_signed}
+use Rattle.rv_spec.proofs.laws.products.Goals as goal
+use Rattle.rv_spec.specs.Arithmetic.{is_negative, upper_half, wide_signed}
 
 pub returns-clause-lower : goal.returns-clause-lower
 returns-clause-lower c = refl

@@ -1,6 +1,6 @@
 use Rattle.std.proofs.Common.{refl}
-use Rattle.rv_machine.proofs.laws.comparisons.Goals as goal
-use Rattle.rv_machine.specs.Arithmetic.{is_less_signed}
+use Rattle.rv_spec.proofs.laws.comparisons.Goals as goal
+use Rattle.rv_spec.specs.Arithmetic.{is_less_signed}
 
 pub returns-clause-below : goal.returns-clause-below
 returns-clause-below c = refl

@@ -1,6 +1,6 @@
 use Rattle.std.proofs.Common.{refl}
-use Rattle.rv_machine.proofs.laws.shifts.Goals as goal
-use Rattle.rv_machine.specs.Arithmetic.{is_negative, shifted_left, shifted_right_signed}
+use Rattle.rv_spec.proofs.laws.shifts.Goals as goal
+use Rattle.rv_spec.specs.Arithmetic.{is_negative, shifted_left, shifted_right_signed}
 
 pub returns-clause-by_none : goal.returns-clause-by_none
 unfolding shifted_right_signed is_negative

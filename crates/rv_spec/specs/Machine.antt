@@ -17,8 +17,8 @@ use Rattle.rv_decode.specs.declared.ends.End.{End}
 use Rattle.rv_decode.specs.declared.ends.End.TheVariants.{Exit, Trapped}
 use Rattle.rv_decode.specs.declared.ends.PathStep.{PathStep}
 use Rattle.rv_decode.specs.declared.ends.PathStep.TheVariants.{Taken, NotTaken, Target}
-use Rattle.rv_machine.specs.Arithmetic.{sum32, passes, with_immediate, shifted, combined}
-use Rattle.rv_machine.specs.Memory.{flags_of, byte_of, placed, is_mapped, can_execute, can_write, half_at, word_at, with_bytes}
+use Rattle.rv_spec.specs.Arithmetic.{sum32, passes, with_immediate, shifted, combined}
+use Rattle.rv_spec.specs.Memory.{flags_of, byte_of, placed, is_mapped, can_execute, can_write, half_at, word_at, with_bytes}
 use Rattle.elf_load.specs.Images.{Image}
 use Rattle.elf_load.specs.declared.region.Region.{Region}
 

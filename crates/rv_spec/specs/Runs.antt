@@ -4,7 +4,7 @@ use Rattle.elf_load.specs.Images.{Image}
 use Rattle.elf_load.specs.declared.region.Region.{Region}
 use Rattle.rv_decode.specs.declared.ends.End.{End}
 use Rattle.rv_decode.specs.declared.ends.PathStep.{PathStep}
-use Rattle.rv_machine.specs.Machine.{State, Outcome, Running, Ended, first_state, next}
+use Rattle.rv_spec.specs.Machine.{State, Outcome, Running, Ended, first_state, next}
 
 -- where a run is, how it ended if it did, and the steps made, the ending one included
 pub record Run : Type 0 where
