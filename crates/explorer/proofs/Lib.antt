@@ -2,3 +2,4 @@ pub mod Ranking
 pub mod Adding
 pub mod Walking
 pub mod Telling
+pub mod Showing

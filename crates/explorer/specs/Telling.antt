@@ -5,11 +5,14 @@ use Rattle.report_text.specs.Walk.{Node, Free, is_settled, kid_node, walk}
 use Rattle.report_text.specs.declared.event.Deed.{Deed}
 use Rattle.report_text.specs.declared.event.Event.{Event}
 use Rattle.report_text.specs.declared.event.Kid.{Kid}
+use Rattle.sym_state.specs.Programs.{Program}
+use Rattle.tool_io.specs.Told.{IsPrefix}
 use Rattle.tree_core.specs.declared.choice.Choice.{Choice}
 use Rattle.node_split.specs.LeafParts.{Part}
 use Rattle.node_split.specs.Parts.{cut_of}
 use Rattle.node_split.specs.declared.parts.Kid.{Kid as Side}
 use Rattle.explorer.specs.Histories.{is_leaf, leaf_node}
+use Rattle.explorer.specs.Splits.{AreShown}
 use Rattle.explorer.specs.declared.exploration.Exploration.{Exploration}
 use Rattle.explorer.specs.declared.exploration.LeafAt.{LeafAt}
 
@@ -81,3 +84,8 @@ abbrev pub AddsSides : (targets node : ℕ) → List Choice → (next : ℕ) →
 AddsSides targets node choices next sides old new =
     (workers owed : ℕ) → 1 ≤ workers → (nodes : List Node) → Tells workers targets owed old nodes → slice_get nodes node ≡ Some (free_at choices)
     → IsAmong workers targets owed node choices nodes next sides new
+
+-- events are added behind the others, and leaves that are shown by their splits stay so, as are those that are added
+pub record KeepsShown (p : Program) (targets : ℕ) (old new : Exploration) : Type 0 where
+  pub grows : IsPrefix old.events.items new.events.items
+  pub shown : AreShown p targets old.events.items old.leaves.items → AreShown p targets new.events.items new.leaves.items

@@ -5,7 +5,8 @@ ghost use Rattle.sym_state.specs.Programs.{IsRunnable};
 ghost use Rattle.sym_state.specs.Symbolic.{IsOpen, most_steps};
 ghost use Rattle.explorer.specs.Explored.{IsExplored};
 ghost use Rattle.explorer.specs.Histories.{HasHistory};
-ghost use Rattle.explorer.specs.Telling.{AddsEvents, entry_of, parts_of};
+ghost use Rattle.explorer.specs.Splits.{AreShown};
+ghost use Rattle.explorer.specs.Telling.{AddsEvents, KeepsShown, entry_of, parts_of};
 ghost use Rattle.explorer.specs.Under.{AddsLeaves};
 
 use crate::exploration::Exploration;
@@ -31,6 +32,7 @@ fn add_leaves(
     requires targets { 1 ≤ budgets.targets }
     ensures leaves { OnOk result (AddsLeaves program.now budgets.steps budgets.targets state (parts_of found.old.leaves.items) (parts_of found.new.leaves.items)) }
     ensures events { OnOk result (AddsEvents budgets.targets node state.choices found.old found.new) }
+    ensures splits { OnOk result (KeepsShown program.now budgets.targets found.old found.new) }
 {
     found.note(node, Deed::Claim)?;
     let sides = match work(alloc, program, state, budgets)? {
@@ -63,6 +65,7 @@ pub fn explore(alloc: Global, program: &Program, budgets: Budgets) -> Result<Exp
     requires targets { 1 ≤ budgets.targets }
     ensures leaves { IfOk result (λ found. IsExplored program.now budgets.steps budgets.targets (parts_of found.leaves.items)) }
     ensures events { IfOk result (λ found. HasHistory budgets.targets found.events.items (map entry_of found.leaves.items)) }
+    ensures splits { IfOk result (λ found. AreShown program.now budgets.targets found.events.items found.leaves.items) }
 {
     let mut found = Exploration::new(alloc);
     let first = State::first(alloc, program)?;
