@@ -7,7 +7,7 @@ use Rattle.clap.specs.Words.{Kinds, Row, all_of, fault_of, first_of, subcommand_
 use Rattle.elf_load.specs.declared.region.Region.{Region}
 use Rattle.tool_words.specs.Command.{rvklee_command}
 use Rattle.tool_words.specs.Job as spec
-use Rattle.tool_words.specs.Job.{Explore, IsWithinLimits, command_job, explore_job, explore_with, job_of, without_fault}
+use Rattle.tool_words.specs.Job.{Explore, IsWithinLimits, Replay, command_job, explore_job, explore_with, job_of, replay_job, replay_with, without_fault}
 use Rattle.tool_words.specs.Limits.{IsBudgets, IsWithin, budgets_found, budgets_with, conflicts_limit, is_within, number_found, number_given, plain_number, steps_limit, targets_limit, within, workers_found, workers_limit}
 use Rattle.tool_words.specs.Region.{regions_of}
 use Rattle.tool_words.specs.Seen.{IsRead, job_seen}
@@ -76,13 +76,26 @@ unfolding explore_job
 explore_bounds rows job = with_bounds (first_of (codes "PROGRAM") rows) (first_of (codes "OUT") rows)
     (option_and_then regions_of (all_of (codes "INPUT") rows)) (budgets_found rows) (workers_found rows) job (found_budgets rows) (found_workers rows)
 
+replay_with_bounds : (program test : Option (List ℕ)) (job : spec.Job) → replay_with program test ≡ Some job → IsWithinLimits job
+replay_with_bounds None test job is = cc
+replay_with_bounds (Some program) None job is = cc
+replay_with_bounds (Some program) (Some test) job is =
+    let same : Replay program test ≡ job = cc in
+    rw (← same) tt
+
+replay_bounds : (rows : List Row) (job : spec.Job) → replay_job rows ≡ Some job → IsWithinLimits job
+unfolding replay_job
+replay_bounds rows job = replay_with_bounds (first_of (codes "PROGRAM") rows) (first_of (codes "TEST") rows) job
+
 command_bounds : (found : Option (List ℕ × List Row)) (job : spec.Job) → command_job found ≡ Some job → IsWithinLimits job
 command_bounds None job is = cc
-command_bounds (Some (name, rows)) job is = go (bytes_eq name (codes "explore")) (explore_bounds rows job) is
+command_bounds (Some (name, rows)) job is = go (bytes_eq name (codes "explore")) (bytes_eq name (codes "replay")) (explore_bounds rows job) (replay_bounds rows job) is
   where
-    go : (b : Bool) → (explore_job rows ≡ Some job → IsWithinLimits job) → (if b then explore_job rows else None) ≡ Some job → IsWithinLimits job
-    go true bounds is = bounds is
-    go false bounds is = cc
+    go : (b c : Bool) → (explore_job rows ≡ Some job → IsWithinLimits job) → (replay_job rows ≡ Some job → IsWithinLimits job)
+        → (if b then explore_job rows else if c then replay_job rows else None) ≡ Some job → IsWithinLimits job
+    go true c bounds also is = bounds is
+    go false true bounds also is = also is
+    go false false bounds also is = cc
 
 pub job_bounds : (words : List (List ℕ)) (job : spec.Job) → job_of words ≡ Some job → IsWithinLimits job
 unfolding job_of

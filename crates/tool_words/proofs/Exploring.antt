@@ -5,7 +5,7 @@ use Rattle.clap.specs.Words.{first_value, matched_of, raw_values, rows_of}
 use Rattle.clap.specs.declared.parser.matches.Found.{Found}
 use Rattle.clap.proofs.WalkLemmas.{first_value-rows, raw_values-rows}
 use Rattle.elf_load.specs.declared.region.Region.{Region}
-use Rattle.tool_words.specs.Job.{explore_job, explore_with}
+use Rattle.tool_words.specs.Job.{explore_job, explore_with, replay_job, replay_with}
 use Rattle.tool_words.specs.Limits.{budgets_found, workers_found}
 use Rattle.tool_words.specs.Region.{regions_of}
 use Rattle.tool_words.specs.declared.limit.Budgets.{Budgets}
@@ -20,6 +20,11 @@ pub explore_job_is : (found : Found) (program out : Option (List ℕ)) (inputs :
 unfolding explore_job
 explore_job_is found program out inputs budgets workers is_program is_out is_inputs is_budgets is_workers =
     rw (is_program, is_out, is_inputs, is_budgets, is_workers, first_value-rows found (codes "PROGRAM"), first_value-rows found (codes "OUT"), raw_values-rows found (codes "INPUT")) refl
+
+pub replay_job_is : (found : Found) (program test : Option (List ℕ)) → program ≡ first_value found (codes "PROGRAM") → test ≡ first_value found (codes "TEST")
+    → replay_job (rows_of found) ≡ replay_with program test
+unfolding replay_job
+replay_job_is found program test is_program is_test = rw (is_program, is_test, first_value-rows found (codes "PROGRAM"), first_value-rows found (codes "TEST")) refl
 
 -- without one of the numbers there is no job
 pub no_budgets : (program out : List ℕ) (regions : Option (List Region)) (workers : Option ℕ) → explore_with (Some program) (Some out) regions None workers ≡ None

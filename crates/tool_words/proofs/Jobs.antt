@@ -13,7 +13,7 @@ use Rattle.clap.specs.declared.parser.matches.ArgMatches.TheViews.{out-SubComman
 use Rattle.clap.specs.declared.parser.matches.SubCommand.{SubCommand}
 use Rattle.std.specs.Box.{box_value}
 use Rattle.tool_words.specs.Seen.{IsRead, error_of}
-use Rattle.tool_words.specs.Job.{command_job, explore_job, job_of}
+use Rattle.tool_words.specs.Job.{command_job, job_of}
 
 pub job_taken : (words : List (List ℕ)) → fault_of rvklee_command words ≡ []
     → job_of words ≡ command_job (subcommand_of rvklee_command words)
@@ -43,30 +43,18 @@ none_named words m takes finds name = job_taken words takes ∙ ap command_job (
     go None is = refl
     go (Some p) is = cc
 
-pub other_named : (words : List (List ℕ)) (m : ArgMatches) (name : List ℕ) → fault_of rvklee_command words ≡ []
+pub command_named : (words : List (List ℕ)) (m : ArgMatches) (name : List ℕ) (rows : List Row) → fault_of rvklee_command words ≡ []
     → subcommand_rows_of m ≡ subcommand_of rvklee_command words → Some name ≡ subcommand_name_of m
-    → bytes_eq name (codes "explore") ≡ false → job_of words ≡ None
-other_named words m name takes finds named other = job_taken words takes ∙ ap command_job (sym finds) ∙ go (subcommand_rows_of m) (named ∙ name_is m)
+    → Some rows ≡ option_map (λ p. p.1) (subcommand_rows_of m) → job_of words ≡ command_job (Some (name, rows))
+command_named words m name rows takes finds named has =
+    job_taken words takes ∙ ap command_job (sym finds ∙ go (subcommand_rows_of m) (named ∙ name_is m) has)
   where
-    go : (o : Option (List ℕ × List Row)) → Some name ≡ option_map (λ p. p.0) o → command_job o ≡ None
-    go None is = cc
-    go (Some (its_name, rows)) is =
-        let same : name ≡ its_name = cc in
-        rw (← same, other) refl
-
-pub explore_named : (words : List (List ℕ)) (m : ArgMatches) (name : List ℕ) (rows : List Row) → fault_of rvklee_command words ≡ []
-    → subcommand_rows_of m ≡ subcommand_of rvklee_command words → Some name ≡ subcommand_name_of m
-    → Some rows ≡ option_map (λ p. p.1) (subcommand_rows_of m) → bytes_eq name (codes "explore") ≡ true
-    → job_of words ≡ explore_job rows
-explore_named words m name rows takes finds named has this =
-    job_taken words takes ∙ ap command_job (sym finds) ∙ go (subcommand_rows_of m) (named ∙ name_is m) has
-  where
-    go : (o : Option (List ℕ × List Row)) → Some name ≡ option_map (λ p. p.0) o → Some rows ≡ option_map (λ p. p.1) o → command_job o ≡ explore_job rows
+    go : (o : Option (List ℕ × List Row)) → Some name ≡ option_map (λ p. p.0) o → Some rows ≡ option_map (λ p. p.1) o → o ≡ Some (name, rows)
     go None is at = cc
     go (Some (its_name, its_rows)) is at =
         let same : name ≡ its_name = cc in
         let same_rows : rows ≡ its_rows = cc in
-        rw (← same, this, same_rows) refl
+        rw (same, same_rows) refl
 
 -- an error of clap's is handed on
 pub error_read : {T V : Type 0} → (seen : T → V) (said : Option V) (kind : ErrorKind) → (kind ≢ OutOfMemory → said ≡ None)

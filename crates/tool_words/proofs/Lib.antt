@@ -10,3 +10,4 @@ pub mod Jobs
 pub mod Bounds
 pub mod PlainWords
 pub mod OtherWords
+pub mod PlainReplay

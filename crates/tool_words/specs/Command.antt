@@ -29,7 +29,12 @@ unfoldable pub explore_command : App
 explore_command = with_rule (with_rule (with_rule (with_numbers (new_app (codes "explore")))
     (required_word (codes "PROGRAM"))) (required_word (codes "OUT"))) (required_words (codes "INPUT"))
 
+-- replay PROGRAM TEST
+unfoldable pub replay_command : App
+replay_command = with_rule (with_rule (new_app (codes "replay"))
+    (required_word (codes "PROGRAM"))) (required_word (codes "TEST"))
+
 -- rvklee COMMAND ..
 unfoldable pub rvklee_command : App
-rvklee_command = with_subcommand (on_top (λ top. record top { subcommand_required = true })
-    (new_app (codes "rvklee"))) explore_command.top
+rvklee_command = with_subcommand (with_subcommand (on_top (λ top. record top { subcommand_required = true })
+    (new_app (codes "rvklee"))) explore_command.top) replay_command.top

@@ -12,6 +12,8 @@ pub data Job : Type 0 where
   -- the leaves of a program's file, whose regions hold the input bytes, and their tests, are put into
   -- the folder `out`, within the budgets, by so many workers
   Explore : (program out : List ℕ) → (regions : List Region) → (budgets : Budgets) → (workers : ℕ) → Job
+  -- the run of a test's file on a program's file is compared with what the test says
+  Replay : (program test : List ℕ) → Job
 
 -- the job, where all is there
 abbrev pub explore_with : Option (List ℕ) → Option (List ℕ) → Option (List Region) → Option Budgets → Option ℕ → Option Job
@@ -24,10 +26,20 @@ unfoldable pub explore_job : List Row → Option Job
 explore_job rows = explore_with (first_of (codes "PROGRAM") rows) (first_of (codes "OUT") rows)
     (option_and_then regions_of (all_of (codes "INPUT") rows)) (budgets_found rows) (workers_found rows)
 
+abbrev pub replay_with : Option (List ℕ) → Option (List ℕ) → Option Job
+replay_with (Some program) (Some test) = Some (Replay program test)
+replay_with _ _ = None
+
+-- the job of `replay`, likewise
+unfoldable pub replay_job : List Row → Option Job
+replay_job rows = replay_with (first_of (codes "PROGRAM") rows) (first_of (codes "TEST") rows)
+
 -- the job of the command that `clap` finds in the words
 abbrev pub command_job : Option (List ℕ × List Row) → Option Job
 command_job None = None
-command_job (Some (name, rows)) = if bytes_eq name (codes "explore") then explore_job rows else None
+command_job (Some (name, rows)) =
+    if bytes_eq name (codes "explore") then explore_job rows else
+    if bytes_eq name (codes "replay") then replay_job rows else None
 
 -- no job where `clap` finds a fault, a call for help among them
 abbrev pub without_fault : Kinds → Option Job → Option Job
@@ -44,3 +56,4 @@ job_of words = without_fault (fault_of rvklee_command words)
 abbrev pub IsWithinLimits : Job → Type 0
 IsWithinLimits (Explore program out regions budgets workers) =
     IsBudgets budgets × IsWithin workers_limit workers
+IsWithinLimits (Replay program test) = Unit {0}

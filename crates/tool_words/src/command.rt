@@ -3,7 +3,7 @@
 ghost use Rattle.std.specs.Prelude.{◌≡◌, IfOk, false};
 ghost use Rattle.clap.specs.Words.{app_of, rule_of};
 ghost use Rattle.clap.specs.declared.builder.command.Command.TheViews.{out-Command as fields_of};
-ghost use Rattle.tool_words.specs.Command.{explore_command, number_option, required_word, required_words, rvklee_command};
+ghost use Rattle.tool_words.specs.Command.{explore_command, number_option, replay_command, required_word, required_words, rvklee_command};
 
 use clap::{Arg, Command};
 use std::alloc::{AllocError as NoMemory, Global};
@@ -14,7 +14,8 @@ pub(crate) fn rvklee<'a>(alloc: Global) -> Result<Command<'a>, NoMemory>
 {
     Command::new(alloc, "rvklee")
         .subcommand_required(true)
-        .subcommand(explore(alloc)?)
+        .subcommand(explore(alloc)?)?
+        .subcommand(replay(alloc)?)
 }
 
 /// `explore [--steps N] [--targets N] [--conflicts N] [--workers N] PROGRAM OUT INPUT..`.
@@ -30,6 +31,16 @@ fn explore<'a>(alloc: Global) -> Result<Command<'a>, NoMemory>
         .arg(required_word(alloc, "PROGRAM"))?
         .arg(required_word(alloc, "OUT"))?
         .arg(required_words(alloc, "INPUT"))
+}
+
+/// `replay PROGRAM TEST`.
+fn replay<'a>(alloc: Global) -> Result<Command<'a>, NoMemory>
+    ensures app { IfOk result (λ command. app_of command ≡ replay_command) }
+    ensures local { IfOk result (λ command. (fields_of command).has_globals ≡ false) }
+{
+    Command::new(alloc, "replay")
+        .arg(required_word(alloc, "PROGRAM"))?
+        .arg(required_word(alloc, "TEST"))
 }
 
 /// An option with a value, `--name N`, that may be given once.

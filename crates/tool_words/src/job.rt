@@ -22,6 +22,11 @@ pub enum Job {
         budgets: Budgets,
         workers: u32,
     },
+    /// The run of the test in one file, on the program in another, is to be compared with what the test says.
+    Replay {
+        program: String,
+        test: String,
+    },
 }
 
 /// Why there is no job.

@@ -1,9 +1,9 @@
 //! What holds of all command lines.
 
-ghost use Rattle.std.specs.Prelude.{◌≡◌, ◌≢◌, ◌↔◌, ◌∷◌, None, Some, ◌<◌, ◌^◌, ℕ, List, codes, length, option_map, true};
+ghost use Rattle.std.specs.Prelude.{◌≡◌, ◌≢◌, ◌↔◌, ◌∷◌, [], None, Some, ◌<◌, ◌^◌, ℕ, List, codes, length, option_map, true};
 ghost use Rattle.std.specs.Fmt.{decimal};
 ghost use Rattle.std.specs.List.{list_all};
-ghost use Rattle.tool_words.specs.Job.{Explore, IsWithinLimits, Job, job_of};
+ghost use Rattle.tool_words.specs.Job.{Explore, IsWithinLimits, Job, Replay, job_of};
 ghost use Rattle.tool_words.specs.Limits.{default_budgets, plain_number, workers_limit};
 ghost use Rattle.tool_words.specs.Plain.{has_no_hyphen};
 ghost use Rattle.tool_words.specs.Region.{regions_of};
@@ -18,6 +18,13 @@ pub fn plain_words_name_their_job()
         ≡ option_map (λ regions. Explore program out regions default_budgets workers_limit.default) (regions_of (input ∷ inputs)) }
 {}
 
+/// `replay` with a program and a test has the job that these words name, where none of them begins with a
+/// hyphen.
+pub fn two_words_name_their_replay()
+    ensures { (tool program test : List ℕ) → list_all has_no_hyphen (program ∷ test ∷ []) ≡ true
+        → job_of (tool ∷ codes "replay" ∷ program ∷ test ∷ []) ≡ Some (Replay program test) }
+{}
+
 /// The numbers of a job are within their limits.
 pub fn jobs_are_within_their_limits()
     ensures { (words : List (List ℕ)) (job : Job) → job_of words ≡ Some job → IsWithinLimits job }
@@ -28,11 +35,11 @@ pub fn a_number_is_written_in_one_way()
     ensures { (text : List ℕ) (n : ℕ) → n < 2 ^ 64 → (plain_number text ≡ Some n ↔ text ≡ decimal n) }
 {}
 
-/// Words whose second is neither `explore` nor an option have no job: there is no other command, and
-/// `help` asks for help.
+/// Words whose second is neither `explore`, `replay` nor an option have no job: there is no other command,
+/// and `help` asks for help.
 pub fn other_commands_have_no_job()
     ensures { (tool command : List ℕ) (rest : List (List ℕ)) → has_no_hyphen command ≡ true
-        → command ≢ codes "explore" → job_of (tool ∷ command ∷ rest) ≡ None }
+        → command ≢ codes "explore" → command ≢ codes "replay" → job_of (tool ∷ command ∷ rest) ≡ None }
 {}
 
 /// Words that ask for help or for the version have no job.

@@ -204,7 +204,7 @@ const TAKEN: [Row<'static>; 14] = [
     },
 ];
 
-const REFUSED: [&[&str]; 30] = [
+const REFUSED: [&[&str]; 34] = [
     &[],
     &["rvklee"],
     &["rvklee", "explore"],
@@ -242,7 +242,11 @@ const REFUSED: [&[&str]; 30] = [
         "00011000:1",
     ],
     &["rvklee", "--", "explore", "a.elf", "out", "00011000:1"],
-    &["rvklee", "replay", "a.elf", "out", "00011000:1"],
+    &["rvklee", "replay"],
+    &["rvklee", "replay", "a.elf"],
+    &["rvklee", "replay", "a.elf", "t.json", "00011000:1"],
+    &["rvklee", "replay", "--steps", "5", "a.elf", "t.json"],
+    &["rvklee", "replay", "--help"],
 ];
 
 // Out of form, out of the limit, given twice, or no option; they stand before a program, a folder and
@@ -270,6 +274,22 @@ const REFUSED_OPTIONS: [&[&str]; 22] = [
     &["--seed", "5"],
     &["-s", "5"],
     &["--", "--steps", "5"],
+];
+
+/// Command lines of `replay`, and their program and test.
+const REPLAYS: [(&[&str], (&str, &str)); 3] = [
+    (
+        &["rvklee", "replay", "a.elf", "t.json"],
+        ("a.elf", "t.json"),
+    ),
+    (
+        &["rvklee", "replay", "explore", "replay"],
+        ("explore", "replay"),
+    ),
+    (
+        &["rvklee", "replay", "--", "-a.elf", "--help"],
+        ("-a.elf", "--help"),
+    ),
 ];
 
 /// The words as a program is given them.
@@ -305,6 +325,19 @@ fn these_words_have_a_job(rt: HostRuntime) -> Result<(), Fail> {
         }
         let numbers = (budgets.steps, budgets.targets, budgets.conflicts, workers);
         assert_eq!(rt; numbers, row.job.numbers);
+    }
+    Ok(())
+}
+
+#[test]
+fn these_words_have_a_replay(rt: HostRuntime) -> Result<(), Fail> {
+    let alloc = rt.alloc();
+    for (words, files) in REPLAYS {
+        let words = owned(alloc, words)?;
+        let Ok(Job::Replay { program, test }) = read_words(alloc, words.as_slice()) else {
+            return Err("a replay".into());
+        };
+        assert_eq!(rt; (program.as_str(), test.as_str()), files);
     }
     Ok(())
 }

@@ -1,10 +1,10 @@
 //! The words of the command line.
 
-ghost use Rattle.std.specs.Prelude.{◌≡◌, ◌≢◌, [], IfErr, IfOk, map, string_bytes};
+ghost use Rattle.std.specs.Prelude.{◌≡◌, ◌≢◌, [], IfErr, IfOk, Some, map, string_bytes};
 ghost use Rattle.clap.specs.Words.{fault_of, found_of, kind_of, rows_of, subcommand_of, subcommand_rows_of};
 ghost use Rattle.clap.specs.declared.error.kind.ErrorKind.TheVariants.{OutOfMemory};
 ghost use Rattle.tool_words.specs.Command.{rvklee_command};
-ghost use Rattle.tool_words.specs.Job.{IsWithinLimits, explore_job, job_of};
+ghost use Rattle.tool_words.specs.Job.{IsWithinLimits, command_job, explore_job, job_of, replay_job};
 ghost use Rattle.tool_words.specs.Region.{regions_of};
 ghost use Rattle.tool_words.specs.Seen.{IsRead, job_seen};
 
@@ -23,8 +23,21 @@ pub fn read_words(alloc: Global, words: &[String]) -> Result<Job, WordsError>
 {
     let matches = match_words(alloc, words)?;
     match matches.subcommand() {
-        Some((name, found)) if name == "explore" => read_explore(alloc, found),
-        _ => Err(WordsError::Usage),
+        Some((name, found)) => read_command(alloc, name, found),
+        None => Err(WordsError::Usage),
+    }
+}
+
+/// The job of the command of this name, from what `clap` found for it.
+fn read_command(alloc: Global, name: &str, found: &ArgMatches<'_>) -> Result<Job, WordsError>
+    ensures { IsRead job_seen (command_job (Some (name.now, rows_of (found_of found.now)))) result }
+{
+    if name == "explore" {
+        read_explore(alloc, found)
+    } else if name == "replay" {
+        read_replay(alloc, found)
+    } else {
+        Err(WordsError::Usage)
     }
 }
 
@@ -39,7 +52,7 @@ fn match_words<'a>(alloc: Global, words: &'a [String]) -> Result<ArgMatches<'a>,
     rvklee(alloc)?.try_get_matches_from(words)
 }
 
-/// The job of `explore`, from what `clap` found for it.
+/// The job of `explore`.
 fn read_explore(alloc: Global, found: &ArgMatches<'_>) -> Result<Job, WordsError>
     ensures { IsRead job_seen (explore_job (rows_of (found_of found.now))) result }
 {
@@ -59,6 +72,19 @@ fn read_explore(alloc: Global, found: &ArgMatches<'_>) -> Result<Job, WordsError
         regions,
         budgets,
         workers,
+    })
+}
+
+/// The job of `replay`.
+fn read_replay(alloc: Global, found: &ArgMatches<'_>) -> Result<Job, WordsError>
+    ensures { IsRead job_seen (replay_job (rows_of (found_of found.now))) result }
+{
+    let (Some(program), Some(test)) = (found.get_str("PROGRAM"), found.get_str("TEST")) else {
+        return Err(WordsError::Usage);
+    };
+    Ok(Job::Replay {
+        program: String::from_str(alloc, program)?,
+        test: String::from_str(alloc, test)?,
     })
 }
 

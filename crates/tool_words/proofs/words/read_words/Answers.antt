@@ -2,8 +2,7 @@ use Rattle.std.proofs.Common.{rules, ◌≡◌, map, string_bytes, Err}
 use Rattle.clap.specs.Words.{found_of, kind_of, rows_of}
 use Rattle.tool_words.specs.Seen.{error_of, job_seen}
 use Rattle.tool_words.proofs.Bounds.{read_bounds}
-use Rattle.tool_words.proofs.Jobs.{error_read, explore_named, job_refused, none_named, other_named}
-use Rattle.tool_words.proofs.words.read_words.Goals.{in_default-via-in-Some+else-eq, in_default-via-in_default}
+use Rattle.tool_words.proofs.Jobs.{command_named, error_read, job_refused, none_named}
 use Rattle.tool_words.proofs.words.read_words.Goals as goal
 
 pub returns-in_err-matches-clause-job : goal.returns-in_err-matches-clause-job
@@ -14,21 +13,15 @@ returns-in_err-matches-clause-job c =
 
 pub returns-in-Some-clause-job : goal.returns-in-Some-clause-job
 returns-in-Some-clause-job c =
-    let job = explore_named (map string_bytes c.args.words.now) c.in_ok-matches.matches c.in-Some.name.now (rows_of (found_of c.in-Some.found.now))
-    c.in_ok-matches.ensures.takes c.in_ok-matches.ensures.finds c.in-Some.ensures.name c.in-Some.ensures.rows (search rules) in
-    rw job c.read_explore.ensures
+    let job = command_named (map string_bytes c.args.words.now) c.in_ok-matches.matches c.in-Some.name.now (rows_of (found_of c.in-Some.found.now))
+    c.in_ok-matches.ensures.takes c.in_ok-matches.ensures.finds c.in-Some.ensures.name c.in-Some.ensures.rows in
+    rw job c.read_command.ensures
 
 pub returns-in-Some-clause-within : goal.returns-in-Some-clause-within
 returns-in-Some-clause-within c =
-    let job = explore_named (map string_bytes c.args.words.now) c.in_ok-matches.matches c.in-Some.name.now (rows_of (found_of c.in-Some.found.now))
-    c.in_ok-matches.ensures.takes c.in_ok-matches.ensures.finds c.in-Some.ensures.name c.in-Some.ensures.rows (search rules) in
-    read_bounds (map string_bytes c.args.words.now) c.read_explore.result (rw job c.read_explore.ensures)
+    let job = command_named (map string_bytes c.args.words.now) c.in_ok-matches.matches c.in-Some.name.now (rows_of (found_of c.in-Some.found.now))
+    c.in_ok-matches.ensures.takes c.in_ok-matches.ensures.finds c.in-Some.ensures.name c.in-Some.ensures.rows in
+    read_bounds (map string_bytes c.args.words.now) c.read_command.result (rw job c.read_command.ensures)
 
 pub returns-clause-job : goal.returns-clause-job
-returns-clause-job c =
-    elim c.in_default.branch [
-      | in_default-via-in-Some+else-eq w ↦ other_named (map string_bytes c.args.words.now) c.in_ok-matches.matches w.in-Some.name.now
-          c.in_ok-matches.ensures.takes c.in_ok-matches.ensures.finds w.in-Some.ensures.name (search rules)
-      | in_default-via-in_default w ↦ none_named (map string_bytes c.args.words.now) c.in_ok-matches.matches
-          c.in_ok-matches.ensures.takes c.in_ok-matches.ensures.finds w.in_default.ensures.name
-    ]
+returns-clause-job c = none_named (map string_bytes c.args.words.now) c.in_ok-matches.matches c.in_ok-matches.ensures.takes c.in_ok-matches.ensures.finds c.in-None.ensures.name
