@@ -8,6 +8,7 @@ ghost use Rattle.sym_state.specs.Symbolic.{IsOpen};
 
 use crate::{RunEnd, Step, step};
 use elf_load::load;
+use row_files::row_file;
 use runnable::is_runnable;
 use rv_decode::{PathStep, Trap};
 use std::alloc::{AllocError as NoMemory, Global};
@@ -323,31 +324,12 @@ const ROWS: [Row; 22] = [
     ),
 ];
 
-fn push_words(bytes: &mut Vec<u8>, words: &[u32]) -> Result<(), NoMemory> {
-    for word in words {
-        bytes.extend_from_slice(&word.to_le_bytes())?;
-    }
-    Ok(())
-}
-
-// The file of these words: the ELF header, a header for the code at 0x10000, one for 512 bytes of data at 0x11000, and the code.
-fn file(alloc: Global, words: &[u32]) -> Result<Vec<u8>, NoMemory> {
-    let size = words.iter().fold(0u32, |size, _| size.wrapping_add(4));
-    let mut bytes = Vec::new(alloc);
-    push_words(&mut bytes, &[0x464C_457F, 0x0001_0101, 0, 0])?;
-    push_words(&mut bytes, &[0x00F3_0002, 1, 0x0001_0000, 52, 0, 0])?;
-    push_words(&mut bytes, &[0x0020_0034, 2, 0])?;
-    push_words(&mut bytes, &[1, 116, 0x10000, 0x10000, size, size, 5, 4])?;
-    push_words(&mut bytes, &[1, 0, 0x11000, 0x11000, 0, 512, 6, 4])?;
-    push_words(&mut bytes, words)?;
-    Ok(bytes)
-}
-
 fn program(rt: &impl Abort, alloc: Global, words: &[u32], place: u32) -> Result<Program, Fail>
     ensures { IfOk result (λ program. IsRunnable program) }
 {
-    let bytes = file(alloc, words)?;
-    let image = load(alloc, &bytes).ok().ok_or("the file loads")?;
+    assert!(rt; words.len() < 0x4000_0000);
+    let file = row_file(alloc, words)?;
+    let image = load(alloc, file.as_slice()).ok().ok_or("the file loads")?;
     let program = Program::new(image, place);
     assert!(rt; is_runnable(&program));
     Ok(program)

@@ -6,52 +6,19 @@ ghost use Rattle.sym_state.specs.Symbolic.{IsWide};
 
 use crate::{Program, State, Value};
 use elf_load::load;
+use row_files::row_file;
 use rv_decode::{PathStep, Register};
 use std::alloc::{AllocError as NoMemory, Global};
 use std::process::Abort;
 use std::test::Fail;
 use tree_core::Choice;
 
-// The file of a program: the ELF header, a header for the code at 0x10000, one for 512 bytes of data at 0x11000, and the code, ECALL.
-const FILE: [u32; 30] = [
-    0x464C_457F,
-    0x0001_0101,
-    0,
-    0,
-    0x00F3_0002,
-    1,
-    0x0001_0000,
-    52,
-    0,
-    0,
-    0x0020_0034,
-    2,
-    0,
-    1,
-    116,
-    0x0001_0000,
-    0x0001_0000,
-    4,
-    4,
-    5,
-    4,
-    1,
-    0,
-    0x0001_1000,
-    0x0001_1000,
-    0,
-    512,
-    6,
-    4,
-    0x0000_0073,
-];
+// ECALL alone.
+const CALL: [u32; 1] = [0x0000_0073];
 
 fn first(alloc: Global) -> Result<State, Fail> {
-    let mut bytes = Vec::new(alloc);
-    for word in &FILE {
-        bytes.extend_from_slice(&word.to_le_bytes())?;
-    }
-    let image = load(alloc, &bytes).ok().ok_or("the file loads")?;
+    let file = row_file(alloc, &CALL)?;
+    let image = load(alloc, file.as_slice()).ok().ok_or("the file loads")?;
     let program = Program::new(image, 0x11000);
     let state = State::first(alloc, &program)?;
     Ok(state)

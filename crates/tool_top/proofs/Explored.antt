@@ -21,6 +21,7 @@ use Rattle.tree_core.specs.declared.cause.Cause.TheVariants.{Steps, Targets, Con
 use Rattle.tree_core.specs.declared.choice.Choice.{Choice}
 use Rattle.tool_io.specs.Told.{Put}
 use Rattle.explorer.specs.Explored.{IsExplored}
+use Rattle.explorer.specs.Splits.{AreShown, IsItsSplit, IsShown}
 use Rattle.explorer.specs.Histories.{HasHistory, IsHistory}
 use Rattle.explorer.specs.Telling.{parts_of, entry_of as noted_of}
 use Rattle.explorer.specs.declared.exploration.Exploration.{Exploration}
@@ -78,14 +79,15 @@ is_tested p steps targets rank sides leaf (Cut Targets) (Targeted spent) faithfu
 is_tested p steps targets rank sides leaf (Cut Conflicts) (Sample input) faithful shows = absurd shows
 is_tested p steps targets rank sides leaf (Cut Conflicts) (Targeted spent) faithful shows = absurd shows
 
-has_spent : (p : Program) (budgets : Budgets) (rank : ℕ) (sides : List Choice) (leaf : LeafText) (end : LeafEnd) (evidence : Evidence) → leaf.end ≡ end → IsFaithful p.image (regions_of p) budgets.steps leaf → Shows p budgets.targets sides leaf end evidence → HasSpent p budgets leaf end (beside_of (regions_of p) rank leaf evidence)
-has_spent p budgets rank sides leaf (Exits status) evidence is faithful shows = tt
-has_spent p budgets rank sides leaf (Traps trap) evidence is faithful shows = tt
-has_spent p budgets rank sides leaf (Cut Steps) evidence is faithful shows = rw is at faithful.within
-has_spent p budgets rank sides leaf (Cut Targets) (Sample input) is faithful shows = absurd shows
-has_spent p budgets rank sides leaf (Cut Targets) (Targeted spent) is faithful shows = (sides, shows)
-has_spent p budgets rank sides leaf (Cut Conflicts) (Sample input) is faithful shows = absurd shows
-has_spent p budgets rank sides leaf (Cut Conflicts) (Targeted spent) is faithful shows = absurd shows
+has_spent : (p : Program) (budgets : Budgets) (events : List Event) (node rank : ℕ) (sides : List Choice) (leaf : LeafText) (end : LeafEnd) (evidence : Evidence) → leaf.end ≡ end → IsFaithful p.image (regions_of p) budgets.steps leaf
+    → Shows p budgets.targets sides leaf end evidence → IsItsSplit p budgets.targets events node leaf end evidence → HasSpent p budgets events node leaf end (beside_of (regions_of p) rank leaf evidence)
+has_spent p budgets events node rank sides leaf (Exits status) evidence is faithful shows split = tt
+has_spent p budgets events node rank sides leaf (Traps trap) evidence is faithful shows split = tt
+has_spent p budgets events node rank sides leaf (Cut Steps) evidence is faithful shows split = rw is at faithful.within
+has_spent p budgets events node rank sides leaf (Cut Targets) (Sample input) is faithful shows split = absurd shows
+has_spent p budgets events node rank sides leaf (Cut Targets) (Targeted spent) is faithful shows split = split
+has_spent p budgets events node rank sides leaf (Cut Conflicts) (Sample input) is faithful shows split = absurd shows
+has_spent p budgets events node rank sides leaf (Cut Conflicts) (Targeted spent) is faithful shows split = absurd shows
 
 are_runs : (p : Program) (steps targets : ℕ) (leaves : List LeafAt) → All (λ (l : LeafAt). IsRight p steps targets l.part) leaves → (rank : ℕ) (e : Entry) → slice_get (entries_of (regions_of p) 0 leaves) rank ≡ Some e → IsTested p e.leaf e.leaf.end rank e.beside
 are_runs p steps targets leaves each rank e got =
@@ -94,14 +96,16 @@ are_runs p steps targets leaves each rank e got =
     subst (λ (f : Entry). IsTested p f.leaf f.leaf.end rank f.beside) l.2
     (is_tested p steps targets rank right.0 l.0.part.leaf l.0.part.leaf.end l.0.part.evidence right.1.faithful right.1.shown)
 
-show_budgets : (p : Program) (budgets : Budgets) (leaves : List LeafAt) → All (λ (l : LeafAt). IsRight p budgets.steps budgets.targets l.part) leaves → ShowBudgets p budgets (entries_of (regions_of p) 0 leaves)
-show_budgets p budgets leaves each at d below =
+show_budgets : (p : Program) (budgets : Budgets) (events : List Event) (leaves : List LeafAt) → All (λ (l : LeafAt). IsRight p budgets.steps budgets.targets l.part) leaves → AreShown p budgets.targets events leaves
+    → ShowBudgets p budgets events (entries_of (regions_of p) 0 leaves)
+show_budgets p budgets events leaves each shown at d below =
     let entries = entries_of (regions_of p) 0 leaves in
     let got : slice_get entries at ≡ Some (get_or entries at d) = slice_get-get_or entries at d below in
     let l = entry_at (regions_of p) 0 leaves at at (get_or entries at d) (omega arith) got in
     let right = all_at (λ (l : LeafAt). IsRight p budgets.steps budgets.targets l.part) leaves at l.0 each l.1 in
-    subst (λ (f : Entry). HasSpent p budgets f.leaf f.leaf.end f.beside) l.2
-    (has_spent p budgets at right.0 l.0.part.leaf l.0.part.leaf.end l.0.part.evidence refl right.1.faithful right.1.shown)
+    let split = all_at (IsShown p budgets.targets events) leaves at l.0 shown l.1 in
+    subst (λ (f : Entry). HasSpent p budgets events f.node f.leaf f.leaf.end f.beside) l.2
+    (has_spent p budgets events l.0.node at right.0 l.0.part.leaf l.0.part.leaf.end l.0.part.evidence refl right.1.faithful right.1.shown split)
 
 -- counting among the leaves of parts
 count_leaves : (f : LeafText → Bool) (leaves : List LeafAt) → count_by f (leaves_in leaves) ≡ count_by (λ (part : Part). f part.leaf) (parts_of leaves)
@@ -111,15 +115,15 @@ of_parts : (leaves : List LeafAt) → map (λ (part : Part). part.leaf) (parts_o
 of_parts leaves = map-map (λ (part : Part). part.leaf) (λ (l : LeafAt). l.part) leaves
 
 pub explored_report : (p : Program) (budgets : Budgets) (workers : ℕ) (events : List Event) (leaves : List LeafAt) → 1 ≤ workers → IsExplored p budgets.steps budgets.targets (parts_of leaves) → HasHistory budgets.targets events (map noted_of leaves)
-    → IsReport p budgets workers events (entries_of (regions_of p) 0 leaves)
-explored_report p budgets workers events leaves some h history =
+    → AreShown p budgets.targets events leaves → IsReport p budgets workers events (entries_of (regions_of p) 0 leaves)
+explored_report p budgets workers events leaves some h history shown =
     let same = leaves_of-entries_of (regions_of p) 0 leaves in
     let each : All (λ (l : LeafAt). IsRight p budgets.steps budgets.targets l.part) leaves = of_leaves (IsRight p budgets.steps budgets.targets) leaves h.each in
     record {
       exact_cover = λ input assignment. ap (count_by (λ leaf. covers leaf input)) same ∙ count_leaves (λ leaf. covers leaf input) leaves ∙ h.exact_cover input assignment;
       faithful = subst (All (IsFaithful p.image (regions_of p) budgets.steps)) (sym same) (All-map (IsFaithful p.image (regions_of p) budgets.steps) (λ (l : LeafAt). l.part.leaf) leaves (λ at d below. (each at d below).1.faithful));
       runs = are_runs p budgets.steps budgets.targets leaves each;
-      cuts = show_budgets p budgets leaves each;
+      cuts = show_budgets p budgets events leaves each shown;
       history = subst (λ (ns : List Noted). IsHistory workers budgets.targets events ns) (sym (noted_in-entries_of (regions_of p) 0 leaves)) (history workers some);
       ranked = subst AreRanked (of_parts leaves ∙ sym same) h.ranked;
     }
@@ -145,16 +149,16 @@ explored_testable p steps targets leaves h = λ at d below.
 
 -- the files and the line that were made of them are their report
 pub report_of : (out : List ℕ) (p : Program) (budgets : Budgets) (workers : ℕ) (e : Exploration) (place : ℕ) (puts : List Put) (text : List ℕ) → 1 ≤ workers → IsExplored p budgets.steps budgets.targets (parts_of e.leaves.items)
-    → HasHistory budgets.targets e.events.items (map noted_of e.leaves.items) → place ≡ p.place
+    → HasHistory budgets.targets e.events.items (map noted_of e.leaves.items) → AreShown p budgets.targets e.events.items e.leaves.items → place ≡ p.place
     → puts ≡ files_of out budgets workers (record { start = place; count = 1 } ∷ []) e.events.items (entries_of (record { start = place; count = 1 } ∷ []) 0 e.leaves.items)
     → text ≡ summary_of (entries_of (record { start = place; count = 1 } ∷ []) 0 e.leaves.items) → IsReportOf out p budgets workers puts text
-report_of out p budgets workers e place puts text some explored history same files summary =
+report_of out p budgets workers e place puts text some explored history shown same files summary =
     let regions : ℕ → List Region = λ at. record { start = at; count = 1 } ∷ [] in
     let entries : ℕ → List Entry = λ at. entries_of (regions at) 0 e.leaves.items in
     record {
       events = e.events.items;
       entries = entries_of (regions_of p) 0 e.leaves.items;
-      claims = explored_report p budgets workers e.events.items e.leaves.items some explored history;
+      claims = explored_report p budgets workers e.events.items e.leaves.items some explored history shown;
       files = files ∙ ap (λ (at : ℕ). files_of out budgets workers (regions at) e.events.items (entries at)) same;
       summary = summary ∙ ap (λ (at : ℕ). summary_of (entries at)) same;
     }

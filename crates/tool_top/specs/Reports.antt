@@ -3,6 +3,7 @@ use Rattle.std.specs.Prelude.{◌≡◌, ℕ, ◌+◌, List, [], ◌∷◌, ◌+
 use Rattle.elf_load.specs.declared.region.Region.{Region}
 use Rattle.explorer.specs.Histories.{IsHistory}
 use Rattle.explorer.specs.Ranks.{AreRanked}
+use Rattle.explorer.specs.Splits.{IsSideOf}
 use Rattle.explorer.specs.declared.exploration.LeafAt.{LeafAt}
 use Rattle.node_split.specs.Evidence.{Spent, SpendsTargets}
 use Rattle.node_split.specs.LeafParts.{Part}
@@ -81,16 +82,18 @@ IsTested p leaf _ rank _ = ⊥
 abbrev pub AreRuns : Program → List Entry → Type 0
 AreRuns p entries = (rank : ℕ) (e : Entry) → slice_get entries rank ≡ Some e → IsTested p e.leaf e.leaf.end rank e.beside
 
--- a cut leaf has spent its budget: it has made all steps, or beside it stand as many values of a term as it may have
-abbrev pub HasSpent : Program → Budgets → LeafText → LeafEnd → Beside → Type 0
-HasSpent p budgets leaf (Exits status) beside = Unit {0}
-HasSpent p budgets leaf (Traps trap) beside = Unit {0}
-HasSpent p budgets leaf (Cut Steps) beside = leaf.steps ≡ budgets.steps
-HasSpent p budgets leaf (Cut Targets) (OnTargets spent) = (sides : List Choice) × SpendsTargets (regions_of p) budgets.targets sides leaf spent
-HasSpent p budgets leaf (Cut _) beside = ⊥
+-- a cut leaf has spent its budget: it has made all steps, or beside it stand as many values of a term as it may have,
+-- which are the other sides of the split of which, by the events, its node is a side
+abbrev pub HasSpent : Program → Budgets → List Event → (node : ℕ) → LeafText → LeafEnd → Beside → Type 0
+HasSpent p budgets events node leaf (Exits status) beside = Unit {0}
+HasSpent p budgets events node leaf (Traps trap) beside = Unit {0}
+HasSpent p budgets events node leaf (Cut Steps) beside = leaf.steps ≡ budgets.steps
+HasSpent p budgets events node leaf (Cut Targets) (OnTargets spent) =
+    (sides : List Choice) × IsSideOf events node sides × SpendsTargets (regions_of p) budgets.targets sides leaf spent
+HasSpent p budgets events node leaf (Cut _) beside = ⊥
 
-abbrev pub ShowBudgets : Program → Budgets → List Entry → Type 0
-ShowBudgets p budgets entries = All (λ (e : Entry). HasSpent p budgets e.leaf e.leaf.end e.beside) entries
+abbrev pub ShowBudgets : Program → Budgets → List Event → List Entry → Type 0
+ShowBudgets p budgets events entries = All (λ (e : Entry). HasSpent p budgets events e.node e.leaf e.leaf.end e.beside) entries
 
 -- the events are one run of so many workers through the fork tree that leaves nothing to be done, and the leaves of its tree are those that are written
 abbrev pub HasHistory : Budgets → (workers : ℕ) → List Event → List Entry → Type 0
@@ -101,7 +104,7 @@ pub record IsReport (p : Program) (budgets : Budgets) (workers : ℕ) (events : 
   pub exact_cover : IsExactCover p (leaves_of entries)
   pub faithful : AreFaithful p budgets (leaves_of entries)
   pub runs : AreRuns p entries
-  pub cuts : ShowBudgets p budgets entries
+  pub cuts : ShowBudgets p budgets events entries
   pub history : HasHistory budgets workers events entries
   pub ranked : AreRanked (leaves_of entries)
 

@@ -76,9 +76,9 @@ pub fn run_tool<R: Threads + Wait + Sync, F: Files, G: Gate + Sync>(
     // beside each leaf stands a test, which is a run of it, unless it was cut where it had spent its targets,
     ensures tests_are_runs { result ≡ 0 → OnWritten (F.seen files.old).told (F.seen files.new).told (job_of (map string_bytes words.now))
         (λ program budgets workers events entries. AreRuns program entries) }
-    // each leaf that was cut has spent its budget,
+    // each leaf that was cut has spent its budget; of targets, on the other sides of its own split,
     ensures cuts_show_their_budget { result ≡ 0 → OnWritten (F.seen files.old).told (F.seen files.new).told (job_of (map string_bytes words.now))
-        (λ program budgets workers events entries. ShowBudgets program budgets entries) }
+        (λ program budgets workers events entries. ShowBudgets program budgets events entries) }
     // the events are one run through the fork tree that leaves nothing to be done, and its leaves are those that were written,
     ensures history { result ≡ 0 → OnWritten (F.seen files.old).told (F.seen files.new).told (job_of (map string_bytes words.now))
         (λ program budgets workers events entries. HasHistory budgets workers events entries) }
