@@ -1,1 +1,5 @@
 pub mod TestTexts
+pub mod Counts
+pub mod RegionForms
+pub mod PathForms
+pub mod Jsons
