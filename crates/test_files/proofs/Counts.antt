@@ -23,10 +23,10 @@ all_digits (d ∷ ds) all =
     let first : is_digit d 10 ≡ true = search (all.0, rules) in
     rw (first, all_digits ds all.1) refl
 
-at_least : (digits : List ℕ) → 1 ≤ length digits → nat_le 1 (length digits) ≡ true
+pub at_least : (digits : List ℕ) → 1 ≤ length digits → nat_le 1 (length digits) ≡ true
 at_least digits some = grind (arith, nat_tests)
 
-at_most : (digits : List ℕ) → length digits ≤ 4 → nat_le (length digits) 4 ≡ true
+pub at_most : (digits : List ℕ) → length digits ≤ 4 → nat_le (length digits) 4 ≡ true
 at_most digits short = grind (arith, nat_tests)
 
 pub count_there : (digits : List ℕ) (i : ℕ) → 1 ≤ length digits → length digits ≤ 4 → has_leading_zero digits ≡ false → length digits ≤ i → AllDigits 10 (take i digits)

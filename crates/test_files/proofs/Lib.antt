@@ -3,3 +3,9 @@ pub mod Counts
 pub mod RegionForms
 pub mod PathForms
 pub mod Jsons
+pub mod NumbersBack
+pub mod FormsBack
+pub mod LineEnds
+pub mod JsonBack
+pub mod Utf8Texts
+pub mod ReadBack

@@ -4,3 +4,4 @@ pub mod Refusals
 pub mod Forms
 pub mod Reading
 pub mod Seen
+pub mod Writable
