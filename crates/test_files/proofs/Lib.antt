@@ -1,1 +1,11 @@
 pub mod TestTexts
+pub mod Counts
+pub mod RegionForms
+pub mod PathForms
+pub mod Jsons
+pub mod NumbersBack
+pub mod FormsBack
+pub mod LineEnds
+pub mod JsonBack
+pub mod Utf8Texts
+pub mod ReadBack

@@ -1,11 +1,18 @@
 //! What holds of every test.
 
-ghost use Rattle.std.specs.Prelude.{◌≡◌, ◌++◌, codes};
+ghost use Rattle.std.specs.Prelude.{◌≡◌, ◌++◌, codes, Ok};
 ghost use Rattle.serde_json.specs.Written.{compact_text};
 ghost use Rattle.test_files.specs.TestData.{test_data};
+ghost use Rattle.test_files.specs.Reading.{reading};
 ghost use Rattle.test_files.specs.Tests.{Test, test_text};
+ghost use Rattle.test_files.specs.Writable.{IsWritable};
 
 /// The text of a test is the compact text of a JSON object, and a line feed.
 pub fn the_text_is_that_of_an_object()
     ensures { (test : Test) → compact_text (test_data test) ++ codes "\n" ≡ test_text test }
+{}
+
+/// A test that was written is read back, where its numbers are within their bounds.
+pub fn a_written_test_is_read_back()
+    ensures { (test : Test) → IsWritable test → reading (test_text test) ≡ Ok test }
 {}

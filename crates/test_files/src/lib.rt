@@ -1,13 +1,23 @@
 //! Tests of a program, as JSON files: an assignment of the input bytes, and what the run of it does.
 #![tactic(auto)]
 
+mod fields;
+mod forms;
 pub mod laws;
 mod parts;
+mod path_form;
+mod reading;
+mod refused;
+mod said;
 mod test;
+mod test_error;
 #[cfg(test)]
 mod tests;
 mod writing;
 
 pub use parts::region_list;
+pub use reading::read_test;
+pub use refused::TestRefused;
 pub use test::Test;
+pub use test_error::TestError;
 pub use writing::write_test;

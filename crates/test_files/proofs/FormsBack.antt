@@ -1,0 +1,97 @@
+-- Regions, ends and paths that were written are read back.
+use Rattle.std.proofs.Common.{ℕ, suc, true, List, [], ◌∷◌, ◌++◌, ◌≡◌, ◌∙◌, ◌<◌, ◌≤◌, ◌^◌, length, nat_lt, map, Option, Some, None, option_map, refl, ap, ap₂, append_assoc, codes, decimal, rules, arith}
+use Rattle.std.specs.List.{All}
+use Rattle.std.proofs.lemmas.Bool.Decides.{nat_tests}
+use Rattle.elf_load.specs.declared.region.Region.{Region}
+use Rattle.rv_decode.specs.Ends.{trap_name}
+use Rattle.rv_decode.specs.declared.ends.End.{End}
+use Rattle.rv_decode.specs.declared.ends.End.TheVariants.{Exit, Trapped}
+use Rattle.rv_decode.specs.declared.ends.PathStep.{PathStep}
+use Rattle.rv_decode.specs.declared.ends.PathStep.TheVariants.{Taken, NotTaken, Target}
+use Rattle.rv_decode.specs.declared.ends.Trap.{Trap}
+use Rattle.rv_decode.specs.declared.ends.Trap.TheVariants.{Illegal, FetchMisaligned, FetchAccess, LoadMisaligned, LoadAccess, StoreMisaligned, StoreAccess, Break, Call}
+use Rattle.serde_json.specs.Data.{string}
+use Rattle.serde_json.specs.View.{items_of}
+use Rattle.smt_text.specs.Names.{eight_digits, path_text, step_text}
+use Rattle.test_files.specs.Forms.{address_of, branch_of, count_of, end_of, exit_with, path_of, put_first, region_of, region_with, trap_named}
+use Rattle.test_files.specs.Reading.{regions_of}
+use Rattle.test_files.specs.Tests.{end_text, region_text}
+use Rattle.test_files.specs.Writable.{HasStatus, HasTarget}
+use Rattle.test_files.proofs.NumbersBack.{address_back, count_back, length_eight}
+use Rattle.test_files.proofs.PathForms.{branch_at}
+
+-- ---- regions
+
+region_parts : (digits rest : List ℕ) → length digits ≡ 8 → region_of (digits ++ 58 ∷ rest) ≡ region_with (address_of digits) (count_of rest)
+unfolding region_of
+region_parts [] rest is = absurd (omega (arith, is))
+region_parts (a ∷ []) rest is = absurd (omega (arith, is))
+region_parts (a ∷ b ∷ []) rest is = absurd (omega (arith, is))
+region_parts (a ∷ b ∷ c ∷ []) rest is = absurd (omega (arith, is))
+region_parts (a ∷ b ∷ c ∷ d ∷ []) rest is = absurd (omega (arith, is))
+region_parts (a ∷ b ∷ c ∷ d ∷ e ∷ []) rest is = absurd (omega (arith, is))
+region_parts (a ∷ b ∷ c ∷ d ∷ e ∷ f ∷ []) rest is = absurd (omega (arith, is))
+region_parts (a ∷ b ∷ c ∷ d ∷ e ∷ f ∷ g ∷ []) rest is = absurd (omega (arith, is))
+region_parts (a ∷ b ∷ c ∷ d ∷ e ∷ f ∷ g ∷ h ∷ []) rest is = refl
+region_parts (a ∷ b ∷ c ∷ d ∷ e ∷ f ∷ g ∷ h ∷ i ∷ more) rest is = absurd (omega (arith, is))
+
+pub region_back : (region : Region) → region.start < 2 ^ 32 → region.count ≤ 9999 → region_of (region_text region) ≡ Some region
+region_back region start count =
+    ap region_of (append_assoc (eight_digits region.start) (58 ∷ []) (decimal region.count))
+    ∙ region_parts (eight_digits region.start) (decimal region.count) (length_eight region.start)
+    ∙ ap₂ region_with (address_back region.start start) (count_back region.count count)
+
+pub regions_back : (regions : List Region) → All (λ (region : Region). region.start < 2 ^ 32) regions → All (λ (region : Region). region.count ≤ 9999) regions
+    → regions_of (items_of (map (λ region. string (region_text region)) regions)) ≡ Some regions
+regions_back [] starts counts = refl
+regions_back (region ∷ regions) starts counts =
+    ap₂ put_first (region_back region (starts 0 region (omega arith)) (counts 0 region (omega arith)))
+    (regions_back regions (λ k d lt. starts (suc k) d (omega arith)) (λ k d lt. counts (suc k) d (omega arith)))
+
+-- ---- ends
+
+exit_back : (status : ℕ) → status < 256 → exit_with (count_of (decimal status)) ≡ Some (Exit status)
+exit_back status small =
+    let below : nat_lt status 256 ≡ true = grind (arith, nat_tests) in
+    ap exit_with (count_back status (omega arith)) ∙ rw below refl
+
+pub end_back : (end : Option End) → HasStatus end → end_of (end_text end) ≡ Some end
+unfolding end_of
+end_back None status = refl
+end_back (Some (Exit n)) status = ap (option_map Some) (exit_back n status)
+end_back (Some (Trapped Illegal)) status = refl
+end_back (Some (Trapped FetchMisaligned)) status = refl
+end_back (Some (Trapped FetchAccess)) status = refl
+end_back (Some (Trapped LoadMisaligned)) status = refl
+end_back (Some (Trapped LoadAccess)) status = refl
+end_back (Some (Trapped StoreMisaligned)) status = refl
+end_back (Some (Trapped StoreAccess)) status = refl
+end_back (Some (Trapped Break)) status = refl
+end_back (Some (Trapped Call)) status = refl
+
+-- ---- paths
+
+target_parts : (digits rest : List ℕ) → length digits ≡ 8 → path_of (64 ∷ (digits ++ rest)) ≡ put_first (option_map Target (address_of digits)) (path_of rest)
+unfolding path_of
+target_parts [] rest is = absurd (omega (arith, is))
+target_parts (a ∷ []) rest is = absurd (omega (arith, is))
+target_parts (a ∷ b ∷ []) rest is = absurd (omega (arith, is))
+target_parts (a ∷ b ∷ c ∷ []) rest is = absurd (omega (arith, is))
+target_parts (a ∷ b ∷ c ∷ d ∷ []) rest is = absurd (omega (arith, is))
+target_parts (a ∷ b ∷ c ∷ d ∷ e ∷ []) rest is = absurd (omega (arith, is))
+target_parts (a ∷ b ∷ c ∷ d ∷ e ∷ f ∷ []) rest is = absurd (omega (arith, is))
+target_parts (a ∷ b ∷ c ∷ d ∷ e ∷ f ∷ g ∷ []) rest is = absurd (omega (arith, is))
+target_parts (a ∷ b ∷ c ∷ d ∷ e ∷ f ∷ g ∷ h ∷ []) rest is = refl
+target_parts (a ∷ b ∷ c ∷ d ∷ e ∷ f ∷ g ∷ h ∷ i ∷ more) rest is = absurd (omega (arith, is))
+
+pub path_back : (path : List PathStep) → All HasTarget path → path_of (path_text path) ≡ Some path
+unfolding path_of
+path_back [] targets = refl
+path_back (step ∷ path) targets = go step (targets 0 step (omega arith)) (path_back path (λ k d lt. targets (suc k) d (omega arith)))
+  where
+    go : (step : PathStep) → HasTarget step → path_of (path_text path) ≡ Some path → path_of (step_text step ++ path_text path) ≡ Some (step ∷ path)
+    go Taken target later = branch_at (84 ∷ path_text path) (omega arith) (λ is. omega (arith, is)) ∙ ap (put_first (Some Taken)) later
+    go NotTaken target later = branch_at (78 ∷ path_text path) (omega arith) (λ is. omega (arith, is)) ∙ ap (put_first (Some NotTaken)) later
+    go (Target t) target later =
+        target_parts (eight_digits t) (path_text path) (length_eight t)
+        ∙ ap₂ (λ a o. put_first (option_map Target a) o) (address_back t target) later

@@ -1,0 +1,38 @@
+-- Why a text is no test: numbers and names.
+use Rattle.std.specs.Prelude.{◌≡◌, ℕ, true, List, codes, Option, None, Result, Err, is_err}
+use Rattle.hex.specs.declared.error.FromHexError.{FromHexError}
+use Rattle.serde_json.specs.Data.{Data}
+use Rattle.test_files.specs.declared.refused.TestRefused.{TestRefused}
+use Rattle.test_files.specs.declared.refused.TestRefused.TheVariants.{NotJson, Missing, Kind, Hex, Length, TooBig}
+use Rattle.test_files.specs.declared.test_error.TestError.{TestError}
+use Rattle.test_files.specs.declared.test_error.TestError.TheVariants.{Refused, NoMemory}
+
+abbrev pub refused_number : TestRefused → ℕ
+refused_number NotJson = 1
+refused_number Missing = 2
+refused_number Kind = 3
+refused_number Hex = 4
+refused_number Length = 5
+refused_number TooBig = 6
+
+abbrev pub refused_name : TestRefused → List ℕ
+refused_name NotJson = codes "NotJson"
+refused_name Missing = codes "Missing"
+refused_name Kind = codes "Kind"
+refused_name Hex = codes "Hex"
+refused_name Length = codes "Length"
+refused_name TooBig = codes "TooBig"
+
+-- an error that says why there is no value, or that memory ran out
+abbrev pub IsWhy : {A : Type 0} → Result A TestRefused → TestError → Type 0
+IsWhy wanted (Refused why) = wanted ≡ Err why
+IsWhy wanted NoMemory = Unit {0}
+
+-- there is no value, or memory ran out; for private clauses
+abbrev pub IsNoJson : Option Data → TestError → Type 0
+IsNoJson wanted (Refused why) = (wanted ≡ None) × (why ≡ NotJson)
+IsNoJson wanted NoMemory = Unit {0}
+
+abbrev pub IsNoHex : Result (List ℕ) FromHexError → TestError → Type 0
+IsNoHex wanted (Refused why) = (is_err wanted ≡ true) × (why ≡ Hex)
+IsNoHex wanted NoMemory = Unit {0}

@@ -1,0 +1,37 @@
+-- The tests whose texts are read back.
+use Rattle.std.specs.Prelude.{◌≡◌, ℕ, ◌<◌, ◌≤◌, ◌^◌, length, sum_by, Option, None, Some}
+use Rattle.std.specs.List.{All}
+use Rattle.hex.specs.Hex.{IsBytes}
+use Rattle.elf_load.specs.declared.region.Region.{Region}
+use Rattle.rv_decode.specs.declared.ends.End.{End}
+use Rattle.rv_decode.specs.declared.ends.End.TheVariants.{Exit, Trapped}
+use Rattle.rv_decode.specs.declared.ends.PathStep.{PathStep}
+use Rattle.rv_decode.specs.declared.ends.PathStep.TheVariants.{Taken, NotTaken, Target}
+use Rattle.test_files.specs.Reading.{most_bytes}
+use Rattle.test_files.specs.Tests.{Test, test_text}
+
+-- a status is below 256
+abbrev pub HasStatus : Option End → Type 0
+HasStatus (Some (Exit status)) = status < 256
+HasStatus (Some (Trapped trap)) = Unit {0}
+HasStatus None = Unit {0}
+
+-- a target is an address
+abbrev pub HasTarget : PathStep → Type 0
+HasTarget (Target target) = target < 2 ^ 32
+HasTarget Taken = Unit {0}
+HasTarget NotTaken = Unit {0}
+
+-- The numbers of a test within their bounds, and its input as long as its regions.
+pub record IsWritable (test : Test) : Type 0 where
+  pub leaf_within : test.leaf ≤ 2 ^ 53
+  pub steps_there : 1 ≤ test.steps
+  pub steps_within : test.steps ≤ 1000000
+  pub status : HasStatus test.end
+  pub targets : All HasTarget test.path
+  pub starts : All (λ (region : Region). region.start < 2 ^ 32) test.regions
+  pub counts : All (λ (region : Region). region.count ≤ 9999) test.regions
+  pub input_bytes : IsBytes test.input
+  pub output_bytes : IsBytes test.output
+  pub input_long : length test.input ≡ sum_by (λ (region : Region). region.count) test.regions
+  pub text_within : length (test_text test) ≤ most_bytes

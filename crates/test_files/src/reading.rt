@@ -1,0 +1,64 @@
+//! Reading a test.
+
+ghost use Rattle.std.specs.Prelude.{◌≡◌, IfErr, IfOk, Ok, Some};
+ghost use Rattle.serde_json.specs.View.{view};
+ghost use Rattle.test_files.specs.Reading.{json_of, reading, test_in};
+ghost use Rattle.test_files.specs.Refusals.{IsNoJson, IsWhy};
+
+use crate::fields::has_keys;
+use crate::refused::TestRefused;
+use crate::said::read_said;
+use crate::test::Test;
+use crate::test_error::TestError;
+use serde_json::Value;
+use std::alloc::Global;
+
+/// The most bytes of a test.
+const MOST_BYTES: usize = 16_777_216;
+
+/// Reads the JSON value of the text.
+fn read_json(alloc: Global, text: &[u8]) -> Result<Value, TestError>
+    ensures read { IfOk result (λ value. json_of text.now ≡ Some (view value)) }
+    ensures refused { IfErr result (IsNoJson (json_of text.now)) }
+{
+    match Value::from_slice(alloc, text) {
+        Ok(value) => Ok(value),
+        Err(error) if error.is_memory() => Err(TestError::NoMemory),
+        Err(_) => Err(TestError::Refused(TestRefused::NotJson)),
+    }
+}
+
+/// Reads the test that the JSON value is.
+#[tactic(auto, unfolding(crate::specs::Reading::test_in))]
+fn read_value(alloc: Global, value: &Value) -> Result<Test, TestError>
+    ensures read { IfOk result (λ test. test_in (view value.now) ≡ Ok test) }
+    ensures refused { IfErr result (IsWhy (test_in (view value.now))) }
+{
+    if !value.is_object() {
+        return Err(TestError::Refused(TestRefused::Kind));
+    }
+    if !has_keys(value) {
+        return Err(TestError::Refused(TestRefused::Missing));
+    }
+    match read_said(alloc, value)? {
+        Some(said) => said.decoded(alloc),
+        None => Err(TestError::Refused(TestRefused::Kind)),
+    }
+}
+
+/// Reads a test: a JSON object of at most 16 mebibytes with the keys that `write_test` writes, in
+/// any order and beside any others. The first reason in this order keeps a text from being a test:
+/// it is too big, is no JSON, is no object, has a key too few, a value not of its form, digits that
+/// are not hexadecimal, or an input that has not one byte for each place of the regions.
+#[tactic(auto, unfolding(crate::specs::Reading::reading))]
+pub fn read_test(alloc: Global, text: &[u8]) -> Result<Test, TestError>
+    ensures read { IfOk result (λ test. reading text.now ≡ Ok test) }
+    // Refused so, unless memory runs out.
+    ensures refused { IfErr result (IsWhy (reading text.now)) }
+{
+    if MOST_BYTES < text.len() {
+        return Err(TestError::Refused(TestRefused::TooBig));
+    }
+    let value = read_json(alloc, text)?;
+    read_value(alloc, &value)
+}

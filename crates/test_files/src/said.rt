@@ -1,0 +1,127 @@
+//! What the keys of a test say.
+
+ghost use Rattle.std.specs.Prelude.{◌≡◌, ◌==◌, IfErr, IfOk, Ok, length, option_map, sum_by};
+ghost use Rattle.hex.specs.Hex.{decode_of};
+ghost use Rattle.serde_json.specs.View.{view};
+ghost use Rattle.test_files.specs.Reading.{said_in, test_with_bytes};
+ghost use Rattle.test_files.specs.Refusals.{IsNoHex, IsWhy};
+ghost use Rattle.test_files.specs.Seen.{said_seen};
+
+use crate::fields::{end_at, path_at, read_between, read_text, regions_at};
+use crate::refused::TestRefused;
+use crate::test::Test;
+use crate::test_error::TestError;
+use elf_load::{Region, Regions};
+use hex::FromHexError;
+use rv_decode::{End, PathStep};
+use serde_json::Value;
+use std::alloc::{AllocError as NoMemory, Global};
+use tool_io::Bytes;
+
+/// The most that a leaf's rank may be: up to here a float has each integer.
+const MOST_LEAF: u64 = 1 << 53;
+
+/// The most steps of a run.
+const MOST_STEPS: u64 = 1_000_000;
+
+/// What the keys say. The input and the output are still in hexadecimal digits.
+#[derive(Drop)]
+pub(crate) struct Said<'a> {
+    end: Option<End>,
+    input: &'a str,
+    leaf: usize,
+    output: &'a str,
+    path: Vec<PathStep>,
+    regions: Vec<Region>,
+    steps: u32,
+}
+
+/// What the keys say, where each has a value of its form.
+#[tactic(auto, unfolding(crate::specs::Reading::said_in))]
+pub(crate) fn read_said<'a>(alloc: Global, value: &'a Value) -> Result<Option<Said<'a>>, NoMemory>
+    ensures { IfOk result (λ found. option_map said_seen found ≡ said_in (view value.now)) }
+{
+    let Some(_) = read_between(value, "format", 1, 1) else {
+        return Ok(None);
+    };
+    let Some(end) = end_at(value) else {
+        return Ok(None);
+    };
+    let Some(input) = read_text(value, "input") else {
+        return Ok(None);
+    };
+    let Some(leaf) = read_between(value, "leaf", 0, MOST_LEAF) else {
+        return Ok(None);
+    };
+    let Some(output) = read_text(value, "output") else {
+        return Ok(None);
+    };
+    let Some(path) = path_at(alloc, value)? else {
+        return Ok(None);
+    };
+    let Some(regions) = regions_at(alloc, value)? else {
+        return Ok(None);
+    };
+    let Some(steps) = read_between(value, "steps", 1, MOST_STEPS) else {
+        return Ok(None);
+    };
+    Ok(Some(Said {
+        end,
+        input,
+        leaf: leaf as usize,
+        output,
+        path,
+        regions,
+        steps: steps as u32,
+    }))
+}
+
+/// The bytes that the hexadecimal digits write.
+fn decode(alloc: Global, digits: &str) -> Result<Vec<u8>, TestError>
+    ensures read { IfOk result (λ bytes. decode_of digits.now ≡ Ok bytes.items) }
+    ensures refused { IfErr result (IsNoHex (decode_of digits.now)) }
+{
+    match hex::decode(alloc, digits) {
+        Ok(bytes) => Ok(bytes),
+        Err(FromHexError::OutOfMemory) => Err(TestError::NoMemory),
+        Err(_) => Err(TestError::Refused(TestRefused::Hex)),
+    }
+}
+
+/// Whether the regions have so many bytes together.
+fn have_bytes(regions: &[Region], count: usize) -> bool
+    ensures { result ≡ (count == sum_by (λ region. region.count) regions.now) }
+{
+    let mut left = count;
+    for region in regions {
+        let bytes = region.count as usize;
+        if left < bytes {
+            return false;
+        }
+        left -= bytes;
+    }
+    left == 0
+}
+
+impl Said<'_> {
+    /// The test, with the bytes that the digits write.
+    pub(crate) fn decoded(self, alloc: Global) -> Result<Test, TestError>
+        ensures read { IfOk result (λ test. test_with_bytes (said_seen self.entry) ≡ Ok test) }
+        ensures refused { IfErr result (IsWhy (test_with_bytes (said_seen self.entry))) }
+    {
+        let input = decode(alloc, self.input)?;
+        let output = decode(alloc, self.output)?;
+        if !have_bytes(&self.regions, input.len()) {
+            return Err(TestError::Refused(TestRefused::Length));
+        }
+        Ok(Test {
+            leaf: self.leaf,
+            regions: Regions::from_vec(self.regions),
+            input: Bytes::from_vec(input),
+            steps: self.steps,
+            path: self.path,
+            end: self.end,
+            output: Bytes::from_vec(output),
+        })
+    }
+}
