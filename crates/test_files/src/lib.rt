@@ -15,7 +15,7 @@ mod test_error;
 mod tests;
 mod writing;
 
-pub use parts::region_list;
+pub use parts::{end_text, region_list};
 pub use reading::read_test;
 pub use refused::TestRefused;
 pub use test::Test;

@@ -9,7 +9,8 @@ use Rattle.tool_io.proofs.Deeds.{then_says, then_all, IsPrefix-nothing, IsPrefix
 use Rattle.tool_io.proofs.Since.{names_since-after, puts_since-after, said_since-after}
 use Rattle.elf_load.specs.declared.region.Region.{Region}
 use Rattle.tool_words.specs.Job.{Job, Explore}
-use Rattle.tool_top.specs.Plan.{Plan, names_of, IsPlan, IsPlanned, IsReported, Means, OnlyReads, no_memory, most_bytes}
+use Rattle.tool_top.specs.Lines.{no_memory}
+use Rattle.tool_top.specs.Plan.{Plan, names_of, IsPlan, IsPlanned, IsReported, Means, OnlyReads, most_bytes}
 use Rattle.elf_load.specs.Images.{Image, Loads}
 use Rattle.elf_load.proofs.OneImage.{one_image}
 use Rattle.sym_state.specs.Programs.{Program, regions_of}

@@ -16,7 +16,8 @@ use Rattle.tool_top.specs.Later.{IsTaken, IsInput, IsDataByte, HasLaterWord}
 use Rattle.sym_state.specs.Programs.{IsRunnable, Program}
 use Rattle.tool_top.specs.Reports.{IsReportOf}
 use Rattle.tool_top.proofs.Running.{runnable}
-use Rattle.tool_top.specs.Plan.{Treats, refused_line, unfit_line, names_of, IsPlanned, OnlyReads, usage}
+use Rattle.tool_top.specs.Lines.{refused_line, unfit_line, usage}
+use Rattle.tool_top.specs.Plan.{Treats, names_of, IsPlanned, OnlyReads}
 use Rattle.tool_top.specs.declared.plan.Plan.{Plan as Made}
 use Rattle.tool_top.specs.declared.verdict.Verdict.TheVariants.{Done, NoJob, Refused, Unfit}
 

@@ -1,29 +1,37 @@
 -- How a run of the tool may end, why, and what stands then.
-use Rattle.std.specs.Prelude.{◌≡◌, ◌≢◌, ℕ, ◌⊎◌, List, [], take, Option, None, Some, IfSome}
+use Rattle.std.specs.Prelude.{◌≡◌, ◌≢◌, ℕ, ◌⊎◌, List, [], take, Option, None, Some, IfSome, Ok, Err}
 use Rattle.std.specs.Option.{option_map}
 use Rattle.tool_io.specs.Told.{Told, Seen, Put, after, Gives, IsPrefix, IsCutShort, puts_since, said_since, told_held}
 use Rattle.tool_io.specs.Causes.{Rose}
 use Rattle.report_text.specs.declared.event.Event.{Event}
 use Rattle.elf_load.specs.declared.region.Region.{Region}
-use Rattle.tool_words.specs.Job.{Job, Explore}
-use Rattle.tool_top.specs.Plan.{Plan, IsPlan, names_of, no_memory, most_bytes}
+use Rattle.tool_words.specs.Job.{Job, Explore, Replay}
+use Rattle.tool_top.specs.Lines.{no_memory}
+use Rattle.tool_top.specs.Plan.{Plan, IsPlan, names_of, most_bytes}
 use Rattle.tool_words.specs.declared.limit.Budgets.{Budgets}
 use Rattle.elf_load.specs.Images.{Image}
 use Rattle.sym_state.specs.Programs.{Program, regions_of}
 use Rattle.tool_top.specs.Later.{IsTaken, IsInput}
+use Rattle.tool_top.specs.Replaying.{IsReplayable, IsTestInput, most_test_bytes}
 use Rattle.tool_top.specs.Reports.{Entry, files_of, summary_of}
+use Rattle.replay_core.specs.Replays.{IsAsSaid}
+use Rattle.test_files.specs.Reading.{reading}
+use Rattle.test_files.specs.Tests.{Test}
+use Rattle.test_files.specs.declared.refused.TestRefused.{TestRefused as WhyNoTest}
 use Rattle.tool_top.specs.declared.verdict.Verdict.{Verdict}
-use Rattle.tool_top.specs.declared.verdict.Verdict.TheVariants.{Done, NoJob, Refused, Unfit, ReadFault}
+use Rattle.tool_top.specs.declared.verdict.Verdict.TheVariants.{Done, Differs, NoJob, Refused, Unfit, ReadFault, TestRefused}
 use Rattle.tool_top.specs.declared.verdict.Ending.{Ending}
 use Rattle.tool_top.specs.declared.verdict.Ending.TheVariants.{Planned, WriteFault, NoMemory}
 
 -- the exit statuses
 abbrev pub verdict_status : Verdict → ℕ
 verdict_status Done = 0
+verdict_status Differs = 1
 verdict_status NoJob = 2
 verdict_status Refused = 3
 verdict_status Unfit = 4
 verdict_status ReadFault = 5
+verdict_status TestRefused = 7
 
 abbrev pub status_of : Ending → ℕ
 status_of (Planned verdict) = verdict_status verdict
@@ -100,25 +108,72 @@ pub record IsWritten (old new : Told) (name out : List ℕ) (asked : List Region
   pub summary : IfSome (said_since old new) (λ said. said ≡ summary_of entries)
   pub claim : Claim program budgets workers events entries
 
--- there is a job, and the claim holds of what was written for it
+-- there is a job, and the claim holds of what was written for it, where it is to explore
 abbrev pub OnWritten : Told → Told → Option Job → (Program → Budgets → ℕ → List Event → List Entry → Type 0) → Type 0
 OnWritten old new None Claim = ⊥
 OnWritten old new (Some (Explore program out asked budgets workers)) Claim = IsWritten old new program out asked budgets workers Claim
+OnWritten old new (Some (Replay program test)) Claim = Unit {0}
+
+-- The names of a program and of a test give bytes of a program that is taken and of a test whose regions are taken,
+-- and the claim holds of the program's image and of the test.
+pub record IsRunTest (told : Told) (program test : List ℕ) (Claim : Image → Test → Type 0) : Type 0 where
+  pub bytes : List ℕ
+  pub text : List ℕ
+  pub image : Image
+  pub read : Test
+  pub program_given : Gives told program most_bytes bytes
+  pub test_given : Gives told test most_test_bytes text
+  pub replayable : IsReplayable bytes text image read
+  pub claim : Claim image read
+
+-- there is a job, and the claim holds of its program and its test, where it is to replay one
+abbrev pub OnReplayed : Told → Option Job → (Image → Test → Type 0) → Type 0
+OnReplayed told None Claim = ⊥
+OnReplayed told (Some (Explore program out asked budgets workers)) Claim = Unit {0}
+OnReplayed told (Some (Replay program test)) Claim = IsRunTest told program test Claim
+
+-- there is a job to replay a test, and the claim holds of its program and its test
+abbrev pub HoldsOther : Told → Option Job → Type 0
+HoldsOther told None = ⊥
+HoldsOther told (Some (Explore program out asked budgets workers)) = ⊥
+HoldsOther told (Some (Replay program test)) = IsRunTest told program test (λ image read. ¬ IsAsSaid image read)
+
+-- there is a job to replay a test, its program's name gives the file of a program that is taken, and the other name's bytes are no test
+abbrev pub HoldsNoTest : Told → Option Job → Type 0
+HoldsNoTest told None = ⊥
+HoldsNoTest told (Some (Explore program out asked budgets workers)) = ⊥
+HoldsNoTest told (Some (Replay program test)) =
+    (bytes : List ℕ) × (text : List ℕ) × (image : Image) × (why : WhyNoTest)
+    × Gives told program most_bytes bytes × Gives told test most_test_bytes text × IsTaken bytes image × (reading text ≡ Err why)
 
 -- there is a job, and the bytes that its program's name gives are the file of no program that is taken
 abbrev pub HoldsNoProgram : Told → Option Job → Type 0
 HoldsNoProgram told None = ⊥
 HoldsNoProgram told (Some (Explore program out asked budgets workers)) =
     (bytes : List ℕ) × Gives told program most_bytes bytes × ((image : Image) → ¬ IsTaken bytes image)
+HoldsNoProgram told (Some (Replay program test)) =
+    (bytes : List ℕ) × Gives told program most_bytes bytes × ((image : Image) → ¬ IsTaken bytes image)
 
--- there is a job, and the bytes that its program's name gives are the file of a program that is taken, but not for the input that is asked
+-- there is a job, and the bytes that its program's name gives are the file of a program that is taken, but not for the input that is asked, or that the test has
 abbrev pub HoldsMisfit : Told → Option Job → Type 0
 HoldsMisfit told None = ⊥
 HoldsMisfit told (Some (Explore program out asked budgets workers)) =
     (bytes : List ℕ) × (image : Image) × Gives told program most_bytes bytes × IsTaken bytes image × ((place : ℕ) → ¬ IsInput image asked place)
+HoldsMisfit told (Some (Replay program test)) =
+    (bytes : List ℕ) × (text : List ℕ) × (image : Image) × (read : Test)
+    × Gives told program most_bytes bytes × Gives told test most_test_bytes text × IsTaken bytes image × (reading text ≡ Ok read) × (¬ IsTestInput image read.regions)
 
--- there is a job, and it is told that its program's name holds the file of a program that is taken, for the input that is asked
+-- there is a job to explore, and it is told that its program's name holds the file of a program that is taken, for the input that is asked
 abbrev pub HoldsProgram : Told → Option Job → Type 0
 HoldsProgram told None = ⊥
 HoldsProgram told (Some (Explore program out asked budgets workers)) =
     (bytes : List ℕ) × (p : Program) × (option_map (take most_bytes) (told_held told program) ≡ Some bytes) × IsTaken bytes p.image × IsInput p.image asked p.place
+HoldsProgram told (Some (Replay program test)) = ⊥
+
+-- there is a job to replay a test, and it is told that its names hold the files of a program that is taken and of a test whose regions are taken
+abbrev pub HoldsTest : Told → Option Job → Type 0
+HoldsTest told None = ⊥
+HoldsTest told (Some (Explore program out asked budgets workers)) = ⊥
+HoldsTest told (Some (Replay program test)) =
+    (bytes : List ℕ) × (text : List ℕ) × (image : Image) × (read : Test) × (option_map (take most_bytes) (told_held told program) ≡ Some bytes)
+    × (option_map (take most_test_bytes) (told_held told test) ≡ Some text) × IsReplayable bytes text image read

@@ -1,5 +1,7 @@
 pub mod Later
 pub mod Reports
+pub mod Lines
+pub mod Replaying
 pub mod Plan
 pub mod Answer
 pub mod Samples

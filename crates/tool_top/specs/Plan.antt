@@ -1,18 +1,17 @@
 -- What the tool means to put and say for a job.
-use Rattle.std.specs.Prelude.{◌≡◌, ℕ, ◌⊎◌, List, [], ◌∷◌, ◌++◌, Option, None, Some, codes, decimal}
+use Rattle.std.specs.Prelude.{◌≡◌, ℕ, ◌⊎◌, List, [], ◌∷◌, Option, None, Some}
 use Rattle.tool_io.specs.Told.{Told, Seen, Put, after, Gives, IsPrefix}
 use Rattle.tool_io.specs.Causes.{Rose}
 use Rattle.elf_load.specs.Fits.{unfit}
 use Rattle.elf_load.specs.Images.{Image}
-use Rattle.elf_load.specs.Names.{refused_number, refused_name, unfit_number, unfit_name}
 use Rattle.elf_load.specs.Refusals.{refusal}
-use Rattle.elf_load.specs.declared.refused.Refused.{Refused as WhyRefused}
 use Rattle.elf_load.specs.declared.region.Region.{Region}
-use Rattle.elf_load.specs.declared.unfit.Unfit.{Unfit as WhyUnfit}
-use Rattle.tool_words.specs.Job.{Job, Explore}
+use Rattle.tool_words.specs.Job.{Job, Explore, Replay}
 use Rattle.tool_words.specs.declared.limit.Budgets.{Budgets}
 use Rattle.sym_state.specs.Programs.{Program}
 use Rattle.tool_top.specs.Later.{IsTaken, IsInput}
+use Rattle.tool_top.specs.Lines.{read_fault, refused_line, unfit_line, usage}
+use Rattle.tool_top.specs.Replaying.{IsNoTest, IsReplayed, IsTestMisfit, most_test_bytes}
 use Rattle.tool_top.specs.Reports.{IsReportOf}
 use Rattle.tool_top.specs.declared.verdict.Verdict.{Verdict}
 use Rattle.tool_top.specs.declared.verdict.Verdict.TheVariants.{Done, NoJob, Refused, Unfit, ReadFault}
@@ -21,6 +20,7 @@ use Rattle.tool_top.specs.declared.verdict.Verdict.TheVariants.{Done, NoJob, Ref
 abbrev pub names_of : Option Job → List (List ℕ)
 names_of None = []
 names_of (Some (Explore program out asked budgets workers)) = program ∷ []
+names_of (Some (Replay program test)) = program ∷ test ∷ []
 
 -- the names that were read, and what is to be put and said
 pub record Plan : Type 0 where
@@ -29,36 +29,7 @@ pub record Plan : Type 0 where
   pub puts : List Put
   pub text : List ℕ
 
--- The texts.
-abbrev pub usage : List ℕ
-usage =
-    codes "usage: rvklee explore [--steps N] [--targets N] [--conflicts N] [--workers N] PROGRAM OUT INPUT..\n"
-    ++ codes "       rvklee replay PROGRAM TEST\n"
-    ++ codes "       rvklee bench NUMBER WORKERS OUT\n"
-
-abbrev pub program_refused : ℕ → List ℕ → List ℕ
-program_refused number name = codes "program refused " ++ decimal number ++ codes " " ++ name ++ codes "\n"
-
-abbrev pub inputs_refused : ℕ → List ℕ → List ℕ
-inputs_refused number name = codes "inputs refused " ++ decimal number ++ codes " " ++ name ++ codes "\n"
-
--- why a program isn't taken: the reason why its file is refused, and where there is none, that it is to be taken later
-abbrev pub refused_line : Option WhyRefused → List ℕ
-refused_line (Some why) = program_refused (refused_number why) (refused_name why)
-refused_line None = program_refused 19 (codes "Later")
-
--- why an input isn't taken: the reason why it doesn't fit, and where there is none, that it is to be taken later
-abbrev pub unfit_line : Option WhyUnfit → List ℕ
-unfit_line (Some why) = inputs_refused (unfit_number why) (unfit_name why)
-unfit_line None = inputs_refused 6 (codes "Later")
-
-abbrev pub read_fault : List ℕ
-read_fault = codes "read fault\n"
-
-abbrev pub no_memory : List ℕ
-no_memory = codes "no memory\n"
-
--- the most bytes of a file that are read
+-- the most bytes of a program's file that are read
 abbrev pub most_bytes : ℕ
 most_bytes = 1048577
 
@@ -95,12 +66,20 @@ abbrev pub Treats : (out bytes : List ℕ) → List Region → Budgets → (work
 Treats out bytes asked budgets workers verdict puts text =
     IsReported out bytes asked budgets workers verdict puts text ⊎ (IsRefusal bytes verdict puts text ⊎ IsMisfit bytes asked verdict puts text)
 
+-- what is put and said for the bytes of a program's file and of a test's
+abbrev pub Replays : (bytes text : List ℕ) → Verdict → List Put → List ℕ → Type 0
+Replays bytes text verdict puts said =
+    IsRefusal bytes verdict puts said ⊎ (IsNoTest bytes text verdict puts said ⊎ (IsTestMisfit bytes text verdict puts said ⊎ IsReplayed bytes text verdict puts said))
+
 -- what is meant, where all that the job reads was read
 abbrev pub Means : Told → Option Job → Plan → Type 0
 Means told None plan = plan ≡ says_only NoJob [] usage
 Means told (Some (Explore program out asked budgets workers)) plan =
     (bytes : List ℕ) × Gives told program most_bytes bytes
     × (plan.names ≡ program ∷ []) × Treats out bytes asked budgets workers plan.verdict plan.puts plan.text
+Means told (Some (Replay program test)) plan =
+    (bytes : List ℕ) × (text : List ℕ) × Gives told program most_bytes bytes × Gives told test most_test_bytes text
+    × (plan.names ≡ program ∷ test ∷ []) × Replays bytes text plan.verdict plan.puts plan.text
 
 -- a read failed, of the names from the first on
 abbrev pub IsReadFault : Option Job → Plan → Type 0

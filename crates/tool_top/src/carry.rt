@@ -3,7 +3,7 @@
 ghost use Rattle.std.specs.Prelude.{◌≡◌, ◌≢◌, ◌⊎◌, ◌≤◌, ℕ, [], List, OnOk, IsErrOf};
 ghost use Rattle.tool_io.specs.Told.{after, puts_all, says, IsPrefix, IsCutShort, Put};
 ghost use Rattle.tool_io.specs.Causes.{HasCause};
-ghost use Rattle.tool_top.specs.Plan.{no_memory};
+ghost use Rattle.tool_top.specs.Lines.{no_memory};
 ghost use Rattle.tool_top.specs.Answer.{IsCarriedOut, IsCutByFault};
 
 use crate::plan::Plan;

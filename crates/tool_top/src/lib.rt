@@ -6,6 +6,7 @@ mod later;
 pub mod laws;
 mod plan;
 mod refusals;
+mod replaying;
 mod report;
 mod run;
 mod sample_test;

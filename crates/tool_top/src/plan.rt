@@ -6,11 +6,13 @@ ghost use Rattle.tool_words.specs.Limits.{IsBudgets};
 ghost use Rattle.elf_load.specs.Images.{Loads};
 ghost use Rattle.sym_state.specs.Programs.{IsRunnable};
 ghost use Rattle.tool_top.specs.Later.{IsInput, IsTaken};
-ghost use Rattle.tool_top.specs.Plan.{IsPlanned, OnlyReads, Treats, refused_line, unfit_line};
+ghost use Rattle.tool_top.specs.Lines.{refused_line, unfit_line};
+ghost use Rattle.tool_top.specs.Plan.{IsPlanned, OnlyReads, Treats};
 ghost use Rattle.tool_top.specs.Reports.{IsReportOf};
 
 use crate::later::{data_byte, has_later_word};
 use crate::refusals::{say_refused, say_unfit};
+use crate::replaying::plan_replay;
 use crate::report::make_report;
 use crate::verdict::Verdict;
 use elf_load::{Image, LoadError, Refused, Regions, Unfit, fit, load};
@@ -20,8 +22,8 @@ use sym_state::Program;
 use tool_io::{Bytes, Fault, Files, NamedFile};
 use tool_words::{Budgets, Job, WordsError, read_words};
 
-// The most bytes of a file that are read.
-const MOST_BYTES: usize = 1_048_577;
+// The most bytes of a program's file that are read.
+pub(crate) const MOST_BYTES: usize = 1_048_577;
 
 const USAGE: &[u8] =
     b"usage: rvklee explore [--steps N] [--targets N] [--conflicts N] [--workers N] PROGRAM OUT INPUT..
@@ -38,7 +40,7 @@ pub struct Plan {
 }
 
 // A text is said, and no file is put.
-fn says_only(alloc: Global, verdict: Verdict, text: &[u8]) -> Result<Plan, NoMemory>
+pub(crate) fn says_only(alloc: Global, verdict: Verdict, text: &[u8]) -> Result<Plan, NoMemory>
     ensures verdict { IfOk result (λ p. p.verdict ≡ verdict) }
     ensures files { IfOk result (λ p. p.files.items ≡ []) }
     ensures text { IfOk result (λ p. p.text ≡ text.now) }
@@ -83,7 +85,7 @@ fn plan_report(
     })
 }
 
-fn refuse(alloc: Global, why: Option<Refused>) -> Result<Plan, NoMemory>
+pub(crate) fn refuse(alloc: Global, why: Option<Refused>) -> Result<Plan, NoMemory>
     ensures verdict { IfOk result (λ p. p.verdict ≡ Verdict.Refused) }
     ensures files { IfOk result (λ p. p.files.items ≡ []) }
     ensures text { IfOk result (λ p. p.text ≡ refused_line why) }
@@ -92,7 +94,7 @@ fn refuse(alloc: Global, why: Option<Refused>) -> Result<Plan, NoMemory>
     says_only(alloc, Verdict::Refused, line.as_slice())
 }
 
-fn refuse_input(alloc: Global, why: Option<Unfit>) -> Result<Plan, NoMemory>
+pub(crate) fn refuse_input(alloc: Global, why: Option<Unfit>) -> Result<Plan, NoMemory>
     ensures verdict { IfOk result (λ p. p.verdict ≡ Verdict.Unfit) }
     ensures files { IfOk result (λ p. p.files.items ≡ []) }
     ensures text { IfOk result (λ p. p.text ≡ unfit_line why) }
@@ -194,6 +196,9 @@ pub fn make_plan<F: Files>(alloc: Global, words: &[String], files: &mut F) -> Re
             workers,
             files,
         ),
+        Ok(Job::Replay { program, test }) => {
+            plan_replay(alloc, program.as_str(), test.as_str(), files)
+        }
         Err(WordsError::Usage) => says_only(alloc, Verdict::NoJob, USAGE),
         Err(WordsError::NoMemory) => Err(NoMemory),
     }

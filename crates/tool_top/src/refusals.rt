@@ -1,10 +1,11 @@
-//! The lines that are said of programs and inputs that aren't taken.
+//! The lines that are said of programs, inputs and tests that aren't taken.
 
 ghost use Rattle.std.specs.Prelude.{◌≡◌, IfOk};
-ghost use Rattle.tool_top.specs.Plan.{program_refused, inputs_refused, refused_line, unfit_line};
+ghost use Rattle.tool_top.specs.Lines.{program_refused, inputs_refused, refused_line, test_refused, unfit_line};
 
 use elf_load::{Refused, Unfit};
 use std::alloc::{AllocError as NoMemory, Global};
+use test_files::TestRefused;
 
 fn program_refused(alloc: Global, number: u8, name: &str) -> Result<Vec<u8>, NoMemory>
     ensures { IfOk result (λ line. line.items ≡ program_refused number name.now) }
@@ -38,4 +39,13 @@ pub fn say_unfit(alloc: Global, why: Option<Unfit>) -> Result<Vec<u8>, NoMemory>
         Some(why) => inputs_refused(alloc, why.number(), why.name()),
         None => inputs_refused(alloc, 6, "Later"),
     }
+}
+
+/// Why a text is no test.
+pub fn say_test_refused(alloc: Global, why: TestRefused) -> Result<Vec<u8>, NoMemory>
+    ensures { IfOk result (λ line. line.items ≡ test_refused why) }
+{
+    let (number, name) = (why.number(), why.name());
+    let line = format!(in alloc; "test refused {number} {name}\n")?;
+    Ok(line.into_bytes())
 }

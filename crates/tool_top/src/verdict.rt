@@ -6,6 +6,8 @@ ghost use Rattle.std.specs.Prelude.{◌≡◌};
 #[derive(Clone, Copy, Debug, PartialEq, Eq)]
 pub enum Verdict {
     Done,
+    /// A run is not as its test says.
+    Differs,
     /// The words ask for nothing that the tool does.
     NoJob,
     /// The program is none that is taken.
@@ -14,6 +16,8 @@ pub enum Verdict {
     Unfit,
     /// A name could not be read.
     ReadFault,
+    /// A text is no test.
+    TestRefused,
 }
 
 /// How a run ended.
@@ -34,10 +38,12 @@ impl Ending {
     {
         match self {
             Ending::Planned(Verdict::Done) => 0,
+            Ending::Planned(Verdict::Differs) => 1,
             Ending::Planned(Verdict::NoJob) => 2,
             Ending::Planned(Verdict::Refused) => 3,
             Ending::Planned(Verdict::Unfit) => 4,
             Ending::Planned(Verdict::ReadFault) => 5,
+            Ending::Planned(Verdict::TestRefused) => 7,
             Ending::WriteFault => 6,
             Ending::NoMemory => 8,
         }

@@ -1,6 +1,6 @@
 use Rattle.std.proofs.Common.{◌≡◌, ◌∙◌, ◌++◌, ℕ, List, codes, decimal, ap, Vec, Global, string_bytes}
 use Rattle.std.proofs.Common.{◌≡◌, ◌∙◌, ℕ, List, ◌++◌, ap, append_assoc, codes, decimal}
-use Rattle.tool_top.specs.Plan.{program_refused}
+use Rattle.tool_top.specs.Lines.{program_refused}
 use Rattle.tool_top.proofs.refusals.program_refused.Goals as goal
 
 pub returns : goal.returns

@@ -1,0 +1,13 @@
+//! Replays: whether the run of a test's input on the machine is as the test says.
+//!
+//! `replay` runs and compares, `difference` says how a run differs.
+#![tactic(auto)]
+
+mod difference;
+mod replay;
+
+pub use difference::write_difference;
+pub use replay::{Replay, replay};
+
+#[cfg(test)]
+mod tests;

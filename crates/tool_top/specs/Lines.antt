@@ -1,0 +1,42 @@
+-- What is said where nothing is done.
+use Rattle.std.specs.Prelude.{ℕ, List, ◌++◌, Option, None, Some, codes, decimal}
+use Rattle.elf_load.specs.Names.{refused_number, refused_name, unfit_number, unfit_name}
+use Rattle.elf_load.specs.declared.refused.Refused.{Refused as WhyRefused}
+use Rattle.elf_load.specs.declared.unfit.Unfit.{Unfit as WhyUnfit}
+use Rattle.test_files.specs.Refusals.{refused_name as test_name, refused_number as test_number}
+use Rattle.test_files.specs.declared.refused.TestRefused.{TestRefused as WhyNoTest}
+
+abbrev pub usage : List ℕ
+usage =
+    codes "usage: rvklee explore [--steps N] [--targets N] [--conflicts N] [--workers N] PROGRAM OUT INPUT..\n"
+    ++ codes "       rvklee replay PROGRAM TEST\n"
+    ++ codes "       rvklee bench NUMBER WORKERS OUT\n"
+
+abbrev pub program_refused : ℕ → List ℕ → List ℕ
+program_refused number name = codes "program refused " ++ decimal number ++ codes " " ++ name ++ codes "\n"
+
+abbrev pub inputs_refused : ℕ → List ℕ → List ℕ
+inputs_refused number name = codes "inputs refused " ++ decimal number ++ codes " " ++ name ++ codes "\n"
+
+-- why a program isn't taken: the reason why its file is refused, and where there is none, that it is to be taken later
+abbrev pub refused_line : Option WhyRefused → List ℕ
+refused_line (Some why) = program_refused (refused_number why) (refused_name why)
+refused_line None = program_refused 19 (codes "Later")
+
+-- why an input isn't taken: the reason why it doesn't fit, and where there is none, that it is to be taken later
+abbrev pub unfit_line : Option WhyUnfit → List ℕ
+unfit_line (Some why) = inputs_refused (unfit_number why) (unfit_name why)
+unfit_line None = inputs_refused 6 (codes "Later")
+
+abbrev pub read_fault : List ℕ
+read_fault = codes "read fault\n"
+
+abbrev pub no_memory : List ℕ
+no_memory = codes "no memory\n"
+
+-- why a text is no test
+abbrev pub test_refused : WhyNoTest → List ℕ
+test_refused why = codes "test refused " ++ decimal (test_number why) ++ codes " " ++ test_name why ++ codes "\n"
+
+abbrev pub same : List ℕ
+same = codes "same\n"

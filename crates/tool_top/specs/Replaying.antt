@@ -1,0 +1,75 @@
+-- What is meant for a replay: the bytes of a program's file and of a test's, and what is said of them.
+use Rattle.std.specs.Prelude.{◌≡◌, ◌⊎◌, ℕ, List, [], None, Ok, Err}
+use Rattle.elf_load.specs.Fits.{unfit}
+use Rattle.elf_load.specs.Images.{Image}
+use Rattle.elf_load.specs.declared.region.Region.{Region}
+use Rattle.replay_core.specs.Differences.{difference_text}
+use Rattle.replay_core.specs.Replays.{IsAsSaid, run_of}
+use Rattle.test_files.specs.Reading.{reading}
+use Rattle.test_files.specs.Tests.{Test}
+use Rattle.test_files.specs.declared.refused.TestRefused.{TestRefused as WhyNoTest}
+use Rattle.tool_io.specs.Told.{Put}
+use Rattle.tool_top.specs.Later.{IsTaken, IsDataByte}
+use Rattle.tool_top.specs.Lines.{same, test_refused, unfit_line}
+use Rattle.tool_top.specs.declared.verdict.Verdict.{Verdict}
+use Rattle.tool_top.specs.declared.verdict.Verdict.TheVariants.{Done, Differs, TestRefused, Unfit}
+
+-- the most bytes of a test's file that are read: one more than a test may have
+abbrev pub most_test_bytes : ℕ
+most_test_bytes = 16777217
+
+-- no byte, or one on a page that can't be executed
+abbrev pub IsShort : Image → List Region → Type 0
+IsShort image asked = (asked ≡ []) ⊎ ((place : ℕ) × IsDataByte image asked place)
+
+-- the regions of a test that are taken: they fit the image, and have one byte of data at most
+pub record IsTestInput (image : Image) (asked : List Region) : Type 0 where
+  pub fits : unfit image asked ≡ None
+  pub short : IsShort image asked
+
+-- the bytes are those of a program that is taken, and of this test, whose regions are taken
+pub record IsReplayable (bytes text : List ℕ) (image : Image) (test : Test) : Type 0 where
+  pub taken : IsTaken bytes image
+  pub reads : reading text ≡ Ok test
+  pub input : IsTestInput image test.regions
+
+-- the run is as the test says, and that is said
+pub record IsSame (image : Image) (test : Test) (verdict : Verdict) (said : List ℕ) : Type 0 where
+  pub as_said : IsAsSaid image test
+  pub is : verdict ≡ Done
+  pub line : said ≡ same
+
+-- the run is not as the test says, and how it went is said
+pub record IsOther (image : Image) (test : Test) (verdict : Verdict) (said : List ℕ) : Type 0 where
+  pub other : ¬ IsAsSaid image test
+  pub is : verdict ≡ Differs
+  pub lines : said ≡ difference_text (run_of image test)
+
+-- the test was run on the program
+pub record IsReplayed (bytes text : List ℕ) (verdict : Verdict) (puts : List Put) (said : List ℕ) : Type 0 where
+  pub image : Image
+  pub test : Test
+  pub replayable : IsReplayable bytes text image test
+  pub no_files : puts ≡ []
+  pub answer : IsSame image test verdict said ⊎ IsOther image test verdict said
+
+-- the text is no test, and why is said
+pub record IsNoTest (bytes text : List ℕ) (verdict : Verdict) (puts : List Put) (said : List ℕ) : Type 0 where
+  pub image : Image
+  pub taken : IsTaken bytes image
+  pub why : WhyNoTest
+  pub refuses : reading text ≡ Err why
+  pub is : verdict ≡ TestRefused
+  pub no_files : puts ≡ []
+  pub line : said ≡ test_refused why
+
+-- the program is one that is taken, but not for the regions of this test, and why is said
+pub record IsTestMisfit (bytes text : List ℕ) (verdict : Verdict) (puts : List Put) (said : List ℕ) : Type 0 where
+  pub image : Image
+  pub test : Test
+  pub taken : IsTaken bytes image
+  pub reads : reading text ≡ Ok test
+  pub other : ¬ IsTestInput image test.regions
+  pub is : verdict ≡ Unfit
+  pub no_files : puts ≡ []
+  pub line : said ≡ unfit_line (unfit image test.regions)
