@@ -1,0 +1,3 @@
+pub mod Pages
+pub mod Standings
+pub mod Steps
