@@ -1,3 +1,4 @@
 pub mod Pages
 pub mod Standings
 pub mod Steps
+pub mod Progress

@@ -1,11 +1,12 @@
 -- The pages of a machine's memory, by their numbers, and as a list in the order of these.
-use Rattle.std.specs.Prelude.{◌≡◌, ℕ, ◌<◌, List, [], length, slice_index_or, Option}
+use Rattle.std.specs.Prelude.{◌≡◌, ℕ, ◌+◌, ◌-◌, ◌^◌, ◌<◌, ◌&&◌, nat_le, nat_lt, true, if◌then◌else◌, List, [], ◌∷◌, length, slice_index, slice_index_or, Option}
 use Rattle.std.specs.Coded.{Coded, coded_ℕ}
 use Rattle.std.specs.FinMap.{FinMap, code}
 use Rattle.std.specs.Ordering.{nat_cmp}
 use Rattle.elf_load.specs.Images.{Image, page_code}
 use Rattle.elf_load.specs.declared.page.Page.{Page}
-use Rattle.rv_spec.specs.Memory.{flags_of, byte_of}
+use Rattle.elf_load.specs.declared.region.Region.{Region}
+use Rattle.rv_spec.specs.Memory.{flags_of, byte_of, is_mapped}
 
 abbrev pub Pages : Type 0
 Pages = FinMap nat_cmp Page
@@ -42,3 +43,15 @@ AreInOrder pages = (i j : ℕ) → i < j → j < length pages → number_at page
 pub record IsPlaceOf (pages : List (ℕ × Page)) (number i : ℕ) : Type 0 where
   pub in_range : i < length pages
   pub has_number : number_at pages i ≡ number
+
+-- each address of a region is one of memory, on a mapped page
+abbrev pub IsMapped : (ℕ → Option ℕ) → Region → Type 0
+IsMapped flags r = (i : ℕ) → i < r.count → (r.start + i < 2 ^ 32) × (is_mapped flags (r.start + i) ≡ true)
+
+abbrev pub AreMapped : (ℕ → Option ℕ) → List Region → Type 0
+AreMapped flags [] = Unit {0}
+AreMapped flags (r ∷ rs) = IsMapped flags r × AreMapped flags rs
+
+-- memory with so many of the bytes from an address on
+abbrev pub filled : ℕ → ℕ → List ℕ → (ℕ → ℕ) → ℕ → ℕ
+filled start count bytes byte x = if nat_le start x && nat_lt x (start + count) then slice_index bytes (x - start) else byte x

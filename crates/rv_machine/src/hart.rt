@@ -1,9 +1,9 @@
 //! The one hardware thread of the machine: its registers, its memory and what it has written.
 
-ghost use Rattle.std.specs.Prelude.{◌≡◌, ◌<◌, ◌++◌, ◌∷◌, [], true, slice_index, IfOk, OnOk, OnErr};
+ghost use Rattle.std.specs.Prelude.{◌≡◌, ◌<◌, ◌++◌, ◌∷◌, [], true, map, slice_index, IfOk, OnOk, OnErr};
 ghost use Rattle.rv_decode.specs.Instructions.{ShiftsBelow32};
 ghost use Rattle.rv_spec.specs.Arithmetic.{sum32};
-ghost use Rattle.rv_spec.specs.Machine.{fetch, first_registers, written};
+ghost use Rattle.rv_spec.specs.Machine.{addresses, fetch, first_registers, written};
 ghost use Rattle.rv_spec.specs.Memory.{can_write, is_mapped, with_bytes};
 ghost use Rattle.rv_machine.specs.Pages.{byte_on, flags_on};
 
@@ -46,6 +46,28 @@ impl Model for Hart {
       output = h.output.items;
       path = h.path.items;
     } };
+}
+
+/// Appends the bytes at so many addresses.
+///
+/// # Errors
+///
+/// Where memory is wanting; nothing is appended then.
+fn append_bytes(
+    memory: &mut Memory,
+    output: &mut Vec<u8>,
+    start: u32,
+    count: u32,
+) -> Result<(), NoMemory>
+    ensures same { memory.new ≡ memory.old }
+    ensures ok { OnOk result (output.new.items ≡ output.old.items ++ map (byte_on memory.old) (addresses start count)) }
+    ensures err { OnErr result (output.new.items ≡ output.old.items) }
+{
+    output.reserve(count as usize)?;
+    for i in 0..count {
+        output.push_reserved(memory.read(start.wrapping_add(i)));
+    }
+    Ok(())
 }
 
 /// The registers at the start.
@@ -161,6 +183,18 @@ impl Hart {
     {
         self.set(register, value);
         self.go_on()
+    }
+
+    /// Appends the bytes at so many addresses to the output.
+    ///
+    /// # Errors
+    ///
+    /// Where memory is wanting; nothing changes then.
+    pub fn emit(&mut self, start: u32, count: u32) -> Result<(), NoMemory>
+        ensures ok { OnOk result (self.new ≡ record self.old { output = self.old.output ++ map (byte_on self.old.pages) (addresses start count) }) }
+        ensures err { OnErr result (self.new ≡ self.old) }
+    {
+        append_bytes(&mut self.memory, &mut self.output, start, count)
     }
 
     /// Notes an entry of the path.

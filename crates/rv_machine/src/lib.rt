@@ -1,15 +1,25 @@
 //! The machine under test, one assignment of the input bytes at a time: RV32IM over plain memory.
 //!
 //! - `arithmetic`: what the instructions compute.
-//! - `hart`: registers, memory and what was written.
 //! - `memory`: the pages of memory.
+//! - `hart`: registers, memory and what was written.
 //! - `step`: what an instruction leads to.
+//! - `transfer`: loads and stores.
+//! - `call`: the environment call.
+//! - `execute`: each instruction.
+//! - `filling`: the input bytes.
+//! - `machine`: a run, step by step.
 #![tactic(auto)]
 
 mod arithmetic;
+mod call;
 mod execute;
+mod filling;
 mod hart;
+mod machine;
 mod memory;
 mod step;
+mod transfer;
 
+pub use machine::Machine;
 pub use step::Step;
