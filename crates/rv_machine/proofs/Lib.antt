@@ -4,3 +4,7 @@ pub mod Fetching
 pub mod Writing
 pub mod Storing
 pub mod Addresses
+pub mod Placing
+pub mod Stepping
+pub mod Starting
+pub mod Going

@@ -13,3 +13,7 @@ mapped_beside before now address at same can page =
     ap (λ (flags : ℕ → Option ℕ). is_some (flags (at / 256))) same
     ∙ ap (λ n. is_some (before n)) page
     ∙ writable_mapped (before (address / 256)) can
+
+-- what is mapped stays so
+pub mapped_same : (before now : ℕ → Option ℕ) (at : ℕ) → now ≡ before → is_mapped before at ≡ true → is_mapped now at ≡ true
+mapped_same before now at same mapped = ap (λ (flags : ℕ → Option ℕ). is_some (flags (at / 256))) same ∙ mapped

@@ -209,4 +209,12 @@ impl Hart {
         self.path.push(entry)?;
         Ok(())
     }
+
+    /// The path and the output.
+    pub fn into_parts(self) -> (Vec<PathStep>, Vec<u8>)
+        ensures path { result.0.items ≡ self.path }
+        ensures output { result.1.items ≡ self.output }
+    {
+        (self.path, self.output)
+    }
 }

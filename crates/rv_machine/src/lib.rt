@@ -9,6 +9,7 @@
 //! - `execute`: each instruction.
 //! - `filling`: the input bytes.
 //! - `machine`: a run, step by step.
+//! - `run`: so many steps of a run.
 #![tactic(auto)]
 
 mod arithmetic;
@@ -18,8 +19,13 @@ mod filling;
 mod hart;
 mod machine;
 mod memory;
+mod run;
 mod step;
 mod transfer;
 
 pub use machine::Machine;
+pub use run::Ran;
 pub use step::Step;
+
+#[cfg(test)]
+mod tests;

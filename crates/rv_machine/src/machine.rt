@@ -7,6 +7,7 @@ ghost use Rattle.rv_spec.specs.Memory.{count_of};
 ghost use Rattle.rv_spec.specs.Runs.{Run, continued, run};
 ghost use Rattle.rv_machine.specs.Pages.{byte_on, flags_on};
 ghost use Rattle.rv_machine.specs.Progress.{IsAt, answer_of};
+ghost use Rattle.rv_machine.specs.Ends.{IsRanOf};
 ghost use Rattle.rv_machine.specs.Standings.{state_of};
 ghost use Rattle.rv_machine.specs.Steps.{RecordsFetched, outcome_of};
 ghost use Rattle.rv_spec.specs.Machine as machine;
@@ -14,6 +15,7 @@ ghost use Rattle.rv_spec.specs.Machine as machine;
 use crate::execute::execute;
 use crate::filling::place_input;
 use crate::hart::Hart;
+use crate::run::Ran;
 use crate::step::{Step, trapped};
 use elf_load::{Image, Regions};
 use rv_decode::{End, PathStep};
@@ -93,5 +95,19 @@ impl Machine {
             self.end = Some(end);
         }
         Ok(step)
+    }
+
+    /// What the run has come to, in so many steps.
+    pub(crate) fn into_ran(self, steps: u32) -> Ran
+        ensures { IsRanOf result self steps }
+    {
+        let end = self.end;
+        let (path, output) = self.hart.into_parts();
+        Ran {
+            end,
+            steps,
+            path,
+            output,
+        }
     }
 }
