@@ -8,6 +8,3 @@ mod replay;
 
 pub use difference::write_difference;
 pub use replay::{Replay, replay};
-
-#[cfg(test)]
-mod tests;

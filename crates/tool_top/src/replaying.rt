@@ -1,12 +1,13 @@
 //! What a replay is to say.
 
-ghost use Rattle.std.specs.Prelude.{◌≡◌, true, Ok, Some, IfOk, OnErr, length};
-ghost use Rattle.rv_spec.specs.Memory.{count_of};
+ghost use Rattle.std.specs.Prelude.{◌≡◌, true, false, Ok, Some, [], ◌∷◌, IfOk, OnOk, OnErr};
+ghost use Rattle.tool_io.specs.Causes.{HasCause};
+ghost use Rattle.tool_io.specs.Told.{Gives, after};
 ghost use Rattle.test_files.specs.Reading.{reading};
 ghost use Rattle.tool_words.specs.Job.{Replay};
 ghost use Rattle.tool_top.specs.Later.{IsTaken};
-ghost use Rattle.tool_top.specs.Plan.{IsPlanned, OnlyReads, Replays};
-ghost use Rattle.tool_top.specs.Replaying.{IsReplayable, IsShort};
+ghost use Rattle.tool_top.specs.Plan.{IsPlanned, OnlyReads, Replays, most_bytes};
+ghost use Rattle.tool_top.specs.Replaying.{IsReplayable, IsShort, most_test_bytes};
 
 use crate::later::{data_byte, has_later_word};
 use crate::plan::{MOST_BYTES, Plan, refuse, refuse_input, says_only};
@@ -16,7 +17,7 @@ use elf_load::{Image, LoadError, Region, fit, load};
 use replay_core::{Replay, replay, write_difference};
 use std::alloc::{AllocError as NoMemory, Global};
 use test_files::{Test, TestError, read_test};
-use tool_io::{Fault, Files};
+use tool_io::{Bytes, Fault, Files};
 
 // The most bytes of a test's file that are read.
 const MOST_TEST_BYTES: usize = 16_777_217;
@@ -86,6 +87,20 @@ fn plan_both(alloc: Global, bytes: &[u8], text: &[u8]) -> Result<Plan, NoMemory>
         Err(LoadError::Refused(why)) => refuse(alloc, Some(why)),
         Err(LoadError::NoMemory) => Err(NoMemory),
     }
+}
+
+// The bytes of the program's file, and then of the test's.
+fn read_both<F: Files>(program: &str, test: &str, files: &mut F) -> Result<(Bytes, Bytes), Fault>
+    ensures told { OnOk result ((F.seen files.new).told ≡ after (F.seen files.old).told (record { names = program.now ∷ test.now ∷ []; puts = []; said = [] })) }
+    ensures program { IfOk result (λ both. Gives (F.seen files.old).told program.now most_bytes both.0) }
+    ensures test { IfOk result (λ both. Gives (F.seen files.old).told test.now most_test_bytes both.1) }
+    ensures err { OnErr result (OnlyReads (F.seen files.old) (F.seen files.new) (Some (Replay program.now test.now))) }
+    ensures cause { HasCause (F.seen files.old).reads (F.seen files.new).reads result }
+    ensures writes { (F.seen files.new).writes ≡ (F.seen files.old).writes }
+{
+    let bytes = files.read(program, MOST_BYTES)?;
+    let text = files.read(test, MOST_TEST_BYTES)?;
+    Ok((bytes, text))
 }
 
 /// Reads the program and then the test, and makes the plan of their replay.

@@ -1,0 +1,10 @@
+pub mod Finding
+pub mod Looking
+pub mod Fetching
+pub mod Writing
+pub mod Storing
+pub mod Addresses
+pub mod Placing
+pub mod Stepping
+pub mod Starting
+pub mod Going

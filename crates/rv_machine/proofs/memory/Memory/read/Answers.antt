@@ -1,0 +1,10 @@
+use Rattle.rv_machine.proofs.Looking.{looked, reads_none, reads_some}
+use Rattle.rv_machine.proofs.memory.Memory.read.Goals as goal
+
+pub returns-in_default-clause-value : goal.returns-in_default-clause-value
+returns-in_default-clause-value c =
+    reads_none c.args.self.now c.args.address (looked c.args.self.now c.self.inside.pages.items _ _ c.self.view_is (rw c.deref.ensures.value at c.in_default.ensures))
+
+pub returns-clause-value : goal.returns-clause-value
+returns-clause-value c =
+    reads_some c.args.self.now c.args.address c.in-Some.page.now (looked c.args.self.now c.self.inside.pages.items _ _ c.self.view_is (rw c.deref.ensures.value at c.in-Some.ensures))

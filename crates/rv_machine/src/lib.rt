@@ -1,0 +1,31 @@
+//! The machine under test, one assignment of the input bytes at a time: RV32IM over plain memory.
+//!
+//! - `arithmetic`: what the instructions compute.
+//! - `memory`: the pages of memory.
+//! - `hart`: registers, memory and what was written.
+//! - `step`: what an instruction leads to.
+//! - `transfer`: loads and stores.
+//! - `call`: the environment call.
+//! - `execute`: each instruction.
+//! - `filling`: the input bytes.
+//! - `machine`: a run, step by step.
+//! - `run`: so many steps of a run.
+#![tactic(auto)]
+
+mod arithmetic;
+mod call;
+mod execute;
+mod filling;
+mod hart;
+mod machine;
+mod memory;
+mod run;
+mod step;
+mod transfer;
+
+pub use machine::Machine;
+pub use run::Ran;
+pub use step::Step;
+
+#[cfg(test)]
+mod tests;
