@@ -1,11 +1,11 @@
 -- The run of a test's input, beside what the test says of it.
-use Rattle.std.specs.Prelude.{◌≡◌, Bool, true, false}
+use Rattle.std.specs.Prelude.{◌≡◌}
 use Rattle.elf_load.specs.Images.{Image}
 use Rattle.rv_machine.specs.declared.run.Ran.{Ran}
 use Rattle.rv_spec.specs.Runs.{IsRunOf, Run, run}
 use Rattle.test_files.specs.Tests.{Test}
-use Rattle.replay_core.specs.declared.replay.Replay.{Replay}
-use Rattle.replay_core.specs.declared.replay.Replay.TheVariants.{Same, Differs}
+use Rattle.replay_core.specs.declared.replays.Replayed.{Replayed}
+use Rattle.replay_core.specs.declared.replays.Replayed.TheVariants.{Same, Differs}
 
 -- the run of the test's input, of so many steps at most as the test says
 abbrev pub run_of : Image → Test → Run
@@ -20,17 +20,15 @@ abbrev pub IsWhatRan : Run → Ran → Type 0
 IsWhatRan r ran = IsRunOf r ran.steps ran.path.items ran.end ran.output.items
 
 -- the answer is right: the same just where the run is as the test says, and else the run
-abbrev pub IsReplay : Image → Test → Replay → Type 0
+abbrev pub IsReplay : Image → Test → Replayed → Type 0
 IsReplay image test Same = IsAsSaid image test
 IsReplay image test (Differs ran) = IsWhatRan (run_of image test) ran × (¬ IsAsSaid image test)
 
--- what the machine came to is what the test says, or not
-pub record AreAlike (ran : Ran) (test : Test) : Type 0 where
+-- What the machine came to is what the test says: the steps and the end, the path and the output.
+pub record EndsAlike (ran : Ran) (test : Test) : Type 0 where
   pub steps : ran.steps ≡ test.steps
   pub end : ran.end ≡ test.end
+
+pub record LeavesAlike (ran : Ran) (test : Test) : Type 0 where
   pub path : ran.path.items ≡ test.path
   pub output : ran.output.items ≡ test.output
-
-abbrev pub AgreeOn : Ran → Test → Bool → Type 0
-AgreeOn ran test true = AreAlike ran test
-AgreeOn ran test false = ¬ AreAlike ran test

@@ -4,7 +4,10 @@
 #![tactic(auto)]
 
 mod difference;
-mod replay;
+mod replays;
 
 pub use difference::write_difference;
-pub use replay::{Replay, replay};
+pub use replays::{Replayed, replay};
+
+#[cfg(test)]
+mod tests;

@@ -14,7 +14,7 @@ use crate::plan::{MOST_BYTES, Plan, refuse, refuse_input, says_only};
 use crate::refusals::say_test_refused;
 use crate::verdict::Verdict;
 use elf_load::{Image, LoadError, Region, fit, load};
-use replay_core::{Replay, replay, write_difference};
+use replay_core::{Replayed, replay, write_difference};
 use std::alloc::{AllocError as NoMemory, Global};
 use test_files::{Test, TestError, read_test};
 use tool_io::{Bytes, Fault, Files};
@@ -36,8 +36,8 @@ fn plan_run(alloc: Global, bytes: &[u8], text: &[u8], image: &Image, test: &Test
     ensures { IfOk result (λ p. Replays bytes.now text.now p.verdict p.files.items p.text) }
 {
     match replay(alloc, image, test)? {
-        Replay::Same => says_only(alloc, Verdict::Done, b"same\n"),
-        Replay::Differs(ran) => {
+        Replayed::Same => says_only(alloc, Verdict::Done, b"same\n"),
+        Replayed::Differs(ran) => {
             let lines = write_difference(alloc, &ran)?;
             says_only(alloc, Verdict::Differs, lines.as_slice())
         }
