@@ -1,5 +1,8 @@
 //! Tests that are as their run, and tests that differ from it in one thing.
 
+ghost use Rattle.std.specs.Prelude.{◌≡◌, IfOk, length};
+ghost use Rattle.rv_spec.specs.Memory.{count_of};
+
 use crate::{Replayed, replay, write_difference};
 use elf_load::{Image, Region, Regions, load};
 use row_files::{programs, row_file};
@@ -34,7 +37,9 @@ fn forked(alloc: Global) -> Result<Image, Fail> {
     Ok(image)
 }
 
-fn test(alloc: Global, said: &Said) -> Result<Test, Fail> {
+fn test(alloc: Global, said: &Said) -> Result<Test, Fail>
+    ensures { IfOk result (λ test. length test.input ≡ count_of test.regions) }
+{
     let (input, steps, path, status, output) = *said;
     let region = Region {
         start: 0x11000,
@@ -56,7 +61,6 @@ fn run(rt: &impl Abort, alloc: Global, said: &Said) -> Result<Replayed, Fail> {
     let image = forked(alloc)?;
     let test = test(alloc, said)?;
     assert!(rt; elf_load::fit(&image, &test.regions).is_ok());
-    assert!(rt; test.input.as_slice().len() == 1);
     Ok(replay(alloc, &image, &test)?)
 }
 
