@@ -84,7 +84,7 @@ fn decode(alloc: Global, digits: &str) -> Result<Vec<u8>, TestError>
     match hex::decode(alloc, digits) {
         Ok(bytes) => Ok(bytes),
         Err(FromHexError::OutOfMemory) => Err(TestError::NoMemory),
-        Err(_) => Err(TestError::Refused(TestRefused::Hex)),
+        Err(_) => Err(TestRefused::Hex.into()),
     }
 }
 
@@ -112,7 +112,7 @@ impl Said<'_> {
         let input = decode(alloc, self.input)?;
         let output = decode(alloc, self.output)?;
         if !have_bytes(&self.regions, input.len()) {
-            return Err(TestError::Refused(TestRefused::Length));
+            return Err(TestRefused::Length.into());
         }
         Ok(Test {
             leaf: self.leaf,
