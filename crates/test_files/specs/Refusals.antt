@@ -2,6 +2,7 @@
 use Rattle.std.specs.Prelude.{◌≡◌, ℕ, true, List, codes, Option, None, Result, Err, is_err}
 use Rattle.hex.specs.declared.error.FromHexError.{FromHexError}
 use Rattle.serde_json.specs.Data.{Data}
+use Rattle.test_files.specs.Reading.{Said}
 use Rattle.test_files.specs.declared.refused.TestRefused.{TestRefused}
 use Rattle.test_files.specs.declared.refused.TestRefused.TheVariants.{NotJson, Missing, Kind, Hex, Length, TooBig}
 use Rattle.test_files.specs.declared.test_error.TestError.{TestError}
@@ -36,3 +37,7 @@ IsNoJson wanted NoMemory = Unit {0}
 abbrev pub IsNoHex : Result (List ℕ) FromHexError → TestError → Type 0
 IsNoHex wanted (Refused why) = (is_err wanted ≡ true) × (why ≡ Hex)
 IsNoHex wanted NoMemory = Unit {0}
+
+abbrev pub IsOfNoForm : Option Said → TestError → Type 0
+IsOfNoForm wanted (Refused why) = (wanted ≡ None) × (why ≡ Kind)
+IsOfNoForm wanted NoMemory = Unit {0}

@@ -40,8 +40,7 @@ fn read_value(alloc: Global, value: &Value) -> Result<Test, TestError>
     if !has_keys(value) {
         return Err(TestRefused::Missing.into());
     }
-    let said = read_said(alloc, value)?.ok_or(TestRefused::Kind)?;
-    said.decoded(alloc)
+    read_said(alloc, value)?.decoded(alloc)
 }
 
 /// Reads a test: a JSON object of at most 16 mebibytes with the keys that `write_test` writes, in
