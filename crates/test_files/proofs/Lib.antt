@@ -9,3 +9,4 @@ pub mod LineEnds
 pub mod JsonBack
 pub mod Utf8Texts
 pub mod ReadBack
+pub mod Bounded

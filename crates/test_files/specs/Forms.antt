@@ -23,6 +23,7 @@ put_first _ _ = None
 
 -- ---- numbers
 
+-- the number that four bytes are, the highest first
 abbrev pub number_of_bytes : Result (List ℕ) FromHexError → Option ℕ
 number_of_bytes (Ok bytes) = Some (from_be_bytes w32 bytes)
 number_of_bytes (Err why) = None
@@ -46,7 +47,7 @@ count_of digits = if is_count digits then Some (digits_value 10 digits) else Non
 
 -- ---- regions
 
--- where both are there, the region of this start and this count
+-- where both numbers are there, the region of this start and this count
 abbrev pub region_with : Option ℕ → Option ℕ → Option Region
 region_with (Some start) (Some count) = Some (record { start = start; count = count })
 region_with _ _ = None
@@ -57,6 +58,7 @@ region_of text = if slice_index text 8 == 58 then region_with (address_of (take 
 
 -- ---- ends
 
+-- all traps
 abbrev pub traps : List Trap
 traps = Illegal ∷ FetchMisaligned ∷ FetchAccess ∷ LoadMisaligned ∷ LoadAccess ∷ StoreMisaligned ∷ StoreAccess ∷ Break ∷ Call ∷ []
 
@@ -64,7 +66,7 @@ traps = Illegal ∷ FetchMisaligned ∷ FetchAccess ∷ LoadMisaligned ∷ LoadA
 abbrev pub trap_named : List ℕ → Option Trap
 trap_named name = find (λ trap. bytes_eq (trap_name trap) name) traps
 
--- a status is below 256
+-- the end with this status, which is below 256
 abbrev pub exit_with : Option ℕ → Option End
 exit_with (Some status) = if nat_lt status 256 then Some (Exit status) else None
 exit_with None = None

@@ -19,10 +19,11 @@ use Rattle.test_files.specs.declared.refused.TestRefused.TheVariants.{NotJson, M
 abbrev pub most_bytes : ℕ
 most_bytes = 16777216
 
--- a string, and a number that is written as an integer and not below 0, at a key of an object
+-- the string at a key of an object
 abbrev pub text_at : List ℕ → Data → Option (List ℕ)
 text_at key value = option_and_then as_str (get key value)
 
+-- the number at a key, which is written as an integer and not below 0
 abbrev pub number_at : List ℕ → Data → Option ℕ
 number_at key value = option_and_then as_u64 (option_and_then as_number (get key value))
 
@@ -30,29 +31,37 @@ number_at key value = option_and_then as_u64 (option_and_then as_number (get key
 abbrev pub keys : List (List ℕ)
 keys = codes "end" ∷ codes "format" ∷ codes "input" ∷ codes "leaf" ∷ codes "output" ∷ codes "path" ∷ codes "regions" ∷ codes "steps" ∷ []
 
+-- each key is there
 abbrev pub has_keys : Data → Bool
 has_keys value = list_all (λ key. is_some (get key value)) keys
 
 -- ---- the form of each value
 
+-- a number from the least to the most
 abbrev pub if_between : ℕ → ℕ → ℕ → Option ℕ
 if_between least most n = if nat_le least n && nat_le n most then Some n else None
 
+-- the format is 1
 abbrev pub format_in : Data → Option ℕ
 format_in value = option_and_then (if_between 1 1) (number_at (codes "format") value)
 
+-- the rank of the leaf is one that each reader of JSON has exactly
 abbrev pub leaf_in : Data → Option ℕ
 leaf_in value = option_and_then (if_between 0 (2 ^ 53)) (number_at (codes "leaf") value)
 
+-- from one step to a million
 abbrev pub steps_in : Data → Option ℕ
 steps_in value = option_and_then (if_between 1 1000000) (number_at (codes "steps") value)
 
+-- how the run ends
 abbrev pub end_in : Data → Option (Option End)
 end_in value = option_and_then end_of (text_at (codes "end") value)
 
+-- the path of the run
 abbrev pub path_in : Data → Option (List PathStep)
 path_in value = option_and_then path_of (text_at (codes "path") value)
 
+-- the region that a string says
 abbrev pub region_in : Data → Option Region
 region_in value = option_and_then region_of (as_str value)
 
@@ -61,6 +70,7 @@ abbrev pub regions_of : Items → Option (List Region)
 regions_of no_items = Some []
 regions_of (item value values) = put_first (region_in value) (regions_of values)
 
+-- the regions of a list
 abbrev pub regions_in : Data → Option (List Region)
 regions_in value = option_and_then regions_of (option_and_then as_array (get (codes "regions") value))
 
@@ -95,10 +105,11 @@ test_from said (Ok input) (Ok output) =
     else Err Length
 test_from said _ _ = Err Hex
 
+-- the test that the keys say, its bytes decoded as `hex` has it
 abbrev pub test_with_bytes : Said → Result Test TestRefused
 test_with_bytes said = test_from said (decode_of said.input) (decode_of said.output)
 
--- the test that the keys say
+-- the test of what the keys say, where each has a value of its form
 abbrev pub test_said : Option Said → Result Test TestRefused
 test_said (Some said) = test_with_bytes said
 test_said None = Err Kind
@@ -113,6 +124,7 @@ test_in value =
 abbrev pub json_of : List ℕ → Option Data
 json_of text = if is_utf8 text then read text else None
 
+-- the test of a text that has this JSON value
 abbrev pub test_of : Option Data → Result Test TestRefused
 test_of (Some value) = test_in value
 test_of None = Err NotJson

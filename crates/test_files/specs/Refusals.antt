@@ -2,11 +2,13 @@
 use Rattle.std.specs.Prelude.{◌≡◌, ℕ, true, List, codes, Option, None, Result, Err, is_err}
 use Rattle.hex.specs.declared.error.FromHexError.{FromHexError}
 use Rattle.serde_json.specs.Data.{Data}
+use Rattle.test_files.specs.Reading.{Said}
 use Rattle.test_files.specs.declared.refused.TestRefused.{TestRefused}
 use Rattle.test_files.specs.declared.refused.TestRefused.TheVariants.{NotJson, Missing, Kind, Hex, Length, TooBig}
 use Rattle.test_files.specs.declared.test_error.TestError.{TestError}
 use Rattle.test_files.specs.declared.test_error.TestError.TheVariants.{Refused, NoMemory}
 
+-- the number of a reason
 abbrev pub refused_number : TestRefused → ℕ
 refused_number NotJson = 1
 refused_number Missing = 2
@@ -15,6 +17,7 @@ refused_number Hex = 4
 refused_number Length = 5
 refused_number TooBig = 6
 
+-- what a reason is called
 abbrev pub refused_name : TestRefused → List ℕ
 refused_name NotJson = codes "NotJson"
 refused_name Missing = codes "Missing"
@@ -28,11 +31,19 @@ abbrev pub IsWhy : {A : Type 0} → Result A TestRefused → TestError → Type 
 IsWhy wanted (Refused why) = wanted ≡ Err why
 IsWhy wanted NoMemory = Unit {0}
 
--- there is no value, or memory ran out; for private clauses
+-- ---- for private clauses
+
+-- there is no JSON value, or memory ran out
 abbrev pub IsNoJson : Option Data → TestError → Type 0
 IsNoJson wanted (Refused why) = (wanted ≡ None) × (why ≡ NotJson)
 IsNoJson wanted NoMemory = Unit {0}
 
+-- the digits are not hexadecimal, or memory ran out
 abbrev pub IsNoHex : Result (List ℕ) FromHexError → TestError → Type 0
 IsNoHex wanted (Refused why) = (is_err wanted ≡ true) × (why ≡ Hex)
 IsNoHex wanted NoMemory = Unit {0}
+
+-- a value is not of its form, or memory ran out
+abbrev pub IsOfNoForm : Option Said → TestError → Type 0
+IsOfNoForm wanted (Refused why) = (wanted ≡ None) × (why ≡ Kind)
+IsOfNoForm wanted NoMemory = Unit {0}

@@ -35,3 +35,10 @@ pub record IsWritable (test : Test) : Type 0 where
   pub output_bytes : IsBytes test.output
   pub input_long : length test.input ≡ sum_by (λ (region : Region). region.count) test.regions
   pub text_within : length (test_text test) ≤ most_bytes
+
+-- What holds of each test that a text is.
+pub record IsBounded (test : Test) : Type 0 where
+  pub leaf_within : test.leaf ≤ 2 ^ 53
+  pub steps_there : 1 ≤ test.steps
+  pub steps_within : test.steps ≤ 1000000
+  pub input_long : length test.input ≡ sum_by (λ (region : Region). region.count) test.regions

@@ -11,6 +11,9 @@ use elf_load::Region;
 use hex::FromHex;
 use rv_decode::{End, Trap};
 
+/// The most digits of a count.
+const MOST_DIGITS: usize = 4;
+
 /// The traps.
 const TRAPS: [Trap; 9] = [
     Trap::Illegal,
@@ -55,7 +58,7 @@ fn has_leading_zero(digits: &[u8]) -> bool
 pub(crate) fn read_count(digits: &[u8]) -> Option<u32>
     ensures { result ≡ count_of digits.now }
 {
-    if digits.is_empty() || 4 < digits.len() || has_leading_zero(digits) {
+    if digits.is_empty() || MOST_DIGITS < digits.len() || has_leading_zero(digits) {
         return None;
     }
     let mut value = 0;

@@ -1,11 +1,11 @@
 //! What holds of every test.
 
-ghost use Rattle.std.specs.Prelude.{◌≡◌, ◌++◌, codes, Ok};
+ghost use Rattle.std.specs.Prelude.{◌≡◌, ◌++◌, ℕ, List, codes, Ok};
 ghost use Rattle.serde_json.specs.Written.{compact_text};
 ghost use Rattle.test_files.specs.TestData.{test_data};
 ghost use Rattle.test_files.specs.Reading.{reading};
 ghost use Rattle.test_files.specs.Tests.{Test, test_text};
-ghost use Rattle.test_files.specs.Writable.{IsWritable};
+ghost use Rattle.test_files.specs.Writable.{IsBounded, IsWritable};
 
 /// The text of a test is the compact text of a JSON object, and a line feed.
 pub fn the_text_is_that_of_an_object()
@@ -15,4 +15,10 @@ pub fn the_text_is_that_of_an_object()
 /// A test that was written is read back, where its numbers are within their bounds.
 pub fn a_written_test_is_read_back()
     ensures { (test : Test) → IsWritable test → reading (test_text test) ≡ Ok test }
+{}
+
+/// A test that was read has its numbers within their bounds, and one byte of input for each place of
+/// its regions.
+pub fn a_read_test_is_within_its_bounds()
+    ensures { (text : List ℕ) (test : Test) → reading text ≡ Ok test → IsBounded test }
 {}

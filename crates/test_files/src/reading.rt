@@ -24,7 +24,7 @@ fn read_json(alloc: Global, text: &[u8]) -> Result<Value, TestError>
     match Value::from_slice(alloc, text) {
         Ok(value) => Ok(value),
         Err(error) if error.is_memory() => Err(TestError::NoMemory),
-        Err(_) => Err(TestError::Refused(TestRefused::NotJson)),
+        Err(_) => Err(TestRefused::NotJson.into()),
     }
 }
 
@@ -35,15 +35,12 @@ fn read_value(alloc: Global, value: &Value) -> Result<Test, TestError>
     ensures refused { IfErr result (IsWhy (test_in (view value.now))) }
 {
     if !value.is_object() {
-        return Err(TestError::Refused(TestRefused::Kind));
+        return Err(TestRefused::Kind.into());
     }
     if !has_keys(value) {
-        return Err(TestError::Refused(TestRefused::Missing));
+        return Err(TestRefused::Missing.into());
     }
-    match read_said(alloc, value)? {
-        Some(said) => said.decoded(alloc),
-        None => Err(TestError::Refused(TestRefused::Kind)),
-    }
+    read_said(alloc, value)?.decoded(alloc)
 }
 
 /// Reads a test: a JSON object of at most 16 mebibytes with the keys that `write_test` writes, in
@@ -57,7 +54,7 @@ pub fn read_test(alloc: Global, text: &[u8]) -> Result<Test, TestError>
     ensures refused { IfErr result (IsWhy (reading text.now)) }
 {
     if MOST_BYTES < text.len() {
-        return Err(TestError::Refused(TestRefused::TooBig));
+        return Err(TestRefused::TooBig.into());
     }
     let value = read_json(alloc, text)?;
     read_value(alloc, &value)

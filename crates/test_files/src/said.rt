@@ -1,10 +1,10 @@
 //! What the keys of a test say.
 
-ghost use Rattle.std.specs.Prelude.{◌≡◌, ◌==◌, IfErr, IfOk, Ok, length, option_map, sum_by};
+ghost use Rattle.std.specs.Prelude.{◌≡◌, ◌==◌, IfErr, IfOk, Ok, Some, sum_by};
 ghost use Rattle.hex.specs.Hex.{decode_of};
 ghost use Rattle.serde_json.specs.View.{view};
 ghost use Rattle.test_files.specs.Reading.{said_in, test_with_bytes};
-ghost use Rattle.test_files.specs.Refusals.{IsNoHex, IsWhy};
+ghost use Rattle.test_files.specs.Refusals.{IsNoHex, IsOfNoForm, IsWhy};
 ghost use Rattle.test_files.specs.Seen.{said_seen};
 
 use crate::fields::{end_at, path_at, read_between, read_text, regions_at};
@@ -15,7 +15,7 @@ use elf_load::{Region, Regions};
 use hex::FromHexError;
 use rv_decode::{End, PathStep};
 use serde_json::Value;
-use std::alloc::{AllocError as NoMemory, Global};
+use std::alloc::Global;
 use tool_io::Bytes;
 
 /// The most that a leaf's rank may be: up to here a float has each integer.
@@ -38,34 +38,19 @@ pub(crate) struct Said<'a> {
 
 /// What the keys say, where each has a value of its form.
 #[tactic(auto, unfolding(crate::specs::Reading::said_in))]
-pub(crate) fn read_said<'a>(alloc: Global, value: &'a Value) -> Result<Option<Said<'a>>, NoMemory>
-    ensures { IfOk result (λ found. option_map said_seen found ≡ said_in (view value.now)) }
+pub(crate) fn read_said<'a>(alloc: Global, value: &'a Value) -> Result<Said<'a>, TestError>
+    ensures read { IfOk result (λ said. said_in (view value.now) ≡ Some (said_seen said)) }
+    ensures refused { IfErr result (IsOfNoForm (said_in (view value.now))) }
 {
-    let Some(_) = read_between(value, "format", 1, 1) else {
-        return Ok(None);
-    };
-    let Some(end) = end_at(value) else {
-        return Ok(None);
-    };
-    let Some(input) = read_text(value, "input") else {
-        return Ok(None);
-    };
-    let Some(leaf) = read_between(value, "leaf", 0, MOST_LEAF) else {
-        return Ok(None);
-    };
-    let Some(output) = read_text(value, "output") else {
-        return Ok(None);
-    };
-    let Some(path) = path_at(alloc, value)? else {
-        return Ok(None);
-    };
-    let Some(regions) = regions_at(alloc, value)? else {
-        return Ok(None);
-    };
-    let Some(steps) = read_between(value, "steps", 1, MOST_STEPS) else {
-        return Ok(None);
-    };
-    Ok(Some(Said {
+    let _format = read_between(value, "format", 1, 1).ok_or(TestRefused::Kind)?;
+    let end = end_at(value).ok_or(TestRefused::Kind)?;
+    let input = read_text(value, "input").ok_or(TestRefused::Kind)?;
+    let leaf = read_between(value, "leaf", 0, MOST_LEAF).ok_or(TestRefused::Kind)?;
+    let output = read_text(value, "output").ok_or(TestRefused::Kind)?;
+    let path = path_at(alloc, value)?.ok_or(TestRefused::Kind)?;
+    let regions = regions_at(alloc, value)?.ok_or(TestRefused::Kind)?;
+    let steps = read_between(value, "steps", 1, MOST_STEPS).ok_or(TestRefused::Kind)?;
+    Ok(Said {
         end,
         input,
         leaf: leaf as usize,
@@ -73,7 +58,7 @@ pub(crate) fn read_said<'a>(alloc: Global, value: &'a Value) -> Result<Option<Sa
         path,
         regions,
         steps: steps as u32,
-    }))
+    })
 }
 
 /// The bytes that the hexadecimal digits write.
@@ -84,7 +69,7 @@ fn decode(alloc: Global, digits: &str) -> Result<Vec<u8>, TestError>
     match hex::decode(alloc, digits) {
         Ok(bytes) => Ok(bytes),
         Err(FromHexError::OutOfMemory) => Err(TestError::NoMemory),
-        Err(_) => Err(TestError::Refused(TestRefused::Hex)),
+        Err(_) => Err(TestRefused::Hex.into()),
     }
 }
 
@@ -112,7 +97,7 @@ impl Said<'_> {
         let input = decode(alloc, self.input)?;
         let output = decode(alloc, self.output)?;
         if !have_bytes(&self.regions, input.len()) {
-            return Err(TestError::Refused(TestRefused::Length));
+            return Err(TestRefused::Length.into());
         }
         Ok(Test {
             leaf: self.leaf,

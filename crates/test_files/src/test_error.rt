@@ -1,7 +1,7 @@
 //! Why a test was not read.
 
 use crate::refused::TestRefused;
-use std::alloc::{AllocError, AllocFailed};
+use std::alloc::AllocError;
 use thiserror::Error;
 
 /// Why a test was not read.
@@ -31,17 +31,6 @@ impl From<AllocError> for TestError {
     ghost from_gives = { λ _ error. error ≡ NoMemory };
 
     fn from(_want: AllocError) -> TestError {
-        TestError::NoMemory
-    }
-}
-
-impl<T: Drop> From<AllocFailed<T>> for TestError {
-    ghost use Rattle.std.specs.Prelude.{◌≡◌};
-    ghost use Rattle.test_files.specs.declared.test_error.TestError.TheVariants.{NoMemory};
-
-    ghost from_gives = { λ _ error. error ≡ NoMemory };
-
-    fn from(_want: AllocFailed<T>) -> TestError {
         TestError::NoMemory
     }
 }

@@ -1,1 +1,2 @@
+mod reads;
 mod writes;

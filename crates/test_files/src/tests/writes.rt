@@ -7,13 +7,13 @@ use std::alloc::{AllocError as NoMemory, Global};
 use std::test::Fail;
 use tool_io::Bytes;
 
-const ENDED: &str =
+pub(super) const ENDED: &str =
     "{\"end\":\"exit 7\",\"format\":1,\"input\":\"00\",\"leaf\":0,\"output\":\"\",\"path\":\"\",\"regions\":[\"00011000:1\"],\"steps\":3}\n";
 
-const TRAPPED: &str =
+pub(super) const TRAPPED: &str =
     "{\"end\":\"trap LoadAccess\",\"format\":1,\"input\":\"00ff41\",\"leaf\":12,\"output\":\"0a\",\"path\":\"TN@00010028\",\"regions\":[\"00011000:1\",\"fffffffe:2\"],\"steps\":4}\n";
 
-const RUNNING: &str =
+pub(super) const RUNNING: &str =
     "{\"end\":\"running\",\"format\":1,\"input\":\"10\",\"leaf\":0,\"output\":\"\",\"path\":\"N\",\"regions\":[\"00011000:1\"],\"steps\":50}\n";
 
 /// A test of leaf 0 with one input byte and one step of a path at most.

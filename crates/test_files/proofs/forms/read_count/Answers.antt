@@ -3,15 +3,15 @@ use Rattle.std.specs.Char.{digit_value}
 use Rattle.std.proofs.lemmas.Int.Digits.{digits_more, digits_value_more}
 use Rattle.test_files.specs.Forms.{has_leading_zero}
 use Rattle.test_files.proofs.Counts.{count_absent, count_there, nothing, room, too_long, zero_first}
-use Rattle.test_files.proofs.forms.read_count.Goals.{then-is_empty-via-then-is_empty, then-is_empty-via-else-is_empty+then-digits-gt4, then-is_empty-via-else-is_empty+else-digits-gt4+then-has_leading_zero}
+use Rattle.test_files.proofs.forms.read_count.Goals.{then-is_empty-via-then-is_empty, then-is_empty-via-else-is_empty+then-digits-gt-MOST_DIGITS, then-is_empty-via-else-is_empty+else-digits-gt-MOST_DIGITS+then-has_leading_zero}
 use Rattle.test_files.proofs.forms.read_count.Goals as goal
 
 pub returns-then-is_empty : goal.returns-then-is_empty
 returns-then-is_empty c =
     elim c.then-is_empty.branch [
       | then-is_empty-via-then-is_empty w ↦ search (rules, nothing c.args.digits.now)
-      | then-is_empty-via-else-is_empty+then-digits-gt4 w ↦ search (rules, too_long c.args.digits.now)
-      | then-is_empty-via-else-is_empty+else-digits-gt4+then-has_leading_zero w ↦ search (rules, arith, zero_first c.args.digits.now)
+      | then-is_empty-via-else-is_empty+then-digits-gt-MOST_DIGITS w ↦ search (rules, too_long c.args.digits.now)
+      | then-is_empty-via-else-is_empty+else-digits-gt-MOST_DIGITS+then-has_leading_zero w ↦ search (rules, arith, zero_first c.args.digits.now)
     ]
 
 pub overflow_mul-value : goal.overflow_mul-value
