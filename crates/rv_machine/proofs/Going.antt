@@ -9,7 +9,7 @@ use Rattle.rv_machine.specs.Progress.{Progress, IsAt}
 use Rattle.rv_machine.specs.declared.run.Ran.{Ran}
 
 -- one step more
-run_more : (s : State) (n : ℕ) → run_from s (n + 1) ≡ continued (run_from s n) (run_from s n).end
+pub run_more : (s : State) (n : ℕ) → run_from s (n + 1) ≡ continued (run_from s n) (run_from s n).end
 unfolding run_from
 run_more s n = let next : n + 1 ≡ suc n = omega arith in ap (run_from s) next
 
@@ -46,7 +46,7 @@ continued_ended : (r : Run) (end : Option End) (e : End) → end ≡ Some e → 
 continued_ended r None e is = absurd (cc is)
 continued_ended r (Some end) e is = refl
 
-run_ended : (s : State) (n k : ℕ) (e : End) → (run_from s n).end ≡ Some e → run_from s (n + k) ≡ run_from s n
+pub run_ended : (s : State) (n k : ℕ) (e : End) → (run_from s n).end ≡ Some e → run_from s (n + k) ≡ run_from s n
 run_ended s n zero e ended = let none : n + 0 ≡ n = omega arith in ap (run_from s) none
 run_ended s n (suc k) e ended =
     let before = run_ended s n k e ended in
@@ -89,7 +89,7 @@ pub still_going : (end : Option End) → is_some end ≡ false → end ≡ None
 still_going None is = refl
 still_going (Some e) is = absurd (cc is)
 
-last_end : (end : Option End) → is_some end ≡ true → (e : End) × (end ≡ Some e)
+pub last_end : (end : Option End) → is_some end ≡ true → (e : End) × (end ≡ Some e)
 last_end None is = absurd (cc is)
 last_end (Some e) is = (e, refl)
 

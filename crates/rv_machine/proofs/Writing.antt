@@ -75,8 +75,8 @@ pub byte-written : (l : List (ℕ × Page)) (i : ℕ) (e : ℕ × Page) (address
 unfolding byte_of
 byte-written l i e address b order at here small =
     fun_ext (λ x.
-      ap (λ o. byte_in o (x % 256)) (get-written l (address / 256) i e order at here (set e.1.bytes (address % 256) b) (x / 256))
-      ∙ byte_case (x / 256 == address / 256) e.1 (get (from_entries l) (x / 256)) x address b small refl (get-same l (address / 256) i e order at here (x / 256)))
+    ap (λ o. byte_in o (x % 256)) (get-written l (address / 256) i e order at here (set e.1.bytes (address % 256) b) (x / 256))
+    ∙ byte_case (x / 256 == address / 256) e.1 (get (from_entries l) (x / 256)) x address b small refl (get-same l (address / 256) i e order at here (x / 256)))
 
 -- on a page that isn't mapped nothing can be written
 pub no_write : (pages : Pages) (l : List (ℕ × Page)) (address : ℕ) → from_entries l ≡ pages → find nat_cmp (address / 256) l ≡ None → get pages (address / 256) ≡ None

@@ -3,8 +3,9 @@ use Rattle.std.specs.Prelude.{◌≡◌, ℕ, Result, Ok, Err}
 use Rattle.rv_decode.specs.declared.ends.Trap.{Trap}
 use Rattle.rv_decode.specs.declared.instr.Instr.{Instr}
 use Rattle.rv_decode.specs.declared.instr.Instr.TheVariants.{Lui, Auipc, Jal, Jalr, Branch, Load, Store, Immediate, ShiftImmediate, Binary, Fence, Ecall, Ebreak}
-use Rattle.rv_spec.specs.Machine.{State, Outcome, x}
+use Rattle.rv_spec.specs.Machine.{State, Outcome, fetch, x}
 use Rattle.rv_spec.specs.Machine as machine
+use Rattle.rv_machine.specs.Pages.{byte_on, flags_on}
 use Rattle.rv_machine.specs.Standings.{Standing, state_of}
 use Rattle.rv_machine.specs.declared.step.Step.{Step}
 use Rattle.rv_machine.specs.declared.step.Step.TheVariants.{Running, Ended}
@@ -34,3 +35,7 @@ Records s Ebreak = ⊥
 abbrev pub RecordsFetched : State → Result Instr Trap → Type 0
 RecordsFetched s (Ok instruction) = Records s instruction
 RecordsFetched s (Err trap) = ⊥
+
+-- and it comes next
+abbrev pub RecordsNext : Standing → Type 0
+RecordsNext h = RecordsFetched (state_of h) (fetch (flags_on h.pages) (byte_on h.pages) h.pc)

@@ -125,7 +125,10 @@ fn quotient_signed(a: u32, b: u32) -> u32
     if b == 0 {
         return u32::MAX;
     }
-    with_sign(differ(is_negative(a), is_negative(b)), magnitude(a) / magnitude(b))
+    with_sign(
+        differ(is_negative(a), is_negative(b)),
+        magnitude(a) / magnitude(b),
+    )
 }
 
 /// Has the sign of `a`; `a` where `b` is 0.

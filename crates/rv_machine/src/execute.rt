@@ -10,7 +10,6 @@ ghost use Rattle.rv_machine.specs.Steps.{Records, outcome_of};
 
 use crate::arithmetic::{combined, passes, shifted, with_immediate};
 use crate::call::call;
-
 use crate::hart::Hart;
 use crate::step::{Step, trapped};
 use crate::transfer::{load, store};
@@ -57,7 +56,12 @@ fn branch(hart: &mut Hart, taken: bool, target: u32) -> Result<Step, NoMemory>
 }
 
 /// Jumps to the sum of a register and an offset, with its lowest bit cleared.
-fn jump_register(hart: &mut Hart, rd: Register, rs1: Register, offset: u32) -> Result<Step, NoMemory>
+fn jump_register(
+    hart: &mut Hart,
+    rd: Register,
+    rs1: Register,
+    offset: u32,
+) -> Result<Step, NoMemory>
     ensures ok { IfOk result (λ step. outcome_of hart.new step ≡ machine.execute (state_of hart.old) (Jalr rd rs1 offset)) }
     ensures err { OnErr result (hart.new ≡ hart.old) }
 {
@@ -86,7 +90,11 @@ pub fn execute(hart: &mut Hart, instr: Instr) -> Result<Step, NoMemory>
             rs1,
             rs2,
             offset,
-        } => branch(hart, passes(test, hart.x(rs1), hart.x(rs2)), hart.address(offset)),
+        } => branch(
+            hart,
+            passes(test, hart.x(rs1), hart.x(rs2)),
+            hart.address(offset),
+        ),
         Instr::Load {
             width,
             rd,

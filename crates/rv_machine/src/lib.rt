@@ -10,6 +10,7 @@
 //! - `filling`: the input bytes.
 //! - `machine`: a run, step by step.
 //! - `run`: so many steps of a run.
+//! - `laws`: what the definitions say of runs.
 #![tactic(auto)]
 
 mod arithmetic;
@@ -17,6 +18,7 @@ mod call;
 mod execute;
 mod filling;
 mod hart;
+pub mod laws;
 mod machine;
 mod memory;
 mod run;

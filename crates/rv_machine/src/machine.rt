@@ -2,15 +2,13 @@
 
 ghost use Rattle.std.specs.Prelude.{◌≡◌, None, length, IfErr, IfOk, OnOk, OnErr};
 ghost use Rattle.elf_load.specs.Fits.{unfit};
-ghost use Rattle.rv_spec.specs.Machine.{fetch};
+ghost use Rattle.rv_spec.specs.Machine as machine;
 ghost use Rattle.rv_spec.specs.Memory.{count_of};
 ghost use Rattle.rv_spec.specs.Runs.{Run, continued, run};
-ghost use Rattle.rv_machine.specs.Pages.{byte_on, flags_on};
 ghost use Rattle.rv_machine.specs.Progress.{IsAt, answer_of};
 ghost use Rattle.rv_machine.specs.Ends.{IsRanOf};
 ghost use Rattle.rv_machine.specs.Standings.{state_of};
-ghost use Rattle.rv_machine.specs.Steps.{RecordsFetched, outcome_of};
-ghost use Rattle.rv_spec.specs.Machine as machine;
+ghost use Rattle.rv_machine.specs.Steps.{RecordsNext, outcome_of};
 
 use crate::execute::execute;
 use crate::filling::place_input;
@@ -18,7 +16,7 @@ use crate::hart::Hart;
 use crate::run::Ran;
 use crate::step::{Step, trapped};
 use elf_load::{Image, Regions};
-use rv_decode::{End, PathStep};
+use rv_decode::End;
 use std::alloc::{AllocError as NoMemory, Global};
 use std::marker::Model;
 
@@ -45,7 +43,7 @@ impl Model for Machine {
 fn advance(hart: &mut Hart) -> Result<Step, NoMemory>
     ensures ok { IfOk result (λ step. outcome_of hart.new step ≡ machine.next (state_of hart.old)) }
     ensures err { OnErr result (hart.new ≡ hart.old) }
-    ensures records { IfErr result (λ _. RecordsFetched (state_of hart.old) (fetch (flags_on hart.old.pages) (byte_on hart.old.pages) hart.old.pc)) }
+    ensures records { IfErr result (λ _. RecordsNext hart.old) }
 {
     match hart.fetch() {
         Ok(instr) => execute(hart, instr),
@@ -59,7 +57,12 @@ impl Machine {
     /// # Errors
     ///
     /// Where memory is wanting.
-    pub fn start(alloc: Global, image: &Image, regions: &Regions, input: &[u8]) -> Result<Machine, NoMemory>
+    pub fn start(
+        alloc: Global,
+        image: &Image,
+        regions: &Regions,
+        input: &[u8],
+    ) -> Result<Machine, NoMemory>
         requires fit { unfit image.now regions.now ≡ None }
         requires length { length input.now ≡ count_of regions.now }
         ensures { IfOk result (λ machine. IsAt machine (run image.now regions.now input.now 0)) }
@@ -85,7 +88,7 @@ impl Machine {
         ensures ok { OnOk result ((r : Run) → IsAt self.old r → IsAt self.new (continued r r.end)) }
         ensures answer { IfOk result (λ step. step ≡ answer_of self.new.end) }
         ensures err { OnErr result (self.new ≡ self.old) }
-        ensures records { IfErr result (λ _. RecordsFetched (state_of self.old.standing) (fetch (flags_on self.old.standing.pages) (byte_on self.old.standing.pages) self.old.standing.pc)) }
+        ensures records { IfErr result (λ _. RecordsNext self.old.standing) }
     {
         if let Some(end) = self.end {
             return Ok(Step::Ended(end));
