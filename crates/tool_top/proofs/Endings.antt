@@ -1,6 +1,6 @@
 -- A plan that was made, and then carried out.
 use Rattle.std.proofs.Common.{◌≡◌, ◌≢◌, ◌⊎◌, ℕ, List, [], inl, inr, refl, sym, ◌∙◌, ap, subst, take, arith}
-use Rattle.std.specs.Prelude.{Option, None, Some, IfSome, option_and_then}
+use Rattle.std.specs.Prelude.{Option, None, Some, IfSome, if◌then◌else◌, ◌==◌}
 use Rattle.std.specs.Option.{option_map}
 use Rattle.tool_io.specs.Told.{Told, Seen, Put, Deeds, Gives, after, says, puts_all, IsPrefix, names_since}
 use Rattle.tool_io.specs.Causes.{Rose}
@@ -8,18 +8,20 @@ use Rattle.report_text.specs.declared.event.Event.{Event}
 use Rattle.tool_io.proofs.Deeds.{then_says, then_all, IsPrefix-nothing, IsPrefix-whole}
 use Rattle.tool_io.proofs.Since.{names_since-after, puts_since-after, said_since-after}
 use Rattle.elf_load.specs.declared.region.Region.{Region}
-use Rattle.tool_words.specs.Job.{Job, Explore}
+use Rattle.tool_words.specs.Job.{Job, Explore, Replay}
 use Rattle.tool_top.specs.Lines.{no_memory}
-use Rattle.tool_top.specs.Plan.{Plan, names_of, IsPlan, IsPlanned, IsReported, Means, OnlyReads, most_bytes}
+use Rattle.tool_top.specs.Plan.{Plan, names_of, IsMisfit, IsPlan, IsPlanned, IsReported, Means, OnlyReads, most_bytes}
 use Rattle.elf_load.specs.Images.{Image, Loads}
 use Rattle.elf_load.proofs.OneImage.{one_image}
 use Rattle.sym_state.specs.Programs.{Program, regions_of}
 use Rattle.tool_words.specs.declared.limit.Budgets.{Budgets}
 use Rattle.tool_top.specs.Later.{IsTaken, IsInput}
+use Rattle.replay_core.specs.Replays.{IsAsSaid}
+use Rattle.tool_top.proofs.ReplayEndings.{given_held, replay_fault, replay_kept, replay_no_job, replay_misfit, replay_no_program, replay_no_test, replay_other, replay_puts, replay_same}
 use Rattle.tool_top.specs.Reports.{Entry, IsReport, files_of, summary_of}
-use Rattle.tool_top.specs.Answer.{Answered, status_of, IsAnswered, IsFaulted, IsWanting, IsCarriedOut, IsCutByFault, IsWritten, OnWritten, HoldsProgram, HoldsNoProgram, HoldsMisfit}
+use Rattle.tool_top.specs.Answer.{Answered, status_of, IsAnswered, IsFaulted, IsWanting, IsCarriedOut, IsCutByFault, IsWritten, OnWritten, OnReplayed, HoldsProgram, HoldsNoProgram, HoldsMisfit, HoldsNoTest, HoldsOther, HoldsTest, verdict_status}
 use Rattle.tool_top.specs.declared.verdict.Verdict.{Verdict}
-use Rattle.tool_top.specs.declared.verdict.Verdict.TheVariants.{Done, NoJob, Refused, Unfit, ReadFault}
+use Rattle.tool_top.specs.declared.verdict.Verdict.TheVariants.{Done, Differs, NoJob, Refused, Unfit, ReadFault, TestRefused}
 use Rattle.tool_top.specs.declared.verdict.Ending.{Ending}
 use Rattle.tool_top.specs.declared.verdict.Ending.TheVariants.{Planned, WriteFault, NoMemory}
 
@@ -35,6 +37,7 @@ rose_whole old mid new same rose = rw (← same) rose
 means_names : (told : Told) (job : Option Job) (plan : Plan) → Means told job plan → IsPrefix plan.names (names_of job)
 means_names told None plan is = rw is (IsPrefix-whole _)
 means_names told (Some (Explore program out asked budgets workers)) plan (bytes, given, names, treated) = rw names (IsPrefix-whole _)
+means_names told (Some (Replay program test)) plan (bytes, text, given, also, names, treated) = rw names (IsPrefix-whole _)
 
 pub plan_names : (old new : Seen) (job : Option Job) (plan : Plan) → IsPlan old new job plan → IsPrefix plan.names (names_of job)
 plan_names old new job plan (inl means) = means_names old.told job plan means
@@ -65,28 +68,37 @@ fault_rose old new program out asked budgets workers plan fault (inl (bytes, giv
 fault_rose old new program out asked budgets workers plan fault (inl (bytes, given, names, inr (inr misfit))) = let other = misfit.is in cc
 fault_rose old new program out asked budgets workers plan fault (inr (rose, read)) = rose
 
-no_job_none : (old new : Seen) (program out : List ℕ) (asked : List Region) (budgets : Budgets) (workers : ℕ) (plan : Plan) → plan.verdict ≡ NoJob → IsPlan old new (Some (Explore program out asked budgets workers)) plan → ⊥
-no_job_none old new program out asked budgets workers plan no_job (inl (bytes, given, names, inl report)) = let other = report.done in cc
-no_job_none old new program out asked budgets workers plan no_job (inl (bytes, given, names, inr (inl refusal))) = let other = refusal.refused in cc
-no_job_none old new program out asked budgets workers plan no_job (inl (bytes, given, names, inr (inr misfit))) = let other = misfit.is in cc
-no_job_none old new program out asked budgets workers plan no_job (inr (rose, (begins, is))) = let other : plan.verdict ≡ ReadFault = ap (λ (p : Plan). p.verdict) is in cc
+-- a plan to explore has one of four verdicts
+explored_only : (old new : Seen) (program out : List ℕ) (asked : List Region) (budgets : Budgets) (workers : ℕ) (plan : Plan) → IsPlan old new (Some (Explore program out asked budgets workers)) plan
+    → (plan.verdict ≡ Done) ⊎ (plan.verdict ≡ Refused) ⊎ (plan.verdict ≡ Unfit) ⊎ (plan.verdict ≡ ReadFault)
+explored_only old new program out asked budgets workers plan (inl (bytes, given, names, inl report)) = inl report.done
+explored_only old new program out asked budgets workers plan (inl (bytes, given, names, inr (inl refusal))) = inr (inl refusal.refused)
+explored_only old new program out asked budgets workers plan (inl (bytes, given, names, inr (inr misfit))) = inr (inr (inl misfit.is))
+explored_only old new program out asked budgets workers plan (inr (rose, (begins, is))) = inr (inr (inr (ap (λ (p : Plan). p.verdict) is)))
+
+not_explored : (old new : Seen) (program out : List ℕ) (asked : List Region) (budgets : Budgets) (workers : ℕ) (plan : Plan) (verdict : Verdict) → plan.verdict ≡ verdict
+    → verdict ≢ Done → verdict ≢ Refused → verdict ≢ Unfit → verdict ≢ ReadFault → IsPlan old new (Some (Explore program out asked budgets workers)) plan → ⊥
+not_explored old new program out asked budgets workers plan verdict is done refused unfit fault planned = elim (explored_only old new program out asked budgets workers plan planned) [
+  | inl it ↦ done (sym is ∙ it)
+  | inr (inl it) ↦ refused (sym is ∙ it)
+  | inr (inr (inl it)) ↦ unfit (sym is ∙ it)
+  | inr (inr (inr it)) ↦ fault (sym is ∙ it)
+]
 
 -- without a job the plan is one verdict or another, and puts nothing
 none_puts : (old new : Seen) (plan : Plan) → IsPlan old new None plan → plan.puts ≡ []
 none_puts old new plan (inl is) = ap (λ (p : Plan). p.puts) is
 none_puts old new plan (inr (rose, (begins, is))) = ap (λ (p : Plan). p.puts) is
 
-none_done : (old new : Seen) (plan : Plan) → plan.verdict ≡ Done → IsPlan old new None plan → ⊥
-none_done old new plan done (inl is) = let other : plan.verdict ≡ NoJob = ap (λ (p : Plan). p.verdict) is in cc
-none_done old new plan done (inr (rose, (begins, is))) = let other : plan.verdict ≡ ReadFault = ap (λ (p : Plan). p.verdict) is in cc
+none_only : (old new : Seen) (plan : Plan) → IsPlan old new None plan → (plan.verdict ≡ NoJob) ⊎ (plan.verdict ≡ ReadFault)
+none_only old new plan (inl is) = inl (ap (λ (p : Plan). p.verdict) is)
+none_only old new plan (inr (rose, (begins, is))) = inr (ap (λ (p : Plan). p.verdict) is)
 
-none_refused : (old new : Seen) (plan : Plan) → plan.verdict ≡ Refused → IsPlan old new None plan → ⊥
-none_refused old new plan refused (inl is) = let other : plan.verdict ≡ NoJob = ap (λ (p : Plan). p.verdict) is in cc
-none_refused old new plan refused (inr (rose, (begins, is))) = let other : plan.verdict ≡ ReadFault = ap (λ (p : Plan). p.verdict) is in cc
-
-none_unfit : (old new : Seen) (plan : Plan) → plan.verdict ≡ Unfit → IsPlan old new None plan → ⊥
-none_unfit old new plan unfit (inl is) = let other : plan.verdict ≡ NoJob = ap (λ (p : Plan). p.verdict) is in cc
-none_unfit old new plan unfit (inr (rose, (begins, is))) = let other : plan.verdict ≡ ReadFault = ap (λ (p : Plan). p.verdict) is in cc
+none_other : (old new : Seen) (plan : Plan) (verdict : Verdict) → plan.verdict ≡ verdict → verdict ≢ NoJob → verdict ≢ ReadFault → IsPlan old new None plan → ⊥
+none_other old new plan verdict is no_job fault planned = elim (none_only old new plan planned) [
+  | inl it ↦ no_job (sym is ∙ it)
+  | inr it ↦ fault (sym is ∙ it)
+]
 
 -- a plan that puts files is done
 some_puts_done : (old new : Seen) (job : Option Job) (plan : Plan) → plan.puts ≢ [] → IsPlan old new job plan → plan.verdict ≡ Done
@@ -95,6 +107,7 @@ some_puts_done old new (Some (Explore program out asked budgets workers)) plan s
 some_puts_done old new (Some (Explore program out asked budgets workers)) plan some (inl (bytes, given, names, inr (inl refusal))) = absurd (some refusal.no_files)
 some_puts_done old new (Some (Explore program out asked budgets workers)) plan some (inl (bytes, given, names, inr (inr misfit))) = absurd (some misfit.no_files)
 some_puts_done old new (Some (Explore program out asked budgets workers)) plan some (inr (rose, (begins, is))) = absurd (some (ap (λ (p : Plan). p.puts) is))
+some_puts_done old new (Some (Replay program test)) plan some planned = absurd (some (replay_puts old new program test plan planned))
 
 pub answered : (old mid new : Seen) (job : Option Job) (verdict : Verdict) (puts : List Put) (text : List ℕ) → IsPlanned old mid job verdict puts text → mid.writes ≡ old.writes → new.reads ≡ mid.reads → IsCarriedOut mid new verdict puts text [] → IsAnswered old new job verdict
 answered old mid new job verdict puts text planned writes reads out = record {
@@ -180,67 +193,96 @@ written old new name out bytes asked budgets workers Claim plan claims given rep
 
 pub done_written : (old new : Seen) (job : Option Job) (Claim : Program → Budgets → ℕ → List Event → List Entry → Type 0)
     → ((p : Program) (budgets : Budgets) (workers : ℕ) (events : List Event) (entries : List Entry) → IsReport p budgets workers events entries → Claim p budgets workers events entries) → IsAnswered old new job Done → OnWritten old.told new.told job Claim
-done_written old new None Claim claims h = none_done old new h.plan h.is h.planned
+done_written old new None Claim claims h = none_other old new h.plan Done h.is (λ e. cc) (λ e. cc) h.planned
 done_written old new (Some (Explore program out asked budgets workers)) Claim claims h =
     let r = done_reported old new program out asked budgets workers h.plan h.is h.planned in
     written old new program out r.0 asked budgets workers Claim h.plan (λ p. claims p budgets workers) r.1 r.2 h.out
+done_written old new (Some (Replay program test)) Claim claims h = tt
+
+-- what was the same, and what was not
+pub done_same : (old new : Seen) (job : Option Job) → IsAnswered old new job Done → OnReplayed old.told job IsAsSaid
+done_same old new None h = none_other old new h.plan Done h.is (λ e. cc) (λ e. cc) h.planned
+done_same old new (Some (Explore program out asked budgets workers)) h = tt
+done_same old new (Some (Replay program test)) h = replay_same old new program test h.plan h.is h.planned
+
+pub differs_other : (old new : Seen) (job : Option Job) → IsAnswered old new job Differs → HoldsOther old.told job
+differs_other old new None h = none_other old new h.plan Differs h.is (λ e. cc) (λ e. cc) h.planned
+differs_other old new (Some (Explore program out asked budgets workers)) h = not_explored old new program out asked budgets workers h.plan Differs h.is (λ e. cc) (λ e. cc) (λ e. cc) (λ e. cc) h.planned
+differs_other old new (Some (Replay program test)) h = replay_other old new program test h.plan h.is h.planned
+
+-- what is refused is no test
+pub refused_no_test : (old new : Seen) (job : Option Job) → IsAnswered old new job TestRefused → HoldsNoTest old.told job
+refused_no_test old new None h = none_other old new h.plan TestRefused h.is (λ e. cc) (λ e. cc) h.planned
+refused_no_test old new (Some (Explore program out asked budgets workers)) h = not_explored old new program out asked budgets workers h.plan TestRefused h.is (λ e. cc) (λ e. cc) (λ e. cc) (λ e. cc) h.planned
+refused_no_test old new (Some (Replay program test)) h = replay_no_test old new program test h.plan h.is h.planned
 
 -- what is refused is no program
 pub refused_no_program : (old new : Seen) (job : Option Job) → IsAnswered old new job Refused → HoldsNoProgram old.told job
-refused_no_program old new None h = none_refused old new h.plan h.is h.planned
+refused_no_program old new None h = none_other old new h.plan Refused h.is (λ e. cc) (λ e. cc) h.planned
 refused_no_program old new (Some (Explore program out asked budgets workers)) h = refused_refusal old new program out asked budgets workers h.plan h.is h.planned
+refused_no_program old new (Some (Replay program test)) h = replay_no_program old new program test h.plan h.is h.planned
 
 -- what doesn't fit is a program for another input
 pub unfit_holds : (old new : Seen) (job : Option Job) → IsAnswered old new job Unfit → HoldsMisfit old.told job
-unfit_holds old new None h = none_unfit old new h.plan h.is h.planned
+unfit_holds old new None h = none_other old new h.plan Unfit h.is (λ e. cc) (λ e. cc) h.planned
 unfit_holds old new (Some (Explore program out asked budgets workers)) h = unfit_misfit old new program out asked budgets workers h.plan h.is h.planned
+unfit_holds old new (Some (Replay program test)) h = replay_misfit old new program test h.plan h.is h.planned
 
 -- Each status is that of one ending.
-pub answered_done : (old new : Seen) (job : Option Job) (ending : Ending) (status : ℕ) → Answered old new job ending → status ≡ status_of ending → status ≡ 0 → IsAnswered old new job Done
-answered_done old new job (Planned Done) status h is zero = h
-answered_done old new job (Planned NoJob) status h is zero = absurd (omega (arith, is, zero))
-answered_done old new job (Planned Refused) status h is zero = absurd (omega (arith, is, zero))
-answered_done old new job (Planned Unfit) status h is zero = absurd (omega (arith, is, zero))
-answered_done old new job (Planned ReadFault) status h is zero = absurd (omega (arith, is, zero))
-answered_done old new job WriteFault status h is zero = absurd (omega (arith, is, zero))
-answered_done old new job NoMemory status h is zero = absurd (omega (arith, is, zero))
+abbrev verdict_of : ℕ → Option Verdict
+verdict_of status =
+    if status == 0 then Some Done else if status == 1 then Some Differs else if status == 2 then Some NoJob else if status == 3 then Some Refused
+    else if status == 4 then Some Unfit else if status == 5 then Some ReadFault else if status == 7 then Some TestRefused else None
 
-pub answered_refused : (old new : Seen) (job : Option Job) (ending : Ending) (status : ℕ) → Answered old new job ending → status ≡ status_of ending → status ≡ 3 → IsAnswered old new job Refused
-answered_refused old new job (Planned Done) status h is three = absurd (omega (arith, is, three))
-answered_refused old new job (Planned NoJob) status h is three = absurd (omega (arith, is, three))
-answered_refused old new job (Planned Refused) status h is three = h
-answered_refused old new job (Planned Unfit) status h is three = absurd (omega (arith, is, three))
-answered_refused old new job (Planned ReadFault) status h is three = absurd (omega (arith, is, three))
-answered_refused old new job WriteFault status h is three = absurd (omega (arith, is, three))
-answered_refused old new job NoMemory status h is three = absurd (omega (arith, is, three))
+says_verdict : (verdict : Verdict) → verdict_of (verdict_status verdict) ≡ Some verdict
+says_verdict Done = refl
+says_verdict Differs = refl
+says_verdict NoJob = refl
+says_verdict Refused = refl
+says_verdict Unfit = refl
+says_verdict ReadFault = refl
+says_verdict TestRefused = refl
 
-pub answered_unfit : (old new : Seen) (job : Option Job) (ending : Ending) (status : ℕ) → Answered old new job ending → status ≡ status_of ending → status ≡ 4 → IsAnswered old new job Unfit
-answered_unfit old new job (Planned Done) status h is four = absurd (omega (arith, is, four))
-answered_unfit old new job (Planned NoJob) status h is four = absurd (omega (arith, is, four))
-answered_unfit old new job (Planned Refused) status h is four = absurd (omega (arith, is, four))
-answered_unfit old new job (Planned Unfit) status h is four = h
-answered_unfit old new job (Planned ReadFault) status h is four = absurd (omega (arith, is, four))
-answered_unfit old new job WriteFault status h is four = absurd (omega (arith, is, four))
-answered_unfit old new job NoMemory status h is four = absurd (omega (arith, is, four))
+one_verdict : (verdict other : Verdict) (status : ℕ) → status ≡ verdict_status verdict → status ≡ verdict_status other → verdict ≡ other
+one_verdict verdict other status is also =
+    let both : Some verdict ≡ Some other = sym (says_verdict verdict) ∙ ap verdict_of (sym is ∙ also) ∙ says_verdict other in
+    cc
+
+no_verdict : (verdict : Verdict) (status : ℕ) → status ≡ verdict_status verdict → verdict_of status ≡ None → ⊥
+no_verdict verdict status is none =
+    let both : Some verdict ≡ None = sym (says_verdict verdict) ∙ ap verdict_of (sym is) ∙ none in
+    cc
+
+pub answered_as : (old new : Seen) (job : Option Job) (ending : Ending) (verdict : Verdict) (status : ℕ) → Answered old new job ending → status ≡ status_of ending → status ≡ verdict_status verdict → IsAnswered old new job verdict
+answered_as old new job (Planned other) verdict status h is means = subst (IsAnswered old new job) (one_verdict other verdict status is means) h
+answered_as old new job WriteFault verdict status h is means = absurd (no_verdict verdict status means (ap verdict_of is))
+answered_as old new job NoMemory verdict status h is means = absurd (no_verdict verdict status means (ap verdict_of is))
 
 pub answered_faulted : (old new : Seen) (job : Option Job) (ending : Ending) (status : ℕ) → Answered old new job ending → status ≡ status_of ending → status ≡ 6 → IsFaulted old new job
-answered_faulted old new job (Planned Done) status h is six = absurd (omega (arith, is, six))
-answered_faulted old new job (Planned NoJob) status h is six = absurd (omega (arith, is, six))
-answered_faulted old new job (Planned Refused) status h is six = absurd (omega (arith, is, six))
-answered_faulted old new job (Planned Unfit) status h is six = absurd (omega (arith, is, six))
-answered_faulted old new job (Planned ReadFault) status h is six = absurd (omega (arith, is, six))
+answered_faulted old new job (Planned verdict) status h is six = absurd (no_verdict verdict status is (ap verdict_of six))
 answered_faulted old new job WriteFault status h is six = h
 answered_faulted old new job NoMemory status h is six = absurd (omega (arith, is, six))
 
+-- there is no job, where that is said
+pub no_job_none : (old new : Seen) (job : Option Job) → IsAnswered old new job NoJob → job ≡ None
+no_job_none old new None h = refl
+no_job_none old new (Some (Explore program out asked budgets workers)) h = absurd (not_explored old new program out asked budgets workers h.plan NoJob h.is (λ e. cc) (λ e. cc) (λ e. cc) (λ e. cc) h.planned)
+no_job_none old new (Some (Replay program test)) h = absurd (replay_no_job old new program test h.plan h.is h.planned)
+
+-- a read fault was counted, where that is said
+none_fault : (old new : Seen) (plan : Plan) → plan.verdict ≡ ReadFault → IsPlan old new None plan → Rose old.reads new.reads
+none_fault old new plan fault (inl is) = let other : plan.verdict ≡ NoJob = ap (λ (p : Plan). p.verdict) is in cc
+none_fault old new plan fault (inr (rose, read)) = rose
+
+pub read_rose : (old new : Seen) (job : Option Job) → IsAnswered old new job ReadFault → Rose old.reads new.reads
+read_rose old new None h = none_fault old new h.plan h.is h.planned
+read_rose old new (Some (Explore program out asked budgets workers)) h = fault_rose old new program out asked budgets workers h.plan h.is h.planned
+read_rose old new (Some (Replay program test)) h = replay_fault old new program test h.plan h.is h.planned
+
 -- a write fault is answered only where there is a job
 pub faulted_job : (old new : Seen) (job : Option Job) → IsFaulted old new job → job ≢ None
-faulted_job old new None h is = none_done old new h.plan h.only_done h.planned
+faulted_job old new None h is = none_other old new h.plan Done h.only_done (λ e. cc) (λ e. cc) h.planned
 faulted_job old new (Some job) h is = cc
-
--- what a name gives is what it holds
-given_held : (most : ℕ) (name held given : List ℕ) (holds : Option (List ℕ → Option (List ℕ))) → option_map (take most) (option_and_then (λ (h : List ℕ → Option (List ℕ)). h name) holds) ≡ Some held → IfSome holds (λ h. option_map (take most) (h name) ≡ Some given) → given ≡ held
-given_held most name held given None is g = cc
-given_held most name held given (Some h) is g = cc
 
 -- a program that is taken is not refused
 held_not_refused : (told : Told) (job : Option Job) → HoldsProgram told job → HoldsNoProgram told job → ⊥
@@ -248,6 +290,7 @@ held_not_refused told None holds none = holds
 held_not_refused told (Some (Explore program out asked budgets workers)) (bytes, p, held, taken, fits) (given, gives, none) =
     let same = given_held most_bytes program bytes given told.holds held gives in
     none p.image (subst (λ (b : List ℕ). IsTaken b p.image) (sym same) taken)
+held_not_refused told (Some (Replay program test)) holds none = holds
 
 -- nor does it not fit
 held_not_unfit : (told : Told) (job : Option Job) → HoldsProgram told job → HoldsMisfit told job → ⊥
@@ -256,15 +299,39 @@ held_not_unfit told (Some (Explore program out asked budgets workers)) (bytes, p
     let same = given_held most_bytes program bytes given told.holds held gives in
     let one : p.image ≡ image = one_image bytes p.image image taken.loads (subst (λ (b : List ℕ). Loads b image) same is.loads) in
     others p.place (subst (λ (i : Image). IsInput i asked p.place) one fits)
+held_not_unfit told (Some (Replay program test)) holds misfit = holds
 
 -- where it is held, and no fault was counted, it is explored to the end
+explored_whole : (old new : Seen) (job : Option Job) (verdict : Verdict) (status : ℕ) → IsAnswered old new job verdict → status ≡ verdict_status verdict → HoldsProgram old.told job → ¬ Rose old.reads new.reads → status ≡ 0
+explored_whole old new None verdict status h is holds read = absurd holds
+explored_whole old new (Some (Replay program test)) verdict status h is holds read = absurd holds
+explored_whole old new (Some (Explore program out asked budgets workers)) verdict status h is holds read =
+    let job : Option Job = Some (Explore program out asked budgets workers) in
+    let said : (v : Verdict) → h.plan.verdict ≡ v → IsAnswered old new job v = λ v e. subst (IsAnswered old new job) (sym h.is ∙ e) h in
+    elim (explored_only old new program out asked budgets workers h.plan h.planned) [
+      | inl done ↦ is ∙ ap verdict_status (sym h.is ∙ done)
+      | inr (inl refused) ↦ absurd (held_not_refused old.told job holds (refused_no_program old new job (said Refused refused)))
+      | inr (inr (inl unfit)) ↦ absurd (held_not_unfit old.told job holds (unfit_holds old new job (said Unfit unfit)))
+      | inr (inr (inr fault)) ↦ absurd (read (fault_rose old new program out asked budgets workers h.plan fault h.planned))
+    ]
+
 pub complete : (old new : Seen) (job : Option Job) (ending : Ending) (status : ℕ) → Answered old new job ending → status ≡ status_of ending → HoldsProgram old.told job → ¬ Rose old.reads new.reads → ¬ Rose old.writes new.writes → (status ≡ 0) ⊎ (status ≡ 8)
-complete old new job (Planned Done) status h is holds read wrote = inl is
-complete old new None (Planned NoJob) status h is holds read wrote = absurd holds
-complete old new (Some (Explore program out asked budgets workers)) (Planned NoJob) status h is holds read wrote = absurd (no_job_none old new program out asked budgets workers h.plan h.is h.planned)
-complete old new job (Planned Refused) status h is holds read wrote = absurd (held_not_refused old.told job holds (refused_no_program old new job h))
-complete old new job (Planned Unfit) status h is holds read wrote = absurd (held_not_unfit old.told job holds (unfit_holds old new job h))
-complete old new None (Planned ReadFault) status h is holds read wrote = absurd holds
-complete old new (Some (Explore program out asked budgets workers)) (Planned ReadFault) status h is holds read wrote = absurd (read (fault_rose old new program out asked budgets workers h.plan h.is h.planned))
+complete old new job (Planned verdict) status h is holds read wrote = inl (explored_whole old new job verdict status h is holds read)
 complete old new job WriteFault status h is holds read wrote = absurd (wrote h.rose)
 complete old new job NoMemory status h is holds read wrote = inr is
+
+-- where a test is held, and no fault was counted, it is replayed
+replayed_whole : (old new : Seen) (job : Option Job) (verdict : Verdict) (status : ℕ) → IsAnswered old new job verdict → status ≡ verdict_status verdict → HoldsTest old.told job → ¬ Rose old.reads new.reads → (status ≡ 0) ⊎ (status ≡ 1)
+replayed_whole old new None verdict status h is holds read = absurd holds
+replayed_whole old new (Some (Explore program out asked budgets workers)) verdict status h is holds read = absurd holds
+replayed_whole old new (Some (Replay program test)) verdict status h is (bytes, text, image, test_read, held, held_text, replayable) read =
+    elim (replay_kept old new program test h.plan bytes text image test_read held held_text replayable read h.planned) [
+      | inl done ↦ inl (is ∙ ap verdict_status (sym h.is ∙ done))
+      | inr differs ↦ inr (is ∙ ap verdict_status (sym h.is ∙ differs))
+    ]
+
+pub complete_replay : (old new : Seen) (job : Option Job) (ending : Ending) (status : ℕ) → Answered old new job ending → status ≡ status_of ending → HoldsTest old.told job → ¬ Rose old.reads new.reads → ¬ Rose old.writes new.writes
+    → (status ≡ 0) ⊎ (status ≡ 1) ⊎ (status ≡ 8)
+complete_replay old new job (Planned verdict) status h is holds read wrote = elim (replayed_whole old new job verdict status h is holds read) [ inl zero ↦ inl zero | inr one ↦ inr (inl one) ]
+complete_replay old new job WriteFault status h is holds read wrote = absurd (wrote h.rose)
+complete_replay old new job NoMemory status h is holds read wrote = inr (inr is)

@@ -1,4 +1,6 @@
 pub mod Plans
+pub mod ReplayPlans
+pub mod ReplayEndings
 pub mod Endings
 pub mod Explored
 pub mod Entries

@@ -31,7 +31,13 @@ fn is_short(image: &Image, regions: &[Region]) -> bool
 }
 
 // The answer of a test that can be run.
-fn plan_run(alloc: Global, bytes: &[u8], text: &[u8], image: &Image, test: &Test) -> Result<Plan, NoMemory>
+fn plan_run(
+    alloc: Global,
+    bytes: &[u8],
+    text: &[u8],
+    image: &Image,
+    test: &Test,
+) -> Result<Plan, NoMemory>
     requires replayable { IsReplayable bytes.now text.now image.now test.now }
     ensures { IfOk result (λ p. Replays bytes.now text.now p.verdict p.files.items p.text) }
 {
@@ -45,7 +51,13 @@ fn plan_run(alloc: Global, bytes: &[u8], text: &[u8], image: &Image, test: &Test
 }
 
 // What is to be done for a test on a program that is taken.
-fn plan_test(alloc: Global, bytes: &[u8], text: &[u8], image: &Image, test: &Test) -> Result<Plan, NoMemory>
+fn plan_test(
+    alloc: Global,
+    bytes: &[u8],
+    text: &[u8],
+    image: &Image,
+    test: &Test,
+) -> Result<Plan, NoMemory>
     requires taken { IsTaken bytes.now image.now }
     requires reads { reading text.now ≡ Ok test.now }
     ensures { IfOk result (λ p. Replays bytes.now text.now p.verdict p.files.items p.text) }

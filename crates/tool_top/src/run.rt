@@ -5,9 +5,10 @@ ghost use Rattle.tool_io.specs.Told.{names_since, IsPrefix};
 ghost use Rattle.tool_io.specs.Causes.{Rose};
 ghost use Rattle.tool_words.specs.Job.{job_of};
 ghost use Rattle.tool_top.specs.Plan.{names_of};
+ghost use Rattle.replay_core.specs.Replays.{IsAsSaid};
 ghost use Rattle.explorer.specs.Ranks.{AreRanked};
 ghost use Rattle.tool_top.specs.Reports.{IsReport, IsExactCover, AreFaithful, AreRuns, HasHistory, ShowBudgets, leaves_of};
-ghost use Rattle.tool_top.specs.Answer.{Answered, IsAnswered, IsFaulted, IsWanting, OnWritten, HoldsProgram, HoldsNoProgram, HoldsMisfit};
+ghost use Rattle.tool_top.specs.Answer.{Answered, IsAnswered, IsFaulted, IsWanting, OnReplayed, OnWritten, HoldsProgram, HoldsNoProgram, HoldsNoTest, HoldsMisfit, HoldsOther, HoldsTest};
 
 use crate::carry::{carry_out, say_no_memory};
 use crate::plan::make_plan;
@@ -47,27 +48,31 @@ pub fn run_tool<R: Threads + Wait + Sync, F: Files, G: Gate + Sync>(
 ) -> u8
     // What was done with each status, and for which plan of the job.
     ensures done { result ≡ 0 → IsAnswered (F.seen files.old) (F.seen files.new) (job_of (map string_bytes words.now)) Verdict.Done }
+    ensures differs { result ≡ 1 → IsAnswered (F.seen files.old) (F.seen files.new) (job_of (map string_bytes words.now)) Verdict.Differs }
     ensures no_job { result ≡ 2 → IsAnswered (F.seen files.old) (F.seen files.new) (job_of (map string_bytes words.now)) Verdict.NoJob }
     ensures refused { result ≡ 3 → IsAnswered (F.seen files.old) (F.seen files.new) (job_of (map string_bytes words.now)) Verdict.Refused }
     ensures unfit { result ≡ 4 → IsAnswered (F.seen files.old) (F.seen files.new) (job_of (map string_bytes words.now)) Verdict.Unfit }
     ensures read_fault { result ≡ 5 → IsAnswered (F.seen files.old) (F.seen files.new) (job_of (map string_bytes words.now)) Verdict.ReadFault }
     ensures write_fault { result ≡ 6 → IsFaulted (F.seen files.old) (F.seen files.new) (job_of (map string_bytes words.now)) }
+    ensures test_refused { result ≡ 7 → IsAnswered (F.seen files.old) (F.seen files.new) (job_of (map string_bytes words.now)) Verdict.TestRefused }
     ensures no_memory { result ≡ 8 → IsWanting (F.seen files.old) (F.seen files.new) (job_of (map string_bytes words.now)) }
 
     // No other status is answered, and each only where it has its cause.
-    ensures only { (result ≡ 0) ⊎ (result ≡ 2) ⊎ (result ≡ 3) ⊎ (result ≡ 4) ⊎ (result ≡ 5) ⊎ (result ≡ 6) ⊎ (result ≡ 8) }
+    ensures only { (result ≡ 0) ⊎ (result ≡ 1) ⊎ (result ≡ 2) ⊎ (result ≡ 3) ⊎ (result ≡ 4) ⊎ (result ≡ 5) ⊎ (result ≡ 6) ⊎ (result ≡ 7) ⊎ (result ≡ 8) }
+    ensures differs_where { result ≡ 1 → HoldsOther (F.seen files.old).told (job_of (map string_bytes words.now)) }
     ensures no_job_where { result ≡ 2 → job_of (map string_bytes words.now) ≡ None }
     ensures refused_where { result ≡ 3 → HoldsNoProgram (F.seen files.old).told (job_of (map string_bytes words.now)) }
     ensures unfit_where { result ≡ 4 → HoldsMisfit (F.seen files.old).told (job_of (map string_bytes words.now)) }
     ensures read_where { result ≡ 5 → Rose (F.seen files.old).reads (F.seen files.new).reads }
     ensures write_job { result ≡ 6 → job_of (map string_bytes words.now) ≢ None }
+    ensures test_where { result ≡ 7 → HoldsNoTest (F.seen files.old).told (job_of (map string_bytes words.now)) }
     ensures write_where { result ≡ 6 → Rose (F.seen files.old).writes (F.seen files.new).writes }
 
     // Where the object tells them, the names read are those of the job, from the first on.
     ensures names { IfSome (names_since (F.seen files.old).told (F.seen files.new).told)
         (λ names. IsPrefix names (names_of (job_of (map string_bytes words.now)))) }
 
-    // Where it is done: each assignment of the input bytes meets the condition of exactly one leaf that was written,
+    // Where an exploration is done: each assignment of the input bytes meets the condition of exactly one leaf that was written,
     ensures exact_cover { result ≡ 0 → OnWritten (F.seen files.old).told (F.seen files.new).told (job_of (map string_bytes words.now))
         (λ program budgets workers events entries. IsExactCover program (leaves_of entries)) }
     // and its run has the path, the end, the output and the steps of that leaf,
@@ -89,11 +94,19 @@ pub fn run_tool<R: Threads + Wait + Sync, F: Files, G: Gate + Sync>(
     ensures files_and_summary { result ≡ 0 → OnWritten (F.seen files.old).told (F.seen files.new).told (job_of (map string_bytes words.now))
         IsReport }
 
-    // A program that is taken is explored to the end, unless memory is refused.
+    // Where a replay is done, the run of the test has the steps, the path, the end and the output that the test says.
+    ensures same { result ≡ 0 → OnReplayed (F.seen files.old).told (job_of (map string_bytes words.now)) IsAsSaid }
+
+    // A program that is taken is explored to the end, unless memory is refused,
     ensures complete { HoldsProgram (F.seen files.old).told (job_of (map string_bytes words.now))
         → ¬ Rose (F.seen files.old).reads (F.seen files.new).reads
         → ¬ Rose (F.seen files.old).writes (F.seen files.new).writes
         → (result ≡ 0) ⊎ (result ≡ 8) }
+    // and a test that can be run on it is the same or differs.
+    ensures complete_replay { HoldsTest (F.seen files.old).told (job_of (map string_bytes words.now))
+        → ¬ Rose (F.seen files.old).reads (F.seen files.new).reads
+        → ¬ Rose (F.seen files.old).writes (F.seen files.new).writes
+        → (result ≡ 0) ⊎ (result ≡ 1) ⊎ (result ≡ 8) }
 {
     run_words(alloc, words, files).status()
 }

@@ -1,0 +1,118 @@
+-- Making the plan of a replay, from what its parts are.
+use Rattle.std.proofs.Common.{◌≡◌, ◌⊎◌, ℕ, ◌+◌, List, [], ◌∷◌, ◌∙◌, refl, sym, ap, subst, inl, inr, length}
+use Rattle.std.specs.Prelude.{Option, None, Some, Result, Ok, Err, IfOk, IsErrOf, OnErr, sum_by}
+use Rattle.std.specs.declared.alloc.AllocError.{AllocError}
+use Rattle.std.proofs.lemmas.List.Sums.{sum_by-cons}
+use Rattle.tool_io.specs.Told.{Seen, after, reads, Gives}
+use Rattle.tool_io.specs.declared.files.Fault.{Fault}
+use Rattle.tool_io.specs.declared.files.Fault.TheVariants.{Failed, NoMemory}
+use Rattle.tool_io.proofs.Deeds.{after_two, after-nothing, IsPrefix-nothing, IsPrefix-whole}
+use Rattle.elf_load.specs.Fits.{unfit}
+use Rattle.elf_load.specs.Images.{Image, Loads}
+use Rattle.elf_load.specs.declared.region.Region.{Region}
+use Rattle.elf_load.specs.declared.unfit.Unfit.{Unfit as WhyUnfit}
+use Rattle.elf_load.proofs.OneImage.{one_image}
+use Rattle.replay_core.specs.Differences.{difference_text}
+use Rattle.replay_core.specs.Replays.{IsAsSaid, run_of}
+use Rattle.rv_spec.specs.Memory.{count_of}
+use Rattle.test_files.specs.Reading.{reading}
+use Rattle.test_files.specs.Tests.{Test}
+use Rattle.test_files.specs.declared.refused.TestRefused.{TestRefused as WhyNoTest}
+use Rattle.tool_words.specs.Job.{Replay}
+use Rattle.tool_top.specs.Later.{IsTaken, HasLaterWord}
+use Rattle.tool_top.specs.Lines.{refused_line, same, test_refused, unfit_line}
+use Rattle.tool_top.specs.Plan.{IsPlanned, OnlyReads, Replays, most_bytes}
+use Rattle.tool_top.specs.Replaying.{IsReplayable, IsShort, IsTestInput, most_test_bytes}
+use Rattle.tool_top.specs.declared.plan.Plan.{Plan as Made}
+use Rattle.tool_top.specs.declared.verdict.Verdict.TheVariants.{Done, Differs, Refused, TestRefused, Unfit}
+
+-- The bytes of regions are counted in two ways.
+pub sum_count : (rs : List Region) → sum_by (λ (r : Region). r.count) rs ≡ count_of rs
+sum_count [] = refl
+sum_count (r ∷ rs) = sum_by-cons (λ (r : Region). r.count) r rs ∙ ap (λ n. r.count + n) (sum_count rs)
+
+-- Regions of a test that don't fit, or are too long, aren't taken.
+pub unfit_test : (image : Image) (asked : List Region) (why : WhyUnfit) → unfit image asked ≡ Some why → ¬ IsTestInput image asked
+unfit_test image asked why is input = let fits = input.fits in cc
+
+pub long_test : (image : Image) (slice asked : List Region) → slice ≡ asked → ¬ IsShort image slice → ¬ IsTestInput image asked
+long_test image slice asked alike long input = long (subst (IsShort image) (sym alike) input.short)
+
+-- What came of reading two names.
+abbrev failing : (T : Type 0) → Fault → Result T Fault
+failing T e = Err e
+
+fault_cases : {T P : Type 0} → (e : Fault) → (IsErrOf (failing T e) Failed → P) → (IsErrOf (failing T e) NoMemory → P) → P
+fault_cases Failed failed no_memory = failed refl
+fault_cases NoMemory failed no_memory = no_memory refl
+
+pub on_err : {T E P : Type 0} → (r : Result T E) → P → OnErr r P
+on_err (Ok x) p = tt
+on_err (Err e) p = p
+
+module _ (program test : List ℕ) where
+  pub first_failed : {T : Type 0} (old new : Seen) (e : Fault) → (IsErrOf (failing T e) Failed → new.told ≡ after old.told (reads program)) → (IsErrOf (failing T e) NoMemory → new.told ≡ old.told)
+      → OnlyReads old new (Some (Replay program test))
+  first_failed old new e failed no_memory = fault_cases e
+      (λ is. record { names = program ∷ []; begins = (test ∷ [], refl); changes = failed is })
+      (λ is. record { names = []; begins = IsPrefix-nothing _; changes = no_memory is ∙ sym (after-nothing _) })
+
+  pub second_failed : {T : Type 0} (old mid new : Seen) (e : Fault) → mid.told ≡ after old.told (reads program) → (IsErrOf (failing T e) Failed → new.told ≡ after mid.told (reads test)) → (IsErrOf (failing T e) NoMemory → new.told ≡ mid.told)
+      → OnlyReads old new (Some (Replay program test))
+  second_failed old mid new e read failed no_memory = fault_cases e
+      (λ is. record { names = program ∷ test ∷ []; begins = IsPrefix-whole _; changes = after_two old.told mid.told new.told (reads program) (reads test) read (failed is) })
+      (λ is. record { names = program ∷ []; begins = (test ∷ [], refl); changes = no_memory is ∙ read })
+
+  pub planned_replay : (old new : Seen) (bytes text : List ℕ) (made : Result Made AllocError) → Gives old.told program most_bytes bytes → Gives old.told test most_test_bytes text
+      → new.told ≡ after old.told (record { names = program ∷ test ∷ []; puts = []; said = [] }) → IfOk made (λ p. Replays bytes text p.verdict p.files.items p.text)
+      → IfOk made (λ p. IsPlanned old new (Some (Replay program test)) p.verdict p.files.items p.text)
+  planned_replay old new bytes text (Ok p) given also read treated = record {
+    names = program ∷ test ∷ [];
+    plan = inl (bytes, text, given, also, refl, treated);
+    changes = read;
+  }
+  planned_replay old new bytes text (Err e) given also read treated = tt
+
+module _ (bytes text : List ℕ) where
+  -- the program is to be taken later
+  pub replays_later : (image : Image) (made : Result Made AllocError) → Loads bytes image → HasLaterWord image → IfOk made (λ p. p.verdict ≡ Refused) → IfOk made (λ p. p.files.items ≡ []) → IfOk made (λ p. p.text ≡ refused_line None)
+      → IfOk made (λ p. Replays bytes text p.verdict p.files.items p.text)
+  replays_later image (Err e) loads later v f t = tt
+  replays_later image (Ok made) loads later v f t = inl (record {
+    none = λ other taken. taken.none_later (subst HasLaterWord (one_image bytes image other loads taken.loads) later);
+    refused = v;
+    no_files = f;
+    line = t ∙ ap refused_line (sym loads.fine);
+  })
+
+  -- the text is no test
+  pub replays_no_test : (image : Image) (why : WhyNoTest) (made : Result Made AllocError) → IsTaken bytes image → reading text ≡ Err why → IfOk made (λ p. p.verdict ≡ TestRefused) → IfOk made (λ p. p.files.items ≡ []) → IfOk made (λ p. p.text ≡ test_refused why)
+      → IfOk made (λ p. Replays bytes text p.verdict p.files.items p.text)
+  replays_no_test image why (Err e) taken refuses v f t = tt
+  replays_no_test image why (Ok made) taken refuses v f t = inr (inl (record { image = image; taken = taken; why = why; refuses = refuses; is = v; no_files = f; line = t }))
+
+  -- the test's regions aren't taken
+  pub replays_misfit : (image : Image) (test : Test) (why : Option WhyUnfit) (made : Result Made AllocError) → IsTaken bytes image → reading text ≡ Ok test → unfit image test.regions ≡ why → ¬ IsTestInput image test.regions
+      → IfOk made (λ p. p.verdict ≡ Unfit) → IfOk made (λ p. p.files.items ≡ []) → IfOk made (λ p. p.text ≡ unfit_line why) → IfOk made (λ p. Replays bytes text p.verdict p.files.items p.text)
+  replays_misfit image test why (Err e) taken reads is other v f t = tt
+  replays_misfit image test why (Ok made) taken reads is other v f t = inr (inr (inl (record {
+    image = image;
+    test = test;
+    taken = taken;
+    reads = reads;
+    other = other;
+    is = v;
+    no_files = f;
+    line = t ∙ ap unfit_line (sym is);
+  })))
+
+  -- the run was the same, or not
+  pub replays_same : (image : Image) (test : Test) (made : Result Made AllocError) → IsReplayable bytes text image test → IsAsSaid image test → IfOk made (λ p. p.verdict ≡ Done) → IfOk made (λ p. p.files.items ≡ []) → IfOk made (λ p. p.text ≡ same)
+      → IfOk made (λ p. Replays bytes text p.verdict p.files.items p.text)
+  replays_same image test (Err e) replayable is v f t = tt
+  replays_same image test (Ok made) replayable is v f t = inr (inr (inr (record { image = image; test = test; replayable = replayable; no_files = f; answer = inl (record { as_said = is; is = v; line = t }) })))
+
+  pub replays_other : (image : Image) (test : Test) (made : Result Made AllocError) → IsReplayable bytes text image test → ¬ IsAsSaid image test → IfOk made (λ p. p.verdict ≡ Differs) → IfOk made (λ p. p.files.items ≡ [])
+      → IfOk made (λ p. p.text ≡ difference_text (run_of image test)) → IfOk made (λ p. Replays bytes text p.verdict p.files.items p.text)
+  replays_other image test (Err e) replayable is v f t = tt
+  replays_other image test (Ok made) replayable is v f t = inr (inr (inr (record { image = image; test = test; replayable = replayable; no_files = f; answer = inr (record { other = is; is = v; lines = t }) })))
