@@ -1,6 +1,6 @@
 //! Tests over whole runs of the tool.
 
-mod programs;
 mod refusals;
+mod replays;
 mod rows;
 mod runs;

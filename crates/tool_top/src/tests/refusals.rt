@@ -1,7 +1,7 @@
 //! Programs and inputs that are refused, by the line that is said.
 
-use crate::tests::programs::{ADDED, DIVIDED, STORED, STRAIGHT, row_file};
-use crate::tests::runs::{EXPLORE, files, run};
+use crate::tests::runs::{EXPLORE, files, program_file, run};
+use row_files::programs::{ADDED, DIVIDED, STORED, STRAIGHT};
 use std::alloc::Global;
 use std::test::Fail;
 use tool_io::MemFiles;
@@ -61,7 +61,7 @@ const LOADED: [(usize, &[(usize, u8)]); 4] = [
 
 // The file of the program of this length, with these bytes set.
 fn edited(alloc: Global, length: usize, edits: &[(usize, u8)]) -> Result<Vec<u8>, Fail> {
-    let mut bytes = row_file(alloc, &STRAIGHT)?;
+    let mut bytes = program_file(alloc, &STRAIGHT)?.into_vec();
     bytes.resize(length, 0)?;
     for &(at, value) in edits {
         if at < bytes.len() {
@@ -112,7 +112,7 @@ fn programs_that_are_taken_later(rt: HostRuntime) -> Result<(), Fail> {
 #[test]
 fn inputs_that_are_refused(rt: HostRuntime) -> Result<(), Fail> {
     let alloc = rt.alloc();
-    let bytes = row_file(alloc, &STRAIGHT)?;
+    let bytes = program_file(alloc, &STRAIGHT)?;
     let nine = [
         "rvklee",
         "explore",

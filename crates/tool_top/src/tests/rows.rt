@@ -1,7 +1,8 @@
 //! Programs that are explored: the line said, the names of the files, and how each of some of them begins.
 
-use crate::tests::programs::{CALLED, COMPARED, COUNTED, FORKED, STRAIGHT};
 use crate::tests::runs::{EXPLORE, files, run};
+use row_files::programs::{CALLED, COMPARED, COUNTED, FORKED, STRAIGHT};
+use std::alloc::Global;
 use std::process::Abort;
 use std::test::Fail;
 use tool_io::NamedFile;
@@ -239,6 +240,35 @@ fn programs_are_explored(rt: HostRuntime) -> Result<(), Fail> {
         assert_eq!(rt; held.said(), said.as_bytes());
         assert_eq!(rt; held.puts().len(), puts);
         check_files(&rt, held.puts(), beginnings);
+    }
+    Ok(())
+}
+
+// The names of the tests among these files.
+fn test_names(alloc: Global, puts: &[NamedFile]) -> Result<Vec<String>, Fail> {
+    let mut names = Vec::new(alloc);
+    for file in puts {
+        if file.name().starts_with("out/test-") {
+            names.push(String::from_str(alloc, file.name())?)?;
+        }
+    }
+    Ok(names)
+}
+
+#[test]
+fn tests_that_were_put_are_as_their_runs(rt: HostRuntime) -> Result<(), Fail> {
+    let alloc = rt.alloc();
+    for &Row { program, words, .. } in &ROWS {
+        let mut held = files(alloc, program, &[])?;
+        assert_eq!(rt; run(&rt, words, &mut held)?, 0);
+        let names = test_names(alloc, held.puts())?;
+        let said = held.said().len();
+        for name in &names {
+            let words = ["rvklee", "replay", "p.elf", name.as_str()];
+            assert_eq!(rt; run(&rt, &words, &mut held)?, 0);
+        }
+        assert!(rt; !names.is_empty());
+        assert!(rt; held.said().len() - said == 5 * names.len());
     }
     Ok(())
 }

@@ -1,13 +1,14 @@
 //! Runs of the tool over files in memory and over real files, by what is put, said and answered.
 
 use crate::run_tool;
-use crate::tests::programs::{DIVIDED, FORKED, NOTHING, row_file};
+use row_files::programs::{DIVIDED, FORKED};
+use row_files::row_file;
 use std::alloc::Global;
 use std::fs;
 use std::sync::Wait;
 use std::test::Fail;
 use std::thread::Threads;
-use tool_io::{Files, HostFiles, MemFiles};
+use tool_io::{Bytes, Files, HostFiles, MemFiles};
 use work_gate::OpenGate;
 
 const SUMMARY: &str = "leaves 2 finished 2 cut 0 tests 2 steps 13\n";
@@ -42,11 +43,22 @@ fn strings(alloc: Global, words: &[&str]) -> Result<Vec<String>, Fail> {
     Ok(strings)
 }
 
+// No program.
+const NOTHING: [u32; 0] = [];
+
+/// The file of a program of these words.
+pub(crate) fn program_file(alloc: Global, words: &[u32]) -> Result<Bytes, Fail> {
+    if 0x4000_0000 <= words.len() {
+        return Err("a shorter program".into());
+    }
+    Ok(row_file(alloc, words)?)
+}
+
 /// Files that hold the program of these words as p.elf, if there are any, and fail at these calls.
 pub(crate) fn files(alloc: Global, program: &[u32], to_fail: &[u64]) -> Result<MemFiles, Fail> {
     let mut files = MemFiles::new(alloc, Vec::from_slice(alloc, to_fail)?);
     if !program.is_empty() {
-        files.hold("p.elf", row_file(alloc, program)?.as_slice())?;
+        files.hold("p.elf", program_file(alloc, program)?.as_slice())?;
     }
     Ok(files)
 }
@@ -132,7 +144,7 @@ fn a_put_that_fails_leaves_those_before(rt: HostRuntime) -> Result<(), Fail> {
 fn real_files_are_read_and_put(rt: HostRuntime) -> Result<(), Fail> {
     let alloc = rt.alloc();
     let mut files = HostFiles::new(&rt, alloc);
-    files.put("p.elf", row_file(alloc, &FORKED)?.as_slice())?;
+    files.put("p.elf", program_file(alloc, &FORKED)?.as_slice())?;
     let words = ["rvklee", "explore", "p.elf", ".", "00011000:1"];
     assert_eq!(rt; run(&rt, &words, &mut files)?, 0);
     assert_eq!(rt;
