@@ -2,7 +2,9 @@
 
 use crate::tests::writes::{ENDED, RUNNING, TRAPPED};
 use crate::{TestError, TestRefused, read_test, write_test};
+use std::alloc::{AllocError as NoMemory, Global};
 use std::test::Fail;
+use tool_io::Bytes;
 
 /// What is put in place of what in a test that is taken, and why the text is then refused.
 const CHANGES: [(&str, &str, TestRefused); 37] = [
@@ -57,14 +59,13 @@ const CHANGES: [(&str, &str, TestRefused); 37] = [
     ("[\"00011000:1\"]", "[]", TestRefused::Length),
 ];
 
-/// Texts that are no tests in any way.
-const OTHERS: [(&[u8], TestRefused); 6] = [
-    (b"", TestRefused::NotJson),
-    (b"{", TestRefused::NotJson),
-    (b"\"\xff\"", TestRefused::NotJson),
-    (b"[]", TestRefused::Kind),
-    (b"7", TestRefused::Kind),
-    (b"{}", TestRefused::Missing),
+/// Texts that are no tests in any way, in place of `x`.
+const OTHERS: [(&str, &str, TestRefused); 5] = [
+    ("x", "", TestRefused::NotJson),
+    ("x", "{", TestRefused::NotJson),
+    ("x", "[]", TestRefused::Kind),
+    ("x", "7", TestRefused::Kind),
+    ("x", "{}", TestRefused::Missing),
 ];
 
 /// Keys in another order, one twice and one that no test needs, and digits in upper case.
@@ -76,41 +77,72 @@ const OTHERWISE: &str =
 const WRITTEN: &str =
     "{\"end\":\"trap Break\",\"format\":1,\"input\":\"ffab\",\"leaf\":9007199254740992,\"output\":\"0a\",\"path\":\"TN@00010028\",\"regions\":[\"00011000:2\"],\"steps\":1000000}\n";
 
+/// The first row for which the text, changed so, is not refused so.
+fn first_wrong(
+    alloc: Global,
+    text: &str,
+    rows: &[(&str, &str, TestRefused)],
+) -> Result<Option<usize>, NoMemory> {
+    for i in 0..rows.len() {
+        let (old, new, why) = rows[i];
+        let changed = text.replace(alloc, old, new)?;
+        if read_test(alloc, changed.as_bytes()).err() != Some(TestError::Refused(why)) {
+            return Ok(Some(i));
+        }
+    }
+    Ok(None)
+}
+
+/// The test that the text is, written again.
+fn written_again(alloc: Global, text: &str) -> Result<Bytes, TestError> {
+    let test = read_test(alloc, text.as_bytes())?;
+    Ok(write_test(alloc, &test)?)
+}
+
+/// Why a text is refused that has this byte so many times.
+fn why_refused(alloc: Global, byte: u8, count: usize) -> Result<Option<TestError>, NoMemory> {
+    let text = vec![in alloc; byte; count]?;
+    Ok(read_test(alloc, &text).err())
+}
+
 #[test]
 fn a_change_is_refused(rt: HostRuntime) -> Result<(), Fail> {
-    for (old, new, why) in CHANGES {
-        let text = ENDED.replace(rt.alloc(), old, new)?;
-        let read = read_test(rt.alloc(), text.as_bytes());
-        assert_eq!(rt; read.err(), Some(TestError::Refused(why)));
-    }
+    assert_eq!(rt; first_wrong(rt.alloc(), ENDED, &CHANGES)?, None);
     Ok(())
 }
 
 #[test]
 fn other_texts_are_refused(rt: HostRuntime) -> Result<(), Fail> {
-    for (text, why) in OTHERS {
-        assert_eq!(rt;
-            read_test(rt.alloc(), text).err(),
-            Some(TestError::Refused(why))
-        );
-    }
+    assert_eq!(rt; first_wrong(rt.alloc(), "x", &OTHERS)?, None);
+    let broken = read_test(rt.alloc(), b"\"\xff\"");
+    assert_eq!(rt;
+        broken.err(),
+        Some(TestError::Refused(TestRefused::NotJson))
+    );
     Ok(())
 }
 
 #[test]
 fn what_was_written_is_read_back(rt: HostRuntime) -> Result<(), Fail> {
-    for text in [ENDED, RUNNING, TRAPPED] {
-        let test = read_test(rt.alloc(), text.as_bytes())?;
-        assert_eq!(rt; write_test(rt.alloc(), &test)?.as_slice(), text.as_bytes());
-    }
+    assert_eq!(rt;
+        written_again(rt.alloc(), ENDED)?.as_slice(),
+        ENDED.as_bytes()
+    );
+    assert_eq!(rt;
+        written_again(rt.alloc(), RUNNING)?.as_slice(),
+        RUNNING.as_bytes()
+    );
+    assert_eq!(rt;
+        written_again(rt.alloc(), TRAPPED)?.as_slice(),
+        TRAPPED.as_bytes()
+    );
     Ok(())
 }
 
 #[test]
 fn keys_may_stand_in_any_order(rt: HostRuntime) -> Result<(), Fail> {
-    let test = read_test(rt.alloc(), OTHERWISE.as_bytes())?;
     assert_eq!(rt;
-        write_test(rt.alloc(), &test)?.as_slice(),
+        written_again(rt.alloc(), OTHERWISE)?.as_slice(),
         WRITTEN.as_bytes()
     );
     Ok(())
@@ -118,20 +150,14 @@ fn keys_may_stand_in_any_order(rt: HostRuntime) -> Result<(), Fail> {
 
 #[test]
 fn deep_nesting_is_no_json(rt: HostRuntime) -> Result<(), Fail> {
-    let text = vec![in rt.alloc(); b'['; 200_000]?;
-    assert_eq!(rt;
-        read_test(rt.alloc(), &text).err(),
-        Some(TestError::Refused(TestRefused::NotJson))
-    );
+    let why = why_refused(rt.alloc(), b'[', 200_000)?;
+    assert_eq!(rt; why, Some(TestError::Refused(TestRefused::NotJson)));
     Ok(())
 }
 
 #[test]
 fn a_text_may_be_too_big(rt: HostRuntime) -> Result<(), Fail> {
-    let text = vec![in rt.alloc(); b' '; 16_777_217]?;
-    assert_eq!(rt;
-        read_test(rt.alloc(), &text).err(),
-        Some(TestError::Refused(TestRefused::TooBig))
-    );
+    let why = why_refused(rt.alloc(), b' ', 16_777_217)?;
+    assert_eq!(rt; why, Some(TestError::Refused(TestRefused::TooBig)));
     Ok(())
 }
