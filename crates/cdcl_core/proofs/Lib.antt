@@ -1,0 +1,4 @@
+pub mod Negating
+pub mod Marks
+pub mod Values
+pub mod Following

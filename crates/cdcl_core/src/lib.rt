@@ -1,0 +1,4 @@
+//! A conflict-driven search.
+#![tactic(auto)]
+
+mod trail;
