@@ -1,4 +1,4 @@
-use Rattle.std.proofs.Common.{◌≡◌, ℕ, ◌<◌, Bool, List, [], ◌∷◌, ◌++◌, length, get_or, set, replicate, Option, Some, None, fold, refl, ap, sym, ◌∙◌, subst, arith, option_to_list, inl, inr}
+use Rattle.std.proofs.Common.{◌≡◌, ℕ, zero, suc, ◌+◌, ◌<◌, Bool, List, [], ◌∷◌, ◌++◌, length, get_or, set, replicate, Option, Some, None, fold, refl, ap, sym, ◌∙◌, subst, arith, option_to_list, inl, inr}
 use Rattle.std.proofs.Math.Path.{fun_ext}
 use Rattle.std.proofs.Math.ListN.{get_or-eq_default}
 use Rattle.std.proofs.lemmas.Bool.{cases_lt, cases_eq}
@@ -8,7 +8,7 @@ use Rattle.cnf_form.specs.Literals.{Literal}
 use Rattle.cnf_form.specs.Propagation.{unassigned, assign}
 use Rattle.proof_check.specs.Marking.{marked}
 use Rattle.cdcl_core.specs.declared.trail.Entry.{Entry}
-use Rattle.cdcl_core.specs.Trails.{assigned, values_of, AreApart}
+use Rattle.cdcl_core.specs.Trails.{assigned, values_of, AreApart, free_count}
 use Rattle.cdcl_core.proofs.Values.{assign-same, assign-other}
 
 unmarked : (n : ℕ) (v : ℕ) → marked (replicate n None) v ≡ None
@@ -72,3 +72,14 @@ marked_less marks es all e v is parts variable apart =
         | inr other ↦
             get_or-set_other marks v w None None other ∙ ap (λ (a : ℕ → Option Bool). a w) (is ∙ more) ∙ assign-other (values_of es) e.literal w (λ h. other (h ∙ sym variable))
       ])
+
+fewer_by : (marks : List (Option Bool)) (v : ℕ) (b : Bool) → v < length marks → get_or marks v None ≡ None → free_count (set marks v (Some b)) < free_count marks
+fewer_by [] v b within free = absurd (omega (arith, within))
+fewer_by (None ∷ ms) zero b within free = omega arith
+fewer_by (Some t ∷ ms) zero b within free = cc
+fewer_by (None ∷ ms) (suc v) b within free = omega (arith, fewer_by ms v b (omega (arith, within)) free)
+fewer_by (Some t ∷ ms) (suc v) b within free = fewer_by ms v b (omega (arith, within)) free
+
+pub fewer : (marks : List (Option Bool)) (es : List Entry) (v x : ℕ) (b : Bool) → marked marks ≡ values_of es → v ≡ x → x < length marks → values_of es x ≡ None → free_count (set marks v (Some b)) < free_count marks
+fewer marks es v x b is same within free =
+    fewer_by marks v b (omega (arith, same, within)) (ap (λ (a : ℕ → Option Bool). a v) is ∙ ap (values_of es) same ∙ free)

@@ -97,13 +97,6 @@ unfolding IsTrailFrom
 trail_more clauses [] a e h free made = (free, made, tt)
 trail_more clauses (d ∷ ds) a e h free made = (h.0, h.1, trail_more clauses ds (assign a d.literal) e h.2 free made)
 
-pub trail_front : (clauses : List (List Literal)) (es : List Entry) (a : ℕ → Option Bool) (n : ℕ) → IsTrailFrom clauses a es → IsTrailFrom clauses a (take n es)
-unfolding IsTrailFrom
-trail_front clauses [] a zero h = tt
-trail_front clauses [] a (suc n) h = tt
-trail_front clauses (e ∷ es) a zero h = tt
-trail_front clauses (e ∷ es) a (suc n) h = (h.0, h.1, trail_front clauses es (assign a e.literal) n h.2)
-
 pub trail_apart : (clauses : List (List Literal)) (es : List Entry) (a : ℕ → Option Bool) → IsTrailFrom clauses a es → AreApart a es
 unfolding IsTrailFrom AreApart
 trail_apart clauses [] a h = tt
@@ -137,3 +130,18 @@ trail_with clauses (e ∷ es) a c h opens =
     let now : is_falsified (assign a e.literal) c ≡ false
     = false_from_ne_true (is_falsified (assign a e.literal) c) (λ yes. true≢false (sym (falsified_kept (assign a e.literal) (assigned a (e ∷ es)) c (trail_extends clauses es (assign a e.literal) h.2) yes) ∙ opens)) in
     (h.0, made_with clauses a e.literal e.reason c h.1 now, trail_with clauses es (assign a e.literal) c h.2 opens)
+
+-- a beginning of a trail is one
+pub front_is_trail : (clauses : List (List Literal)) (es rest : List Entry) (a : ℕ → Option Bool) → IsTrailFrom clauses a (es ++ rest) → IsTrailFrom clauses a es
+unfolding IsTrailFrom
+front_is_trail clauses [] rest a h = tt
+front_is_trail clauses (e ∷ es) rest a h = (h.0, h.1, front_is_trail clauses es rest (assign a e.literal) h.2)
+
+pub front_is_apart : (es rest : List Entry) (a : ℕ → Option Bool) → AreApart a (es ++ rest) → AreApart a es
+unfolding AreApart
+front_is_apart [] rest a h = tt
+front_is_apart (e ∷ es) rest a h = (h.0, front_is_apart es rest (assign a e.literal) h.1)
+
+pub no_trail : (clauses : List (List Literal)) (a : ℕ → Option Bool) → IsTrailFrom clauses a []
+unfolding IsTrailFrom
+no_trail clauses a = tt

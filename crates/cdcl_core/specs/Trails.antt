@@ -1,6 +1,6 @@
-use Rattle.std.specs.Prelude.{◌≡◌, ℕ, Bool, true, false, not, ◌++◌, List, [], ◌∷◌, Option, Some, None, fold, set, slice_set, is_none}
-use Rattle.std.specs.List.{list_any, list_all}
-use Rattle.cnf_form.specs.Literals.{Literal, negation}
+use Rattle.std.specs.Prelude.{◌≡◌, ℕ, ◌+◌, Bool, false, ◌++◌, List, [], ◌∷◌, Option, Some, None, fold, slice_set}
+use Rattle.std.specs.List.{list_any}
+use Rattle.cnf_form.specs.Literals.{Literal}
 use Rattle.cnf_form.specs.Propagation.{unassigned, assign, is_falsified, numbered, unit_of_hint}
 use Rattle.cdcl_core.specs.declared.trail.Entry.{Entry}
 
@@ -59,3 +59,9 @@ if_forced (Some n) ns = n ∷ ns
 unfoldable pub reasons : List Entry → List ℕ
 reasons [] = []
 reasons (e ∷ es) = if_forced e.reason (reasons es)
+
+-- how many variables have no value
+abbrev pub free_count : List (Option Bool) → ℕ
+free_count [] = 0
+free_count (None ∷ ms) = free_count ms + 1
+free_count (Some b ∷ ms) = free_count ms
