@@ -7,14 +7,17 @@ ghost use Rattle.cnf_form.specs.Propagation.{numbered, hint_is_falsified, unassi
 ghost use Rattle.cnf_form.specs.Refutations.{refutes, follows_all, is_fresh};
 ghost use Rattle.cnf_form.specs.Valuations.{satisfies, valuation};
 ghost use Rattle.cdcl_core.specs.Trails.{values_of, AreApart};
-ghost use Rattle.cdcl_core.specs.Searches.{IfFound, IfRefuted, IfSpent, has_no_empty, IsSearch, IsDescent, IsFront, IsOpenOrBegun};
+ghost use Rattle.cdcl_core.specs.Searches.{IfFound, IfRefuted, IfSpent, has_no_empty, IsSearch, IsDescent, IsFront, IsOpenOrBegun, IsLesson};
 
+use crate::analysis::analyse;
 use crate::bounds::last_variable;
 use crate::descent::descend;
 use crate::lesson::lesson;
+use crate::levels::Levels;
 use crate::order::Order;
+use crate::restarts::Restarts;
 use crate::trail::Trail;
-use cnf_form::{Clause, Cnf, Log, Val};
+use cnf_form::{Clause, Cnf, Log, LogStep, Val};
 use std::alloc::{AllocError as NoMemory, Global};
 
 /// What a search found.
@@ -35,6 +38,7 @@ struct Solver {
     log: Log,
     trail: Trail,
     order: Order,
+    restarts: Restarts,
 }
 
 // Goes back to the first `len` entries, or to none where the clause would still be false.
@@ -61,6 +65,7 @@ impl Solver {
             log: Log::new(alloc),
             trail: Trail::new(alloc, last as usize + 1)?,
             order: Order::new(alloc, last)?,
+            restarts: Restarts::new(),
         })
     }
 
@@ -74,6 +79,56 @@ impl Solver {
         descend(&mut self.trail, &self.clauses, &self.order)
     }
 
+    // What the analysis of a conflict finds. The variables that it meets become more active.
+    fn found(&mut self, alloc: Global, levels: &Levels, conflict: usize) -> Result<Option<LogStep>, NoMemory>
+        ensures clauses { self.new.clauses.items ≡ self.old.clauses.items }
+        ensures log { self.new.log ≡ self.old.log }
+        ensures trail { self.new.trail ≡ self.old.trail }
+    {
+        let analysis = analyse(alloc, self.trail.size(), self.trail.entries(), &self.clauses, levels, conflict)?;
+        self.order.raise(analysis.seen());
+        analysis.step(alloc, conflict)
+    }
+
+    // The step to learn from the clause of this number, which is false.
+    fn lesson(&mut self, alloc: Global, formula: &Cnf, levels: &Levels, conflict: usize) -> Result<LogStep, NoMemory>
+        requires search { IsSearch formula.now self.old.clauses.items self.old.log self.old.trail }
+        requires conflict { hint_is_falsified (values_of self.old.trail.entries) (numbered self.old.clauses.items conflict) ≡ true }
+        ensures search { OnOk result (IsSearch formula.now self.new.clauses.items self.new.log self.new.trail) }
+        ensures log { OnOk result (self.new.log ≡ self.old.log) }
+        ensures lesson { IfOk result (IsLesson self.new.clauses.items (length self.new.trail.marks)) }
+    {
+        let found = self.found(alloc, levels, conflict)?;
+        lesson(alloc, formula, &self.log, &self.trail, &self.clauses, conflict, found)
+    }
+
+    // How many entries to keep once a clause is learnt: none where a restart is due. The literals that are true now are
+    // those to choose next.
+    fn kept(&mut self, levels: &Levels, clause: &Clause) -> usize
+        ensures clauses { self.new.clauses.items ≡ self.old.clauses.items }
+        ensures log { self.new.log ≡ self.old.log }
+        ensures trail { self.new.trail ≡ self.old.trail }
+    {
+        self.order.hold_all(self.trail.entries());
+        if self.restarts.is_due() {
+            return 0;
+        }
+        levels.kept(self.trail.entries(), clause.literals())
+    }
+
+    // Goes back to where the clause that was learnt may go on.
+    fn go_back(&mut self, levels: &Levels, clause: &Clause)
+        requires { AreApart unassigned self.old.trail.entries }
+        ensures clauses { self.new.clauses.items ≡ self.old.clauses.items }
+        ensures log { self.new.log ≡ self.old.log }
+        ensures front { IsFront self.new.trail.entries self.old.trail.entries }
+        ensures size { length self.new.trail.marks ≡ length self.old.trail.marks }
+        ensures opens { IsOpenOrBegun self.new.trail.entries clause.now }
+    {
+        let kept = self.kept(levels, clause);
+        go_back(&mut self.trail, clause, kept);
+    }
+
     // Learns a clause from the one of this number, which is false, and answers whether it is empty.
     fn learn(&mut self, alloc: Global, formula: &Cnf, conflict: usize) -> Result<bool, NoMemory>
         requires search { IsSearch formula.now self.old.clauses.items self.old.log self.old.trail }
@@ -82,13 +137,15 @@ impl Solver {
         ensures search { IfOk result (λ ended. OnFalse ended (IsSearch formula.now self.new.clauses.items self.new.log self.new.trail)) }
         ensures one_more { OnOk result (length self.new.log ≡ length self.old.log + 1) }
     {
-        let step = lesson(alloc, &self.trail, &self.clauses, conflict)?;
+        let levels = Levels::new(alloc, &self.trail)?;
+        let step = self.lesson(alloc, formula, &levels, conflict)?;
         if step.clause().literals().is_empty() {
             self.log.push(step)?;
             return Ok(true);
         }
-        go_back(&mut self.trail, step.clause(), 0);
-        self.clauses.push(step.clause().clone()?)?;
+        let clause = step.clause().clone()?;
+        self.go_back(&levels, &clause);
+        self.clauses.push(clause)?;
         self.log.push(step)?;
         Ok(false)
     }

@@ -1,6 +1,6 @@
 use Rattle.std.proofs.Common.{◌∙◌, sym}
 use Rattle.cdcl_core.proofs.Lessons.{negation_is_there, some_by, is_lesson}
-use Rattle.cdcl_core.proofs.lesson.lesson.Goals as goal
+use Rattle.cdcl_core.proofs.lesson.plain_lesson.Goals as goal
 
 pub unwrap-requires : goal.unwrap-requires
 unwrap-requires c =
