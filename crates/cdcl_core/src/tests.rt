@@ -94,19 +94,34 @@ fn small_formulas(rt: HostRuntime) -> Result<(), Fail> {
     Ok(())
 }
 
-// A cycle of five corners in three colours: the variable 3 k + c - 3 says that the corner k has the colour c.
+// A cycle of five corners in three colours: the variable 3 k + c says that the corner k, from 0, has the colour c.
+const CYCLE: [&[i32]; 20] = [
+    &[1, 2, 3],
+    &[4, 5, 6],
+    &[7, 8, 9],
+    &[10, 11, 12],
+    &[13, 14, 15],
+    &[-1, -4],
+    &[-2, -5],
+    &[-3, -6],
+    &[-4, -7],
+    &[-5, -8],
+    &[-6, -9],
+    &[-7, -10],
+    &[-8, -11],
+    &[-9, -12],
+    &[-10, -13],
+    &[-11, -14],
+    &[-12, -15],
+    &[-13, -1],
+    &[-14, -2],
+    &[-15, -3],
+];
+
 #[test]
 fn a_cycle_has_three_colours(rt: HostRuntime) -> Result<(), Fail> {
     let alloc = rt.alloc();
-    let mut colours = Cnf::new(alloc);
-    for corner in 0..5 {
-        let next = (corner + 1) % 5;
-        colours.push(clause(&rt, alloc, &[3 * corner + 1, 3 * corner + 2, 3 * corner + 3])?)?;
-        for colour in 1..4 {
-            let here = -(3 * corner + colour);
-            colours.push(clause(&rt, alloc, &[here, -(3 * next + colour)])?)?;
-        }
-    }
+    let colours = formula(&rt, alloc, &CYCLE)?;
     assert_eq!(rt; answered(&rt, alloc, &colours, 1000)?, Kind::Found);
     Ok(())
 }
