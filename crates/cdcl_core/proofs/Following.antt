@@ -32,10 +32,10 @@ agree (l ∷ ls) a b x h = agree ls (assign a l) (assign b l) x (ap (λ (o : Opt
 pub commute : (clauses : List (List Literal)) (es : List Entry) (a c : ℕ → Option Bool) (l : Literal) (t : Bool) → IsTrailFrom clauses c es → c l.variable ≡ Some t → with_decisions (assign a l) es ≡ assign (with_decisions a es) l
 commute clauses es a c l t h has =
     fun_ext (λ x.
-      elim (cases_eq x l.variable) [
-        | inl same ↦ elsewhere clauses es c (assign a l) x t h (ap c same ∙ has) ∙ assign-same a l x same ∙ sym (assign-same (with_decisions a es) l x same)
-        | inr other ↦ agree (decisions es) (assign a l) a x (assign-other a l x other) ∙ sym (assign-other (with_decisions a es) l x other)
-      ])
+    elim (cases_eq x l.variable) [
+      | inl same ↦ elsewhere clauses es c (assign a l) x t h (ap c same ∙ has) ∙ assign-same a l x same ∙ sym (assign-same (with_decisions a es) l x same)
+      | inr other ↦ agree (decisions es) (assign a l) a x (assign-other a l x other) ∙ sym (assign-other (with_decisions a es) l x other)
+    ])
 
 pub stays_free : (clauses : List (List Literal)) (es : List Entry) (a : ℕ → Option Bool) (l : Literal) → a l.variable ≡ None → IsTrailFrom clauses (assign a l) es → with_decisions a es l.variable ≡ None
 stays_free clauses es a l free h = elsewhere clauses es (assign a l) a l.variable l.positive h (assign-same a l l.variable refl) ∙ free
@@ -62,7 +62,7 @@ conflict_by clauses es a l (Some n) k free made h rest =
     let extends : Extends a (with_decisions a es) = λ x t has. elsewhere clauses es (assign a l) a x t h (assign-extends a l free x t has) ∙ has in
     reaches_step clauses n k (reasons es) (with_decisions a es)
     ∙ ap (λ (u : Option Literal). and_then_holds u (λ m. reaches_conflict clauses (reasons es ++ k ∷ []) (assign (with_decisions a es) m)))
-      (hint_kept a (with_decisions a es) (numbered clauses n) l extends (stays_free clauses es a l free h) made)
+    (hint_kept a (with_decisions a es) (numbered clauses n) l extends (stays_free clauses es a l free h) made)
     ∙ ap (reaches_conflict clauses (reasons es ++ k ∷ [])) (sym (commute_here clauses es a l h))
     ∙ rest
 

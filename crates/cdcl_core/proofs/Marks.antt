@@ -29,14 +29,14 @@ values_more es e = fold-append (λ b (d : Entry). assign b d.literal) unassigned
 pub marked_more : (marks : List (Option Bool)) (es : List Entry) (e : Entry) (v : ℕ) (value : Option Bool) → marked marks ≡ values_of es → v ≡ e.literal.variable → v < length marks → value ≡ Some e.literal.positive → marked (set marks v value) ≡ values_of (es ++ e ∷ [])
 marked_more marks es e v value is variable within made =
     fun_ext (λ w.
-      elim (cases_eq w v) [
-        | inl same ↦
-            ap (λ k. get_or (set marks v value) k None) same ∙ get_or-set_same marks v value None within ∙ made
-            ∙ sym (ap (λ (a : ℕ → Option Bool). a w) (values_more es e) ∙ assign-same (values_of es) e.literal w (same ∙ variable))
-        | inr other ↦
-            get_or-set_other marks v w value None other ∙ ap (λ (a : ℕ → Option Bool). a w) is
-            ∙ sym (ap (λ (a : ℕ → Option Bool). a w) (values_more es e) ∙ assign-other (values_of es) e.literal w (λ h. other (h ∙ sym variable)))
-      ])
+    elim (cases_eq w v) [
+      | inl same ↦
+          ap (λ k. get_or (set marks v value) k None) same ∙ get_or-set_same marks v value None within ∙ made
+          ∙ sym (ap (λ (a : ℕ → Option Bool). a w) (values_more es e) ∙ assign-same (values_of es) e.literal w (same ∙ variable))
+      | inr other ↦
+          get_or-set_other marks v w value None other ∙ ap (λ (a : ℕ → Option Bool). a w) is
+          ∙ sym (ap (λ (a : ℕ → Option Bool). a w) (values_more es e) ∙ assign-other (values_of es) e.literal w (λ h. other (h ∙ sym variable)))
+    ])
 
 pub has_place : (marks : List (Option Bool)) (v : ℕ) (t : Bool) → marked marks v ≡ Some t → v < length marks
 has_place marks v t has =
@@ -65,13 +65,13 @@ marked_less marks es all e v is parts variable apart =
     let free : values_of es e.literal.variable ≡ None = last_is_apart es e (subst (λ (ds : List Entry). AreApart unassigned ds) parts apart) in
     let more : values_of all ≡ assign (values_of es) e.literal = ap values_of parts ∙ values_more es e in
     fun_ext (λ w.
-      elim (cases_eq w v) [
-        | inl same ↦
-            ap (λ k. get_or (set marks v None) k None) same ∙ get_or-set_same marks v None None within
-            ∙ sym (ap (values_of es) (same ∙ variable) ∙ free)
-        | inr other ↦
-            get_or-set_other marks v w None None other ∙ ap (λ (a : ℕ → Option Bool). a w) (is ∙ more) ∙ assign-other (values_of es) e.literal w (λ h. other (h ∙ sym variable))
-      ])
+    elim (cases_eq w v) [
+      | inl same ↦
+          ap (λ k. get_or (set marks v None) k None) same ∙ get_or-set_same marks v None None within
+          ∙ sym (ap (values_of es) (same ∙ variable) ∙ free)
+      | inr other ↦
+          get_or-set_other marks v w None None other ∙ ap (λ (a : ℕ → Option Bool). a w) (is ∙ more) ∙ assign-other (values_of es) e.literal w (λ h. other (h ∙ sym variable))
+    ])
 
 fewer_by : (marks : List (Option Bool)) (v : ℕ) (b : Bool) → v < length marks → get_or marks v None ≡ None → free_count (set marks v (Some b)) < free_count marks
 fewer_by [] v b within free = absurd (omega (arith, within))

@@ -52,13 +52,13 @@ inserted_by l k ks s a false true true less same sign order rest is =
     let at : k.variable ≡ l.variable = eqb-true _ _ same in
     ap (fold falsify_one a) (sym made)
     ∙ fun_ext (λ x.
-      elim (cases_eq x l.variable) [
-        | inl here ↦
-            untouched x ks (falsify_one a k) (subst (λ v. all_above v ks ≡ true) (at ∙ sym here) (and_parts _ _ order).0)
-            ∙ assign-same a (negation k) x (here ∙ sym at) ∙ ap Some (same_not k.positive l.positive sign)
-            ∙ sym (assign-same (fold falsify_one a (k ∷ ks)) (negation l) x here)
-        | inr other ↦ sym (assign-other (fold falsify_one a (k ∷ ks)) (negation l) x other)
-      ])
+    elim (cases_eq x l.variable) [
+      | inl here ↦
+          untouched x ks (falsify_one a k) (subst (λ v. all_above v ks ≡ true) (at ∙ sym here) (and_parts _ _ order).0)
+          ∙ assign-same a (negation k) x (here ∙ sym at) ∙ ap Some (same_not k.positive l.positive sign)
+          ∙ sym (assign-same (fold falsify_one a (k ∷ ks)) (negation l) x here)
+      | inr other ↦ sym (assign-other (fold falsify_one a (k ∷ ks)) (negation l) x other)
+    ])
 inserted_by l k ks s a false true false less same sign order rest is = cc
 inserted_by l k ks s a false false w less same sign order rest is =
     let made : l ∷ k ∷ ks ≡ s = cc in
@@ -66,12 +66,12 @@ inserted_by l k ks s a false false w less same sign order rest is =
     let above : all_above l.variable (k ∷ ks) ≡ true = and_from _ _ (lt-ltb _ _ not_less) (above_later l.variable k.variable ks not_less (and_parts _ _ order).0) in
     ap (fold falsify_one a) (sym made)
     ∙ fun_ext (λ x.
-      elim (cases_eq x l.variable) [
-        | inl here ↦
-            untouched x (k ∷ ks) (falsify_one a l) (subst (λ v. all_above v (k ∷ ks) ≡ true) (sym here) above)
-            ∙ assign-same a (negation l) x here ∙ sym (assign-same (fold falsify_one a (k ∷ ks)) (negation l) x here)
-        | inr other ↦ agree (k ∷ ks) (falsify_one a l) a x (assign-other a (negation l) x other) ∙ sym (assign-other (fold falsify_one a (k ∷ ks)) (negation l) x other)
-      ])
+    elim (cases_eq x l.variable) [
+      | inl here ↦
+          untouched x (k ∷ ks) (falsify_one a l) (subst (λ v. all_above v (k ∷ ks) ≡ true) (sym here) above)
+          ∙ assign-same a (negation l) x here ∙ sym (assign-same (fold falsify_one a (k ∷ ks)) (negation l) x here)
+      | inr other ↦ agree (k ∷ ks) (falsify_one a l) a x (assign-other a (negation l) x other) ∙ sym (assign-other (fold falsify_one a (k ∷ ks)) (negation l) x other)
+    ])
 
 inserted : (l : Literal) (c s : List Literal) (a : ℕ → Option Bool) → are_increasing c ≡ true → insert_literal l c ≡ Some s → fold falsify_one a s ≡ falsify_one (fold falsify_one a c) l
 unfolding insert_literal are_increasing

@@ -74,7 +74,7 @@ going_forced clauses old now after i c l was is choice g within at forced made f
     let no_way : is ≡ false → ⊥ = λ e. true≢false (sym changed ∙ e) in
     record {
       trail = subst (λ (t : Assignment). IsTrail clauses t.entries) (sym made)
-        (trail_forced clauses now.entries (record { literal = l; reason = Some (i + 1) }) l (i + 1) g.trail refl forced.1.1 (unit_at clauses (values_of now.entries) i c l within at forced.0));
+          (trail_forced clauses now.entries (record { literal = l; reason = Some (i + 1) }) l (i + 1) g.trail refl forced.1.1 (unit_at clauses (values_of now.entries) i c l within at forced.0));
       size = ap (λ (t : Assignment). length t.marks) made ∙ length-set now.marks l.variable (Some l.positive) ∙ g.size;
       no_more = omega (arith, less, g.no_more);
       fewer = λ e. omega (arith, less, g.no_more);
@@ -128,7 +128,8 @@ choice_by clauses a n m (Some l) same free all = (omega (arith, same, free.0), f
 
 pub going_end : (clauses : List (List Literal)) (old now : Assignment) (i : ℕ) (is_changed : Bool) (choice : Option Literal) → Going clauses old now i is_changed choice → is_changed ≡ false → length clauses ≤ i
     → AreCalm (values_of now.entries) clauses × IsChoice (values_of now.entries) (length old.marks) clauses choice
-going_end clauses old now i is_changed choice g no_change past =
-    (λ l free. none_from (is_falsified (assign (values_of now.entries) l)) clauses (λ k less. g.calm no_change k (omega (arith, less)) l free),
-    choice_by clauses (values_of now.entries) (length now.marks) (length old.marks) choice g.size (g.free no_change)
-      (λ none. all_from (has_true (values_of now.entries)) clauses (λ k less. g.satisfied no_change none k (omega (arith, less)))))
+going_end clauses old now i is_changed choice g no_change past = (
+  λ l free. none_from (is_falsified (assign (values_of now.entries) l)) clauses (λ k less. g.calm no_change k (omega (arith, less)) l free),
+  choice_by clauses (values_of now.entries) (length now.marks) (length old.marks) choice g.size (g.free no_change)
+      (λ none. all_from (has_true (values_of now.entries)) clauses (λ k less. g.satisfied no_change none k (omega (arith, less)))),
+)

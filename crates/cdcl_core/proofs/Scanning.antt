@@ -61,17 +61,19 @@ open_all q a p l is h =
     (and_parts (q l) true (sym (ap (list_all q) is) ∙ kept_all q (λ k. not (is_false a k)) p h)).0
 
 pub scan_open : (a : ℕ → Option Bool) (n : ℕ) (p : List Literal) (k : Literal) (s : State) → IsScan a n p s → IsFree a n k → list_all (λ j. nat_lt j.variable k.variable) p ≡ true → IsScan a n (p ++ k ∷ []) (with_open s k)
-scan_open a n p k Falsified h free below =
-    (open_more a p k false (has_none (a k.variable) (not k.positive) free.1) ∙ ap (λ ls. ls ++ k ∷ []) h,
-    free,
-    λ x other. any_last (is_beside a x) p k (beside a x k free.1 (λ e. other (sym e))))
+scan_open a n p k Falsified h free below = (
+  open_more a p k false (has_none (a k.variable) (not k.positive) free.1) ∙ ap (λ ls. ls ++ k ∷ []) h,
+  free,
+  λ x other. any_last (is_beside a x) p k (beside a x k free.1 (λ e. other (sym e))),
+)
 scan_open a n p k (Forces l) h free below =
-    let less : l.variable < k.variable = ltb-true _ _ (open_all (λ j. nat_lt j.variable k.variable) a p l h.0 below) in
-    (h.1,
-    λ x. elim (cases_eq x l.variable) [
-      | inl same ↦ any_last (is_beside a x) p k (beside a x k free.1 (λ e. absurd (omega (arith, e, same, less))))
-      | inr other ↦ any_more (is_beside a x) p k (h.2 x other)
-    ])
+    let less : l.variable < k.variable = ltb-true _ _ (open_all (λ j. nat_lt j.variable k.variable) a p l h.0 below) in (
+      h.1,
+      λ x. elim (cases_eq x l.variable) [
+        | inl same ↦ any_last (is_beside a x) p k (beside a x k free.1 (λ e. absurd (omega (arith, e, same, less))))
+        | inr other ↦ any_more (is_beside a x) p k (h.2 x other)
+      ],
+    )
 scan_open a n p k (Open l) h free below = (h.0, λ x. any_more (is_beside a x) p k (h.1 x))
 scan_open a n p k Satisfied h free below = absurd h
 
@@ -178,9 +180,10 @@ pub walk_open : (a : ℕ → Option Bool) (n : ℕ) (c seen : List Literal) (i :
     → IsScan a n (take i seen) s → after ≡ with_open s l → IsScan a n (take (i + 1) seen) after
 unfolding is_below
 walk_open a n c seen i l s after t f same order below within at is_t not_t is_f not_f h made =
-    let free : IsFree a n l =
-      (ltb-true _ _ (ap (λ (k : Literal). nat_lt k.variable n) at ∙ all_at (λ k. nat_lt k.variable n) seen i l within (ap (list_all (λ k. nat_lt k.variable n)) same ∙ below)),
-      no_value_by (a l.variable) l.positive (sym is_t ∙ not_t) (sym is_f ∙ not_f)) in
+    let free : IsFree a n l = (
+      ltb-true _ _ (ap (λ (k : Literal). nat_lt k.variable n) at ∙ all_at (λ k. nat_lt k.variable n) seen i l within (ap (list_all (λ k. nat_lt k.variable n)) same ∙ below)),
+      no_value_by (a l.variable) l.positive (sym is_t ∙ not_t) (sym is_f ∙ not_f),
+    ) in
     let front : list_all (λ j. nat_lt j.variable l.variable) (take i seen) ≡ true
     = ap (λ (k : Literal). list_all (λ j. nat_lt j.variable k.variable) (take i seen)) at ∙ front_is_below seen i l within (ap are_increasing same ∙ order) in
     subst (λ (p : List Literal). IsScan a n p after) (ap (λ k. take i seen ++ k ∷ []) at ∙ sym (take_more seen i l within))

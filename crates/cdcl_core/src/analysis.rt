@@ -77,7 +77,12 @@ impl Analysis {
     }
 
     // Puts the clause that forced a literal in its place.
-    fn replace(&mut self, clauses: &[Clause], levels: &Levels, reason: usize) -> Result<(), NoMemory> {
+    fn replace(
+        &mut self,
+        clauses: &[Clause],
+        levels: &Levels,
+        reason: usize,
+    ) -> Result<(), NoMemory> {
         self.hints.push(reason)?;
         self.pending = self.pending.saturating_sub(1);
         match clause_of(clauses, reason) {
@@ -87,7 +92,12 @@ impl Analysis {
     }
 
     // Goes backwards to the first point.
-    fn walk(&mut self, entries: &[Entry], clauses: &[Clause], levels: &Levels) -> Result<(), NoMemory> {
+    fn walk(
+        &mut self,
+        entries: &[Entry],
+        clauses: &[Clause],
+        levels: &Levels,
+    ) -> Result<(), NoMemory> {
         for entry in entries.iter().rev() {
             if self.is_seen(entry.literal) {
                 match entry.reason {

@@ -25,7 +25,11 @@ fn chosen(trail: &Trail, order: &Order, literal: Lit) -> Lit
 
 /// Chooses literals and makes those true that follow, until a clause is false, whose number is the answer, or each
 /// clause is satisfied.
-pub fn descend(trail: &mut Trail, clauses: &[Clause], order: &Order) -> Result<Option<usize>, NoMemory>
+pub fn descend(
+    trail: &mut Trail,
+    clauses: &[Clause],
+    order: &Order,
+) -> Result<Option<usize>, NoMemory>
     requires below { list_all (is_below (length trail.old.marks)) clauses.now ≡ true }
     requires trail { IsTrail clauses.now trail.old.entries }
     ensures trail { OnOk result (IsTrail clauses.now trail.new.entries) }

@@ -34,7 +34,12 @@ fn reasons(alloc: Global, entries: &[Entry]) -> Result<Vec<usize>, NoMemory>
 }
 
 // The clause of the negated decisions, with hints that end in the clause that is false.
-fn plain_lesson(alloc: Global, trail: &Trail, clauses: &[Clause], conflict: usize) -> Result<LogStep, NoMemory>
+fn plain_lesson(
+    alloc: Global,
+    trail: &Trail,
+    clauses: &[Clause],
+    conflict: usize,
+) -> Result<LogStep, NoMemory>
     requires trail { IsTrail clauses.now trail.now.entries }
     requires conflict { hint_is_falsified (values_of trail.now.entries) (numbered clauses.now conflict) ≡ true }
     ensures { IfOk result (IsLesson clauses.now (length trail.now.marks)) }
@@ -59,7 +64,13 @@ fn is_below(size: usize, clause: &Clause) -> bool
 }
 
 // Whether a step may be learnt.
-fn is_lesson(alloc: Global, formula: &Cnf, log: &Log, size: usize, step: &LogStep) -> Result<bool, NoMemory>
+fn is_lesson(
+    alloc: Global,
+    formula: &Cnf,
+    log: &Log,
+    size: usize,
+    step: &LogStep,
+) -> Result<bool, NoMemory>
     ensures { IfOk result (λ yes. IsTrue yes → IsLesson (formula.now ++ clauses_of log.now) size step.now) }
 {
     if !is_below(size, step.clause()) {

@@ -26,7 +26,9 @@ pub struct Order {
 
 // The gain at first, by which part of itself it grows, and up to where.
 const FIRST_GAIN: u64 = 64;
+
 const GROWTH: u64 = 16;
+
 const GREATEST_GAIN: u64 = 1 << 48;
 // By what all is divided where the gain is greater.
 const SCALE: u64 = 1 << 40;

@@ -80,18 +80,36 @@ impl Solver {
     }
 
     // What the analysis of a conflict finds. The variables that it meets become more active.
-    fn found(&mut self, alloc: Global, levels: &Levels, conflict: usize) -> Result<Option<LogStep>, NoMemory>
+    fn found(
+        &mut self,
+        alloc: Global,
+        levels: &Levels,
+        conflict: usize,
+    ) -> Result<Option<LogStep>, NoMemory>
         ensures clauses { self.new.clauses.items ≡ self.old.clauses.items }
         ensures log { self.new.log ≡ self.old.log }
         ensures trail { self.new.trail ≡ self.old.trail }
     {
-        let analysis = analyse(alloc, self.trail.size(), self.trail.entries(), &self.clauses, levels, conflict)?;
+        let analysis = analyse(
+            alloc,
+            self.trail.size(),
+            self.trail.entries(),
+            &self.clauses,
+            levels,
+            conflict,
+        )?;
         self.order.raise(analysis.seen());
         analysis.step(alloc, conflict)
     }
 
     // The step to learn from the clause of this number, which is false.
-    fn lesson(&mut self, alloc: Global, formula: &Cnf, levels: &Levels, conflict: usize) -> Result<LogStep, NoMemory>
+    fn lesson(
+        &mut self,
+        alloc: Global,
+        formula: &Cnf,
+        levels: &Levels,
+        conflict: usize,
+    ) -> Result<LogStep, NoMemory>
         requires search { IsSearch formula.now self.old.clauses.items self.old.log self.old.trail }
         requires conflict { hint_is_falsified (values_of self.old.trail.entries) (numbered self.old.clauses.items conflict) ≡ true }
         ensures search { OnOk result (IsSearch formula.now self.new.clauses.items self.new.log self.new.trail) }
@@ -99,7 +117,15 @@ impl Solver {
         ensures lesson { IfOk result (IsLesson self.new.clauses.items (length self.new.trail.marks)) }
     {
         let found = self.found(alloc, levels, conflict)?;
-        lesson(alloc, formula, &self.log, &self.trail, &self.clauses, conflict, found)
+        lesson(
+            alloc,
+            formula,
+            &self.log,
+            &self.trail,
+            &self.clauses,
+            conflict,
+            found,
+        )
     }
 
     // How many entries to keep once a clause is learnt: none where a restart is due. The literals that are true now are

@@ -14,4 +14,4 @@ returns-clause-fewer c =
     let room = rw (← c.self.view_is) at c.requires in
     rw (← c.self.view_is)
     (λ (free : values_of c.self.inside.entries.items c.args.entry.literal.variable ≡ None).
-      fewer c.self.inside.marks.items c.self.inside.entries.items c.variable-place.result c.args.entry.literal.variable c.is_positive.result c.self.invariant c.variable-place.ensures.value room free)
+    fewer c.self.inside.marks.items c.self.inside.entries.items c.variable-place.result c.args.entry.literal.variable c.is_positive.result c.self.invariant c.variable-place.ensures.value room free)
