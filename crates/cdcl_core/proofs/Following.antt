@@ -1,12 +1,12 @@
-use Rattle.std.proofs.Common.{◌≡◌, ℕ, Bool, true, false, not, ◌==◌, List, [], ◌∷◌, ◌++◌, Option, Some, None, fold, refl, ap, sym, ◌∙◌, subst, cond, if◌then◌else◌, inl, inr}
+use Rattle.std.proofs.Common.{◌≡◌, ℕ, Bool, true, false, ◌==◌, List, [], ◌∷◌, ◌++◌, Option, Some, None, fold, refl, ap, sym, ◌∙◌, subst, if◌then◌else◌, inl, inr}
 use Rattle.std.proofs.Math.Path.{fun_ext}
-use Rattle.std.specs.List.{list_any, list_all}
-use Rattle.std.proofs.lemmas.Bool.{cases_eq, cases_Bool}
-use Rattle.cnf_form.specs.Literals.{Literal, negation}
-use Rattle.cnf_form.specs.Propagation.{unassigned, assign, is_falsified, numbered, unit_of_hint, hint_is_falsified, and_then_holds, reaches_conflict}
+use Rattle.std.specs.List.{list_any}
+use Rattle.std.proofs.lemmas.Bool.{cases_eq}
+use Rattle.cnf_form.specs.Literals.{Literal}
+use Rattle.cnf_form.specs.Propagation.{assign, is_falsified, numbered, unit_of_hint, hint_is_falsified, and_then_holds, reaches_conflict}
 use Rattle.cdcl_core.specs.declared.trail.Entry.{Entry}
 use Rattle.cdcl_core.specs.Trails.{assigned, IsMadeTrue, IsTrailFrom, if_decided, decisions, if_forced, reasons}
-use Rattle.cdcl_core.proofs.Values.{Extends, assign-same, assign-other, assign-extends, differ, hint_kept, hint_falsified_kept}
+use Rattle.cdcl_core.proofs.Values.{Extends, assign-same, assign-other, assign-extends, differ, hint_kept}
 
 -- the assignment with the decisions of these entries, and no others of them
 abbrev pub with_decisions : (ℕ → Option Bool) → List Entry → ℕ → Option Bool

@@ -1,15 +1,15 @@
-use Rattle.std.proofs.Common.{◌≡◌, ℕ, ◌<◌, nat_lt, Bool, true, false, not, cond, if◌then◌else◌, List, [], ◌∷◌, ◌++◌, length, map, filter, Option, Some, None, is_none, refl, ap, sym, ◌∙◌, subst, arith, inl, inr, IsSome}
+use Rattle.std.proofs.Common.{◌≡◌, ℕ, ◌<◌, nat_lt, Bool, true, false, not, cond, List, [], ◌∷◌, ◌++◌, map, filter, Option, Some, None, is_none, refl, ap, sym, ◌∙◌, IsSome}
 use Rattle.std.specs.List.{list_all, filter_map, cons_option}
 use Rattle.std.proofs.lemmas.Bool.{and_parts, and_from, lt-ltb, true≢false, false≢true}
-use Rattle.cnf_form.specs.Literals.{Literal, negation, same_truth}
+use Rattle.cnf_form.specs.Literals.{Literal, negation}
 use Rattle.cnf_form.specs.Clauses.{clause_of}
 use Rattle.cnf_form.specs.Propagation.{has_value, is_false, numbered, hint_is_falsified, follows}
-use Rattle.cnf_form.specs.Refutations.{Step, is_empty_clause}
+use Rattle.cnf_form.specs.Refutations.{is_empty_clause}
 use Rattle.cdcl_core.specs.declared.trail.Entry.{Entry}
 use Rattle.cdcl_core.specs.Trails.{values_of, IsTrail, decisions, reasons, if_decided, if_forced}
 use Rattle.cdcl_core.specs.Passes.{is_below}
 use Rattle.cdcl_core.specs.Searches.{IsLesson}
-use Rattle.cdcl_core.proofs.Negating.{IsNegation, negated, is_negation, is_some_clause, negation_follows, negation_is_new, negation_false_now}
+use Rattle.cdcl_core.proofs.Negating.{IsNegation, is_negation, is_some_clause, negation_follows, negation_is_new, negation_false_now}
 
 denied_by : (e : Entry) (o : Option ℕ) (ks : List Literal) (kept : List Entry) → map (λ (d : Entry). negation d.literal) kept ≡ map negation ks → map (λ (d : Entry). negation d.literal) (cond (is_none o) (e ∷ kept) kept) ≡ map negation (if_decided o e.literal ks)
 denied_by e None ks kept h = ap (λ ls. negation e.literal ∷ ls) h

@@ -1,14 +1,14 @@
 use Rattle.std.proofs.Common.{◌≡◌, ℕ, ◌<◌, ◌==◌, nat_lt, Bool, true, false, not, ◌&&◌, if◌then◌else◌, List, [], ◌∷◌, ◌++◌, Option, Some, None, option_map, fold, map, refl, ap, sym, ◌∙◌, subst, arith, inl, inr}
 use Rattle.std.proofs.Math.Path.{fun_ext}
 use Rattle.std.specs.List.{list_all, list_any}
-use Rattle.std.proofs.lemmas.Bool.{and_parts, and_from, or_parts, or_from, or_cases, ltb-true, ltb-false, lt-ltb, eqb-true, eqb-false, ne_eqb, cases_eq, true≢false, false_from_ne_true}
+use Rattle.std.proofs.lemmas.Bool.{and_parts, and_from, or_parts, or_from, or_cases, ltb-true, ltb-false, lt-ltb, eqb-true, eqb-false, cases_eq, true≢false, false_from_ne_true}
 use Rattle.cnf_form.specs.Literals.{Literal, negation, same_truth, same_literal}
 use Rattle.cnf_form.specs.Clauses.{are_increasing, insert_literal, with_literal, clause_of, is_subset}
 use Rattle.cnf_form.specs.Propagation.{unassigned, assign, has_value, is_false, falsify, is_falsified, numbered, hint_is_falsified, reaches_conflict, follows}
 use Rattle.cnf_form.specs.Refutations.{is_new}
 use Rattle.cnf_form.proofs.Inserting.{mapped, all_above, above_later, increasing-insert}
 use Rattle.cdcl_core.specs.declared.trail.Entry.{Entry}
-use Rattle.cdcl_core.specs.Trails.{assigned, values_of, IsTrailFrom, IsTrail, decisions, reasons}
+use Rattle.cdcl_core.specs.Trails.{assigned, values_of, IsTrail, decisions, reasons}
 use Rattle.cdcl_core.proofs.Values.{Extends, assign-same, assign-other, all_false_kept}
 use Rattle.cdcl_core.proofs.Following.{with_decisions, conflict, last_decision, decisions_kept, AreFresh, fresh_decisions}
 

@@ -1,4 +1,4 @@
-use Rattle.std.proofs.Common.{◌≡◌, ℕ, zero, suc, ◌+◌, ◌-◌, ◌<◌, ◌≤◌, ◌==◌, Bool, true, false, if◌then◌else◌, List, [], ◌∷◌, ◌++◌, length, get_or, set, take, Option, Some, None, IfSome, slice_get, refl, ap, sym, ◌∙◌, subst, arith, inl, inr, below_more, add-one}
+use Rattle.std.proofs.Common.{◌≡◌, ℕ, suc, ◌+◌, ◌<◌, ◌≤◌, Bool, true, false, List, [], ◌∷◌, ◌++◌, length, get_or, Option, Some, None, IfSome, slice_get, refl, ap, sym, ◌∙◌, subst, arith, below_more}
 use Rattle.std.specs.List.{list_all, list_any}
 use Rattle.std.proofs.lemmas.Bool.{and_from, or_from, ne_eqb, true≢false}
 use Rattle.std.proofs.lemmas.Option.{slice_get-get_or}
@@ -7,9 +7,8 @@ use Rattle.std.proofs.Math.ListN.{length-set}
 use Rattle.cnf_form.specs.Literals.{Literal}
 use Rattle.cnf_form.specs.Propagation.{unassigned, assign, is_falsified, unit_literal, numbered, unit_of_hint, hint_is_falsified}
 use Rattle.cdcl_core.specs.declared.trail.Entry.{Entry}
-use Rattle.cdcl_core.specs.declared.propagation.State.{State}
-use Rattle.cdcl_core.specs.declared.propagation.State.TheVariants.{Falsified, Forces, Open, Satisfied}
-use Rattle.cdcl_core.specs.Trails.{Assignment, with_entry, values_of, IsTrail, IsTrailFrom, free_count}
+use Rattle.cdcl_core.specs.declared.propagation.State.TheVariants.{Forces, Open}
+use Rattle.cdcl_core.specs.Trails.{Assignment, with_entry, values_of, IsTrail, free_count}
 use Rattle.cdcl_core.specs.Passes.{is_below, IsFree, IsCalm, AreCalm, has_true, IsState, IsChoice}
 use Rattle.cdcl_core.proofs.Values.{trail_more}
 use Rattle.cdcl_core.proofs.Scanning.{all_at, calm_satisfied}

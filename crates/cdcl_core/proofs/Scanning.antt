@@ -1,17 +1,17 @@
-use Rattle.std.proofs.Common.{◌≡◌, ℕ, zero, suc, ◌+◌, ◌<◌, ◌≤◌, ◌==◌, nat_lt, Bool, true, false, not, ◌&&◌, cond, if◌then◌else◌, List, [], ◌∷◌, ◌++◌, length, get_or, take, Option, Some, None, filter, is_none, refl, ap, sym, ◌∙◌, subst, arith, inl, inr}
+use Rattle.std.proofs.Common.{◌≡◌, ℕ, zero, suc, ◌+◌, ◌<◌, ◌≤◌, ◌==◌, nat_lt, Bool, true, false, not, ◌&&◌, cond, List, [], ◌∷◌, ◌++◌, length, get_or, take, Option, Some, None, filter, is_none, refl, ap, sym, ◌∙◌, subst, arith, inl, inr}
 use Rattle.std.specs.List.{list_all, list_any}
-use Rattle.std.proofs.lemmas.Bool.{and_parts, and_from, or_left, or_right, or_cases, and_left, and_right, ltb-true, ne_eqb, eqb-true, not_from_false, not-true, cases_eq, true≢false, false≢true, cases_Bool, eqb-false}
+use Rattle.std.proofs.lemmas.Bool.{and_parts, and_from, or_left, or_right, or_cases, and_left, and_right, ltb-true, ne_eqb, not_from_false, not-true, cases_eq, false≢true, eqb-false}
 use Rattle.std.proofs.lemmas.List.{take_more, take_all}
 use Rattle.std.proofs.lemmas.List.Elements.{filter-append}
 use Rattle.std.proofs.lemmas.List.Folds.{list_any-append}
 use Rattle.cnf_form.specs.Literals.{Literal, same_truth}
 use Rattle.cnf_form.specs.Clauses.{are_increasing}
-use Rattle.cnf_form.specs.Propagation.{assign, has_value, is_true, is_false, is_falsified, open_literals, only_literal, unit_literal}
+use Rattle.cnf_form.specs.Propagation.{assign, has_value, is_true, is_false, is_falsified, open_literals, only_literal}
 use Rattle.cnf_form.proofs.Inserting.{all_above}
 use Rattle.cdcl_core.specs.declared.propagation.State.{State}
 use Rattle.cdcl_core.specs.declared.propagation.State.TheVariants.{Falsified, Forces, Open, Satisfied}
 use Rattle.cdcl_core.specs.Passes.{is_below, IsFree, IsCalm, has_true, with_open, IsState}
-use Rattle.cdcl_core.proofs.Values.{assign-same, assign-other}
+use Rattle.cdcl_core.proofs.Values.{assign-other}
 
 -- a literal without a value, of another variable than x
 abbrev pub is_beside : (ℕ → Option Bool) → ℕ → Literal → Bool

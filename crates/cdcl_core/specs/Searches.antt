@@ -1,8 +1,8 @@
 use Rattle.std.specs.Prelude.{◌≡◌, ℕ, Bool, true, false, not, ◌⊎◌, List, [], ◌++◌, Option, Some, None, length}
 use Rattle.std.specs.List.{list_all}
 use Rattle.cnf_form.specs.Literals.{Literal}
-use Rattle.cnf_form.specs.Propagation.{unassigned, is_falsified, numbered, hint_is_falsified, follows}
-use Rattle.cnf_form.specs.Refutations.{Step, clauses_of, follows_all, is_new, is_fresh, is_empty_clause, refutes}
+use Rattle.cnf_form.specs.Propagation.{is_falsified, numbered, hint_is_falsified, follows}
+use Rattle.cnf_form.specs.Refutations.{Step, clauses_of, follows_all, is_new, is_fresh, is_empty_clause}
 use Rattle.cdcl_core.specs.declared.solver.Answer.{Answer}
 use Rattle.cdcl_core.specs.declared.solver.Answer.TheVariants.{Found, Refuted, Spent}
 use Rattle.cdcl_core.specs.declared.trail.Entry.{Entry}

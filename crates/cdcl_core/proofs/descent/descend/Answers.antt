@@ -1,4 +1,4 @@
-use Rattle.std.proofs.Common.{◌≡◌, ◌∙◌, ap, sym, subst, length, Some, None}
+use Rattle.std.proofs.Common.{◌∙◌, ap, sym, subst, length, Some}
 use Rattle.std.proofs.Math.ListN.{length-set}
 use Rattle.cdcl_core.specs.declared.propagation.Settled.{Settled}
 use Rattle.cdcl_core.specs.Trails.{Assignment, IsTrail, values_of}

@@ -1,4 +1,4 @@
-use Rattle.std.proofs.Common.{◌∙◌, sym}
+use Rattle.std.proofs.Common.{◌∙◌}
 use Rattle.cdcl_core.proofs.Lessons.{negation_is_there, some_by, is_lesson}
 use Rattle.cdcl_core.proofs.lesson.plain_lesson.Goals as goal
 

@@ -4,7 +4,7 @@ use Rattle.cnf_form.specs.Literals.{Literal}
 use Rattle.cnf_form.specs.Propagation.{unassigned}
 use Rattle.cnf_form.specs.Refutations.{Step, is_empty_clause}
 use Rattle.proof_check.proofs.Turns.{empty_by_length}
-use Rattle.cdcl_core.specs.Searches.{IsLesson, IsOpenOrBegun}
+use Rattle.cdcl_core.specs.Searches.{IsOpenOrBegun}
 use Rattle.cdcl_core.proofs.Values.{trail_apart}
 use Rattle.cdcl_core.proofs.Learning.{ends, learns}
 use Rattle.cdcl_core.proofs.solver.Solver.learn.Goals as goal

@@ -1,7 +1,6 @@
-use Rattle.std.proofs.Common.{◌≡◌, ◌+◌, ◌∙◌, true, ap, sym, rules, List}
+use Rattle.std.proofs.Common.{◌≡◌, ◌+◌, ◌∙◌, ap, sym, rules}
 use Rattle.std.specs.List.{list_all}
 use Rattle.std.proofs.lemmas.List.Elements.{same_from_all_zip}
-use Rattle.cnf_form.specs.Literals.{Literal}
 use Rattle.cdcl_core.specs.Passes.{is_below}
 use Rattle.cdcl_core.proofs.Learning.{begins}
 use Rattle.cdcl_core.proofs.solver.Solver.new.Goals as goal

@@ -1,4 +1,4 @@
-use Rattle.std.proofs.Common.{◌≡◌, ◌+◌, ◌∷◌, ◌++◌, length, length-append, append_assoc, ap, ◌∙◌, subst, arith, List, option_to_list}
+use Rattle.std.proofs.Common.{◌++◌, length, append_assoc, ap, ◌∙◌, subst, arith, List, option_to_list}
 use Rattle.cnf_form.specs.Propagation.{unassigned}
 use Rattle.cdcl_core.specs.declared.trail.Entry.{Entry}
 use Rattle.cdcl_core.specs.Trails.{AreApart}

@@ -1,7 +1,4 @@
-use Rattle.std.proofs.Common.{◌≡◌, arith, subst, List}
-use Rattle.cnf_form.specs.Propagation.{unassigned}
-use Rattle.cdcl_core.specs.declared.trail.Entry.{Entry}
-use Rattle.cdcl_core.specs.Trails.{AreApart, Assignment}
+use Rattle.std.proofs.Common.{arith}
 use Rattle.cdcl_core.proofs.Marks.{last_has_place, marked_less}
 use Rattle.cdcl_core.proofs.trail.Trail.pop.Goals as goal
 

@@ -1,5 +1,5 @@
-use Rattle.std.proofs.Common.{◌≡◌, None, ◌++◌, ◌∷◌, [], ◌<◌, length, ap, ◌∙◌, sym, arith, Some}
-use Rattle.cdcl_core.specs.Trails.{values_of, free_count}
+use Rattle.std.proofs.Common.{◌≡◌, None, ◌<◌, length, ap, ◌∙◌, sym, arith, Some}
+use Rattle.cdcl_core.specs.Trails.{values_of}
 use Rattle.cdcl_core.proofs.Marks.{marked_more, fewer}
 use Rattle.cdcl_core.proofs.trail.Trail.push.Goals as goal
 
