@@ -102,8 +102,8 @@ fn falsify(marks: &mut Marks, clause: &[Lit]) -> Result<(), NoMemory>
     Ok(())
 }
 
-// Whether the step's clause follows by its hints from the formula and the earlier steps.
-fn follows(
+/// Whether the step's clause follows by its hints from the formula and the earlier steps.
+pub fn follows(
     marks: &mut Marks,
     formula: &[Clause],
     earlier: &[LogStep],

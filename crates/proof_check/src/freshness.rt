@@ -53,8 +53,8 @@ fn step_has_subset(steps: &[LogStep], clause: &Clause) -> bool
     steps.iter().any(|s| is_subset(s.clause(), clause))
 }
 
-// Whether no clause of the formula or of an earlier step is a subset of this one.
-fn is_new(formula: &[Clause], earlier: &[LogStep], clause: &Clause) -> bool
+/// Whether no clause of the formula or of an earlier step is a subset of this one.
+pub fn is_new(formula: &[Clause], earlier: &[LogStep], clause: &Clause) -> bool
     ensures { result ≡ is_new (formula.now ++ clauses_of earlier.now) clause.now }
 {
     !has_subset(formula, clause) && !step_has_subset(earlier, clause)

@@ -4,9 +4,11 @@
 mod checking;
 mod freshness;
 mod marks;
+mod next;
 
 pub use checking::{check, ends_empty};
 pub use freshness::fresh;
+pub use next::may_come_next;
 
 #[cfg(test)]
 mod tests;

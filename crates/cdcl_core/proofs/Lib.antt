@@ -1,0 +1,9 @@
+pub mod Learning
+pub mod Bounding
+pub mod Lessons
+pub mod Passing
+pub mod Scanning
+pub mod Negating
+pub mod Marks
+pub mod Values
+pub mod Following

@@ -1,0 +1,7 @@
+use Rattle.std.proofs.Common.{◌≡◌, ◌+◌, true, take}
+use Rattle.std.specs.List.{list_all}
+use Rattle.cdcl_core.specs.Passes.{is_below}
+use Rattle.cdcl_core.proofs.bounds.last_variable.Given as goal
+
+abbrev pub invariant-loop-clause : goal.invariant-loop-clause
+invariant-loop-clause l = list_all (is_below (l.last + 1)) (take l.clause-index l.clauses) ≡ true

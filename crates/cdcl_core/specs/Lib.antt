@@ -1,0 +1,3 @@
+pub mod Trails
+pub mod Passes
+pub mod Searches

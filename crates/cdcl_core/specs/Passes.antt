@@ -1,0 +1,63 @@
+use Rattle.std.specs.Prelude.{◌≡◌, ℕ, ◌<◌, nat_lt, Bool, true, false, List, Option, Some, None}
+use Rattle.std.specs.List.{list_any, list_all}
+use Rattle.cnf_form.specs.Literals.{Literal}
+use Rattle.cnf_form.specs.Propagation.{assign, is_true, is_falsified, unit_literal, numbered, hint_is_falsified}
+use Rattle.cdcl_core.specs.declared.propagation.State.{State}
+use Rattle.cdcl_core.specs.declared.propagation.State.TheVariants.{Falsified, Forces, Open, Satisfied}
+use Rattle.cdcl_core.specs.declared.propagation.Passed.{Passed}
+use Rattle.cdcl_core.specs.declared.propagation.Passed.TheVariants.{Conflict, Changed, Quiet}
+use Rattle.cdcl_core.specs.declared.propagation.Settled.{Settled}
+use Rattle.cdcl_core.specs.declared.propagation.Settled.TheVariants.{AtConflict, AtChoice, AtEnd}
+use Rattle.cdcl_core.specs.Trails.{Assignment, values_of, free_count}
+
+-- whether each variable of the clause is below n
+unfoldable pub is_below : ℕ → List Literal → Bool
+is_below n c = list_all (λ l. nat_lt l.variable n) c
+
+-- a literal of a variable below n that has no value
+abbrev pub IsFree : (ℕ → Option Bool) → ℕ → Literal → Type 0
+IsFree a n l = (l.variable < n) × (a l.variable ≡ None)
+
+-- no literal that is made true now makes the clause false
+abbrev pub IsCalm : (ℕ → Option Bool) → List Literal → Type 0
+IsCalm a c = (l : Literal) → a l.variable ≡ None → is_falsified (assign a l) c ≡ false
+
+-- some literal of the clause is true
+abbrev pub has_true : (ℕ → Option Bool) → List Literal → Bool
+has_true a c = list_any (is_true a) c
+
+-- what a clause is under a partial assignment of variables below n
+abbrev pub IsState : (ℕ → Option Bool) → ℕ → List Literal → State → Type 0
+IsState a n c Falsified = is_falsified a c ≡ true
+IsState a n c (Forces l) = (unit_literal a c ≡ Some l) × IsFree a n l
+IsState a n c (Open l) = IsCalm a c × IsFree a n l
+IsState a n c Satisfied = has_true a c ≡ true
+
+-- a state with one more literal that has no value
+abbrev pub with_open : State → Literal → State
+with_open Falsified l = Forces l
+with_open (Forces k) l = Open k
+with_open (Open k) l = Open k
+with_open Satisfied l = Satisfied
+
+-- no clause becomes false by one more literal
+abbrev pub AreCalm : (ℕ → Option Bool) → List (List Literal) → Type 0
+AreCalm a clauses = (l : Literal) → a l.variable ≡ None → list_any (is_falsified (assign a l)) clauses ≡ false
+
+-- a literal to choose, and none where each clause is satisfied
+abbrev pub IsChoice : (ℕ → Option Bool) → ℕ → List (List Literal) → Option Literal → Type 0
+IsChoice a n clauses None = list_all (has_true a) clauses ≡ true
+IsChoice a n clauses (Some l) = IsFree a n l
+
+-- what a pass over the clauses did, from one trail to another
+abbrev pub IsPass : List (List Literal) → ℕ → Assignment → Assignment → Passed → Type 0
+IsPass clauses n old now (Conflict k) = hint_is_falsified (values_of now.entries) (numbered clauses k) ≡ true
+IsPass clauses n old now Changed = free_count now.marks < free_count old.marks
+IsPass clauses n old now (Quiet choice) = AreCalm (values_of now.entries) clauses × IsChoice (values_of now.entries) n clauses choice
+
+-- where unit propagation ends: at a clause that is false, at a choice with no clause that a literal makes false, or
+-- with each clause satisfied
+abbrev pub IsSettled : List (List Literal) → ℕ → (ℕ → Option Bool) → Settled → Type 0
+IsSettled clauses n a (AtConflict k) = hint_is_falsified a (numbered clauses k) ≡ true
+IsSettled clauses n a (AtChoice l) = AreCalm a clauses × IsFree a n l
+IsSettled clauses n a AtEnd = list_all (has_true a) clauses ≡ true

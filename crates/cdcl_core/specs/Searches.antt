@@ -1,0 +1,61 @@
+use Rattle.std.specs.Prelude.{◌≡◌, ℕ, Bool, true, false, not, ◌⊎◌, List, [], ◌++◌, Option, Some, None, length}
+use Rattle.std.specs.List.{list_all}
+use Rattle.cnf_form.specs.Literals.{Literal}
+use Rattle.cnf_form.specs.Propagation.{is_falsified, numbered, hint_is_falsified, follows}
+use Rattle.cnf_form.specs.Refutations.{Step, clauses_of, follows_all, is_new, is_fresh, is_empty_clause}
+use Rattle.cdcl_core.specs.declared.solver.Answer.{Answer}
+use Rattle.cdcl_core.specs.declared.solver.Answer.TheVariants.{Found, Refuted, Spent}
+use Rattle.cdcl_core.specs.declared.trail.Entry.{Entry}
+use Rattle.cdcl_core.specs.Trails.{Assignment, values_of, IsTrail}
+use Rattle.cdcl_core.specs.Passes.{is_below, has_true}
+
+-- what holds of a valuation that was found
+abbrev pub IfFound : Answer → (List Bool → Type 0) → Type 0
+IfFound (Found values) P = P values
+IfFound (Refuted log) P = Unit {0}
+IfFound (Spent log) P = Unit {0}
+
+-- what holds of a log that ends in the empty clause
+abbrev pub IfRefuted : Answer → (List Step → Type 0) → Type 0
+IfRefuted (Found values) P = Unit {0}
+IfRefuted (Refuted log) P = P log
+IfRefuted (Spent log) P = Unit {0}
+
+-- what holds of a log where the budget was spent
+abbrev pub IfSpent : Answer → (List Step → Type 0) → Type 0
+IfSpent (Found values) P = Unit {0}
+IfSpent (Refuted log) P = Unit {0}
+IfSpent (Spent log) P = P log
+
+-- whether no clause of the log is empty
+unfoldable pub has_no_empty : List Step → Bool
+has_no_empty log = list_all (λ s. not (is_empty_clause s.clause)) log
+
+-- what a search keeps: its clauses are the formula's and those learnt, each of which follows and was new, and the trail
+-- is one over these clauses
+pub record IsSearch (formula : List (List Literal)) (clauses : List (List Literal)) (log : List Step) (now : Assignment) : Type 0 where
+  pub all : clauses ≡ formula ++ clauses_of log
+  pub follows : follows_all formula log ≡ true
+  pub fresh : is_fresh formula log ≡ true
+  pub no_empty : has_no_empty log ≡ true
+  pub below : list_all (is_below (length now.marks)) clauses ≡ true
+  pub trail : IsTrail clauses now.entries
+
+-- where choices and propagation end: at a clause that is false, or with each clause satisfied
+abbrev pub IsDescent : List (List Literal) → (ℕ → Option Bool) → Option ℕ → Type 0
+IsDescent clauses a (Some k) = hint_is_falsified a (numbered clauses k) ≡ true
+IsDescent clauses a None = list_all (has_true a) clauses ≡ true
+
+-- a step that may be learnt: its clause follows, has no variable from n on, and is new unless it is empty
+pub record IsLesson (clauses : List (List Literal)) (n : ℕ) (step : Step) : Type 0 where
+  pub follows : follows clauses step.clause step.hints ≡ true
+  pub is_new : is_empty_clause step.clause ≡ false → is_new clauses step.clause ≡ true
+  pub below : is_below n step.clause ≡ true
+
+-- the first list is a beginning of the second
+abbrev pub IsFront : List Entry → List Entry → Type 0
+IsFront front entries = (rest : List Entry) × (entries ≡ front ++ rest)
+
+-- a clause isn't false, unless nothing has a value
+abbrev pub IsOpenOrBegun : List Entry → List Literal → Type 0
+IsOpenOrBegun entries clause = (entries ≡ []) ⊎ (is_falsified (values_of entries) clause ≡ false)

@@ -1,0 +1,67 @@
+use Rattle.std.specs.Prelude.{◌≡◌, ℕ, ◌+◌, Bool, false, ◌++◌, List, [], ◌∷◌, Option, Some, None, fold, slice_set}
+use Rattle.std.specs.List.{list_any}
+use Rattle.cnf_form.specs.Literals.{Literal}
+use Rattle.cnf_form.specs.Propagation.{unassigned, assign, is_falsified, numbered, unit_of_hint}
+use Rattle.cdcl_core.specs.declared.trail.Entry.{Entry}
+
+-- the partial assignment after these entries, where it was `a` before them
+abbrev pub assigned : (ℕ → Option Bool) → List Entry → ℕ → Option Bool
+assigned a entries = fold (λ b e. assign b e.literal) a entries
+
+-- the partial assignment under which the literals of a trail are true
+unfoldable pub values_of : List Entry → ℕ → Option Bool
+values_of entries = assigned unassigned entries
+
+-- a trail, and the values of the variables by number
+pub record Assignment : Type 0 where
+  pub marks : List (Option Bool)
+  pub entries : List Entry
+
+-- a trail with one more entry
+abbrev pub with_entry : Assignment → Entry → Assignment
+with_entry t e = record { marks = slice_set t.marks e.literal.variable (Some e.literal.positive); entries = t.entries ++ e ∷ [] }
+
+-- what a literal is made true by, after the values `a`: a decision makes no clause false, and else the clause of the
+-- entry's number forces it
+abbrev pub IsMadeTrue : List (List Literal) → (ℕ → Option Bool) → Literal → Option ℕ → Type 0
+IsMadeTrue clauses a l None = list_any (is_falsified (assign a l)) clauses ≡ false
+IsMadeTrue clauses a l (Some n) = unit_of_hint a (numbered clauses n) ≡ Some l
+
+-- each entry's variable has no value before it, and each literal is made true by a decision or by its clause
+unfoldable pub IsTrailFrom : List (List Literal) → (ℕ → Option Bool) → List Entry → Type 0
+IsTrailFrom clauses a [] = Unit {0}
+IsTrailFrom clauses a (e ∷ es) = (a e.literal.variable ≡ None) × IsMadeTrue clauses a e.literal e.reason × IsTrailFrom clauses (assign a e.literal) es
+
+abbrev pub IsTrail : List (List Literal) → List Entry → Type 0
+IsTrail clauses entries = IsTrailFrom clauses unassigned entries
+
+-- each entry's variable has no value before it
+unfoldable pub AreApart : (ℕ → Option Bool) → List Entry → Type 0
+AreApart a [] = Unit {0}
+AreApart a (e ∷ es) = (a e.literal.variable ≡ None) × AreApart (assign a e.literal) es
+
+-- a literal in front of others, if it was decided
+abbrev pub if_decided : Option ℕ → Literal → List Literal → List Literal
+if_decided None l ls = l ∷ ls
+if_decided (Some n) l ls = ls
+
+-- the literals that were decided, in their order
+unfoldable pub decisions : List Entry → List Literal
+decisions [] = []
+decisions (e ∷ es) = if_decided e.reason e.literal (decisions es)
+
+-- a number in front of others, if there is one
+abbrev pub if_forced : Option ℕ → List ℕ → List ℕ
+if_forced None ns = ns
+if_forced (Some n) ns = n ∷ ns
+
+-- the numbers of the clauses that forced literals, in their order
+unfoldable pub reasons : List Entry → List ℕ
+reasons [] = []
+reasons (e ∷ es) = if_forced e.reason (reasons es)
+
+-- how many variables have no value
+abbrev pub free_count : List (Option Bool) → ℕ
+free_count [] = 0
+free_count (None ∷ ms) = free_count ms + 1
+free_count (Some b ∷ ms) = free_count ms

@@ -1,0 +1,143 @@
+//! The analysis of a conflict. Backwards along the trail, each literal made true since the last decision on which the
+//! conflict rests is replaced by the clause that forced it, until one is left, the first point through which all
+//! led to the conflict. Its negation and the false literals of earlier levels are the clause to learn. Those of the
+//! literals that were false before any decision are kept in it, so that its hints need not force them again.
+//!
+//! Whether the clause follows, and whether it is new, is tested where it is learnt: nothing rests on how it was found.
+
+use crate::levels::Levels;
+use crate::trail::Entry;
+use cnf_form::{Clause, Lit, LogStep};
+use std::alloc::{AllocError as NoMemory, Global};
+
+/// What an analysis has met.
+#[derive(Debug, Drop)]
+pub struct Analysis {
+    /// Whether a variable was met, by its number.
+    seen: Vec<bool>,
+    /// Literals of the clause, all of earlier levels until the first point is there.
+    literals: Vec<Lit>,
+    /// The clauses that forced literals, the last first.
+    hints: Vec<usize>,
+    /// How many variables of the last level were met and not yet replaced.
+    pending: usize,
+}
+
+fn clause_of(clauses: &[Clause], number: usize) -> Option<&Clause> {
+    clauses.get(number.checked_sub(1)?)
+}
+
+impl Analysis {
+    fn new(alloc: Global, size: usize) -> Result<Analysis, NoMemory> {
+        Ok(Analysis {
+            seen: vec![in alloc; false; size]?,
+            literals: Vec::new(alloc),
+            hints: Vec::new(alloc),
+            pending: 0,
+        })
+    }
+
+    /// Whether each variable was met, by its number.
+    pub fn seen(&self) -> &[bool] {
+        self.seen.as_slice()
+    }
+
+    fn is_seen(&self, literal: Lit) -> bool {
+        match self.seen.get(literal.variable() as usize) {
+            Some(is_seen) => *is_seen,
+            None => false,
+        }
+    }
+
+    fn see(&mut self, literal: Lit) {
+        let place = literal.variable() as usize;
+        if place < self.seen.len() {
+            self.seen[place] = true;
+        }
+    }
+
+    // Meets a literal of a clause for the first time.
+    fn meet(&mut self, literal: Lit, levels: &Levels) -> Result<(), NoMemory> {
+        self.see(literal);
+        if levels.is_last(literal) {
+            self.pending = self.pending.checked_add(1).ok_or(NoMemory)?;
+        } else {
+            self.literals.push(literal)?;
+        }
+        Ok(())
+    }
+
+    fn meet_clause(&mut self, clause: &Clause, levels: &Levels) -> Result<(), NoMemory> {
+        for literal in clause.literals() {
+            if !self.is_seen(*literal) {
+                self.meet(*literal, levels)?;
+            }
+        }
+        Ok(())
+    }
+
+    // Puts the clause that forced a literal in its place.
+    fn replace(
+        &mut self,
+        clauses: &[Clause],
+        levels: &Levels,
+        reason: usize,
+    ) -> Result<(), NoMemory> {
+        self.hints.push(reason)?;
+        self.pending = self.pending.saturating_sub(1);
+        match clause_of(clauses, reason) {
+            Some(clause) => self.meet_clause(clause, levels),
+            None => Ok(()),
+        }
+    }
+
+    // Goes backwards to the first point.
+    fn walk(
+        &mut self,
+        entries: &[Entry],
+        clauses: &[Clause],
+        levels: &Levels,
+    ) -> Result<(), NoMemory> {
+        for entry in entries.iter().rev() {
+            if self.is_seen(entry.literal) {
+                match entry.reason {
+                    Some(reason) if self.pending > 1 => self.replace(clauses, levels, reason)?,
+                    _ => {
+                        self.literals.push(entry.literal.negated())?;
+                        return Ok(());
+                    }
+                }
+            }
+        }
+        Ok(())
+    }
+
+    /// The step that was found: its clause with the clauses that forced literals, in their order, and the one that is
+    /// false. None if its literals make no clause.
+    pub fn step(mut self, alloc: Global, conflict: usize) -> Result<Option<LogStep>, NoMemory> {
+        let clause = Clause::from_literals(alloc, &self.literals)?;
+        self.hints.reverse();
+        self.hints.push(conflict)?;
+        match clause {
+            Some(clause) => Ok(Some(LogStep::new(clause, self.hints))),
+            None => Ok(None),
+        }
+    }
+}
+
+/// Analyses the conflict at the clause of this number.
+pub fn analyse(
+    alloc: Global,
+    size: usize,
+    entries: &[Entry],
+    clauses: &[Clause],
+    levels: &Levels,
+    conflict: usize,
+) -> Result<Analysis, NoMemory> {
+    let mut analysis = Analysis::new(alloc, size)?;
+    if let Some(clause) = clause_of(clauses, conflict) {
+        analysis.meet_clause(clause, levels)?;
+    }
+    analysis.walk(entries, clauses, levels)?;
+    Ok(analysis)
+}

@@ -1,0 +1,31 @@
+//! Restarts: after some conflicts a search begins again with the clauses that it has learnt, and after half as many
+//! more the next time.
+
+const FIRST: u32 = 100;
+
+/// The conflicts since the last restart, and after how many the next comes.
+#[derive(Debug, Drop)]
+pub struct Restarts {
+    since: u32,
+    limit: u32,
+}
+
+impl Restarts {
+    pub fn new() -> Restarts {
+        Restarts {
+            since: 0,
+            limit: FIRST,
+        }
+    }
+
+    /// Counts a conflict, and says whether to begin again.
+    pub fn is_due(&mut self) -> bool {
+        self.since = self.since.saturating_add(1);
+        if self.since < self.limit {
+            return false;
+        }
+        self.since = 0;
+        self.limit = self.limit.saturating_add(self.limit / 2);
+        true
+    }
+}

@@ -1,0 +1,160 @@
+//! The trail: the literals that are true, in the order in which they became so.
+
+ghost use Rattle.std.specs.Prelude.{◌≡◌, ℕ, ◌-◌, ◌<◌, ◌≤◌, Bool, [], ◌++◌, IfOk, OnOk, OnErr, None, true, false, replicate, length, map, unwrap_or, option_to_list, IsTrue};
+ghost use Rattle.cnf_form.specs.Literals.{Literal};
+ghost use Rattle.cnf_form.specs.Valuations.{literal_value, valuation};
+ghost use Rattle.cnf_form.specs.Propagation.{unassigned, is_true, is_false, is_falsified};
+ghost use Rattle.cdcl_core.specs.Trails.{values_of, with_entry, AreApart, free_count};
+ghost use Rattle.cdcl_core.specs.Passes.{IsFree};
+ghost use Rattle.cdcl_core.specs.Searches.{IsFront};
+
+use cnf_form::{Clause, Lit, Val};
+use std::alloc::{AllocError as NoMemory, Global};
+use std::marker::Model;
+
+/// A literal that is true, and the number of the clause that forced it, or none if it was decided.
+#[derive(Clone, Copy, Debug)]
+pub struct Entry {
+    pub literal: Lit,
+    pub reason: Option<usize>,
+}
+
+/// Entries in their order, with the values of the variables by number.
+#[derive(Debug, Drop)]
+pub struct Trail {
+    marks: Vec<Option<bool>>,
+    entries: Vec<Entry>,
+}
+
+impl Model for Trail {
+    ghost use Rattle.std.specs.Prelude.{◌≡◌};
+    ghost use Rattle.proof_check.specs.Marking.{marked};
+    ghost use Rattle.cdcl_core.specs.Trails.{Assignment, values_of};
+
+    ghost Value = { Assignment };
+
+    ghost view = { λ t. record { marks = t.marks.items; entries = t.entries.items } };
+
+    ghost invariant = { λ t. marked t.marks.items ≡ values_of t.entries.items };
+}
+
+impl Trail {
+    /// No variable of those below `size` has a value.
+    pub fn new(alloc: Global, size: usize) -> Result<Trail, NoMemory>
+        ensures { IfOk result (λ t. t ≡ record { marks = replicate size None; entries = [] }) }
+    {
+        Ok(Trail {
+            marks: vec![in alloc; None; size]?,
+            entries: Vec::new(alloc),
+        })
+    }
+
+    pub fn entries(&self) -> &[Entry]
+        ensures value { result.now ≡ self.now.entries }
+        ensures in_size { (v : ℕ) (b : Bool) → values_of self.now.entries v ≡ Some b → v < length self.now.marks }
+    {
+        self.entries.as_slice()
+    }
+
+    /// How many variables may have a value: those with a smaller number.
+    pub fn size(&self) -> usize
+        ensures { result ≡ length self.now.marks }
+    {
+        self.marks.len()
+    }
+
+    /// The value of a variable, if it has one.
+    pub fn value(&self, variable: u32) -> Option<bool>
+        ensures { result ≡ values_of self.now.entries variable }
+    {
+        match self.marks.get(variable as usize) {
+            Some(value) => *value,
+            None => None,
+        }
+    }
+
+    pub fn is_true(&self, literal: Lit) -> bool
+        ensures { result ≡ is_true (values_of self.now.entries) literal }
+    {
+        match self.value(literal.variable()) {
+            Some(value) => value == literal.is_positive(),
+            None => false,
+        }
+    }
+
+    pub fn is_false(&self, literal: Lit) -> bool
+        ensures { result ≡ is_false (values_of self.now.entries) literal }
+    {
+        match self.value(literal.variable()) {
+            Some(value) => value == !literal.is_positive(),
+            None => false,
+        }
+    }
+
+    /// Whether each literal of the clause is false.
+    #[tactic(auto, unfolding(cnf_form::specs::Propagation::is_falsified))]
+    pub fn is_falsified(&self, clause: &Clause) -> bool
+        ensures { result ≡ is_falsified (values_of self.now.entries) clause.now }
+    {
+        clause.literals().iter().all(|l| self.is_false(*l))
+    }
+
+    /// Makes a literal true.
+    pub fn push(&mut self, entry: Entry) -> Result<(), NoMemory>
+        requires { entry.literal.variable < length self.old.marks }
+        ensures ok { OnOk result (self.new ≡ with_entry self.old entry) }
+        ensures err { OnErr result (self.new ≡ self.old) }
+        ensures fewer { OnOk result (values_of self.old.entries entry.literal.variable ≡ None → free_count self.new.marks < free_count self.old.marks) }
+    {
+        let place = entry.literal.variable() as usize;
+        let value = Some(entry.literal.is_positive());
+        self.entries.push(entry)?;
+        self.marks[place] = value;
+        Ok(())
+    }
+
+    /// Takes the last entry away, if there is one.
+    pub fn pop(&mut self) -> Option<Entry>
+        requires { AreApart unassigned self.old.entries }
+        ensures entries { self.old.entries ≡ self.new.entries ++ option_to_list result }
+        ensures one_less { length self.new.entries ≡ length self.old.entries - 1 }
+        ensures size { length self.new.marks ≡ length self.old.marks }
+    {
+        let entry = self.entries.pop()?;
+        let place = entry.literal.variable() as usize;
+        self.marks[place] = None;
+        Some(entry)
+    }
+
+    /// Keeps the first `len` entries.
+    pub fn cut(&mut self, len: usize)
+        requires { AreApart unassigned self.old.entries }
+        ensures front { IsFront self.new.entries self.old.entries }
+        ensures short { length self.new.entries ≤ len }
+        ensures size { length self.new.marks ≡ length self.old.marks }
+    {
+        while self.entries().len() > len {
+            self.pop();
+        }
+    }
+
+    /// Whether the literal's variable may have a value, and has none.
+    pub fn is_free(&self, literal: Lit) -> bool
+        ensures { IsTrue result → IsFree (values_of self.now.entries) (length self.now.marks) literal }
+    {
+        (literal.variable() as usize) < self.size() && self.value(literal.variable()).is_none()
+    }
+
+    /// A valuation in which each literal is true that is true here.
+    pub fn valuation(&self, alloc: Global) -> Result<Val, NoMemory>
+        ensures { IfOk result (λ v. (l : Literal) → is_true (values_of self.now.entries) l ≡ true → literal_value (valuation v) l ≡ true) }
+    {
+        Ok(Val::new(values(alloc, &self.marks)?))
+    }
+}
+
+fn values(alloc: Global, marks: &[Option<bool>]) -> Result<Vec<bool>, NoMemory>
+    ensures { IfOk result (λ v. v.items ≡ map (λ m. unwrap_or m false) marks.now) }
+{
+    marks.iter().map(|m| m.unwrap_or(false)).collect(alloc)
+}
