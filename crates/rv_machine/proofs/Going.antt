@@ -1,5 +1,5 @@
 -- Runs of some steps more.
-use Rattle.std.proofs.Common.{◌≡◌, ℕ, zero, suc, ◌+◌, ◌-◌, ◌<◌, ◌≤◌, List, refl, sym, ap, subst, ◌∙◌, arith}
+use Rattle.std.proofs.Common.{◌≡◌, ℕ, zero, suc, ◌+◌, ◌-◌, ◌≤◌, refl, sym, ap, subst, ◌∙◌, arith}
 use Rattle.std.specs.Prelude.{true, false, Option, None, Some, is_some}
 use Rattle.rv_decode.specs.declared.ends.End.{End}
 use Rattle.rv_spec.specs.Machine.{State, Outcome, Running, Ended, next}

@@ -1,5 +1,5 @@
 -- Pages of a machine's memory, as they are looked up.
-use Rattle.std.proofs.Common.{◌≡◌, ℕ, ◌+◌, ◌/◌, ◌%◌, Bool, true, false, Bor, List, Some, None, refl, sym, ap, ◌∙◌}
+use Rattle.std.proofs.Common.{◌≡◌, ℕ, ◌/◌, ◌%◌, true, false, Bor, List, Some, None, refl, sym, ap, ◌∙◌}
 use Rattle.std.specs.Prelude.{Option, ◌==◌, is_some, slice_index}
 use Rattle.std.specs.FinMap.{find, from_entries, entries, get, get-entries, get-from_entries, same_map, nat_cmp-IsAntisymmetric}
 use Rattle.std.specs.Option.{option_map, option_copied}

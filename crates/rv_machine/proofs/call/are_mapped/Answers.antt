@@ -1,7 +1,5 @@
-use Rattle.std.proofs.Common.{◌∙◌, ap, refl, arith}
-use Rattle.rv_spec.specs.Memory.{is_mapped}
+use Rattle.std.proofs.Common.{◌∙◌, refl, arith}
 use Rattle.rv_machine.specs.Pages.{flags_on}
-use Rattle.rv_machine.specs.Standings.{Standing}
 use Rattle.rv_machine.proofs.Addresses.{mapped_none, mapped-more}
 use Rattle.rv_machine.proofs.call.are_mapped.Goals as goal
 

@@ -1,4 +1,4 @@
-use Rattle.std.proofs.Common.{◌∙◌, ap, refl, arith}
+use Rattle.std.proofs.Common.{◌∙◌, refl, arith}
 use Rattle.rv_machine.specs.Pages.{byte_on}
 use Rattle.rv_machine.proofs.Addresses.{bytes_none, bytes-more}
 use Rattle.rv_machine.proofs.hart.append_bytes.Goals as goal

@@ -1,4 +1,4 @@
-use Rattle.std.proofs.Common.{◌≡◌, false, sym, ap, ◌∙◌, arith, rules}
+use Rattle.std.proofs.Common.{◌≡◌, false, sym, ap, ◌∙◌, arith}
 use Rattle.std.specs.Prelude.{is_some, not}
 use Rattle.rv_spec.specs.Machine.{first_state}
 use Rattle.rv_machine.proofs.Going.{still_going, follows-more, comes_full, comes_last, comes_from_start}

@@ -1,4 +1,3 @@
-use Rattle.std.proofs.Common.{◌∙◌}
 use Rattle.rv_machine.proofs.Looking.{looked, writes_none, writes_some}
 use Rattle.rv_machine.proofs.memory.Memory.can_write.Goals as goal
 

@@ -1,4 +1,4 @@
-use Rattle.std.proofs.Common.{◌≡◌, ◌∙◌, ◌∷◌, [], ap, sym, arith}
+use Rattle.std.proofs.Common.{◌∙◌, ◌∷◌, [], ap, sym, arith}
 use Rattle.std.proofs.lemmas.List.{get_or_default}
 use Rattle.rv_spec.specs.Memory.{with_bytes}
 use Rattle.rv_machine.specs.Pages.{Pages, byte_on, flags_on, past_the_end}
