@@ -1,5 +1,5 @@
 -- A test that a text is has its numbers within their bounds.
-use Rattle.std.proofs.Common.{◌≡◌, ◌∙◌, ℕ, Bool, true, false, ◌≤◌, ◌^◌, ◌==◌, ◌&&◌, List, length, nat_le, nat_lt, sum_by, Option, Some, None, Result, Ok, Err, refl, sym, arith}
+use Rattle.std.proofs.Common.{◌≡◌, ℕ, Bool, true, false, ◌≤◌, ◌^◌, ◌==◌, ◌&&◌, List, length, nat_le, nat_lt, sum_by, Option, Some, None, Result, Ok, Err, refl, arith}
 use Rattle.std.specs.Prelude.{codes, if◌then◌else◌, is_some, option_and_then}
 use Rattle.std.proofs.lemmas.Bool.Decides.{nat_tests}
 use Rattle.hex.specs.Hex.{decode_of}
@@ -9,10 +9,9 @@ use Rattle.rv_decode.specs.declared.ends.End.{End}
 use Rattle.rv_decode.specs.declared.ends.PathStep.{PathStep}
 use Rattle.serde_json.specs.Data.{Data}
 use Rattle.serde_json.specs.Find.{as_object}
-use Rattle.test_files.specs.Reading.{Said, end_in, format_in, has_keys, if_between, json_of, leaf_in, most_bytes, number_at, path_in, reading, regions_in, said_in, said_with, steps_in, test_from, test_in, test_of, test_said, test_with_bytes, text_at}
+use Rattle.test_files.specs.Reading.{Said, end_in, format_in, has_keys, if_between, json_of, leaf_in, most_bytes, number_at, path_in, reading, regions_in, said_in, said_with, steps_in, test_from, test_in, test_of, test_said, text_at}
 use Rattle.test_files.specs.Tests.{Test}
 use Rattle.test_files.specs.Writable.{IsBounded}
-use Rattle.test_files.specs.declared.refused.TestRefused.{TestRefused}
 use Rattle.test_files.specs.declared.refused.TestRefused.TheVariants.{Kind, Length, Missing, TooBig}
 
 between : (least most n m : ℕ) → if_between least most n ≡ Some m → (least ≤ m) × (m ≤ most)

@@ -1,19 +1,17 @@
 -- Regions, ends and paths that were written are read back.
-use Rattle.std.proofs.Common.{ℕ, suc, true, List, [], ◌∷◌, ◌++◌, ◌≡◌, ◌∙◌, ◌<◌, ◌≤◌, ◌^◌, length, nat_lt, map, Option, Some, None, option_map, refl, ap, ap₂, append_assoc, codes, decimal, rules, arith}
+use Rattle.std.proofs.Common.{ℕ, suc, true, List, [], ◌∷◌, ◌++◌, ◌≡◌, ◌∙◌, ◌<◌, ◌≤◌, ◌^◌, length, nat_lt, map, Option, Some, None, option_map, refl, ap, ap₂, append_assoc, decimal, arith}
 use Rattle.std.specs.List.{All}
 use Rattle.std.proofs.lemmas.Bool.Decides.{nat_tests}
 use Rattle.elf_load.specs.declared.region.Region.{Region}
-use Rattle.rv_decode.specs.Ends.{trap_name}
 use Rattle.rv_decode.specs.declared.ends.End.{End}
 use Rattle.rv_decode.specs.declared.ends.End.TheVariants.{Exit, Trapped}
 use Rattle.rv_decode.specs.declared.ends.PathStep.{PathStep}
 use Rattle.rv_decode.specs.declared.ends.PathStep.TheVariants.{Taken, NotTaken, Target}
-use Rattle.rv_decode.specs.declared.ends.Trap.{Trap}
 use Rattle.rv_decode.specs.declared.ends.Trap.TheVariants.{Illegal, FetchMisaligned, FetchAccess, LoadMisaligned, LoadAccess, StoreMisaligned, StoreAccess, Break, Call}
 use Rattle.serde_json.specs.Data.{string}
 use Rattle.serde_json.specs.View.{items_of}
 use Rattle.smt_text.specs.Names.{eight_digits, path_text, step_text}
-use Rattle.test_files.specs.Forms.{address_of, branch_of, count_of, end_of, exit_with, path_of, put_first, region_of, region_with, trap_named}
+use Rattle.test_files.specs.Forms.{address_of, count_of, end_of, exit_with, path_of, put_first, region_of, region_with}
 use Rattle.test_files.specs.Reading.{regions_of}
 use Rattle.test_files.specs.Tests.{end_text, region_text}
 use Rattle.test_files.specs.Writable.{HasStatus, HasTarget}

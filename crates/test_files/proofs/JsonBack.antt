@@ -1,8 +1,7 @@
 -- The text of a test is read back as its JSON value.
-use Rattle.std.proofs.Common.{◌≡◌, ◌∙◌, ℕ, suc, ◌+◌, ◌≤◌, ◌<◌, ◌^◌, max, List, [], ◌∷◌, ◌++◌, map, Some, option_map, option_and_then, refl, sym, ap, ap₂, append-nil, codes, decimal, arith}
+use Rattle.std.proofs.Common.{◌≡◌, ◌∙◌, ◌≤◌, ◌<◌, ◌^◌, List, [], ◌∷◌, ◌++◌, map, Some, option_and_then, refl, sym, ap, append-nil, codes, arith}
 use Rattle.json.specs.Json as json
 use Rattle.json.specs.Lex.{tokens}
-use Rattle.json.specs.Print.{print}
 use Rattle.json.specs.Tree as tree
 use Rattle.json.specs.Tree.{HasNumbers, ItemsHaveNumbers, json_tokens}
 use Rattle.json.proofs.Printed.Decimals.{IsNumber-decimal}

@@ -1,13 +1,12 @@
 -- A test that was written is read back.
-use Rattle.std.proofs.Common.{◌≡◌, ◌∙◌, ℕ, Bool, true, false, ◌<◌, ◌≤◌, ◌^◌, ◌==◌, List, length, nat_le, nat_lt, map, sum_by, Option, Some, None, Ok, option_map, option_and_then, refl, ap, codes, rules, arith}
+use Rattle.std.proofs.Common.{◌≡◌, ◌∙◌, ℕ, true, false, ◌<◌, ◌≤◌, ◌^◌, ◌==◌, length, nat_le, nat_lt, sum_by, Some, Ok, refl, ap, arith}
 use Rattle.std.specs.Str.{is_utf8}
 use Rattle.std.proofs.lemmas.Bool.Decides.{nat_tests}
 use Rattle.std.proofs.lemmas.Str.{is_utf8-from_IsUtf8}
-use Rattle.hex.specs.Hex.{decode_of, encode_lower}
+use Rattle.hex.specs.Hex.{encode_lower}
 use Rattle.hex.proofs.HexLemmas.{decode_of-encode_lower}
 use Rattle.elf_load.specs.declared.region.Region.{Region}
-use Rattle.serde_json.specs.Read.{read}
-use Rattle.test_files.specs.Reading.{Said, if_between, json_of, most_bytes, reading, said_in, test_in, test_of, test_said, test_with_bytes}
+use Rattle.test_files.specs.Reading.{Said, if_between, most_bytes, reading, said_in, test_in, test_said, test_with_bytes}
 use Rattle.test_files.specs.TestData.{test_data}
 use Rattle.test_files.specs.Tests.{Test, test_text}
 use Rattle.test_files.specs.Writable.{IsWritable}

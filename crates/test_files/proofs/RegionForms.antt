@@ -1,5 +1,5 @@
 -- Regions as texts say them.
-use Rattle.std.proofs.Common.{ℕ, ◌≢◌, List, [], ◌∷◌, ◌≡◌, ◌<◌, ◌≤◌, ◌-◌, true, false, ◌==◌, length, length-drop, take, take_all, drop, get_or, Option, Some, None, refl, rules, arith}
+use Rattle.std.proofs.Common.{ℕ, ◌≢◌, List, ◌≡◌, ◌<◌, ◌-◌, true, false, ◌==◌, length, length-drop, take, take_all, drop, get_or, Option, None, refl, arith}
 use Rattle.std.proofs.lemmas.Bool.Decides.{nat_tests}
 use Rattle.std.proofs.lemmas.List.{get_or_past}
 use Rattle.test_files.specs.Forms.{address_of, count_of, region_of, region_with}

@@ -1,10 +1,10 @@
 -- The test that a text is, or why it is none.
-use Rattle.std.specs.Prelude.{ℕ, ◌^◌, Bool, ◌&&◌, ◌==◌, nat_lt, nat_le, if◌then◌else◌, List, [], ◌∷◌, length, sum_by, Option, None, Some, is_some, ok_or, codes, Result, Ok, Err, option_and_then}
+use Rattle.std.specs.Prelude.{ℕ, ◌^◌, Bool, ◌&&◌, ◌==◌, nat_lt, nat_le, if◌then◌else◌, List, [], ◌∷◌, length, sum_by, Option, None, Some, is_some, codes, Result, Ok, Err, option_and_then}
 use Rattle.std.specs.List.{list_all}
 use Rattle.std.specs.Str.{is_utf8}
 use Rattle.hex.specs.Hex.{decode_of}
 use Rattle.hex.specs.declared.error.FromHexError.{FromHexError}
-use Rattle.serde_json.specs.Data.{Data, object, Items, no_items, item}
+use Rattle.serde_json.specs.Data.{Data, Items, no_items, item}
 use Rattle.serde_json.specs.Find.{as_array, as_number, as_object, as_str, as_u64, get}
 use Rattle.serde_json.specs.Read.{read}
 use Rattle.elf_load.specs.declared.region.Region.{Region}

@@ -43,7 +43,7 @@ fn read_value(alloc: Global, value: &Value) -> Result<Test, TestError>
     read_said(alloc, value)?.decoded(alloc)
 }
 
-/// Reads a test: a JSON object of at most 16 mebibytes with the keys that `write_test` writes, in
+/// Reads a test: a JSON object (RFC 8259) of at most 16 mebibytes with the keys that `write_test` writes, in
 /// any order and beside any others. The first reason in this order keeps a text from being a test:
 /// it is too big, is no JSON, is no object, has a key too few, a value not of its form, digits that
 /// are not hexadecimal, or an input that has not one byte for each place of the regions.

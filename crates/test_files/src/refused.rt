@@ -4,7 +4,7 @@ ghost use Rattle.std.specs.Prelude.{◌≡◌};
 
 use thiserror::Error;
 
-/// What keeps a text from being a test.
+/// What keeps a text from being a test. Of several the first in the order of `read_test` is answered.
 #[derive(Clone, Copy, Debug, PartialEq, Eq, Error)]
 pub enum TestRefused {
     #[error("the text is not JSON")]

@@ -1,5 +1,5 @@
-use Rattle.std.proofs.Common.{rules, arith, ◌≡◌, ◌==◌, true, false, take, drop, get_or, Some, None}
-use Rattle.test_files.specs.Forms.{address_of, count_of, region_of}
+use Rattle.std.proofs.Common.{rules, ◌≡◌, ◌==◌, true, take, drop, get_or, Some, None}
+use Rattle.test_files.specs.Forms.{address_of, count_of}
 use Rattle.test_files.proofs.RegionForms.{no_colon, no_start, too_short, region_there, to_end}
 use Rattle.test_files.proofs.forms.read_region.Goals.{then-text-lt9-via-then-text-lt9, then-text-lt9-via-else-text-lt9+then-text-ne58}
 use Rattle.test_files.proofs.forms.read_region.Goals as goal

@@ -1,4 +1,4 @@
-use Rattle.std.proofs.Common.{rules, arith}
+use Rattle.std.proofs.Common.{rules}
 use Rattle.test_files.specs.Forms.{path_of}
 use Rattle.test_files.proofs.PathForms.{next_step, no_step, nothing_before, whole_path}
 use Rattle.test_files.proofs.path_form.read_path.Goals as goal

@@ -1,6 +1,4 @@
-use Rattle.std.proofs.Common.{rules, arith, ◌≡◌, ◌≤◌, None, Some, drop, get_or, length, option_map, take}
-use Rattle.rv_decode.specs.declared.ends.PathStep.{PathStep}
-use Rattle.rv_decode.specs.declared.ends.PathStep.TheVariants.{Target}
+use Rattle.std.proofs.Common.{rules, arith, ◌≡◌, ◌≤◌, None, Some, drop, get_or, length, take}
 use Rattle.test_files.specs.Forms.{address_of, branch_of, path_of, put_first}
 use Rattle.test_files.proofs.PathForms.{branch_at, short_at, target_at, with_address, with_branch}
 use Rattle.test_files.proofs.path_form.read_step.Goals.{then-text-ne64-via-then-text-ne64, then-text-ne64-via-else-text-ne64+then-text-lt9}
