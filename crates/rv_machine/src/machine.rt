@@ -39,7 +39,7 @@ impl Model for Machine {
     ghost view = { λ m. record { standing = m.hart; end = m.end } };
 }
 
-/// The instruction that comes next, or the trap that there is none.
+/// Carries out the instruction that comes next, or traps where there is none.
 fn advance(hart: &mut Hart) -> Result<Step, NoMemory>
     ensures ok { IfOk result (λ step. outcome_of hart.new step ≡ machine.next (state_of hart.old)) }
     ensures err { OnErr result (hart.new ≡ hart.old) }
