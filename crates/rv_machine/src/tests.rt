@@ -2,12 +2,16 @@
 
 use crate::{Machine, Step};
 use elf_load::{Image, Region, Regions, fit, load};
+use row_files::row_file;
 use rv_decode::{End, PathStep, Trap};
-use std::alloc::{AllocError as NoMemory, Global};
+use std::alloc::Global;
 use std::process::Abort;
 use std::test::Fail;
 
 const CODE: u32 = 0x10000;
+
+// Where a file has its entry.
+const ENTRY: usize = 24;
 
 const DATA: u32 = 0x11000;
 
@@ -339,23 +343,18 @@ const BRANCHES: [(u32, PathStep); 6] = [
     (0x0073_7463, PathStep::Taken),
 ];
 
-fn push_words(bytes: &mut Vec<u8>, words: &[u32]) -> Result<(), NoMemory> {
-    for word in words {
-        bytes.extend_from_slice(&word.to_le_bytes())?;
+// The file of these words, with this entry.
+fn file(alloc: Global, entry: u32, words: &[u32]) -> Result<Vec<u8>, Fail> {
+    if 0x4000_0000 <= words.len() {
+        return Err("a shorter program".into());
     }
-    Ok(())
-}
-
-// The file of these words: the ELF header, a header for the code at 0x10000, one for 512 bytes of data at 0x11000, and the code.
-fn file(alloc: Global, entry: u32, words: &[u32]) -> Result<Vec<u8>, NoMemory> {
-    let size = words.iter().fold(0u32, |size, _| size.wrapping_add(4));
-    let mut bytes = Vec::new(alloc);
-    push_words(&mut bytes, &[0x464C_457F, 0x0001_0101, 0, 0])?;
-    push_words(&mut bytes, &[0x00F3_0002, 1, entry, 52, 0, 0])?;
-    push_words(&mut bytes, &[0x0020_0034, 2, 0])?;
-    push_words(&mut bytes, &[1, 116, 0x10000, 0x10000, size, size, 5, 4])?;
-    push_words(&mut bytes, &[1, 0, 0x11000, 0x11000, 0, 512, 6, 4])?;
-    push_words(&mut bytes, words)?;
+    let mut bytes = row_file(alloc, words)?.into_vec();
+    for (at, byte) in entry.to_le_bytes().iter().enumerate() {
+        let place = ENTRY + at;
+        if place < bytes.len() {
+            bytes[place] = *byte;
+        }
+    }
     Ok(bytes)
 }
 
