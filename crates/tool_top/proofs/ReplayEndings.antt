@@ -1,8 +1,8 @@
 -- What the verdict of a replay's plan says.
-use Rattle.std.proofs.Common.{◌≡◌, ◌≢◌, ◌⊎◌, ℕ, List, [], inl, inr, refl, sym, ◌∙◌, ap, subst, take}
+use Rattle.std.proofs.Common.{◌≡◌, ◌⊎◌, ℕ, List, [], inl, inr, sym, ◌∙◌, ap, subst, take}
 use Rattle.std.specs.Prelude.{Option, None, Some, IfSome, Ok, Err, option_and_then}
 use Rattle.std.specs.Option.{option_map}
-use Rattle.tool_io.specs.Told.{Told, Seen, Gives, told_held}
+use Rattle.tool_io.specs.Told.{Seen, Gives, told_held}
 use Rattle.tool_io.specs.Causes.{Rose}
 use Rattle.elf_load.specs.Images.{Image, Loads}
 use Rattle.elf_load.proofs.OneImage.{one_image}

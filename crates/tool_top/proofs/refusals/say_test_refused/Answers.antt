@@ -1,6 +1,5 @@
 use Rattle.std.proofs.Common.{◌≡◌, ◌∙◌, ◌++◌, ℕ, List, Vec, Global, ap, append_assoc, codes, decimal, string_bytes}
-use Rattle.test_files.specs.Refusals.{refused_name, refused_number}
-use Rattle.tool_top.specs.Lines.{test_refused}
+use Rattle.test_files.specs.Refusals.{refused_number}
 use Rattle.tool_top.proofs.refusals.say_test_refused.Goals as goal
 
 flat : (a number b name c : List ℕ) → a ++ (number ++ (b ++ (name ++ c))) ≡ a ++ number ++ b ++ name ++ c

@@ -1,4 +1,4 @@
-use Rattle.std.proofs.Common.{◌∙◌, ap, sym}
+use Rattle.std.proofs.Common.{◌∙◌}
 use Rattle.test_files.proofs.Bounded.{read_bounded}
 use Rattle.tool_top.proofs.ReplayPlans.{replays_other, replays_same, sum_count}
 use Rattle.tool_top.proofs.replaying.plan_run.Goals as goal

@@ -1,4 +1,3 @@
-use Rattle.std.proofs.Common.{[], ◌∷◌}
 use Rattle.tool_io.specs.Told.{reads}
 use Rattle.tool_io.proofs.Deeds.{after_two, gives_after_reads}
 use Rattle.tool_top.specs.Replaying.{most_test_bytes}

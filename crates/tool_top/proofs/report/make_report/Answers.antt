@@ -1,4 +1,4 @@
-use Rattle.std.proofs.Common.{List, [], ◌∷◌, ◌∙◌, map, refl, sym, ap}
+use Rattle.std.proofs.Common.{List, [], ◌∷◌, ◌∙◌, map, refl, ap}
 use Rattle.report_text.specs.Reports.{leaves_of as noted_leaves}
 use Rattle.report_text.specs.Summaries.{count, summary_text}
 use Rattle.explorer.specs.Telling.{entry_of as noted_of}
