@@ -4,8 +4,10 @@
 mod analysis;
 mod bounds;
 mod descent;
+mod following;
 mod lesson;
 mod levels;
+mod occurrences;
 mod order;
 mod propagation;
 mod restarts;

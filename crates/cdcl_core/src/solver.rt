@@ -14,6 +14,7 @@ use crate::bounds::last_variable;
 use crate::descent::descend;
 use crate::lesson::lesson;
 use crate::levels::Levels;
+use crate::occurrences::Occurrences;
 use crate::order::Order;
 use crate::restarts::Restarts;
 use crate::trail::Trail;
@@ -37,6 +38,7 @@ struct Solver {
     clauses: Vec<Clause>,
     log: Log,
     trail: Trail,
+    occurrences: Occurrences,
     order: Order,
     restarts: Restarts,
 }
@@ -64,6 +66,7 @@ impl Solver {
             clauses: formula.clauses().to_vec(alloc)?,
             log: Log::new(alloc),
             trail: Trail::new(alloc, last as usize + 1)?,
+            occurrences: Occurrences::new(alloc, last as usize + 1, formula.clauses())?,
             order: Order::new(alloc, last)?,
             restarts: Restarts::new(),
         })
@@ -76,7 +79,12 @@ impl Solver {
         ensures log { OnOk result (self.new.log ≡ self.old.log) }
         ensures descent { IfOk result (IsDescent self.new.clauses.items (values_of self.new.trail.entries)) }
     {
-        descend(&mut self.trail, &self.clauses, &self.order)
+        descend(
+            &mut self.trail,
+            &self.clauses,
+            &self.occurrences,
+            &self.order,
+        )
     }
 
     // What the analysis of a conflict finds. The variables that it meets become more active.
@@ -171,6 +179,7 @@ impl Solver {
         }
         let clause = step.clause().clone()?;
         self.go_back(&levels, &clause);
+        self.occurrences.add(&clause, self.clauses.len())?;
         self.clauses.push(clause)?;
         self.log.push(step)?;
         Ok(false)
