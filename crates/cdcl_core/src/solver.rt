@@ -1,4 +1,6 @@
-//! The search.
+//! The search: it runs until a clause is false, learns a clause from that and goes back, once for each clause that the
+//! budget allows. Throughout, its clauses are those of the formula and of the log, each of which follows and was new, and
+//! its trail is one of decisions, right after which no clause was false, and of literals that clauses forced.
 
 ghost use Rattle.std.specs.Prelude.{◌≡◌, ◌≤◌, ◌+◌, [], true, length, IfOk, OnOk};
 ghost use Rattle.std.specs.Bool.{OnTrue, OnFalse};
@@ -87,7 +89,8 @@ impl Solver {
         )
     }
 
-    // What the analysis of a conflict finds. The variables that it meets become more active.
+    // What the analysis of a conflict finds, and nothing where no literal was decided. The variables that it meets become
+    // more active.
     fn found(
         &mut self,
         alloc: Global,
@@ -98,6 +101,9 @@ impl Solver {
         ensures log { self.new.log ≡ self.old.log }
         ensures trail { self.new.trail ≡ self.old.trail }
     {
+        if levels.last() == 0 {
+            return Ok(None);
+        }
         let analysis = analyse(
             alloc,
             self.trail.size(),
