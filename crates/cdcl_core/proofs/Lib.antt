@@ -6,4 +6,4 @@ pub mod Scanning
 pub mod Negating
 pub mod Marks
 pub mod Values
-pub mod Following
+pub mod Leading

@@ -10,7 +10,7 @@ use Rattle.cnf_form.proofs.Inserting.{mapped, all_above, above_later, increasing
 use Rattle.cdcl_core.specs.declared.trail.Entry.{Entry}
 use Rattle.cdcl_core.specs.Trails.{assigned, values_of, IsTrail, decisions, reasons}
 use Rattle.cdcl_core.proofs.Values.{Extends, assign-same, assign-other, all_false_kept}
-use Rattle.cdcl_core.proofs.Following.{with_decisions, conflict, last_decision, decisions_kept, AreFresh, fresh_decisions}
+use Rattle.cdcl_core.proofs.Leading.{with_decisions, conflict, last_decision, decisions_kept, AreFresh, fresh_decisions}
 
 abbrev falsify_one : (ℕ → Option Bool) → Literal → ℕ → Option Bool
 falsify_one a l = assign a (negation l)

@@ -9,7 +9,7 @@ use Rattle.cnf_form.specs.Propagation.{unassigned, assign, is_falsified, unit_li
 use Rattle.cdcl_core.specs.declared.trail.Entry.{Entry}
 use Rattle.cdcl_core.specs.declared.propagation.State.TheVariants.{Forces, Open}
 use Rattle.cdcl_core.specs.Trails.{Assignment, with_entry, values_of, IsTrail, free_count}
-use Rattle.cdcl_core.specs.Passes.{is_below, IsFree, IsCalm, AreCalm, has_true, IsState, IsChoice}
+use Rattle.cdcl_core.specs.Passes.{is_below, IsFree, IsCalm, AreCalm, has_true, IsState, IsChoice, IsFollowed}
 use Rattle.cdcl_core.proofs.Values.{trail_more}
 use Rattle.cdcl_core.proofs.Scanning.{all_at, calm_satisfied}
 
@@ -132,3 +132,21 @@ going_end clauses old now i is_changed choice g no_change past = (
   choice_by clauses (values_of now.entries) (length now.marks) (length old.marks) choice g.size (g.free no_change)
       (λ none. all_from (has_true (values_of now.entries)) clauses (λ k less. g.satisfied no_change none k (omega (arith, less)))),
 )
+
+-- a literal that one clause forces
+pub followed_forced : (clauses : List (List Literal)) (old after : Assignment) (i : ℕ) (c : List Literal) (l : Literal) → IsTrail clauses old.entries → i < length clauses → c ≡ get_or clauses i c → IsState (values_of old.entries) (length old.marks) c (Forces l)
+    → after ≡ with_entry old (record { literal = l; reason = Some (i + 1) }) → (values_of old.entries l.variable ≡ None → free_count after.marks < free_count old.marks) → IsFollowed clauses old after
+followed_forced clauses old after i c l h within at forced made fewer =
+    let less : free_count after.marks < free_count old.marks = fewer forced.1.1 in
+    record {
+      trail = subst (λ (t : Assignment). IsTrail clauses t.entries) (sym made)
+          (trail_forced clauses old.entries (record { literal = l; reason = Some (i + 1) }) l (i + 1) h refl forced.1.1 (unit_at clauses (values_of old.entries) i c l within at forced.0));
+      size = ap (λ (t : Assignment). length t.marks) made ∙ length-set old.marks l.variable (Some l.positive);
+      no_more = omega (arith, less);
+    }
+
+pub followed_same : (clauses : List (List Literal)) (old : Assignment) → IsTrail clauses old.entries → IsFollowed clauses old old
+followed_same clauses old h = record { trail = h; size = refl; no_more = omega arith }
+
+pub followed_on : (clauses : List (List Literal)) (old now after : Assignment) → IsFollowed clauses old now → IsFollowed clauses now after → IsFollowed clauses old after
+followed_on clauses old now after f g = record { trail = g.trail; size = g.size ∙ f.size; no_more = omega (arith, f.no_more, g.no_more) }

@@ -1,4 +1,4 @@
-use Rattle.std.specs.Prelude.{◌≡◌, ℕ, ◌<◌, nat_lt, Bool, true, false, List, Option, Some, None}
+use Rattle.std.specs.Prelude.{◌≡◌, ℕ, ◌<◌, ◌≤◌, nat_lt, length, Bool, true, false, List, Option, Some, None}
 use Rattle.std.specs.List.{list_any, list_all}
 use Rattle.cnf_form.specs.Literals.{Literal}
 use Rattle.cnf_form.specs.Propagation.{assign, is_true, is_falsified, unit_literal, numbered, hint_is_falsified}
@@ -6,9 +6,9 @@ use Rattle.cdcl_core.specs.declared.propagation.State.{State}
 use Rattle.cdcl_core.specs.declared.propagation.State.TheVariants.{Falsified, Forces, Open, Satisfied}
 use Rattle.cdcl_core.specs.declared.propagation.Passed.{Passed}
 use Rattle.cdcl_core.specs.declared.propagation.Passed.TheVariants.{Conflict, Changed, Quiet}
-use Rattle.cdcl_core.specs.declared.propagation.Settled.{Settled}
-use Rattle.cdcl_core.specs.declared.propagation.Settled.TheVariants.{AtConflict, AtChoice, AtEnd}
-use Rattle.cdcl_core.specs.Trails.{Assignment, values_of, free_count}
+use Rattle.cdcl_core.specs.declared.descent.Settled.{Settled}
+use Rattle.cdcl_core.specs.declared.descent.Settled.TheVariants.{AtConflict, AtChoice, AtEnd}
+use Rattle.cdcl_core.specs.Trails.{Assignment, values_of, IsTrail, free_count}
 
 -- whether each variable of the clause is below n
 unfoldable pub is_below : ℕ → List Literal → Bool
@@ -61,3 +61,9 @@ abbrev pub IsSettled : List (List Literal) → ℕ → (ℕ → Option Bool) →
 IsSettled clauses n a (AtConflict k) = hint_is_falsified a (numbered clauses k) ≡ true
 IsSettled clauses n a (AtChoice l) = AreCalm a clauses × IsFree a n l
 IsSettled clauses n a AtEnd = list_all (has_true a) clauses ≡ true
+
+-- a trail went on from another: it is a trail still, and no variable lost its value
+pub record IsFollowed (clauses : List (List Literal)) (old now : Assignment) : Type 0 where
+  pub trail : IsTrail clauses now.entries
+  pub size : length now.marks ≡ length old.marks
+  pub no_more : free_count now.marks ≤ free_count old.marks

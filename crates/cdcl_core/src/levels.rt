@@ -41,6 +41,11 @@ impl Levels {
         }
     }
 
+    /// How many literals were decided.
+    pub fn last(&self) -> usize {
+        self.last
+    }
+
     /// Whether the variable got its value after the last decision.
     pub fn is_last(&self, literal: Lit) -> bool {
         self.level(literal) == self.last

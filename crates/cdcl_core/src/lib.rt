@@ -1,11 +1,27 @@
-//! A conflict-driven search.
+//! A conflict-driven search for a valuation of a formula. Every answer carries what shows it: a valuation that satisfies
+//! the formula, a log that ends in the empty clause, or a log of as many clauses as the budget allows.
+//!
+//! - `solver`: the search: it runs until a clause is false, learns from that, goes back, and runs again
+//! - `descent`: choices and propagation in turn
+//! - `propagation`: what a clause is while some variables have values, and passes over all clauses
+//! - `following`, `occurrences`: what follows from literals that have become true, by the clauses in which they stand
+//! - `trail`: the literals that are true, in their order, with the clauses that forced them
+//! - `lesson`: what is learnt: the clause that the analysis found, if it follows and is new, or the negated decisions
+//! - `analysis`: the first point through which all led to a conflict
+//! - `levels`, `order`, `restarts`: how far to go back, what to choose, when to begin again. No answer rests on them
+//! - `bounds`: the greatest variable of a formula
+//!
+//! Literals that were false before any decision are kept in a clause that is learnt, so that its hints need not force
+//! them again.
 #![tactic(auto)]
 
 mod analysis;
 mod bounds;
 mod descent;
+mod following;
 mod lesson;
 mod levels;
+mod occurrences;
 mod order;
 mod propagation;
 mod restarts;

@@ -1,10 +1,10 @@
-//! Unit propagation: a clause whose literals are all false but one forces that one. It goes on by passes over the
-//! clauses until one is false or none forces a literal.
+//! Unit propagation: a clause whose literals are all false but one forces that one. A pass over the clauses makes all
+//! true that is forced, or shows that no clause is false or forces a literal.
 
 ghost use Rattle.std.specs.Prelude.{◌≡◌, ◌≤◌, true, length, IfOk, OnOk};
 ghost use Rattle.std.specs.List.{list_all};
 ghost use Rattle.cdcl_core.specs.Trails.{values_of, IsTrail, free_count};
-ghost use Rattle.cdcl_core.specs.Passes.{is_below, with_open, IsState, IsPass, IsSettled};
+ghost use Rattle.cdcl_core.specs.Passes.{is_below, with_open, IsState, IsPass};
 
 use crate::trail::{Entry, Trail};
 use cnf_form::{Clause, Lit};
@@ -35,17 +35,6 @@ pub enum Passed {
     Quiet(Option<Lit>),
 }
 
-/// Where unit propagation ends.
-#[derive(Clone, Copy, Debug)]
-pub enum Settled {
-    /// The clause of this number is false.
-    AtConflict(usize),
-    /// No clause is false or forces a literal, and this literal has no value.
-    AtChoice(Lit),
-    /// Each clause is satisfied.
-    AtEnd,
-}
-
 // The state with one more literal that has no value.
 fn with_open(state: State, literal: Lit) -> State
     ensures { result ≡ with_open state literal }
@@ -58,7 +47,7 @@ fn with_open(state: State, literal: Lit) -> State
     }
 }
 
-fn state_of(trail: &Trail, clause: &Clause) -> State
+pub fn state_of(trail: &Trail, clause: &Clause) -> State
     requires { is_below (length trail.now.marks) clause.now ≡ true }
     ensures { IsState (values_of trail.now.entries) (length trail.now.marks) clause.now result }
 {
@@ -74,8 +63,8 @@ fn state_of(trail: &Trail, clause: &Clause) -> State
     so_far
 }
 
-// One pass over the clauses, in which each that forces a literal makes it true.
-fn pass(trail: &mut Trail, clauses: &[Clause]) -> Result<Passed, NoMemory>
+/// One pass over the clauses, in which each that forces a literal makes it true.
+pub fn pass(trail: &mut Trail, clauses: &[Clause]) -> Result<Passed, NoMemory>
     requires below { list_all (is_below (length trail.old.marks)) clauses.now ≡ true }
     requires trail { IsTrail clauses.now trail.old.entries }
     ensures trail { OnOk result (IsTrail clauses.now trail.new.entries) }
@@ -101,23 +90,4 @@ fn pass(trail: &mut Trail, clauses: &[Clause]) -> Result<Passed, NoMemory>
         return Ok(Passed::Changed);
     }
     Ok(Passed::Quiet(choice))
-}
-
-/// Makes literals true that clauses force, until a clause is false or none forces a literal.
-pub fn propagate(trail: &mut Trail, clauses: &[Clause]) -> Result<Settled, NoMemory>
-    requires below { list_all (is_below (length trail.old.marks)) clauses.now ≡ true }
-    requires trail { IsTrail clauses.now trail.old.entries }
-    ensures trail { OnOk result (IsTrail clauses.now trail.new.entries) }
-    ensures size { OnOk result (length trail.new.marks ≡ length trail.old.marks) }
-    ensures no_more { OnOk result (free_count trail.new.marks ≤ free_count trail.old.marks) }
-    ensures settled { IfOk result (IsSettled clauses.now (length trail.old.marks) (values_of trail.new.entries)) }
-{
-    loop {
-        match pass(trail, clauses)? {
-            Passed::Conflict(number) => return Ok(Settled::AtConflict(number)),
-            Passed::Changed => {}
-            Passed::Quiet(Some(literal)) => return Ok(Settled::AtChoice(literal)),
-            Passed::Quiet(None) => return Ok(Settled::AtEnd),
-        }
-    }
 }

@@ -1,4 +1,6 @@
-//! The search.
+//! The search: it runs until a clause is false, learns a clause from that and goes back, once for each clause that the
+//! budget allows. Throughout, its clauses are those of the formula and of the log, each of which follows and was new, and
+//! its trail is one of decisions, right after which no clause was false, and of literals that clauses forced.
 
 ghost use Rattle.std.specs.Prelude.{◌≡◌, ◌≤◌, ◌+◌, [], true, length, IfOk, OnOk};
 ghost use Rattle.std.specs.Bool.{OnTrue, OnFalse};
@@ -14,6 +16,7 @@ use crate::bounds::last_variable;
 use crate::descent::descend;
 use crate::lesson::lesson;
 use crate::levels::Levels;
+use crate::occurrences::Occurrences;
 use crate::order::Order;
 use crate::restarts::Restarts;
 use crate::trail::Trail;
@@ -37,6 +40,7 @@ struct Solver {
     clauses: Vec<Clause>,
     log: Log,
     trail: Trail,
+    occurrences: Occurrences,
     order: Order,
     restarts: Restarts,
 }
@@ -64,6 +68,7 @@ impl Solver {
             clauses: formula.clauses().to_vec(alloc)?,
             log: Log::new(alloc),
             trail: Trail::new(alloc, last as usize + 1)?,
+            occurrences: Occurrences::new(alloc, last as usize + 1, formula.clauses())?,
             order: Order::new(alloc, last)?,
             restarts: Restarts::new(),
         })
@@ -76,10 +81,16 @@ impl Solver {
         ensures log { OnOk result (self.new.log ≡ self.old.log) }
         ensures descent { IfOk result (IsDescent self.new.clauses.items (values_of self.new.trail.entries)) }
     {
-        descend(&mut self.trail, &self.clauses, &self.order)
+        descend(
+            &mut self.trail,
+            &self.clauses,
+            &self.occurrences,
+            &self.order,
+        )
     }
 
-    // What the analysis of a conflict finds. The variables that it meets become more active.
+    // What the analysis of a conflict finds, and nothing where no literal was decided. The variables that it meets become
+    // more active.
     fn found(
         &mut self,
         alloc: Global,
@@ -90,6 +101,9 @@ impl Solver {
         ensures log { self.new.log ≡ self.old.log }
         ensures trail { self.new.trail ≡ self.old.trail }
     {
+        if levels.last() == 0 {
+            return Ok(None);
+        }
         let analysis = analyse(
             alloc,
             self.trail.size(),
@@ -171,6 +185,7 @@ impl Solver {
         }
         let clause = step.clause().clone()?;
         self.go_back(&levels, &clause);
+        self.occurrences.add(&clause, self.clauses.len())?;
         self.clauses.push(clause)?;
         self.log.push(step)?;
         Ok(false)

@@ -125,3 +125,25 @@ fn a_cycle_has_three_colours(rt: HostRuntime) -> Result<(), Fail> {
     assert_eq!(rt; answered(&rt, alloc, &colours, 1000)?, Kind::Found);
     Ok(())
 }
+
+// Every clause over two variables, beside eight pairs that have nothing to do with them: two clauses of one literal or none
+// are enough where the choices among the pairs are left out of what is learnt.
+#[test]
+fn choices_that_do_not_matter_are_not_learnt(rt: HostRuntime) -> Result<(), Fail> {
+    let alloc = rt.alloc();
+    let mut with_pairs = formula(&rt, alloc, &[&[1, 2], &[1, -2], &[-1, 2], &[-1, -2]])?;
+    for pair in [
+        [3, 4],
+        [5, 6],
+        [7, 8],
+        [9, 10],
+        [11, 12],
+        [13, 14],
+        [15, 16],
+        [17, 18],
+    ] {
+        with_pairs.push(clause(&rt, alloc, &pair)?)?;
+    }
+    assert_eq!(rt; answered(&rt, alloc, &with_pairs, 2)?, Kind::Refuted);
+    Ok(())
+}

@@ -1,6 +1,6 @@
 //! The trail: the literals that are true, in the order in which they became so.
 
-ghost use Rattle.std.specs.Prelude.{◌≡◌, ℕ, ◌-◌, ◌<◌, ◌≤◌, Bool, [], ◌++◌, IfOk, OnOk, OnErr, None, true, false, replicate, length, map, unwrap_or, option_to_list, IsTrue};
+ghost use Rattle.std.specs.Prelude.{◌≡◌, ℕ, ◌-◌, ◌<◌, ◌↔◌, min, Bool, [], ◌++◌, IfOk, OnOk, OnErr, None, true, false, replicate, length, map, unwrap_or, option_to_list, IsTrue};
 ghost use Rattle.cnf_form.specs.Literals.{Literal};
 ghost use Rattle.cnf_form.specs.Valuations.{literal_value, valuation};
 ghost use Rattle.cnf_form.specs.Propagation.{unassigned, is_true, is_false, is_falsified};
@@ -130,7 +130,7 @@ impl Trail {
     pub fn cut(&mut self, len: usize)
         requires { AreApart unassigned self.old.entries }
         ensures front { IsFront self.new.entries self.old.entries }
-        ensures short { length self.new.entries ≤ len }
+        ensures len { length self.new.entries ≡ min len (length self.old.entries) }
         ensures size { length self.new.marks ≡ length self.old.marks }
     {
         while self.entries().len() > len {
@@ -140,7 +140,7 @@ impl Trail {
 
     /// Whether the literal's variable may have a value, and has none.
     pub fn is_free(&self, literal: Lit) -> bool
-        ensures { IsTrue result → IsFree (values_of self.now.entries) (length self.now.marks) literal }
+        ensures { IsTrue result ↔ IsFree (values_of self.now.entries) (length self.now.marks) literal }
     {
         (literal.variable() as usize) < self.size() && self.value(literal.variable()).is_none()
     }

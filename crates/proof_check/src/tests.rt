@@ -1,6 +1,6 @@
 //! A refutation made by hand, logs that are none, and clauses that are fresh or not.
 
-use crate::{check, ends_empty, fresh};
+use crate::{check, ends_empty, fresh, may_come_next};
 use cnf_form::{Clause, Cnf, Lit, Log, LogStep};
 use std::alloc::{AllocError as NoMemory, Global};
 use std::process::Abort;
@@ -101,5 +101,19 @@ fn supersets_are_not_fresh(rt: HostRuntime) -> Result<(), Fail> {
         step(&rt, alloc, &[b(), c], &[4])?,
     )?;
     assert!(rt; !fresh(&formula, &of_the_log));
+    Ok(())
+}
+
+#[test]
+fn steps_that_may_come_next(rt: HostRuntime) -> Result<(), Fail> {
+    let alloc = rt.alloc();
+    let formula = formula(&rt, alloc)?;
+    let log = Log::new(alloc);
+    let good = step(&rt, alloc, &[b()], &[1, 2])?;
+    assert!(rt; may_come_next(alloc, &formula, &log, &good)?);
+    let unshown = step(&rt, alloc, &[b()], &[1])?;
+    assert!(rt; !may_come_next(alloc, &formula, &log, &unshown)?);
+    let known = step(&rt, alloc, &[a()], &[1])?;
+    assert!(rt; !may_come_next(alloc, &formula, &log, &known)?);
     Ok(())
 }

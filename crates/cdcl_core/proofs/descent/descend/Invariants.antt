@@ -2,11 +2,11 @@ use Rattle.std.proofs.Common.{◌≡◌, length}
 use Rattle.cdcl_core.specs.Trails.{IsTrail, free_count}
 use Rattle.cdcl_core.proofs.descent.descend.Given as goal
 
-abbrev pub invariant-loop-number : goal.invariant-loop-number
-invariant-loop-number l = record {
+abbrev pub invariant-choices : goal.invariant-choices
+invariant-choices l = record {
   trail : IsTrail l.clauses l.trail.entries;
   size : length l.trail.marks ≡ length l.initial.trail.marks;
 }
 
-abbrev pub decreases-loop-number : goal.decreases-loop-number
-decreases-loop-number l = free_count l.trail.marks
+abbrev pub decreases-choices : goal.decreases-choices
+decreases-choices l = free_count l.trail.marks

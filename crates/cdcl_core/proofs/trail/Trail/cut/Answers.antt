@@ -14,5 +14,6 @@ loop-self-preserved c =
     record {
       apart = front_is_apart c.pop.new.self.entries (option_to_list c.pop.result) unassigned (subst (λ (es : List Entry). AreApart unassigned es) c.pop.ensures.entries c.loop-self.invariant.apart);
       front = (option_to_list c.pop.result ++ front.0, front.1 ∙ ap (λ (es : List Entry). es ++ front.0) c.pop.ensures.entries ∙ append_assoc c.pop.new.self.entries (option_to_list c.pop.result) front.0);
+      len = omega (arith, c.loop-self.invariant.len, c.pop.ensures.one_less, c.loop-self-test.true, ap (λ (es : List Entry). length es) c.entries.ensures.value);
       size = c.pop.ensures.size ∙ c.loop-self.invariant.size;
     }
