@@ -268,7 +268,7 @@ fn tests_that_were_put_are_as_their_runs(rt: HostRuntime) -> Result<(), Fail> {
             assert_eq!(rt; run(&rt, &words, &mut held)?, 0);
         }
         assert!(rt; !names.is_empty());
-        assert!(rt; held.said().len() - said == 5 * names.len());
+        assert!(rt; held.said().len().checked_sub(said) == Some(5 * names.len()));
     }
     Ok(())
 }
