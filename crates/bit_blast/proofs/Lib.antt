@@ -1,0 +1,4 @@
+pub mod Walks
+pub mod Counted
+pub mod Multiplying
+pub mod BitNumbers

@@ -1,0 +1,13 @@
+//! Formulas whose solutions are those of conditions on input bytes.
+#![tactic(auto)]
+
+mod adders;
+mod circuit;
+mod gates;
+mod products;
+mod query;
+mod rows;
+mod shifts;
+mod values;
+
+pub use query::{bytes_of, clauses};
