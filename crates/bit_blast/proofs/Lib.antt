@@ -4,3 +4,6 @@ pub mod Multiplying
 pub mod BitNumbers
 pub mod GateValues
 pub mod RowValues
+pub mod EachValues
+pub mod AdderValues
+pub mod ComparisonValues
