@@ -7,3 +7,4 @@ pub mod RowValues
 pub mod EachValues
 pub mod AdderValues
 pub mod ComparisonValues
+pub mod TopValues
