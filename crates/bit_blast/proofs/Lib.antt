@@ -8,3 +8,4 @@ pub mod EachValues
 pub mod AdderValues
 pub mod ComparisonValues
 pub mod TopValues
+pub mod Shifting
