@@ -9,3 +9,4 @@ pub mod AdderValues
 pub mod ComparisonValues
 pub mod TopValues
 pub mod Shifting
+pub mod ShiftValues
