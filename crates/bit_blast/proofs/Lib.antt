@@ -10,3 +10,4 @@ pub mod ComparisonValues
 pub mod TopValues
 pub mod Shifting
 pub mod ShiftValues
+pub mod Moves
