@@ -6,7 +6,7 @@ use Rattle.bit_blast.specs.Formulas.{Formula}
 use Rattle.bit_blast.specs.Gates.{xor3_gate, majority_gate}
 use Rattle.bit_blast.specs.Rows.{adder, Sum}
 use Rattle.bit_blast.proofs.GateValues.{Solves, differ, two_of, xor3_says, majority_says}
-use Rattle.bit_blast.proofs.RowValues.{number_nil, number_cons, pow_double_times}
+use Rattle.bit_blast.proofs.RowNumbers.{number_nil, number_cons, pow_double_times}
 
 -- What the adder makes of the numbers of two rows.
 

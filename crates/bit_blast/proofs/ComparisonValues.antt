@@ -9,7 +9,7 @@ use Rattle.bit_blast.specs.Gates.{and_gate, xor_gate}
 use Rattle.bit_blast.specs.Rows.{negations, top_of, with_top_negated, adder, Sum, ult_gate, slt_gate, equal_from, equal_gate}
 use Rattle.bit_blast.proofs.BitNumbers.{number_bound}
 use Rattle.bit_blast.proofs.GateValues.{Solves, differ, value_negation, value_constant, and_says, xor_says}
-use Rattle.bit_blast.proofs.RowValues.{bit_small, number_nil, number_cons, number_negations, pow_double, pow_positive}
+use Rattle.bit_blast.proofs.RowNumbers.{bit_small, number_nil, number_cons, number_negations, pow_double, pow_positive}
 use Rattle.bit_blast.proofs.AdderValues.{Added, adder_says}
 
 -- What the tests of two rows say of their numbers.

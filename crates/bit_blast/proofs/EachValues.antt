@@ -9,7 +9,7 @@ use Rattle.bit_blast.specs.Formulas.{Formula}
 use Rattle.bit_blast.specs.Gates.{and_gate, or_gate, xor_gate, mux_gate}
 use Rattle.bit_blast.specs.Rows.{each}
 use Rattle.bit_blast.proofs.GateValues.{Solves, differ, and_says, or_says, xor_says, mux_says}
-use Rattle.bit_blast.proofs.RowValues.{bit_small, number_nil, number_cons}
+use Rattle.bit_blast.proofs.RowNumbers.{bit_small, number_nil, number_cons}
 
 -- What a gate at each place of two rows makes of their numbers.
 

@@ -3,7 +3,7 @@ pub mod Counted
 pub mod Multiplying
 pub mod BitNumbers
 pub mod GateValues
-pub mod RowValues
+pub mod RowNumbers
 pub mod EachValues
 pub mod AdderValues
 pub mod ComparisonValues

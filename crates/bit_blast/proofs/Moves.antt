@@ -8,7 +8,7 @@ use Rattle.bit_blast.specs.Rows.{negations}
 use Rattle.bit_blast.specs.Shifts.{moved}
 use Rattle.bit_blast.specs.declared.shifts.Direction.TheVariants.{Up, Down}
 use Rattle.bit_blast.proofs.GateValues.{value_negation}
-use Rattle.bit_blast.proofs.RowValues.{number_append, number_falses, number_trues, number_negations, number_take, number_drop}
+use Rattle.bit_blast.proofs.RowNumbers.{number_append, number_falses, number_trues, number_negations, number_take, number_drop}
 use Rattle.bit_blast.proofs.Shifting.{up, down, down_ones, up_is, down_is, down_ones_is, up_placed}
 use Rattle.bit_blast.proofs.ShiftValues.{IsMove}
 

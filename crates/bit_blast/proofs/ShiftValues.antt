@@ -13,7 +13,7 @@ use Rattle.bit_blast.specs.declared.shifts.Direction.{Direction}
 use Rattle.bit_blast.specs.declared.shifts.Direction.TheVariants.{Up, Down}
 use Rattle.bit_blast.proofs.BitNumbers.{number_bound}
 use Rattle.bit_blast.proofs.GateValues.{Solves, value_negation, value_constant, or_says}
-use Rattle.bit_blast.proofs.RowValues.{number_nil, number_cons, number_append, number_falses, number_trues, number_negations, number_take, number_drop}
+use Rattle.bit_blast.proofs.RowNumbers.{number_nil, number_cons, number_append, number_falses, number_trues, number_negations, number_take, number_drop}
 use Rattle.bit_blast.proofs.EachValues.{Made, choice_row_number, length_each}
 use Rattle.bit_blast.proofs.Shifting.{IsShift, up, down, down_ones, up_is, down_is, down_ones_is, up_placed}
 

@@ -8,7 +8,7 @@ use Rattle.bit_blast.specs.Formulas.{constant}
 use Rattle.bit_blast.specs.Rows.{top_of, with_top_negated}
 use Rattle.bit_blast.proofs.BitNumbers.{number_bound}
 use Rattle.bit_blast.proofs.GateValues.{value_negation}
-use Rattle.bit_blast.proofs.RowValues.{number_nil, number_cons, pow_double_times}
+use Rattle.bit_blast.proofs.RowNumbers.{number_nil, number_cons, pow_double_times}
 
 -- The top literal of a row, and what it is worth.
 
