@@ -2,3 +2,4 @@ pub mod Walks
 pub mod Counted
 pub mod Multiplying
 pub mod BitNumbers
+pub mod SatisfiedGates
