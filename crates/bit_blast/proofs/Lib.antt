@@ -3,3 +3,4 @@ pub mod Counted
 pub mod Multiplying
 pub mod BitNumbers
 pub mod SatisfiedGates
+pub mod SatisfiedRows

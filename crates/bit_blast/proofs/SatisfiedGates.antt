@@ -98,3 +98,90 @@ mux_value v c a b f h =
     let o = next_variable f in
     let parts : Holds v f × (satisfies v ((negation c ∷ negation a ∷ o ∷ []) ∷ (negation c ∷ a ∷ negation o ∷ []) ∷ (c ∷ negation b ∷ o ∷ []) ∷ (c ∷ b ∷ negation o ∷ []) ∷ []) ≡ true) = gate_parts v _ f h in
     (parts.0, mux_at v o c a b parts.1)
+
+-- whether an odd number of three truth values is true
+abbrev pub is_odd : Bool → Bool → Bool → Bool
+is_odd true b c = same_truth b c
+is_odd false b c = not (same_truth b c)
+
+-- whether two or more of them are
+abbrev pub are_two : Bool → Bool → Bool → Bool
+are_two true b c = b || c
+are_two false b c = b && c
+
+odd_forced : (o a b c : Bool) → ((a || (b || (c || (not o || false)))) && ((a || (b || (not c || (o || false)))) && ((a || (not b || (c || (o || false)))) && ((a || (not b || (not c || (not o || false)))) && ((not a || (b || (c || (o || false)))) && ((not a || (b || (not c || (not o || false)))) && ((not a || (not b || (c || (not o || false)))) && ((not a || (not b || (not c || (o || false)))) && true)))))))) ≡ true → o ≡ is_odd a b c
+odd_forced true true true true h = refl
+odd_forced true true true false h = cc
+odd_forced true true false true h = cc
+odd_forced true true false false h = refl
+odd_forced true false true true h = cc
+odd_forced true false true false h = refl
+odd_forced true false false true h = refl
+odd_forced true false false false h = cc
+odd_forced false true true true h = cc
+odd_forced false true true false h = refl
+odd_forced false true false true h = refl
+odd_forced false true false false h = cc
+odd_forced false false true true h = refl
+odd_forced false false true false h = cc
+odd_forced false false false true h = cc
+odd_forced false false false false h = refl
+
+abbrev odd_clauses : Literal → Literal → Literal → Literal → List (List Literal)
+odd_clauses a b c o = (a ∷ b ∷ c ∷ negation o ∷ []) ∷ (a ∷ b ∷ negation c ∷ o ∷ []) ∷ (a ∷ negation b ∷ c ∷ o ∷ []) ∷ (a ∷ negation b ∷ negation c ∷ negation o ∷ []) ∷ (negation a ∷ b ∷ c ∷ o ∷ []) ∷ (negation a ∷ b ∷ negation c ∷ negation o ∷ []) ∷ (negation a ∷ negation b ∷ c ∷ negation o ∷ []) ∷ (negation a ∷ negation b ∷ negation c ∷ o ∷ []) ∷ []
+
+odd_at : (v : ℕ → Bool) (o a b c : Literal) → satisfies v (odd_clauses a b c o) ≡ true → literal_value v o ≡ is_odd (literal_value v a) (literal_value v b) (literal_value v c)
+unfolding satisfies satisfies_clause
+odd_at v o a b c h = odd_forced (literal_value v o) (literal_value v a) (literal_value v b) (literal_value v c) (simp negated at h)
+
+pub odd_value : (v : ℕ → Bool) (a b c : Literal) (f : Formula) → Holds v (xor3_gate a b c f).1
+    → Holds v f × (literal_value v (xor3_gate a b c f).0 ≡ is_odd (literal_value v a) (literal_value v b) (literal_value v c))
+unfolding xor3_gate
+odd_value v a b c f h =
+    let o = next_variable f in
+    let parts : Holds v f × (satisfies v (odd_clauses a b c o) ≡ true) = gate_parts v _ f h in
+    (parts.0, odd_at v o a b c parts.1)
+
+two_forced : (o a b c : Bool) → ((not a || (not b || (o || false))) && ((not a || (not c || (o || false))) && ((not b || (not c || (o || false))) && ((a || (b || (not o || false))) && ((a || (c || (not o || false))) && ((b || (c || (not o || false))) && true)))))) ≡ true → o ≡ are_two a b c
+two_forced true true true true h = refl
+two_forced true true true false h = refl
+two_forced true true false true h = refl
+two_forced true true false false h = cc
+two_forced true false true true h = refl
+two_forced true false true false h = cc
+two_forced true false false true h = cc
+two_forced true false false false h = cc
+two_forced false true true true h = cc
+two_forced false true true false h = cc
+two_forced false true false true h = cc
+two_forced false true false false h = refl
+two_forced false false true true h = cc
+two_forced false false true false h = refl
+two_forced false false false true h = refl
+two_forced false false false false h = refl
+
+abbrev two_clauses : Literal → Literal → Literal → Literal → List (List Literal)
+two_clauses a b c o = (negation a ∷ negation b ∷ o ∷ []) ∷ (negation a ∷ negation c ∷ o ∷ []) ∷ (negation b ∷ negation c ∷ o ∷ []) ∷ (a ∷ b ∷ negation o ∷ []) ∷ (a ∷ c ∷ negation o ∷ []) ∷ (b ∷ c ∷ negation o ∷ []) ∷ []
+
+two_at : (v : ℕ → Bool) (o a b c : Literal) → satisfies v (two_clauses a b c o) ≡ true → literal_value v o ≡ are_two (literal_value v a) (literal_value v b) (literal_value v c)
+unfolding satisfies satisfies_clause
+two_at v o a b c h = two_forced (literal_value v o) (literal_value v a) (literal_value v b) (literal_value v c) (simp negated at h)
+
+pub two_value : (v : ℕ → Bool) (a b c : Literal) (f : Formula) → Holds v (majority_gate a b c f).1
+    → Holds v f × (literal_value v (majority_gate a b c f).0 ≡ are_two (literal_value v a) (literal_value v b) (literal_value v c))
+unfolding majority_gate
+two_value v a b c f h =
+    let o = next_variable f in
+    let parts : Holds v f × (satisfies v (two_clauses a b c o) ≡ true) = gate_parts v _ f h in
+    (parts.0, two_at v o a b c parts.1)
+
+-- a full adder
+pub full_adder : (a b c : Bool) → bit_of (is_odd a b c) + 2 * bit_of (are_two a b c) ≡ bit_of a + bit_of b + bit_of c
+full_adder true true true = refl
+full_adder true true false = refl
+full_adder true false true = refl
+full_adder true false false = refl
+full_adder false true true = refl
+full_adder false true false = refl
+full_adder false false true = refl
+full_adder false false false = refl
