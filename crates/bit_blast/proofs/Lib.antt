@@ -4,3 +4,5 @@ pub mod Multiplying
 pub mod BitNumbers
 pub mod SatisfiedGates
 pub mod SatisfiedRows
+pub mod ProductValues
+pub mod QuotientValues

@@ -1,11 +1,11 @@
-use Rattle.std.proofs.Common.{◌≡◌, ℕ, ◌+◌, ◌*◌, Bool, true, false, not, cond, ◌&&◌, ◌||◌, List, [], ◌∷◌, ◌++◌, Option, Some, None, refl, ap, sym, ◌∙◌, arith}
+use Rattle.std.proofs.Common.{◌≡◌, ℕ, ◌+◌, ◌*◌, Bool, true, false, not, cond, ◌&&◌, ◌||◌, List, [], ◌∷◌, Option, Some, None, refl, ap, sym, ◌∙◌}
 use Rattle.std.proofs.lemmas.Bool.{and_parts}
 use Rattle.std.proofs.lemmas.List.Folds.{list_all-append}
 use Rattle.cnf_form.specs.Literals.{Literal, negation, same_truth}
 use Rattle.cnf_form.specs.Clauses.{clause_of}
 use Rattle.cnf_form.specs.Valuations.{literal_value, satisfies_clause, satisfies}
 use Rattle.cnf_form.proofs.Meaning.{clause_means, tautology_means}
-use Rattle.bit_blast.specs.Formulas.{Formula, constant, next_variable, with_variable, with_kept, with_clause, with_clauses}
+use Rattle.bit_blast.specs.Formulas.{Formula, next_variable, with_variable, with_kept, with_clause, with_clauses}
 use Rattle.bit_blast.specs.Gates.{and_gate, mux_gate, xor3_gate, majority_gate}
 use Rattle.bit_blast.specs.Bytes.{bit_of}
 

@@ -1,11 +1,11 @@
-use Rattle.std.proofs.Common.{◌≡◌, ℕ, zero, suc, ◌+◌, ◌-◌, ◌*◌, ◌^◌, ◌<◌, ◌≤◌, Bool, true, false, not, cond, ◌&&◌, ◌||◌, List, [], ◌∷◌, ◌++◌, length, take, drop, map, replicate, refl, ap, sym, ◌∙◌, arith}
+use Rattle.std.proofs.Common.{◌≡◌, ℕ, zero, suc, ◌+◌, ◌*◌, ◌^◌, ◌<◌, ◌≤◌, Bool, true, false, not, cond, ◌&&◌, List, [], ◌∷◌, ◌++◌, length, take, drop, replicate, refl, ap, sym, ◌∙◌, arith}
 use Rattle.std.proofs.Math.Nat.{pow-succ', mul-suc}
 use Rattle.std.proofs.lemmas.List.{take-append-drop, length-take-le}
 use Rattle.cnf_form.specs.Literals.{Literal, negation, same_truth}
 use Rattle.cnf_form.specs.Valuations.{literal_value}
 use Rattle.bit_blast.specs.Formulas.{Formula, constant}
 use Rattle.bit_blast.specs.Gates.{and_gate, mux_gate, xor3_gate, majority_gate}
-use Rattle.bit_blast.specs.Rows.{negations, zeros, with_first, each, adder, Sum}
+use Rattle.bit_blast.specs.Rows.{negations, zeros, each, adder, Sum}
 use Rattle.bit_blast.specs.Bytes.{bit_of, number_of_row}
 use Rattle.bit_blast.proofs.SatisfiedGates.{Holds, negation_value, and_value, mux_value, odd_value, two_value, is_odd, are_two, full_adder}
 
@@ -32,6 +32,9 @@ number_bound v (l ∷ ls) =
     let rest : number_of_row v ls < 2 ^ length ls = number_bound v ls in
     let low : bit_of (literal_value v l) ≤ 1 = bit_small (literal_value v l) in
     rw (number_cons v l ls, power_step (length ls)) (omega arith)
+
+pub number_below : (v : ℕ → Bool) (ls : List Literal) (n : ℕ) → length ls ≡ n → number_of_row v ls < 2 ^ n
+number_below v ls n long = rw (← long) (number_bound v ls)
 
 adder_step : (s t m p q w a b c k : ℕ) → s + 2 * m ≡ a + b + c → t + w * k ≡ p + q + m → s + 2 * t + (2 * w) * k ≡ (a + 2 * p) + (b + 2 * q) + c
 adder_step s t m p q w a b c k low high =
