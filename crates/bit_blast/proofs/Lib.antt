@@ -2,7 +2,9 @@ pub mod Walks
 pub mod Counted
 pub mod Multiplying
 pub mod BitNumbers
-pub mod SatisfiedGates
-pub mod SatisfiedRows
+pub mod GateMeaning
+pub mod AdderMeaning
+pub mod SumMeaning
+pub mod RowValues
 pub mod ProductValues
 pub mod QuotientValues

@@ -9,8 +9,10 @@ use Rattle.bit_blast.specs.Gates.{and_gate}
 use Rattle.bit_blast.specs.Rows.{zeros, each, adder, Sum}
 use Rattle.bit_blast.specs.Products.{partial_row, products, mul_row}
 use Rattle.bit_blast.specs.Bytes.{bit_of, number_of_row}
-use Rattle.bit_blast.proofs.SatisfiedGates.{Holds}
-use Rattle.bit_blast.proofs.SatisfiedRows.{number_cons, number_nil, power_step, number_below, adder_number, adder_length, each_length, and_number, append_number, split_number, zeros_number, false_bit}
+use Rattle.bit_blast.proofs.BitNumbers.{number_cons}
+use Rattle.bit_blast.proofs.AdderMeaning.{adder_length, adder_means}
+use Rattle.bit_blast.proofs.SumMeaning.{zeros_number}
+use Rattle.bit_blast.proofs.RowValues.{Holds, number_nil, power_step, number_below, each_length, and_number, append_number, split_number, false_bit}
 
 -- The product of two rows.
 
@@ -45,7 +47,7 @@ partial_number v a low b f truth within h =
     let m : List Literal = (each and_gate (take n a) (replicate n b) f).0 in
     let left : length (take n a) ≡ n = length-take-le n a (omega arith) in
     let made : Holds v f × (number_of_row v m ≡ cond (literal_value v b) (number_of_row v (take n a)) 0) = and_number v b (take n a) n f left h in
-    let none : number_of_row v (zeros low) ≡ 0 = zeros_number v low truth in
+    let none : number_of_row v (zeros low) ≡ 0 = zeros_number v truth low in
     let up : length (zeros low) ≡ low = length-replicate low (constant false) in
     (made.0, append_number v (zeros low) m ∙ rw (none, up, made.1) (omega arith))
 
@@ -62,7 +64,7 @@ products_number v a (b ∷ bs) total low f truth within same h =
     let long : length s.sums ≡ length a = adder_length total p.0 (constant false) p.1 alike ∙ same in
     let rest : Holds v s.formula × ((k : ℕ) × (number_of_row v (products a bs (low + 1) s.sums s.formula).0 + 2 ^ length a * k ≡ number_of_row v s.sums + 2 ^ (low + 1) * number_of_row v a * number_of_row v bs)) =
         products_number v a bs s.sums (low + 1) s.formula truth (omega arith) long h in
-    let added : Holds v p.1 × (number_of_row v s.sums + 2 ^ length total * bit_of (literal_value v s.carry) ≡ number_of_row v total + number_of_row v p.0 + bit_of (literal_value v (constant false))) = adder_number v total p.0 (constant false) p.1 alike rest.0 in
+    let added : Holds v p.1 × (number_of_row v s.sums + 2 ^ length total * bit_of (literal_value v s.carry) ≡ number_of_row v total + number_of_row v p.0 + bit_of (literal_value v (constant false))) = adder_means v total p.0 (constant false) p.1 alike rest.0 in
     let sum : number_of_row v s.sums + 2 ^ length a * bit_of (literal_value v s.carry) ≡ number_of_row v total + number_of_row v p.0 =
         rw (← same) (added.1 ∙ rw (false_bit v truth) (omega arith)) in
     let one : Holds v f × (number_of_row v p.0 ≡ 2 ^ low * cond (literal_value v b) (number_of_row v (take n a)) 0) = partial_number v a low b f truth (omega arith) added.0 in
@@ -93,6 +95,6 @@ pub mul_number : (v : ℕ → Bool) (a b : List Literal) (f : Formula) → v 1 �
 mul_number v a b f truth same h =
     let made : Holds v f × ((n : ℕ) × (number_of_row v (mul_row a b f).0 + 2 ^ length a * n ≡ number_of_row v (zeros (length a)) + 2 ^ 0 * number_of_row v a * number_of_row v b)) =
         products_number v a b (zeros (length a)) 0 f truth (omega arith) (length-replicate (length a) (constant false)) h in
-    let none : number_of_row v (zeros (length a)) ≡ 0 = zeros_number v (length a) truth in
+    let none : number_of_row v (zeros (length a)) ≡ 0 = zeros_number v truth (length a) in
     let small : number_of_row v (mul_row a b f).0 < 2 ^ length a = number_below v (mul_row a b f).0 (length a) (mul_length a b f same) in
     (made.0, reduced (number_of_row v (mul_row a b f).0) _ _ made.1.0 small (made.1.1 ∙ rw none (omega arith)))

@@ -10,8 +10,10 @@ use Rattle.bit_blast.specs.Gates.{mux_gate}
 use Rattle.bit_blast.specs.Rows.{negations, zeros, each, adder, Sum}
 use Rattle.bit_blast.specs.Products.{Division, Restored, brought_down, division_step, division, divided, udiv_row, urem_row}
 use Rattle.bit_blast.specs.Bytes.{bit_of, number_of_row}
-use Rattle.bit_blast.proofs.SatisfiedGates.{Holds}
-use Rattle.bit_blast.proofs.SatisfiedRows.{number_cons, number_nil, bit_small, power_step, number_bound, number_below, adder_number, adder_length, each_length, mux_number, append_number, zeros_number, false_bit, true_bit, negations_number, low_number}
+use Rattle.bit_blast.proofs.BitNumbers.{number_cons, bit_small, number_bound}
+use Rattle.bit_blast.proofs.AdderMeaning.{adder_length, adder_means}
+use Rattle.bit_blast.proofs.SumMeaning.{zeros_number, negations_number}
+use Rattle.bit_blast.proofs.RowValues.{Holds, number_nil, power_step, number_below, each_length, mux_number, append_number, false_bit, true_bit, low_number}
 
 -- The quotient and the rest of two rows.
 
@@ -86,7 +88,7 @@ step_number v x negated rest f d w truth long_divisor long divisor small h =
     let chosen : Holds v s.formula × (number_of_row v (each (mux_gate s.carry) s.sums shifted s.formula).0 ≡ cond (literal_value v s.carry) (number_of_row v s.sums) (number_of_row v shifted)) =
         mux_number v s.carry s.sums shifted s.formula (sums ∙ sym places) h in
     let added : Holds v f × (number_of_row v s.sums + 2 ^ length shifted * bit_of (literal_value v s.carry) ≡ number_of_row v shifted + number_of_row v negated + bit_of (literal_value v (constant true))) =
-        adder_number v shifted negated (constant true) f alike chosen.0 in
+        adder_means v shifted negated (constant true) f alike chosen.0 in
     let is : number_of_row v shifted ≡ brought_number v x rest = brought_value v x rest w long small in
     let sum : number_of_row v s.sums + 2 ^ (w + 1) * bit_of (literal_value v s.carry) ≡ brought_number v x rest + number_of_row v negated + bit_of (literal_value v (constant true)) =
         ap (λ k. number_of_row v s.sums + 2 ^ k * bit_of (literal_value v s.carry)) (sym places) ∙ added.1 ∙ ap (λ n. n + number_of_row v negated + bit_of (literal_value v (constant true))) is in
@@ -105,7 +107,7 @@ step_before v x negated rest f w long_divisor long h =
     let places : length shifted ≡ w + 1 = brought_length x rest w long in
     let alike : length shifted ≡ length negated = places ∙ sym long_divisor in
     let sums : length s.sums ≡ w + 1 = adder_length shifted negated (constant true) f alike ∙ places in
-    (adder_number v shifted negated (constant true) f alike (mux_number v s.carry s.sums shifted s.formula (sums ∙ sym places) h).0).0
+    (adder_means v shifted negated (constant true) f alike (mux_number v s.carry s.sums shifted s.formula (sums ∙ sym places) h).0).0
 
 step_length : (x : Literal) (negated rest : List Literal) (f : Formula) (w : ℕ) → length negated ≡ w + 1 → length rest ≡ w + 1 → length (division_step x negated rest f).rest ≡ w + 1
 unfolding division_step
@@ -169,7 +171,7 @@ divided_number v a b f truth same h =
     let long : length start.rest ≡ length b + 1 = zero_above_length (zeros (length b)) ∙ ap (λ n. n + 1) (length-replicate (length b) (constant false)) in
     let divisor : number_of_row v negated + number_of_row v b + 1 ≡ 2 ^ (length b + 1) =
         ap (λ n. number_of_row v negated + n + 1) (sym (zero_above_number v b truth)) ∙ negations_number v (zero_above b) ∙ ap (λ n. 2 ^ n) (zero_above_length b) in
-    let no_rest : number_of_row v start.rest ≡ 0 = zero_above_number v (zeros (length b)) truth ∙ zeros_number v (length b) truth in
+    let no_rest : number_of_row v start.rest ≡ 0 = zero_above_number v (zeros (length b)) truth ∙ zeros_number v truth (length b) in
     division_number v a negated start (number_of_row v b) (length b) truth long_divisor long divisor (number_bound v b) (omega arith) (number_nil v) no_rest h
 
 -- the quotient of two rows of one length

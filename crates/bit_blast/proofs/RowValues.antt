@@ -1,73 +1,38 @@
-use Rattle.std.proofs.Common.{◌≡◌, ℕ, zero, suc, ◌+◌, ◌*◌, ◌^◌, ◌<◌, ◌≤◌, Bool, true, false, not, cond, ◌&&◌, List, [], ◌∷◌, ◌++◌, length, take, drop, replicate, refl, ap, sym, ◌∙◌, arith}
+use Rattle.std.proofs.Common.{◌≡◌, ℕ, zero, suc, ◌+◌, ◌*◌, ◌^◌, ◌<◌, ◌≤◌, Bool, true, false, cond, ◌&&◌, List, [], ◌∷◌, ◌++◌, length, take, drop, replicate, refl, ap, sym, ◌∙◌, arith}
 use Rattle.std.proofs.Math.Nat.{pow-succ', mul-suc}
 use Rattle.std.proofs.lemmas.List.{take-append-drop, length-take-le}
-use Rattle.cnf_form.specs.Literals.{Literal, negation, same_truth}
-use Rattle.cnf_form.specs.Valuations.{literal_value}
+use Rattle.cnf_form.specs.Literals.{Literal}
+use Rattle.cnf_form.specs.Valuations.{literal_value, satisfies}
 use Rattle.bit_blast.specs.Formulas.{Formula, constant}
-use Rattle.bit_blast.specs.Gates.{and_gate, mux_gate, xor3_gate, majority_gate}
-use Rattle.bit_blast.specs.Rows.{negations, zeros, each, adder, Sum}
+use Rattle.bit_blast.specs.Gates.{and_gate, mux_gate}
+use Rattle.bit_blast.specs.Rows.{each}
 use Rattle.bit_blast.specs.Bytes.{bit_of, number_of_row}
-use Rattle.bit_blast.proofs.SatisfiedGates.{Holds, negation_value, and_value, mux_value, odd_value, two_value, is_odd, are_two, full_adder}
+use Rattle.bit_blast.proofs.BitNumbers.{number_bound, number_cons}
+use Rattle.bit_blast.proofs.GateMeaning.{and_means, mux_means}
+use Rattle.bit_blast.proofs.AdderMeaning.{holds}
+use Rattle.bit_blast.proofs.SumMeaning.{constant_value}
 
 -- What rows are worth under a valuation that satisfies the formula with which they were made.
+
+abbrev pub Holds : (ℕ → Bool) → Formula → Type 0
+Holds v f = satisfies v f.clauses ≡ true
 
 pub number_nil : (v : ℕ → Bool) → number_of_row v [] ≡ 0
 unfolding number_of_row
 number_nil v = refl
 
-pub number_cons : (v : ℕ → Bool) (l : Literal) (ls : List Literal) → number_of_row v (l ∷ ls) ≡ bit_of (literal_value v l) + 2 * number_of_row v ls
-unfolding number_of_row
-number_cons v l ls = refl
-
-pub bit_small : (b : Bool) → bit_of b ≤ 1
-bit_small true = omega arith
-bit_small false = omega arith
-
 pub power_step : (n : ℕ) → 2 ^ suc n ≡ 2 * 2 ^ n
 power_step n = pow-succ' 2 n
-
-pub number_bound : (v : ℕ → Bool) (ls : List Literal) → number_of_row v ls < 2 ^ length ls
-number_bound v [] = rw (number_nil v) (omega arith)
-number_bound v (l ∷ ls) =
-    let rest : number_of_row v ls < 2 ^ length ls = number_bound v ls in
-    let low : bit_of (literal_value v l) ≤ 1 = bit_small (literal_value v l) in
-    rw (number_cons v l ls, power_step (length ls)) (omega arith)
 
 pub number_below : (v : ℕ → Bool) (ls : List Literal) (n : ℕ) → length ls ≡ n → number_of_row v ls < 2 ^ n
 number_below v ls n long = rw (← long) (number_bound v ls)
 
-adder_step : (s t m p q w a b c k : ℕ) → s + 2 * m ≡ a + b + c → t + w * k ≡ p + q + m → s + 2 * t + (2 * w) * k ≡ (a + 2 * p) + (b + 2 * q) + c
-adder_step s t m p q w a b c k low high =
-    let x = w * k in
-    let twice : (2 * w) * k ≡ 2 * x = omega arith in
-    rw twice (omega arith)
+and_value : (v : ℕ → Bool) (a b : Literal) (f : Formula) → Holds v (and_gate a b f).1 → Holds v f × (literal_value v (and_gate a b f).0 ≡ (literal_value v a && literal_value v b))
+and_value v a b f h = holds _ _ _ (sym (and_means v a b f) ∙ h)
 
--- the adder: its sums and its last carry are the sum of both numbers and the first carry
-pub adder_number : (v : ℕ → Bool) (a b : List Literal) (c : Literal) (f : Formula) → length a ≡ length b → Holds v (adder a b c f).formula
-    → Holds v f × (number_of_row v (adder a b c f).sums + 2 ^ length a * bit_of (literal_value v (adder a b c f).carry) ≡ number_of_row v a + number_of_row v b + bit_of (literal_value v c))
-unfolding adder number_of_row
-adder_number v [] [] c f same h = (h, omega arith)
-adder_number v [] (y ∷ b) c f same h = cc
-adder_number v (x ∷ a) [] c f same h = cc
-adder_number v (x ∷ a) (y ∷ b) c f same h =
-    let s : Literal × Formula = xor3_gate x y c f in
-    let m : Literal × Formula = majority_gate x y c s.1 in
-    let r : Sum = adder a b m.0 m.1 in
-    let rest : Holds v m.1 × (number_of_row v r.sums + 2 ^ length a * bit_of (literal_value v r.carry) ≡ number_of_row v a + number_of_row v b + bit_of (literal_value v m.0)) = adder_number v a b m.0 m.1 (omega arith) h in
-    let carried : Holds v s.1 × (literal_value v m.0 ≡ are_two (literal_value v x) (literal_value v y) (literal_value v c)) = two_value v x y c s.1 rest.0 in
-    let summed : Holds v f × (literal_value v s.0 ≡ is_odd (literal_value v x) (literal_value v y) (literal_value v c)) = odd_value v x y c f carried.0 in
-    let low : bit_of (literal_value v s.0) + 2 * bit_of (literal_value v m.0) ≡ bit_of (literal_value v x) + bit_of (literal_value v y) + bit_of (literal_value v c) =
-        rw (summed.1, carried.1) (full_adder (literal_value v x) (literal_value v y) (literal_value v c)) in
-    (summed.0, rw (power_step (length a)) (adder_step _ _ _ _ _ _ _ _ _ _ low rest.1))
-
-pub adder_length : (a b : List Literal) (c : Literal) (f : Formula) → length a ≡ length b → length (adder a b c f).sums ≡ length a
-unfolding adder
-adder_length [] b c f same = refl
-adder_length (x ∷ a) [] c f same = cc
-adder_length (x ∷ a) (y ∷ b) c f same =
-    let s : Literal × Formula = xor3_gate x y c f in
-    let m : Literal × Formula = majority_gate x y c s.1 in
-    ap suc (adder_length a b m.0 m.1 (omega arith))
+mux_value : (v : ℕ → Bool) (c a b : Literal) (f : Formula) → Holds v (mux_gate c a b f).1
+    → Holds v f × (literal_value v (mux_gate c a b f).0 ≡ cond (literal_value v c) (literal_value v a) (literal_value v b))
+mux_value v c a b f h = holds _ _ _ (sym (mux_means v c a b f) ∙ h)
 
 unchosen : (c : Bool) (n : ℕ) → n ≡ cond c n n
 unchosen true n = refl
@@ -133,33 +98,11 @@ split_number v k a within =
     ap (number_of_row v) (sym (take-append-drop k a)) ∙ append_number v (take k a) (drop k a)
     ∙ ap (λ n. number_of_row v (take k a) + 2 ^ n * number_of_row v (drop k a)) (length-take-le k a within)
 
-false_value : (v : ℕ → Bool) → v 1 ≡ true → literal_value v (constant false) ≡ false
-false_value v truth = ap (λ b. same_truth b false) truth
-
-true_value : (v : ℕ → Bool) → v 1 ≡ true → literal_value v (constant true) ≡ true
-true_value v truth = ap (λ b. same_truth b true) truth
-
 pub false_bit : (v : ℕ → Bool) → v 1 ≡ true → bit_of (literal_value v (constant false)) ≡ 0
-false_bit v truth = ap bit_of (false_value v truth)
+false_bit v truth = ap bit_of (constant_value v truth false)
 
 pub true_bit : (v : ℕ → Bool) → v 1 ≡ true → bit_of (literal_value v (constant true)) ≡ 1
-true_bit v truth = ap bit_of (true_value v truth)
-
-pub zeros_number : (v : ℕ → Bool) (n : ℕ) → v 1 ≡ true → number_of_row v (zeros n) ≡ 0
-zeros_number v zero truth = number_nil v
-zeros_number v (suc n) truth = number_cons v (constant false) (zeros n) ∙ rw (false_bit v truth, zeros_number v n truth) (omega arith)
-
-not_bit : (b : Bool) → bit_of (not b) + bit_of b ≡ 1
-not_bit true = refl
-not_bit false = refl
-
--- a row of negations is the number's difference to the greatest one
-pub negations_number : (v : ℕ → Bool) (a : List Literal) → number_of_row v (negations a) + number_of_row v a + 1 ≡ 2 ^ length a
-negations_number v [] = rw (number_nil v) (omega arith)
-negations_number v (x ∷ a) =
-    let rest : number_of_row v (negations a) + number_of_row v a + 1 ≡ 2 ^ length a = negations_number v a in
-    let low : bit_of (literal_value v (negation x)) + bit_of (literal_value v x) ≡ 1 = rw (negation_value v x) (not_bit (literal_value v x)) in
-    rw (number_cons v (negation x) (negations a), number_cons v x a, power_step (length a)) (omega arith)
+true_bit v truth = ap bit_of (constant_value v truth true)
 
 no_more : (p d t n : ℕ) → n ≡ t + p * d → n < p → d ≡ 0
 no_more p zero t n parts small = refl
