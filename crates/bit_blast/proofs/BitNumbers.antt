@@ -6,7 +6,7 @@ use Rattle.cnf_form.specs.Valuations.{literal_value}
 use Rattle.bit_blast.specs.Bytes.{bit_of, number_of_row}
 use Rattle.bit_blast.proofs.Walks.{opened}
 
-bit_small : (b : Bool) → bit_of b ≤ 1
+pub bit_small : (b : Bool) → bit_of b ≤ 1
 bit_small true = omega arith
 bit_small false = omega arith
 
@@ -26,7 +26,7 @@ high_bound v row i j next few =
     let power : 2 ^ length (drop j row) ≤ 2 ^ 7 = pow-le-pow_right (omega arith) short in
     omega arith
 
-number_cons : (v : ℕ → Bool) (l : Literal) (ls : List Literal) → number_of_row v (l ∷ ls) ≡ bit_of (literal_value v l) + 2 * number_of_row v ls
+pub number_cons : (v : ℕ → Bool) (l : Literal) (ls : List Literal) → number_of_row v (l ∷ ls) ≡ bit_of (literal_value v l) + 2 * number_of_row v ls
 unfolding number_of_row
 number_cons v l ls = refl
 

@@ -1,4 +1,4 @@
-use Rattle.std.proofs.Common.{◌≡◌, ℕ, zero, suc, ◌+◌, ◌*◌, ◌/◌, ◌%◌, ◌<◌, ◌≤◌, min, max, Bool, true, false, ◌&&◌, ◌||◌, if◌then◌else◌, List, [], ◌∷◌, length, refl, ap, sym, ◌∙◌, arith}
+use Rattle.std.proofs.Common.{◌≡◌, ℕ, zero, suc, ◌+◌, ◌*◌, ◌/◌, ◌%◌, ◌≤◌, min, max, Bool, true, false, ◌&&◌, ◌||◌, if◌then◌else◌, List, [], ◌∷◌, length, refl, ap, sym, ◌∙◌, arith}
 use Rattle.std.specs.Int.Bits.{bit_and, bit_or, bit_xor}
 use Rattle.std.specs.Int.{bit_at}
 use Rattle.std.proofs.lemmas.Nat.Bits.{bit_at_lowest, bit_at-suc, bit_at_and, bit_at_or, bit_at_xor, same_from_bits}
@@ -8,7 +8,8 @@ use Rattle.bit_blast.specs.Bytes.{bit_of, number_of_row}
 use Rattle.bit_blast.specs.Formulas.{Formula}
 use Rattle.bit_blast.specs.Gates.{and_gate, or_gate, xor_gate, mux_gate}
 use Rattle.bit_blast.specs.Rows.{each}
-use Rattle.bit_blast.proofs.GateValues.{Solves, differ, and_says, or_says, xor_says, mux_says}
+use Rattle.bit_blast.specs.Meaning.{differ}
+use Rattle.bit_blast.proofs.GateValues.{Solves, and_says, or_says, xor_says, mux_says}
 use Rattle.bit_blast.proofs.RowNumbers.{bit_small, number_nil, number_cons}
 
 -- What a gate at each place of two rows makes of their numbers.

@@ -5,9 +5,14 @@ pub mod BitNumbers
 pub mod GateValues
 pub mod RowNumbers
 pub mod EachValues
-pub mod AdderValues
 pub mod ComparisonValues
 pub mod TopValues
 pub mod Shifting
 pub mod ShiftValues
 pub mod Moves
+pub mod GateMeaning
+pub mod AdderMeaning
+pub mod SumMeaning
+pub mod RowValues
+pub mod ProductValues
+pub mod QuotientValues

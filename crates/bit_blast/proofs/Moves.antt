@@ -1,13 +1,13 @@
-use Rattle.std.proofs.Common.{◌≡◌, ℕ, zero, suc, ◌+◌, ◌-◌, ◌*◌, ◌/◌, ◌%◌, ◌^◌, ◌<◌, ◌≤◌, Bool, true, false, not, List, [], ◌∷◌, ◌++◌, length, map, take, drop, replicate, refl, ap, sym, ◌∙◌, arith}
+use Rattle.std.proofs.Common.{◌≡◌, ℕ, zero, suc, ◌+◌, ◌-◌, ◌*◌, ◌/◌, ◌%◌, ◌^◌, ◌<◌, Bool, true, false, not, List, ◌∷◌, ◌++◌, length, take, drop, replicate, refl, ap, sym, ◌∙◌, arith}
 use Rattle.std.proofs.Math.Nat.{mul_comm}
-use Rattle.std.proofs.lemmas.List.{length-append, length-replicate, length-take-le, length-drop, length-map, map-append, drop-map}
+use Rattle.std.proofs.lemmas.List.{length-append, length-replicate, length-take-le, length-drop, map-append, drop-map}
 use Rattle.cnf_form.specs.Literals.{Literal, negation}
 use Rattle.cnf_form.specs.Valuations.{literal_value}
 use Rattle.bit_blast.specs.Bytes.{number_of_row}
 use Rattle.bit_blast.specs.Rows.{negations}
 use Rattle.bit_blast.specs.Shifts.{moved}
 use Rattle.bit_blast.specs.declared.shifts.Direction.TheVariants.{Up, Down}
-use Rattle.bit_blast.proofs.GateValues.{value_negation}
+use Rattle.bit_blast.proofs.GateMeaning.{value_not}
 use Rattle.bit_blast.proofs.RowNumbers.{number_append, number_falses, number_trues, number_negations, number_take, number_drop}
 use Rattle.bit_blast.proofs.Shifting.{up, down, down_ones, up_is, down_is, down_ones_is, up_placed}
 use Rattle.bit_blast.proofs.ShiftValues.{IsMove}
@@ -86,7 +86,7 @@ negated_number v row w width =
 down_ones_moves : (v : ℕ → Bool) (fill : Literal) → literal_value v fill ≡ true → (w : ℕ) (row : List Literal) (by : ℕ) → length row ≡ w → by < w
     → number_of_row v (moved Down fill by row) ≡ down_ones w (number_of_row v row) by
 down_ones_moves v fill is w row by width less =
-    let free : literal_value v (negation fill) ≡ false = value_negation v fill ∙ ap not is in
+    let free : literal_value v (negation fill) ≡ false = value_not v fill ∙ ap not is in
     let negated : number_of_row v (negations (moved Down fill by row)) ≡ (2 ^ w - 1 - number_of_row v row) / 2 ^ by
     = ap (number_of_row v) (negated_moved fill by row) ∙ down_moves v (negation fill) free (negations row) by ∙ ap (λ m. m / 2 ^ by) (negated_number v row w width) in
     this_side (number_of_row v (negations (moved Down fill by row))) (number_of_row v (moved Down fill by row)) (2 ^ w)

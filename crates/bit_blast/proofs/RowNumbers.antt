@@ -1,16 +1,13 @@
-use Rattle.std.proofs.Common.{◌≡◌, ℕ, zero, suc, ◌+◌, ◌-◌, ◌*◌, ◌^◌, ◌/◌, ◌%◌, ◌==◌, ◌<◌, ◌≤◌, min, max, Bool, true, false, not, ◌&&◌, ◌||◌, if◌then◌else◌, List, [], ◌∷◌, ◌++◌, length, map, take, drop, replicate, refl, ap, sym, ◌∙◌, arith, inl, inr, bit_and, bit_or, bit_xor}
-use Rattle.std.specs.Int.{bit_at}
-use Rattle.std.proofs.Math.Nat.{pow-suc, mul_assoc, mul_comm, zero-div, div-one, div-div-eq-div-mul, div-add-mod, mod-lt, mod-eq_of_lt, one-le-pow, pow-le-pow_right}
+use Rattle.std.proofs.Common.{◌≡◌, ℕ, zero, suc, ◌+◌, ◌*◌, ◌^◌, ◌/◌, ◌%◌, ◌==◌, ◌<◌, ◌≤◌, Bool, true, false, not, List, [], ◌∷◌, ◌++◌, length, take, drop, replicate, refl, ap, sym, ◌∙◌, arith}
+use Rattle.std.proofs.Math.Nat.{pow-suc, mul_assoc, mul_comm, zero-div, div-one, div-div-eq-div-mul, div-add-mod, mod-lt, mod-eq_of_lt, one-le-pow}
 use Rattle.std.proofs.lemmas.Nat.{mod-mul-add}
-use Rattle.std.proofs.lemmas.Nat.Bits.{bit_at_lowest, bit_at-suc, bit_at_and, bit_at_or, bit_at_xor, same_from_bits}
 use Rattle.cnf_form.specs.Literals.{Literal, negation}
 use Rattle.cnf_form.specs.Valuations.{literal_value}
 use Rattle.bit_blast.specs.Bytes.{bit_of, number_of_row}
-use Rattle.bit_blast.specs.Formulas.{Formula, constant}
-use Rattle.bit_blast.specs.Gates.{and_gate, or_gate, xor_gate, mux_gate}
-use Rattle.bit_blast.specs.Rows.{negations, number_row, zeros, each}
-use Rattle.bit_blast.proofs.BitNumbers.{number_bound}
-use Rattle.bit_blast.proofs.GateValues.{Solves, value_negation, value_constant, differ, and_says, or_says, xor_says, mux_says}
+use Rattle.bit_blast.specs.Formulas.{constant}
+use Rattle.bit_blast.specs.Rows.{negations, number_row}
+use Rattle.bit_blast.proofs.GateMeaning.{value_not}
+use Rattle.bit_blast.proofs.SumMeaning.{constant_value}
 
 -- The numbers of rows.
 
@@ -70,7 +67,7 @@ negations_step x y m n p q one rest double = omega arith
 pub number_negations : (v : ℕ → Bool) (a : List Literal) → number_of_row v (negations a) + number_of_row v a + 1 ≡ 2 ^ length a
 number_negations v [] = rw (number_nil v) refl
 number_negations v (l ∷ ls) =
-    rw (number_cons v (negation l) (negations ls), number_cons v l ls, value_negation v l)
+    rw (number_cons v (negation l) (negations ls), number_cons v l ls, value_not v l)
     (negations_step (bit_of (not (literal_value v l))) (bit_of (literal_value v l)) _ _ (2 ^ length ls) (2 ^ suc (length ls)) (bit_not (literal_value v l)) (number_negations v ls) (pow_double (length ls)))
 
 -- the places from k up
@@ -122,7 +119,7 @@ unfolding number_row
 number_number_row v truth zero n = rw (number_nil v) (omega arith)
 number_number_row v truth (suc w) n =
     number_cons v (constant (n % 2 == 1)) (number_row w (n / 2))
-    ∙ ap (λ (b : Bool). bit_of b + 2 * number_of_row v (number_row w (n / 2))) (value_constant v (n % 2 == 1) truth)
+    ∙ ap (λ (b : Bool). bit_of b + 2 * number_of_row v (number_row w (n / 2))) (constant_value v truth (n % 2 == 1))
     ∙ ap (λ m. m + 2 * number_of_row v (number_row w (n / 2))) (bit_of_odd (n % 2) (omega arith))
     ∙ ap (λ m. n % 2 + 2 * m) (number_number_row v truth w (n / 2))
     ∙ sym (mod_step (n % 2) (n / 2) w (omega arith))

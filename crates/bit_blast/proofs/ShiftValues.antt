@@ -1,21 +1,21 @@
-use Rattle.std.proofs.Common.{◌≡◌, ℕ, zero, suc, ◌+◌, ◌-◌, ◌*◌, ◌/◌, ◌%◌, ◌^◌, ◌<◌, ◌≤◌, nat_lt, Bool, true, false, not, ◌||◌, if◌then◌else◌, List, [], ◌∷◌, ◌++◌, length, map, take, drop, replicate, fold, refl, ap, sym, subst, ◌∙◌, arith, inl, inr}
-use Rattle.std.proofs.Math.Nat.{mul_assoc, mul_comm, mul-one, mul-add, le-mul_of_pos_right}
+use Rattle.std.proofs.Common.{◌≡◌, ℕ, zero, suc, ◌+◌, ◌*◌, ◌^◌, ◌<◌, ◌≤◌, nat_lt, Bool, true, false, ◌||◌, if◌then◌else◌, List, [], ◌∷◌, length, replicate, fold, refl, ap, sym, subst, ◌∙◌, arith, inl, inr}
+use Rattle.std.proofs.Math.Nat.{mul_assoc, mul-one, mul-add, le-mul_of_pos_right}
 use Rattle.std.proofs.lemmas.Bool.{ltb-true, ltb-false, cases_Bool}
-use Rattle.std.proofs.lemmas.List.{length-append, length-replicate, length-take-le, length-drop, length-map, map-append, drop-map}
-use Rattle.cnf_form.specs.Literals.{Literal, negation}
+use Rattle.std.proofs.lemmas.List.{length-replicate}
+use Rattle.cnf_form.specs.Literals.{Literal}
 use Rattle.cnf_form.specs.Valuations.{literal_value}
 use Rattle.bit_blast.specs.Bytes.{bit_of, number_of_row}
 use Rattle.bit_blast.specs.Formulas.{Formula, constant}
 use Rattle.bit_blast.specs.Gates.{or_gate, mux_gate}
-use Rattle.bit_blast.specs.Rows.{negations, each}
+use Rattle.bit_blast.specs.Rows.{each}
 use Rattle.bit_blast.specs.Shifts.{moved, Stage, with_moved, with_big, next_stage, shift_end, shift_row}
 use Rattle.bit_blast.specs.declared.shifts.Direction.{Direction}
-use Rattle.bit_blast.specs.declared.shifts.Direction.TheVariants.{Up, Down}
 use Rattle.bit_blast.proofs.BitNumbers.{number_bound}
-use Rattle.bit_blast.proofs.GateValues.{Solves, value_negation, value_constant, or_says}
-use Rattle.bit_blast.proofs.RowNumbers.{number_nil, number_cons, number_append, number_falses, number_trues, number_negations, number_take, number_drop}
+use Rattle.bit_blast.proofs.GateValues.{Solves, or_says}
+use Rattle.bit_blast.proofs.SumMeaning.{constant_value}
+use Rattle.bit_blast.proofs.RowNumbers.{number_nil, number_cons}
 use Rattle.bit_blast.proofs.EachValues.{Made, choice_row_number, length_each}
-use Rattle.bit_blast.proofs.Shifting.{IsShift, up, down, down_ones, up_is, down_is, down_ones_is, up_placed}
+use Rattle.bit_blast.proofs.Shifting.{IsShift}
 
 -- What the barrel shifter makes of the numbers of two rows.
 
@@ -157,4 +157,4 @@ shift_row_says v truth direction fill w S free move a b f width h =
     let start : Stage = record { row = a; unit = 1; big = constant false; formula = f } in
     let made : Shifted v f (shift_end fill (fold (next_stage direction fill w) start b)) w (if literal_value v (constant false) then free else S (number_of_row v a) (1 * number_of_row v b))
     = staged v direction fill w S free move b start width (rw width at h) in
-    rw width (record { back = made.back; width_is = made.width_is; is = made.is ∙ shift_from S free (number_of_row v a) (number_of_row v b) (literal_value v (constant false)) (value_constant v false truth) })
+    rw width (record { back = made.back; width_is = made.width_is; is = made.is ∙ shift_from S free (number_of_row v a) (number_of_row v b) (literal_value v (constant false)) (constant_value v truth false) })

@@ -1,13 +1,13 @@
-use Rattle.std.proofs.Common.{◌≡◌, ℕ, zero, suc, ◌+◌, ◌-◌, ◌*◌, ◌^◌, ◌<◌, ◌≤◌, nat_le, Bool, true, false, not, List, [], ◌∷◌, length, get_or, set, take, refl, ap, sym, ◌∙◌, arith}
-use Rattle.std.proofs.lemmas.Bool.{leb-true, leb-false, le-leb, lt-leb}
-use Rattle.std.proofs.lemmas.List.{length-take-le, length-set}
+use Rattle.std.proofs.Common.{◌≡◌, ℕ, zero, suc, ◌+◌, ◌-◌, ◌*◌, ◌^◌, ◌<◌, nat_le, Bool, true, false, not, List, [], ◌∷◌, length, get_or, set, take, ap, ◌∙◌, arith}
+use Rattle.std.proofs.lemmas.Bool.{le-leb, lt-leb}
+use Rattle.std.proofs.lemmas.List.{length-take-le}
 use Rattle.cnf_form.specs.Literals.{Literal, negation}
 use Rattle.cnf_form.specs.Valuations.{literal_value}
 use Rattle.bit_blast.specs.Bytes.{bit_of, number_of_row}
 use Rattle.bit_blast.specs.Formulas.{constant}
 use Rattle.bit_blast.specs.Rows.{top_of, with_top_negated}
 use Rattle.bit_blast.proofs.BitNumbers.{number_bound}
-use Rattle.bit_blast.proofs.GateValues.{value_negation}
+use Rattle.bit_blast.proofs.GateMeaning.{value_not}
 use Rattle.bit_blast.proofs.RowNumbers.{number_nil, number_cons, pow_double_times}
 
 -- The top literal of a row, and what it is worth.
@@ -62,6 +62,6 @@ topped v a some =
     record {
       small = small;
       number = number;
-      negated = number_put v a k (negation (top_of a)) is ∙ ap (λ (t : Bool). number_of_row v (take k a) + 2 ^ k * bit_of t) (value_negation v (top_of a));
+      negated = number_put v a k (negation (top_of a)) is ∙ ap (λ (t : Bool). number_of_row v (take k a) + 2 ^ k * bit_of t) (value_not v (top_of a));
       sign = high_or_low (number_of_row v (take k a)) (2 ^ k) (number_of_row v a) (literal_value v (top_of a)) small number
     }

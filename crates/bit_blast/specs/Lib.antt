@@ -6,3 +6,4 @@ pub mod Products
 pub mod Staging
 pub mod Circuits
 pub mod Bytes
+pub mod Meaning

@@ -4,6 +4,7 @@
 mod adders;
 mod circuit;
 mod gates;
+pub mod laws;
 mod products;
 mod query;
 mod rows;
@@ -11,3 +12,6 @@ mod shifts;
 mod values;
 
 pub use query::{bytes_of, clauses};
+
+#[cfg(test)]
+mod tests;
