@@ -16,3 +16,6 @@ pub mod SumMeaning
 pub mod RowValues
 pub mod ProductValues
 pub mod QuotientValues
+pub mod SliceMeaning
+pub mod ChoiceMeaning
+pub mod ShiftMeaning
