@@ -9,10 +9,12 @@ use Rattle.bit_blast.specs.Formulas.{Formula, constant}
 use Rattle.bit_blast.specs.Gates.{mux_gate}
 use Rattle.bit_blast.specs.Rows.{negations, zeros, each, adder, Sum}
 use Rattle.bit_blast.specs.Products.{Division, Restored, brought_down, division_step, division, divided, udiv_row, urem_row}
+use Rattle.bv_dag.specs.BitVectors.{bvudiv, bvurem}
+use Rattle.bit_blast.specs.Meaning.{word_of}
 use Rattle.bit_blast.specs.Bytes.{bit_of, number_of_row}
 use Rattle.bit_blast.proofs.BitNumbers.{number_cons, bit_small, number_bound}
 use Rattle.bit_blast.proofs.AdderMeaning.{adder_length, adder_means}
-use Rattle.bit_blast.proofs.SumMeaning.{zeros_number, negations_number}
+use Rattle.bit_blast.proofs.SumMeaning.{word, zeros_number, negations_number}
 use Rattle.bit_blast.proofs.RowValues.{Holds, number_nil, power_step, number_below, each_length, mux_number, append_number, false_bit, true_bit, low_number}
 
 -- The quotient and the rest of two rows.
@@ -201,3 +203,11 @@ urem_number v a b f truth same h =
 
 pub urem_length : (a b : List Literal) (f : Formula) → length a ≡ length b → length (urem_row a b f).0 ≡ length a
 urem_length a b f same = length-take-le (length a) (divided a b f).rest (omega (arith, divided_length a b f))
+
+pub udiv_means : (v : ℕ → Bool) (a b : List Literal) (f : Formula) → v 1 ≡ true → length a ≡ length b → Holds v (udiv_row a b f).1 → word_of v (udiv_row a b f).0 ≡ bvudiv (word_of v a) (word_of v b)
+unfolding bvudiv
+udiv_means v a b f truth same h = word _ _ _ _ (udiv_length a b f) (udiv_number v a b f truth same h).1
+
+pub urem_means : (v : ℕ → Bool) (a b : List Literal) (f : Formula) → v 1 ≡ true → length a ≡ length b → Holds v (urem_row a b f).1 → word_of v (urem_row a b f).0 ≡ bvurem (word_of v a) (word_of v b)
+unfolding bvurem
+urem_means v a b f truth same h = word _ _ _ _ (urem_length a b f same) (urem_number v a b f truth same h).1
