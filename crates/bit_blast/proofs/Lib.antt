@@ -5,6 +5,7 @@ pub mod BitNumbers
 pub mod GateMeaning
 pub mod AdderMeaning
 pub mod SumMeaning
+pub mod EarlierClauses
 pub mod RowValues
 pub mod ProductValues
 pub mod QuotientValues

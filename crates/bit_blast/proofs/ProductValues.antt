@@ -13,7 +13,8 @@ use Rattle.bit_blast.specs.Bytes.{bit_of, number_of_row}
 use Rattle.bit_blast.proofs.BitNumbers.{number_cons}
 use Rattle.bit_blast.proofs.AdderMeaning.{adder_length, adder_means}
 use Rattle.bit_blast.proofs.SumMeaning.{word, modulo, zeros_number}
-use Rattle.bit_blast.proofs.RowValues.{Holds, number_nil, power_step, number_below, each_length, and_number, append_number, split_number, false_bit}
+use Rattle.bit_blast.proofs.EarlierClauses.{Holds}
+use Rattle.bit_blast.proofs.RowValues.{number_nil, power_step, number_below, each_length, and_number, append_number, split_number, false_bit}
 
 -- The product of two rows.
 
