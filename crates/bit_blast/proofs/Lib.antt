@@ -13,6 +13,7 @@ pub mod Moves
 pub mod GateMeaning
 pub mod AdderMeaning
 pub mod SumMeaning
+pub mod EarlierClauses
 pub mod RowValues
 pub mod ProductValues
 pub mod QuotientValues

@@ -1,5 +1,4 @@
 use Rattle.std.proofs.Common.{◌≡◌, ℕ, suc, ◌+◌, ◌-◌, ◌*◌, ◌^◌, ◌%◌, ◌<◌, ◌≤◌, Bool, true, false, cond, List, [], ◌∷◌, length, take, drop, replicate, ap, sym, ◌∙◌, arith}
-use Rattle.std.proofs.Math.Nat.{add-mul-mod_self_left, mod-eq_of_lt}
 use Rattle.std.proofs.lemmas.Nat.{pow-add}
 use Rattle.std.proofs.lemmas.List.{length-append, length-replicate, length-take-le}
 use Rattle.cnf_form.specs.Literals.{Literal}
@@ -8,11 +7,14 @@ use Rattle.bit_blast.specs.Formulas.{Formula, constant}
 use Rattle.bit_blast.specs.Gates.{and_gate}
 use Rattle.bit_blast.specs.Rows.{zeros, each, adder, Sum}
 use Rattle.bit_blast.specs.Products.{partial_row, products, mul_row}
+use Rattle.bv_dag.specs.BitVectors.{bvmul}
+use Rattle.bit_blast.specs.Meaning.{word_of}
 use Rattle.bit_blast.specs.Bytes.{bit_of, number_of_row}
 use Rattle.bit_blast.proofs.BitNumbers.{number_cons}
 use Rattle.bit_blast.proofs.AdderMeaning.{adder_length, adder_means}
-use Rattle.bit_blast.proofs.SumMeaning.{zeros_number}
-use Rattle.bit_blast.proofs.RowValues.{Holds, number_nil, power_step, number_below, each_length, and_number, append_number, split_number, false_bit}
+use Rattle.bit_blast.proofs.SumMeaning.{word, modulo, zeros_number}
+use Rattle.bit_blast.proofs.EarlierClauses.{Holds}
+use Rattle.bit_blast.proofs.RowValues.{number_nil, power_step, number_below, each_length, and_number, append_number, split_number, false_bit}
 
 -- The product of two rows.
 
@@ -86,9 +88,6 @@ products_length a (b ∷ bs) total low f within same =
 pub mul_length : (a b : List Literal) (f : Formula) → length a ≡ length b → length (mul_row a b f).0 ≡ length a
 mul_length a b f same = products_length a b (zeros (length a)) 0 f (omega arith) (length-replicate (length a) (constant false))
 
-reduced : (n m w k : ℕ) → n < w → n + w * k ≡ m → n ≡ m % w
-reduced n m w k small is = sym (ap (λ x. x % w) (sym is) ∙ add-mul-mod_self_left n w k ∙ mod-eq_of_lt small)
-
 -- the product of two rows of one length
 pub mul_number : (v : ℕ → Bool) (a b : List Literal) (f : Formula) → v 1 ≡ true → length a ≡ length b → Holds v (mul_row a b f).1
     → Holds v f × (number_of_row v (mul_row a b f).0 ≡ (number_of_row v a * number_of_row v b) % 2 ^ length a)
@@ -97,4 +96,8 @@ mul_number v a b f truth same h =
         products_number v a b (zeros (length a)) 0 f truth (omega arith) (length-replicate (length a) (constant false)) h in
     let none : number_of_row v (zeros (length a)) ≡ 0 = zeros_number v truth (length a) in
     let small : number_of_row v (mul_row a b f).0 < 2 ^ length a = number_below v (mul_row a b f).0 (length a) (mul_length a b f same) in
-    (made.0, reduced (number_of_row v (mul_row a b f).0) _ _ made.1.0 small (made.1.1 ∙ rw none (omega arith)))
+    (made.0, modulo (length a) (number_of_row v (mul_row a b f).0) made.1.0 (number_of_row v a * number_of_row v b) small (made.1.1 ∙ rw none (omega arith)))
+
+pub mul_means : (v : ℕ → Bool) (a b : List Literal) (f : Formula) → v 1 ≡ true → length a ≡ length b → Holds v (mul_row a b f).1 → word_of v (mul_row a b f).0 ≡ bvmul (word_of v a) (word_of v b)
+unfolding bvmul
+mul_means v a b f truth same h = word _ _ _ _ (mul_length a b f same) (mul_number v a b f truth same h).1

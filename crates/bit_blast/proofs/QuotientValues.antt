@@ -9,11 +9,14 @@ use Rattle.bit_blast.specs.Formulas.{Formula, constant}
 use Rattle.bit_blast.specs.Gates.{mux_gate}
 use Rattle.bit_blast.specs.Rows.{negations, zeros, each, adder, Sum}
 use Rattle.bit_blast.specs.Products.{Division, Restored, brought_down, division_step, division, divided, udiv_row, urem_row}
+use Rattle.bv_dag.specs.BitVectors.{bvudiv, bvurem}
+use Rattle.bit_blast.specs.Meaning.{word_of}
 use Rattle.bit_blast.specs.Bytes.{bit_of, number_of_row}
 use Rattle.bit_blast.proofs.BitNumbers.{number_cons, bit_small, number_bound}
 use Rattle.bit_blast.proofs.AdderMeaning.{adder_length, adder_means}
-use Rattle.bit_blast.proofs.SumMeaning.{zeros_number, negations_number}
-use Rattle.bit_blast.proofs.RowValues.{Holds, number_nil, power_step, number_below, each_length, mux_number, append_number, false_bit, true_bit, low_number}
+use Rattle.bit_blast.proofs.SumMeaning.{word, zeros_number, negations_number}
+use Rattle.bit_blast.proofs.EarlierClauses.{Holds, step_before}
+use Rattle.bit_blast.proofs.RowValues.{number_nil, power_step, number_below, each_length, mux_number, append_number, false_bit, true_bit, low_number}
 
 -- The quotient and the rest of two rows.
 
@@ -99,16 +102,6 @@ step_number v x negated rest f d w truth long_divisor long divisor small h =
       left = chosen.1 ∙ ap (λ n. cond (literal_value v s.carry) (number_of_row v s.sums) n) is;
     }
 
-step_before : (v : ℕ → Bool) (x : Literal) (negated rest : List Literal) (f : Formula) (w : ℕ) → length negated ≡ w + 1 → length rest ≡ w + 1 → Holds v (division_step x negated rest f).formula → Holds v f
-unfolding division_step
-step_before v x negated rest f w long_divisor long h =
-    let shifted : List Literal = brought_down x rest in
-    let s : Sum = adder shifted negated (constant true) f in
-    let places : length shifted ≡ w + 1 = brought_length x rest w long in
-    let alike : length shifted ≡ length negated = places ∙ sym long_divisor in
-    let sums : length s.sums ≡ w + 1 = adder_length shifted negated (constant true) f alike ∙ places in
-    (adder_means v shifted negated (constant true) f alike (mux_number v s.carry s.sums shifted s.formula (sums ∙ sym places) h).0).0
-
 step_length : (x : Literal) (negated rest : List Literal) (f : Formula) (w : ℕ) → length negated ≡ w + 1 → length rest ≡ w + 1 → length (division_step x negated rest f).rest ≡ w + 1
 unfolding division_step
 step_length x negated rest f w long_divisor long =
@@ -144,7 +137,7 @@ division_number v (x ∷ a) negated start d w truth long_divisor long divisor be
     let places : length above.rest ≡ w + 1 = rest_length a negated start w long_divisor long in
     let so_far : Holds v start.formula × IsDivided (number_of_row v above.quotient) (number_of_row v above.rest) (number_of_row v a) d (2 ^ length a) =
         division_number v a negated start d w truth long_divisor long divisor below (omega arith) no_quotient no_rest
-        (step_before v x negated above.rest above.formula w long_divisor places h) in
+        (step_before v x negated above.rest above.formula h) in
     let most : 2 ^ length a ≤ 2 ^ w = pow-le-pow_right (omega arith) (omega arith) in
     let small : number_of_row v above.rest < 2 ^ w = rest_fits _ _ _ _ _ _ so_far.1 (number_bound v a) most below in
     let step : IsStep v x above.rest d (2 ^ (w + 1)) made = step_number v x negated above.rest above.formula d w truth long_divisor places divisor small h in
@@ -201,3 +194,11 @@ urem_number v a b f truth same h =
 
 pub urem_length : (a b : List Literal) (f : Formula) → length a ≡ length b → length (urem_row a b f).0 ≡ length a
 urem_length a b f same = length-take-le (length a) (divided a b f).rest (omega (arith, divided_length a b f))
+
+pub udiv_means : (v : ℕ → Bool) (a b : List Literal) (f : Formula) → v 1 ≡ true → length a ≡ length b → Holds v (udiv_row a b f).1 → word_of v (udiv_row a b f).0 ≡ bvudiv (word_of v a) (word_of v b)
+unfolding bvudiv
+udiv_means v a b f truth same h = word _ _ _ _ (udiv_length a b f) (udiv_number v a b f truth same h).1
+
+pub urem_means : (v : ℕ → Bool) (a b : List Literal) (f : Formula) → v 1 ≡ true → length a ≡ length b → Holds v (urem_row a b f).1 → word_of v (urem_row a b f).0 ≡ bvurem (word_of v a) (word_of v b)
+unfolding bvurem
+urem_means v a b f truth same h = word _ _ _ _ (urem_length a b f same) (urem_number v a b f truth same h).1

@@ -2,7 +2,7 @@ use Rattle.std.proofs.Common.{◌≡◌, ℕ, zero, suc, ◌+◌, ◌*◌, ◌^�
 use Rattle.std.proofs.Math.Nat.{pow-succ', mul-suc}
 use Rattle.std.proofs.lemmas.List.{take-append-drop, length-take-le}
 use Rattle.cnf_form.specs.Literals.{Literal}
-use Rattle.cnf_form.specs.Valuations.{literal_value, satisfies}
+use Rattle.cnf_form.specs.Valuations.{literal_value}
 use Rattle.bit_blast.specs.Formulas.{Formula, constant}
 use Rattle.bit_blast.specs.Gates.{and_gate, mux_gate}
 use Rattle.bit_blast.specs.Rows.{each}
@@ -11,11 +11,9 @@ use Rattle.bit_blast.proofs.BitNumbers.{number_bound, number_cons}
 use Rattle.bit_blast.proofs.GateMeaning.{and_means, mux_means}
 use Rattle.bit_blast.proofs.AdderMeaning.{holds}
 use Rattle.bit_blast.proofs.SumMeaning.{constant_value}
+use Rattle.bit_blast.proofs.EarlierClauses.{Holds}
 
 -- What rows are worth under a valuation that satisfies the formula with which they were made.
-
-abbrev pub Holds : (ℕ → Bool) → Formula → Type 0
-Holds v f = satisfies v f.clauses ≡ true
 
 pub number_nil : (v : ℕ → Bool) → number_of_row v [] ≡ 0
 unfolding number_of_row

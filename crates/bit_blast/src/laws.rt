@@ -1,5 +1,7 @@
 //! What the clauses mean: under each valuation that satisfies them, rows are worth what they stand for.
 
+pub mod products;
+
 ghost use Rattle.std.specs.Prelude.{◌≡◌, ℕ, Bool, List, true, nat_lt, ◌&&◌, ◌||◌, if◌then◌else◌, length};
 ghost use Rattle.cnf_form.specs.Literals.{Literal, same_truth};
 ghost use Rattle.cnf_form.specs.Valuations.{literal_value, satisfies_clause, satisfies};
