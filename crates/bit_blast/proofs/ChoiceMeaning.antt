@@ -106,7 +106,7 @@ signed_order m n p false false small low = shift_order m n p (nat_lt m n) refl �
 
 slt_number : (v : ℕ → Bool) (a b : List Literal) (p q low_a low_b : ℕ) → q ≡ p → Topped v a p low_a → Topped v b q low_b
     → nat_lt (number_of_row v (with_top_negated a)) (number_of_row v (with_top_negated b))
-      ≡ (if nat_le p (number_of_row v a) then not (nat_le q (number_of_row v b)) || nat_lt (number_of_row v a) (number_of_row v b) else not (nat_le q (number_of_row v b)) && nat_lt (number_of_row v a) (number_of_row v b))
+    ≡ (if nat_le p (number_of_row v a) then not (nat_le q (number_of_row v b)) || nat_lt (number_of_row v a) (number_of_row v b) else not (nat_le q (number_of_row v b)) && nat_lt (number_of_row v a) (number_of_row v b))
 slt_number v a b p q low_a low_b same x y =
     let z : Topped v b p low_b = subst (λ (n : ℕ). Topped v b n low_b) same y in
     rw (x.negated, z.negated, x.sign, y.sign, x.number, z.number) (signed_order low_a low_b p (literal_value v (top_of a)) (literal_value v (top_of b)) x.small z.small)

@@ -25,7 +25,7 @@ pub ult_says : (v : ℕ → Bool) → v 1 ≡ true → (a b : List Literal) (f :
 ult_says v truth a b f same h =
     record {
       back = record { each = (adder_means v a (negations b) (constant true) f (same ∙ sym (length-map b negation)) h.each).0 };
-      is = ult_means v a b f truth same h.each
+      is = ult_means v a b f truth same h.each;
     }
 
 -- equality
@@ -69,10 +69,10 @@ equal_from_says v e (x ∷ a) (y ∷ b) f same h =
     record {
       back = apart.0;
       is = rest.is ∙ ap (λ t. t && (number_of_row v a == number_of_row v b)) (both.1 ∙ ap (λ t. literal_value v e && t) not_apart)
-        ∙ and_regroup (literal_value v e) (not (differ (literal_value v x) (literal_value v y))) (number_of_row v a == number_of_row v b)
-        ∙ ap (λ t. literal_value v e && t) (sym (two_same (literal_value v x) (literal_value v y) (number_of_row v a) (number_of_row v b)))
-        ∙ ap (λ m. literal_value v e && (m == bit_of (literal_value v y) + 2 * number_of_row v b)) (sym (number_cons v x a))
-        ∙ ap (λ m. literal_value v e && (number_of_row v (x ∷ a) == m)) (sym (number_cons v y b))
+          ∙ and_regroup (literal_value v e) (not (differ (literal_value v x) (literal_value v y))) (number_of_row v a == number_of_row v b)
+          ∙ ap (λ t. literal_value v e && t) (sym (two_same (literal_value v x) (literal_value v y) (number_of_row v a) (number_of_row v b)))
+          ∙ ap (λ m. literal_value v e && (m == bit_of (literal_value v y) + 2 * number_of_row v b)) (sym (number_cons v x a))
+          ∙ ap (λ m. literal_value v e && (number_of_row v (x ∷ a) == m)) (sym (number_cons v y b));
     }
 
 pub equal_says : (v : ℕ → Bool) → v 1 ≡ true → (a b : List Literal) (f : Formula) → length a ≡ length b → Solves v (equal_gate a b f).1 → Tested v f (equal_gate a b f) (number_of_row v a == number_of_row v b)

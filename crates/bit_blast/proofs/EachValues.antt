@@ -46,9 +46,9 @@ each_says v g op F says bits (x ∷ a) (y ∷ b) f same h =
     record {
       back = first.0;
       is = number_cons v (g x y f).0 (each g a b (g x y f).1).0
-        ∙ ap (λ m. bit_of (literal_value v (g x y f).0) + 2 * m) rest.is
-        ∙ ap (λ (t : Bool). bit_of t + 2 * F (number_of_row v a) (number_of_row v b)) first.1
-        ∙ sym (rw (number_cons v x a, number_cons v y b) (bits.more (literal_value v x) (literal_value v y) (number_of_row v a) (number_of_row v b)))
+          ∙ ap (λ m. bit_of (literal_value v (g x y f).0) + 2 * m) rest.is
+          ∙ ap (λ (t : Bool). bit_of t + 2 * F (number_of_row v a) (number_of_row v b)) first.1
+          ∙ sym (rw (number_cons v x a, number_cons v y b) (bits.more (literal_value v x) (literal_value v y) (number_of_row v a) (number_of_row v b)));
     }
 
 -- bit by bit

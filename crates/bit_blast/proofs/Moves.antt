@@ -24,7 +24,7 @@ up_keeps : (fill : Literal) (w : ℕ) (row : List Literal) (by : ℕ) → length
 up_keeps fill w row by width less =
     length-append (replicate by fill) (take (length row - by) row)
     ∙ sum_of_places (length (replicate by fill)) by (length (take (length row - by) row)) w (length-replicate by fill)
-      (length-take-le (length row - by) row (omega arith) ∙ ap (λ n. n - by) width) less
+    (length-take-le (length row - by) row (omega arith) ∙ ap (λ n. n - by) width) less
 
 down_keeps : (fill : Literal) (w : ℕ) (row : List Literal) (by : ℕ) → length row ≡ w → by < w → length (moved Down fill by row) ≡ w
 down_keeps fill w row by width less =
@@ -101,5 +101,5 @@ down_ones_move v fill is w = record {
   shift = down_ones_is w;
   fills = all_ones (number_of_row v (replicate w fill)) (2 ^ w) (number_trues v w fill is);
   keeps = down_keeps fill w;
-  moves = down_ones_moves v fill is w
+  moves = down_ones_moves v fill is w;
 }

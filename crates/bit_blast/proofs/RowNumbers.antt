@@ -124,4 +124,3 @@ number_number_row v truth (suc w) n =
     ∙ ap (λ m. n % 2 + 2 * m) (number_number_row v truth w (n / 2))
     ∙ sym (mod_step (n % 2) (n / 2) w (omega arith))
     ∙ ap (λ m. m % 2 ^ suc w) (halves n)
-

@@ -82,7 +82,7 @@ shifted_end v direction fill w S free move s width h =
       back = made.back;
       width_is = length_each (mux_gate s.big) (replicate (length s.row) fill) s.row s.formula same ∙ same ∙ width;
       is = made.is ∙ ap (λ m. if literal_value v s.big then m else number_of_row v s.row) (ap (λ k. number_of_row v (replicate k fill)) width ∙ move.fills)
-        ∙ ap (λ m. if literal_value v s.big then free else m) (sym (ap (S (number_of_row v s.row)) (times_zero s.unit) ∙ move.shift.none (number_of_row v s.row) small))
+          ∙ ap (λ m. if literal_value v s.big then free else m) (sym (ap (S (number_of_row v s.row)) (times_zero s.unit) ∙ move.shift.none (number_of_row v s.row) small));
     }
 
 -- what a stage and the bits left of the distance make of the stage's row
@@ -110,7 +110,7 @@ moved_step v direction fill w S free move l b rest s width below h =
     = row.is ∙ ap (λ m. if literal_value v l then m else n) (move.moves s.row s.unit width below) ∙ choice_is_shift S n s.unit (literal_value v l) (move.shift.none n small) in
     let all : S (number_of_row v made.0) (s.unit * 2 * number_of_row v b) ≡ S n (s.unit * number_of_row v (l ∷ b))
     = ap (λ m. S m (s.unit * 2 * number_of_row v b)) here ∙ move.shift.more n (s.unit * bit_of (literal_value v l)) (s.unit * 2 * number_of_row v b)
-      ∙ ap (S n) (distance s.unit (bit_of (literal_value v l)) (number_of_row v b)) ∙ ap (λ m. S n (s.unit * m)) (sym (number_cons v l b)) in
+    ∙ ap (S n) (distance s.unit (bit_of (literal_value v l)) (number_of_row v b)) ∙ ap (λ m. S n (s.unit * m)) (sym (number_cons v l b)) in
     record { back = row.back; width_is = next.width_is; is = next.is ∙ ap (λ m. if literal_value v s.big then free else m) all }
 
 big_step : (v : ℕ → Bool) (direction : Direction) (fill : Literal) (w : ℕ) (S : ℕ → ℕ → ℕ) (free : ℕ) → IsMove v direction fill w S free → (l : Literal) (b : List Literal) → Staged v direction fill w S free b
@@ -127,8 +127,8 @@ big_step v direction fill w S free move l b rest s width far h =
       back = either.0;
       width_is = next.width_is;
       is = next.is ∙ ap (λ (t : Bool). if t then free else S n (s.unit * number_of_row v b)) either.1
-        ∙ big_case w S free move.shift n s.unit (number_of_row v b) (literal_value v s.big) (literal_value v l) small far
-        ∙ ap (λ m. if literal_value v s.big then free else S n (s.unit * m)) (sym (number_cons v l b))
+          ∙ big_case w S free move.shift n s.unit (number_of_row v b) (literal_value v s.big) (literal_value v l) small far
+          ∙ ap (λ m. if literal_value v s.big then free else S n (s.unit * m)) (sym (number_cons v l b));
     }
 
 staged : (v : ℕ → Bool) (direction : Direction) (fill : Literal) (w : ℕ) (S : ℕ → ℕ → ℕ) (free : ℕ) → IsMove v direction fill w S free → (b : List Literal) → Staged v direction fill w S free b

@@ -63,5 +63,5 @@ topped v a some =
       small = small;
       number = number;
       negated = number_put v a k (negation (top_of a)) is ∙ ap (λ (t : Bool). number_of_row v (take k a) + 2 ^ k * bit_of t) (value_not v (top_of a));
-      sign = high_or_low (number_of_row v (take k a)) (2 ^ k) (number_of_row v a) (literal_value v (top_of a)) small number
+      sign = high_or_low (number_of_row v (take k a)) (2 ^ k) (number_of_row v a) (literal_value v (top_of a)) small number;
     }

@@ -1,6 +1,9 @@
 //! What the clauses mean: under each valuation that satisfies them, rows are worth what they stand for.
 
+pub mod choices;
 pub mod products;
+pub mod shifts;
+pub mod slices;
 
 ghost use Rattle.std.specs.Prelude.{◌≡◌, ℕ, Bool, List, true, nat_lt, ◌&&◌, ◌||◌, if◌then◌else◌, length};
 ghost use Rattle.cnf_form.specs.Literals.{Literal, same_truth};
