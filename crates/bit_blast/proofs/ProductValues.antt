@@ -65,15 +65,17 @@ products_number v a (b ∷ bs) total low f truth within same h =
     let alike : length total ≡ length p.0 = same ∙ sym (partial_length a low b f (omega arith)) in
     let long : length s.sums ≡ length a = adder_length total p.0 (constant false) p.1 alike ∙ same in
     let rest : Holds v s.formula × ((k : ℕ) × (number_of_row v (products a bs (low + 1) s.sums s.formula).0 + 2 ^ length a * k ≡ number_of_row v s.sums + 2 ^ (low + 1) * number_of_row v a * number_of_row v bs)) =
-        products_number v a bs s.sums (low + 1) s.formula truth (omega arith) long h in
+    products_number v a bs s.sums (low + 1) s.formula truth (omega arith) long h in
     let added : Holds v p.1 × (number_of_row v s.sums + 2 ^ length total * bit_of (literal_value v s.carry) ≡ number_of_row v total + number_of_row v p.0 + bit_of (literal_value v (constant false))) = adder_means v total p.0 (constant false) p.1 alike rest.0 in
     let sum : number_of_row v s.sums + 2 ^ length a * bit_of (literal_value v s.carry) ≡ number_of_row v total + number_of_row v p.0 =
-        rw (← same) (added.1 ∙ rw (false_bit v truth) (omega arith)) in
+    rw (← same) (added.1 ∙ rw (false_bit v truth) (omega arith)) in
     let one : Holds v f × (number_of_row v p.0 ≡ 2 ^ low * cond (literal_value v b) (number_of_row v (take n a)) 0) = partial_number v a low b f truth (omega arith) added.0 in
     let power : 2 ^ length a ≡ 2 ^ low * 2 ^ n = ap (λ k. 2 ^ k) (parts (length a) low (omega arith)) ∙ pow-add 2 low n in
-    let step : 2 ^ (low + 1) ≡ 2 * 2 ^ low = ap (λ k. 2 ^ k) (next low) ∙ power_step low in
-    (one.0, rw (number_cons v b bs) (product_step _ _ (2 ^ n) (number_of_row v a) (number_of_row v (take n a)) (number_of_row v (drop n a)) _ (number_of_row v s.sums) _ (number_of_row v p.0) rest.1.0 (bit_of (literal_value v s.carry)) (number_of_row v bs) (literal_value v b)
-        (split_number v n a (omega arith)) power one.1 sum (rw (← step) rest.1.1)))
+    let step : 2 ^ (low + 1) ≡ 2 * 2 ^ low = ap (λ k. 2 ^ k) (next low) ∙ power_step low in (
+      one.0,
+      rw (number_cons v b bs) (product_step _ _ (2 ^ n) (number_of_row v a) (number_of_row v (take n a)) (number_of_row v (drop n a)) _ (number_of_row v s.sums) _ (number_of_row v p.0) rest.1.0 (bit_of (literal_value v s.carry)) (number_of_row v bs) (literal_value v b)
+          (split_number v n a (omega arith)) power one.1 sum (rw (← step) rest.1.1)),
+    )
 
 products_length : (a bs total : List Literal) (low : ℕ) (f : Formula) → low + length bs ≤ length a → length total ≡ length a → length (products a bs low total f).0 ≡ length a
 unfolding products
@@ -93,7 +95,7 @@ pub mul_number : (v : ℕ → Bool) (a b : List Literal) (f : Formula) → v 1 �
     → Holds v f × (number_of_row v (mul_row a b f).0 ≡ (number_of_row v a * number_of_row v b) % 2 ^ length a)
 mul_number v a b f truth same h =
     let made : Holds v f × ((n : ℕ) × (number_of_row v (mul_row a b f).0 + 2 ^ length a * n ≡ number_of_row v (zeros (length a)) + 2 ^ 0 * number_of_row v a * number_of_row v b)) =
-        products_number v a b (zeros (length a)) 0 f truth (omega arith) (length-replicate (length a) (constant false)) h in
+    products_number v a b (zeros (length a)) 0 f truth (omega arith) (length-replicate (length a) (constant false)) h in
     let none : number_of_row v (zeros (length a)) ≡ 0 = zeros_number v truth (length a) in
     let small : number_of_row v (mul_row a b f).0 < 2 ^ length a = number_below v (mul_row a b f).0 (length a) (mul_length a b f same) in
     (made.0, modulo (length a) (number_of_row v (mul_row a b f).0) made.1.0 (number_of_row v a * number_of_row v b) small (made.1.1 ∙ rw none (omega arith)))

@@ -89,12 +89,12 @@ step_number v x negated rest f d w truth long_divisor long divisor small h =
     let alike : length shifted ≡ length negated = places ∙ sym long_divisor in
     let sums : length s.sums ≡ w + 1 = adder_length shifted negated (constant true) f alike ∙ places in
     let chosen : Holds v s.formula × (number_of_row v (each (mux_gate s.carry) s.sums shifted s.formula).0 ≡ cond (literal_value v s.carry) (number_of_row v s.sums) (number_of_row v shifted)) =
-        mux_number v s.carry s.sums shifted s.formula (sums ∙ sym places) h in
+    mux_number v s.carry s.sums shifted s.formula (sums ∙ sym places) h in
     let added : Holds v f × (number_of_row v s.sums + 2 ^ length shifted * bit_of (literal_value v s.carry) ≡ number_of_row v shifted + number_of_row v negated + bit_of (literal_value v (constant true))) =
-        adder_means v shifted negated (constant true) f alike chosen.0 in
+    adder_means v shifted negated (constant true) f alike chosen.0 in
     let is : number_of_row v shifted ≡ brought_number v x rest = brought_value v x rest w long small in
     let sum : number_of_row v s.sums + 2 ^ (w + 1) * bit_of (literal_value v s.carry) ≡ brought_number v x rest + number_of_row v negated + bit_of (literal_value v (constant true)) =
-        ap (λ k. number_of_row v s.sums + 2 ^ k * bit_of (literal_value v s.carry)) (sym places) ∙ added.1 ∙ ap (λ n. n + number_of_row v negated + bit_of (literal_value v (constant true))) is in
+    ap (λ k. number_of_row v s.sums + 2 ^ k * bit_of (literal_value v s.carry)) (sym places) ∙ added.1 ∙ ap (λ n. n + number_of_row v negated + bit_of (literal_value v (constant true))) is in
     record {
       taken = number_of_row v s.sums;
       within = number_below v s.sums (w + 1) sums;
@@ -136,13 +136,15 @@ division_number v (x ∷ a) negated start d w truth long_divisor long divisor be
     let made : Restored = division_step x negated above.rest above.formula in
     let places : length above.rest ≡ w + 1 = rest_length a negated start w long_divisor long in
     let so_far : Holds v start.formula × IsDivided (number_of_row v above.quotient) (number_of_row v above.rest) (number_of_row v a) d (2 ^ length a) =
-        division_number v a negated start d w truth long_divisor long divisor below (omega arith) no_quotient no_rest
-        (step_before v x negated above.rest above.formula h) in
+    division_number v a negated start d w truth long_divisor long divisor below (omega arith) no_quotient no_rest
+    (step_before v x negated above.rest above.formula h) in
     let most : 2 ^ length a ≤ 2 ^ w = pow-le-pow_right (omega arith) (omega arith) in
     let small : number_of_row v above.rest < 2 ^ w = rest_fits _ _ _ _ _ _ so_far.1 (number_bound v a) most below in
-    let step : IsStep v x above.rest d (2 ^ (w + 1)) made = step_number v x negated above.rest above.formula d w truth long_divisor places divisor small h in
-    (so_far.0, rw (number_cons v made.bit above.quotient, number_cons v x a, power_step (length a), step.left)
-        (one_bit_more _ _ _ _ _ (2 ^ (w + 1)) step.taken _ (literal_value v made.bit) so_far.1 (bit_small (literal_value v x)) step.within step.is_taken))
+    let step : IsStep v x above.rest d (2 ^ (w + 1)) made = step_number v x negated above.rest above.formula d w truth long_divisor places divisor small h in (
+      so_far.0,
+      rw (number_cons v made.bit above.quotient, number_cons v x a, power_step (length a), step.left)
+          (one_bit_more _ _ _ _ _ (2 ^ (w + 1)) step.taken _ (literal_value v made.bit) so_far.1 (bit_small (literal_value v x)) step.within step.is_taken),
+    )
 
 abbrev zero_above : List Literal → List Literal
 zero_above b = b ++ constant false ∷ []
@@ -163,7 +165,7 @@ divided_number v a b f truth same h =
     let long_divisor : length negated ≡ length b + 1 = length-map (zero_above b) negation ∙ zero_above_length b in
     let long : length start.rest ≡ length b + 1 = zero_above_length (zeros (length b)) ∙ ap (λ n. n + 1) (length-replicate (length b) (constant false)) in
     let divisor : number_of_row v negated + number_of_row v b + 1 ≡ 2 ^ (length b + 1) =
-        ap (λ n. number_of_row v negated + n + 1) (sym (zero_above_number v b truth)) ∙ negations_number v (zero_above b) ∙ ap (λ n. 2 ^ n) (zero_above_length b) in
+    ap (λ n. number_of_row v negated + n + 1) (sym (zero_above_number v b truth)) ∙ negations_number v (zero_above b) ∙ ap (λ n. 2 ^ n) (zero_above_length b) in
     let no_rest : number_of_row v start.rest ≡ 0 = zero_above_number v (zeros (length b)) truth ∙ zeros_number v truth (length b) in
     division_number v a negated start (number_of_row v b) (length b) truth long_divisor long divisor (number_bound v b) (omega arith) (number_nil v) no_rest h
 
