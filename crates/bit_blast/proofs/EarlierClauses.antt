@@ -1,7 +1,8 @@
-use Rattle.std.proofs.Common.{◌≡◌, ℕ, zero, suc, ◌+◌, ◌-◌, nat_lt, Bool, true, false, if◌then◌else◌, ◌&&◌, List, [], ◌∷◌, ◌++◌, length, take, replicate, fold, Option, Some, None, slice_index_or, sym, ◌∙◌}
+use Rattle.std.proofs.Common.{◌≡◌, ℕ, zero, suc, ◌+◌, ◌-◌, nat_lt, Bool, true, false, if◌then◌else◌, ◌&&◌, ◌||◌, List, [], ◌∷◌, ◌++◌, length, take, replicate, fold, Option, Some, None, slice_index_or, refl, sym, ◌∙◌}
 use Rattle.std.proofs.lemmas.Bool.{and_parts}
-use Rattle.cnf_form.specs.Literals.{Literal, negation}
-use Rattle.cnf_form.specs.Valuations.{satisfies}
+use Rattle.cnf_form.specs.Literals.{Literal, negation, same_truth}
+use Rattle.cnf_form.specs.Valuations.{satisfies_clause, satisfies}
+use Rattle.bv_dag.specs.Queries.{Condition}
 use Rattle.bv_dag.specs.declared.nodes.BinaryOp.{BinaryOp}
 use Rattle.bv_dag.specs.declared.nodes.BinaryOp.TheVariants.{Add, Sub, Mul, Udiv, Urem, And, Or, Xor, Shl, Lshr, Ashr}
 use Rattle.bv_dag.specs.declared.nodes.Comparison.{Comparison}
@@ -10,12 +11,12 @@ use Rattle.bv_dag.specs.declared.nodes.Node.{Node}
 use Rattle.bv_dag.specs.declared.nodes.Node.TheVariants.{Num, Input, Not, Neg, Binary, Compare, Ite, Extract, Extend, Concat}
 use Rattle.bit_blast.specs.declared.shifts.Direction.{Direction}
 use Rattle.bit_blast.specs.declared.shifts.Direction.TheVariants.{Up, Down}
-use Rattle.bit_blast.specs.Formulas.{Formula, constant, with_variable, with_clause}
+use Rattle.bit_blast.specs.Formulas.{Formula, constant, only_truth, with_variable, with_clause}
 use Rattle.bit_blast.specs.Gates.{and_gate, or_gate, xor_gate, mux_gate, xor3_gate, majority_gate}
 use Rattle.bit_blast.specs.Rows.{negations, zeros, top_of, with_top_negated, fresh_row, each, adder, add_row, equal_from}
 use Rattle.bit_blast.specs.Shifts.{Stage, with_moved, with_big, moved, next_stage, shift_end, shift_row}
 use Rattle.bit_blast.specs.Products.{partial_row, products, Division, brought_down, division_step, division}
-use Rattle.bit_blast.specs.Circuits.{Circuit, row_at, lowest_of, binary_row, compare_gate, with_input, with_node, with_asserted}
+use Rattle.bit_blast.specs.Circuits.{Circuit, row_at, lowest_of, binary_row, compare_gate, with_input, with_node, with_asserted, no_terms, circuit_of, clauses}
 use Rattle.bit_blast.proofs.GateMeaning.{added, and_means, or_means, xor_means, mux_means, xor3_means, majority_means}
 
 -- Gates only add clauses: a valuation that satisfies the formula after them satisfies the one before.
@@ -171,3 +172,19 @@ unfolding with_asserted
 asserted_before v rows [] f h = h
 asserted_before v rows (id ∷ ids) f h =
     clause_before v (lowest_of (row_at rows id) ∷ []) f (asserted_before v rows ids (with_clause (lowest_of (row_at rows id) ∷ []) f) h)
+
+only_true : (b : Bool) → (same_truth b true || false) ≡ true → b ≡ true
+only_true true h = refl
+only_true false h = cc
+
+first_true : (v : ℕ → Bool) → Holds v only_truth → v 1 ≡ true
+unfolding only_truth satisfies_clause
+first_true v h =
+    let none : Formula = record { variables = 1; clauses = [] } in
+    only_true (v 1) (and_parts _ _ (sym (added v (constant true ∷ []) none) ∙ h)).1
+
+-- so the first clause holds
+pub truth_before : (q : Condition) (v : ℕ → Bool) → satisfies v (clauses q) ≡ true → v 1 ≡ true
+unfolding clauses circuit_of
+truth_before q v h =
+    first_true v (nodes_before v q.graph.nodes (no_terms q.graph.inputs) (asserted_before v (circuit_of q).rows q.asserted (circuit_of q).formula h))

@@ -20,3 +20,4 @@ pub mod QuotientValues
 pub mod SliceMeaning
 pub mod ChoiceMeaning
 pub mod ShiftMeaning
+pub mod NodeMeaning

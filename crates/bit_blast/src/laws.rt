@@ -1,6 +1,7 @@
 //! What the clauses mean: under each valuation that satisfies them, rows are worth what they stand for.
 
 pub mod choices;
+pub mod circuits;
 pub mod products;
 pub mod shifts;
 pub mod slices;
