@@ -21,3 +21,4 @@ pub mod SliceMeaning
 pub mod ChoiceMeaning
 pub mod ShiftMeaning
 pub mod NodeMeaning
+pub mod CircuitMeaning
