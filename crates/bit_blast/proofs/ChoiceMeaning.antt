@@ -48,7 +48,7 @@ one_bit : (b : Bool) → (bit_of b + 2 * 0 == 1) ≡ b
 one_bit true = refl
 one_bit false = refl
 
-one_bit_number : (v : ℕ → Bool) (t : List Literal) → length t ≡ 1 → literal_value v (lowest_of t) ≡ (number_of_row v t == 1)
+pub one_bit_number : (v : ℕ → Bool) (t : List Literal) → length t ≡ 1 → literal_value v (lowest_of t) ≡ (number_of_row v t == 1)
 one_bit_number v [] one = absurd (omega arith)
 one_bit_number v (l ∷ []) one = sym (ap (λ m. m == 1) (number_cons v l [] ∙ ap (λ m. bit_of (literal_value v l) + 2 * m) (number_nil v)) ∙ one_bit (literal_value v l))
 one_bit_number v (l ∷ k ∷ t) one = absurd (omega arith)

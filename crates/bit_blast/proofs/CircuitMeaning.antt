@@ -1,17 +1,17 @@
-use Rattle.std.proofs.Common.{◌≡◌, ◌≢◌, ℕ, zero, suc, ◌+◌, ◌<◌, ◌≤◌, ◌==◌, Bool, true, false, List, [], ◌∷◌, ◌++◌, length, get_or, set, map, take, replicate, fold, Option, Some, None, refl, ap, sym, subst, ◌∙◌, arith, inl, inr}
-use Rattle.std.specs.Prelude.{slice_index, slice_index_or, slice_set, slice_get}
+use Rattle.std.proofs.Common.{◌≡◌, ℕ, zero, suc, ◌<◌, Bool, true, List, [], ◌∷◌, ◌++◌, length, set, map, take, fold, Option, Some, None, refl, ap, sym, subst, ◌∙◌, arith, inl, inr}
+use Rattle.std.specs.Prelude.{slice_index, slice_index_or, slice_get}
 use Rattle.std.proofs.lemmas.Bool.{cases_eq}
-use Rattle.std.proofs.lemmas.List.{map-append, take_all, length-set, length-replicate, get_or-set_same, get_or-set_other}
+use Rattle.std.proofs.lemmas.List.{map-append, take_all, length-set, get_or-set_same, get_or-set_other}
 use Rattle.cnf_form.specs.Literals.{Literal}
 use Rattle.bv_dag.specs.BitVectors.{BitVector}
 use Rattle.bv_dag.specs.Nodes.{node_value, node_width, Fits, word_at, width}
 use Rattle.bv_dag.specs.declared.nodes.Node.{Node}
 use Rattle.bv_dag.specs.declared.nodes.Node.TheVariants.{Num, Input, Not, Neg, Binary, Compare, Ite, Extract, Extend, Concat}
 use Rattle.bv_dag.proofs.Values.{width-node_value}
-use Rattle.bit_blast.specs.Formulas.{Formula, with_variable, next_variable}
+use Rattle.bit_blast.specs.Formulas.{Formula, with_variable}
 use Rattle.bit_blast.specs.Bytes.{number_of_row, byte_of}
 use Rattle.bit_blast.specs.Rows.{fresh_row}
-use Rattle.bit_blast.specs.Circuits.{Circuit, with_row, with_new_input, with_input, with_node}
+use Rattle.bit_blast.specs.Circuits.{Circuit, with_input, with_node}
 use Rattle.bit_blast.specs.Meaning.{word_of}
 use Rattle.bit_blast.proofs.EarlierClauses.{Holds, nodes_before}
 use Rattle.bit_blast.proofs.SumMeaning.{word}

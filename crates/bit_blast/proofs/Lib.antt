@@ -22,3 +22,4 @@ pub mod ChoiceMeaning
 pub mod ShiftMeaning
 pub mod NodeMeaning
 pub mod CircuitMeaning
+pub mod Solutions

@@ -5,6 +5,7 @@ pub mod circuits;
 pub mod products;
 pub mod shifts;
 pub mod slices;
+pub mod solutions;
 
 ghost use Rattle.std.specs.Prelude.{◌≡◌, ℕ, Bool, List, true, nat_lt, ◌&&◌, ◌||◌, if◌then◌else◌, length};
 ghost use Rattle.cnf_form.specs.Literals.{Literal, same_truth};
