@@ -1,6 +1,7 @@
 //! What the clauses mean: under each valuation that satisfies them, rows are worth what they stand for.
 
 pub mod circuits;
+pub mod extensions;
 pub mod products;
 
 ghost use Rattle.std.specs.Prelude.{◌≡◌, ℕ, Bool, List, true, nat_lt, ◌&&◌, ◌||◌, if◌then◌else◌, length};
