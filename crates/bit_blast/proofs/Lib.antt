@@ -14,6 +14,9 @@ pub mod GateMeaning
 pub mod AdderMeaning
 pub mod SumMeaning
 pub mod EarlierClauses
+pub mod Scopes
+pub mod Extending
+pub mod Assigning
 pub mod RowValues
 pub mod ProductValues
 pub mod QuotientValues

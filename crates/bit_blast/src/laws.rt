@@ -2,6 +2,7 @@
 
 pub mod choices;
 pub mod circuits;
+pub mod extensions;
 pub mod products;
 pub mod shifts;
 pub mod slices;
