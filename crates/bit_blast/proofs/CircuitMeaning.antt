@@ -34,13 +34,13 @@ pub record AreKept (before after : Inputs) : Type 0 where
 pub record AreBytes (inputs : Inputs) : Type 0 where
   pub each : (i : ℕ) (row : List Literal) → input_at inputs i ≡ Some row → length row ≡ 8
 
-length_fresh : (w : ℕ) (f : Formula) → length (fresh_row w f).0 ≡ w
+pub length_fresh : (w : ℕ) (f : Formula) → length (fresh_row w f).0 ≡ w
 unfolding fresh_row
 length_fresh zero f = refl
 length_fresh (suc w) f = ap suc (length_fresh w (with_variable f))
 
 -- a new input byte
-put_same : (inputs : Inputs) (i : ℕ) (row : List Literal) → i < length inputs → input_at (set inputs i (Some row)) i ≡ Some row
+pub put_same : (inputs : Inputs) (i : ℕ) (row : List Literal) → i < length inputs → input_at (set inputs i (Some row)) i ≡ Some row
 put_same inputs i row within = get_or-set_same inputs i (Some row) None within
 
 unequal : {X : Type 0} (x : X) → None ≡ Some x → ⊥
@@ -54,7 +54,7 @@ new_kept inputs i row none = record {
   each = λ k old is. elim (cases_eq k i) [
     | inl same ↦ absurd (unequal old (sym (ap (input_at inputs) same ∙ none) ∙ is))
     | inr other ↦ get_or-set_other inputs i k (Some row) None other ∙ is
-  ]
+  ];
 }
 
 new_bytes : (inputs : Inputs) (i : ℕ) (row : List Literal) → AreBytes inputs → i < length inputs → length row ≡ 8 → AreBytes (set inputs i (Some row))
@@ -62,7 +62,7 @@ new_bytes inputs i row bytes within eight = record {
   each = λ k old is. elim (cases_eq k i) [
     | inl same ↦ ap length (same_row old row (sym (ap (input_at (set inputs i (Some row))) same ∙ put_same inputs i row within) ∙ is)) ∙ eight
     | inr other ↦ bytes.each k old (sym (get_or-set_other inputs i k (Some row) None other) ∙ is)
-  ]
+  ];
 }
 
 -- a step keeps the input bytes that have occurred, and their number
@@ -86,7 +86,7 @@ node_kept c (Extract high low a) = same_kept c.inputs
 node_kept c (Extend by signed a) = same_kept c.inputs
 node_kept c (Concat high low) = same_kept c.inputs
 
-nodes_kept : (nodes : List Node) (c : Circuit) → AreKept c.inputs (fold with_node c nodes).inputs
+pub nodes_kept : (nodes : List Node) (c : Circuit) → AreKept c.inputs (fold with_node c nodes).inputs
 nodes_kept [] c = same_kept c.inputs
 nodes_kept (n ∷ nodes) c = record { each = λ i row is. (nodes_kept nodes (with_node c n)).each i row ((node_kept c n).each i row is) }
 
@@ -94,7 +94,7 @@ input_count : (c : Circuit) (i : ℕ) (o : Option (List Literal)) → length (wi
 input_count c i None = length-set c.inputs i (Some (fresh_row 8 c.formula).0)
 input_count c i (Some row) = refl
 
-node_count : (c : Circuit) (n : Node) → length (with_node c n).inputs ≡ length c.inputs
+pub node_count : (c : Circuit) (n : Node) → length (with_node c n).inputs ≡ length c.inputs
 unfolding with_node
 node_count c (Num w m) = refl
 node_count c (Input i) = input_count c i (input_at c.inputs i)
@@ -115,7 +115,7 @@ input_bytes : (c : Circuit) (i : ℕ) (o : Option (List Literal)) → AreBytes c
 input_bytes c i None bytes within = new_bytes c.inputs i (fresh_row 8 c.formula).0 bytes within (length_fresh 8 c.formula)
 input_bytes c i (Some row) bytes within = bytes
 
-node_bytes : (c : Circuit) (n : Node) (before : List ℕ) → AreBytes c.inputs → Fits (length c.inputs) before n → AreBytes (with_node c n).inputs
+pub node_bytes : (c : Circuit) (n : Node) (before : List ℕ) → AreBytes c.inputs → Fits (length c.inputs) before n → AreBytes (with_node c n).inputs
 unfolding with_node
 node_bytes c (Num w m) before bytes fits = bytes
 node_bytes c (Input i) before bytes fits = input_bytes c i (input_at c.inputs i) bytes fits
@@ -132,7 +132,7 @@ node_bytes c (Concat high low) before bytes fits = bytes
 abbrev pub bytes_in : (ℕ → Bool) → Inputs → List ℕ
 bytes_in v inputs = map (byte_of v) inputs
 
-byte_at : (v : ℕ → Bool) (inputs : Inputs) (i : ℕ) → slice_index (bytes_in v inputs) i ≡ byte_of v (input_at inputs i)
+pub byte_at : (v : ℕ → Bool) (inputs : Inputs) (i : ℕ) → slice_index (bytes_in v inputs) i ≡ byte_of v (input_at inputs i)
 byte_at v [] i = refl
 byte_at v (o ∷ inputs) zero = refl
 byte_at v (o ∷ inputs) (suc i) = byte_at v inputs i

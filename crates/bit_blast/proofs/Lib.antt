@@ -26,3 +26,4 @@ pub mod ShiftMeaning
 pub mod NodeMeaning
 pub mod CircuitMeaning
 pub mod Solutions
+pub mod Completeness

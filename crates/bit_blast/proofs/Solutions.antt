@@ -26,17 +26,17 @@ none_yet zero i = refl
 none_yet (suc n) zero = refl
 none_yet (suc n) (suc i) = none_yet n i
 
-unequal : (row : List Literal) → None ≡ Some row → ⊥
+pub unequal : (row : List Literal) → None ≡ Some row → ⊥
 unequal row e = cc
 
-no_bytes : (n : ℕ) → AreBytes (replicate n None)
+pub no_bytes : (n : ℕ) → AreBytes (replicate n None)
 no_bytes n = record { each = λ i row is. absurd (unequal row (sym (none_yet n i) ∙ is)) }
 
-all_fit : (graph : Graph) → IsDag graph → FitFrom graph.inputs [] graph.nodes
+pub all_fit : (graph : Graph) → IsDag graph → FitFrom graph.inputs [] graph.nodes
 unfolding widths_of map_in_turn
 all_fit graph dag = dag.all_fit
 
-in_turn : (input : List ℕ) (nodes : List Node) → values input nodes ≡ values_from input [] nodes
+pub in_turn : (input : List ℕ) (nodes : List Node) → values input nodes ≡ values_from input [] nodes
 unfolding values map_in_turn
 in_turn input nodes = refl
 
