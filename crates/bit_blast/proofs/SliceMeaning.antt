@@ -1,0 +1,94 @@
+use Rattle.std.proofs.Common.{◌≡◌, ℕ, zero, suc, ◌+◌, ◌-◌, ◌*◌, ◌/◌, ◌%◌, ◌^◌, ◌<◌, ◌≤◌, nat_le, Bool, true, false, if◌then◌else◌, List, ◌++◌, length, take, drop, replicate, refl, ap, sym, ◌∙◌, arith}
+use Rattle.std.proofs.Math.Nat.{mul_comm, mul-add, mul-one}
+use Rattle.std.proofs.lemmas.Nat.{pow-add, field_of}
+use Rattle.std.proofs.lemmas.List.{length-append, length-replicate, length-take-le, length-drop, length-map}
+use Rattle.cnf_form.specs.Literals.{Literal, negation}
+use Rattle.cnf_form.specs.Valuations.{literal_value}
+use Rattle.bv_dag.specs.BitVectors.{nat2bv, bvnot, extract, zero_extend, sign_extend, concat}
+use Rattle.bit_blast.specs.Bytes.{number_of_row}
+use Rattle.bit_blast.specs.Formulas.{constant}
+use Rattle.bit_blast.specs.Rows.{negations, number_row, top_of}
+use Rattle.bit_blast.specs.Meaning.{word_of}
+use Rattle.bit_blast.proofs.SumMeaning.{constant_value, word}
+use Rattle.bit_blast.proofs.RowNumbers.{number_number_row, number_append, number_falses, number_trues, number_take, number_drop}
+use Rattle.bit_blast.proofs.TopValues.{Topped, topped}
+use Rattle.bit_blast.proofs.Moves.{negated_number}
+
+-- What rows are that are made without gates.
+
+length_number_row : (w n : ℕ) → length (number_row w n) ≡ w
+unfolding number_row
+length_number_row zero n = refl
+length_number_row (suc w) n = ap suc (length_number_row w (n / 2))
+
+pub number_means : (v : ℕ → Bool) (w n : ℕ) → v 1 ≡ true → word_of v (number_row w n) ≡ nat2bv w n
+number_means v w n truth = word _ _ _ _ (length_number_row w n) (number_number_row v truth w n)
+
+pub not_means : (v : ℕ → Bool) (a : List Literal) → word_of v (negations a) ≡ bvnot (word_of v a)
+unfolding bvnot
+not_means v a = word _ _ _ _ (length-map a negation) (negated_number v a (length a) refl)
+
+-- a part of a row
+part_length : (high low n : ℕ) → low ≤ high → n ≡ high + 1 → n - low ≡ high - low + 1
+part_length high low n order is = omega arith
+
+part_places : (high low : ℕ) → low ≤ high → high + 1 ≡ (high - low + 1) + low
+part_places high low order = omega arith
+
+pub extract_means : (v : ℕ → Bool) (high low : ℕ) (a : List Literal) → low ≤ high → high < length a → word_of v (drop low (take (high + 1) a)) ≡ extract high low (word_of v a)
+unfolding extract
+extract_means v high low a order within =
+    word _ _ _ _
+    (length-drop low (take (high + 1) a) ∙ part_length high low (length (take (high + 1) a)) order (length-take-le (high + 1) a (omega arith)))
+    (number_drop v low (take (high + 1) a) ∙ ap (λ m. m / 2 ^ low) (number_take v (high + 1) a ∙ ap (λ k. number_of_row v a % 2 ^ k) (part_places high low order))
+    ∙ field_of (number_of_row v a) (high - low + 1) low)
+
+-- more bits above a row
+copies_length : (a : List Literal) (by : ℕ) (l : Literal) → length (a ++ replicate by l) ≡ length a + by
+copies_length a by l = length-append a (replicate by l) ∙ ap (λ k. length a + k) (length-replicate by l)
+
+nothing_above : (m p z : ℕ) → z ≡ 0 → m + p * z ≡ m
+nothing_above m p z is = ap (λ k. m + p * k) is ∙ no_part m p
+  where
+    no_part : (m p : ℕ) → m + p * 0 ≡ m
+    no_part m p = omega arith
+
+pub zero_extend_means : (v : ℕ → Bool) (by : ℕ) (a : List Literal) → v 1 ≡ true → word_of v (a ++ replicate by (constant false)) ≡ zero_extend by (word_of v a)
+unfolding zero_extend
+zero_extend_means v by a truth =
+    word _ _ _ _ (copies_length a by (constant false))
+    (number_append v a (replicate by (constant false))
+    ∙ nothing_above (number_of_row v a) (2 ^ length a) (number_of_row v (replicate by (constant false))) (number_falses v by (constant false) (constant_value v truth false)))
+
+-- p * (q - 1) as p * q - p
+ones_above : (n p q z all : ℕ) → p * z + p ≡ all → n + p * z ≡ n + (all - p)
+ones_above n p q z all whole = omega arith
+
+ones_whole : (p q z all : ℕ) → z + 1 ≡ q → all ≡ p * q → p * z + p ≡ all
+ones_whole p q z all more product =
+    ap (λ k. p * z + k) (sym (mul-one p)) ∙ sym (mul-add p z 1) ∙ ap (λ k. p * k) more ∙ sym product
+
+extended : (v : ℕ → Bool) (by : ℕ) (n w : ℕ) (l : Literal) (t : Bool) → literal_value v l ≡ t
+    → n + 2 ^ w * number_of_row v (replicate by l) ≡ (if t then n + (2 ^ (w + by) - 2 ^ w) else n)
+extended v by n w l true is =
+    ones_above n (2 ^ w) (2 ^ by) (number_of_row v (replicate by l)) (2 ^ (w + by))
+    (ones_whole (2 ^ w) (2 ^ by) (number_of_row v (replicate by l)) (2 ^ (w + by)) (number_trues v by l is) (pow-add 2 w by))
+extended v by n w l false is = nothing_above n (2 ^ w) (number_of_row v (replicate by l)) (number_falses v by l is)
+
+pub sign_extend_means : (v : ℕ → Bool) (by : ℕ) (a : List Literal) → 0 < length a → word_of v (a ++ replicate by (top_of a)) ≡ sign_extend by (word_of v a)
+unfolding sign_extend
+sign_extend_means v by a some =
+    let top : Topped v a (2 ^ (length a - 1)) (number_of_row v (take (length a - 1) a)) = topped v a some in
+    word _ _ _ _ (copies_length a by (top_of a))
+    (number_append v a (replicate by (top_of a))
+    ∙ extended v by (number_of_row v a) (length a) (top_of a) (nat_le (2 ^ (length a - 1)) (number_of_row v a)) (sym top.sign))
+
+-- one row above another
+turned : (m n : ℕ) → m + n ≡ n + m
+turned m n = omega arith
+
+pub concat_means : (v : ℕ → Bool) (high low : List Literal) → word_of v (low ++ high) ≡ concat (word_of v high) (word_of v low)
+unfolding concat
+concat_means v high low =
+    word _ _ _ _ (length-append low high ∙ turned (length low) (length high))
+    (number_append v low high ∙ turned (number_of_row v low) (2 ^ length low * number_of_row v high) ∙ ap (λ m. m + number_of_row v low) (mul_comm (2 ^ length low) (number_of_row v high)))
