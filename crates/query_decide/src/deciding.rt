@@ -1,0 +1,67 @@
+//! Deciding a question.
+
+ghost use Rattle.std.specs.Prelude.{IfOk};
+ghost use Rattle.bv_dag.specs.Graphs.{IsDag};
+ghost use Rattle.bv_dag.specs.Queries.{AreBits};
+ghost use Rattle.query_decide.specs.Decisions.{IsDecided};
+ghost use Rattle.query_decide.specs.Occurring.{HasTwoInputs, IsAlone};
+
+use crate::decision::Decision;
+use crate::occurrence::{Occurrence, occurring};
+use crate::one_byte::try_byte;
+use bit_blast::{bytes_of, clauses};
+use bv_dag::Query;
+use cdcl_core::{Answer, search};
+use std::alloc::{AllocError as NoMemory, Global};
+use tool_io::Bytes;
+
+// The answer of a question in which this byte occurs alone, or none.
+fn decide_byte(
+    alloc: Global,
+    query: &Query,
+    place: usize,
+    budget: u32,
+) -> Result<Decision, NoMemory>
+    requires dag { IsDag query.now.graph }
+    requires alone { IsAlone query.now.graph.nodes place }
+    ensures { IfOk result (IsDecided query.now budget) }
+{
+    let _budget = budget;
+    match try_byte(alloc, query, place)? {
+        Some(input) => Ok(Decision::Sat(Bytes::from_vec(input))),
+        None => Ok(Decision::Unsat),
+    }
+}
+
+// The answer of the search for a valuation of the question's clauses.
+fn decide_by_clauses(alloc: Global, query: &Query, budget: u32) -> Result<Decision, NoMemory>
+    requires dag { IsDag query.now.graph }
+    requires bits { AreBits query.now.graph query.now.asserted }
+    requires wide { HasTwoInputs query.now.graph.nodes }
+    ensures { IfOk result (IsDecided query.now budget) }
+{
+    let formula = clauses(alloc, query)?;
+    match search(alloc, &formula, budget)? {
+        Answer::Found(values) => {
+            let input = bytes_of(alloc, query, &values)?;
+            Ok(Decision::Sat(Bytes::from_vec(input)))
+        }
+        Answer::Refuted(_) => Ok(Decision::Unsat),
+        Answer::Spent(log) => Ok(Decision::Spent(log)),
+    }
+}
+
+/// Whether some input bytes meet the condition. A condition in which one input byte occurs at most is decided by the
+/// values of that byte, and else by its clauses and a search that derives at most so many.
+pub fn decide(alloc: Global, query: &Query, budget: u32) -> Result<Decision, NoMemory>
+    ensures { IfOk result (IsDecided query.now budget) }
+{
+    // The terms that are asserted have one bit.
+    let _asserted = query.asserted();
+    let nodes = query.dag().nodes();
+    match occurring(nodes) {
+        Occurrence::NoInput => decide_byte(alloc, query, 0, budget),
+        Occurrence::OneInput(place) => decide_byte(alloc, query, place, budget),
+        Occurrence::MoreInputs => decide_by_clauses(alloc, query, budget),
+    }
+}

@@ -1,0 +1,18 @@
+//! Questions on input bytes, decided: by trying the 256 values of the one byte that occurs, or by clauses and a search.
+//!
+//! - `occurrence`: which input bytes occur
+//! - `one_byte`: trying the values of one byte
+//! - `decision`: what is answered
+//! - `deciding`: `decide`
+#![tactic(auto)]
+
+mod deciding;
+mod decision;
+mod occurrence;
+mod one_byte;
+
+pub use deciding::decide;
+pub use decision::Decision;
+
+#[cfg(test)]
+mod tests;
