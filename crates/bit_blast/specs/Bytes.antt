@@ -1,3 +1,4 @@
+-- The numbers that rows of literals are under a valuation, and the input bytes that it means.
 use Rattle.std.specs.Prelude.{ℕ, ◌+◌, ◌*◌, Bool, true, false, List, [], ◌∷◌, Option, Some, None, map, take}
 use Rattle.cnf_form.specs.Literals.{Literal}
 use Rattle.cnf_form.specs.Valuations.{literal_value}

@@ -1,3 +1,4 @@
+-- The circuit of a condition, one case for each kind of term, and its clauses.
 use Rattle.std.specs.Prelude.{ℕ, ◌+◌, Bool, true, false, List, [], ◌∷◌, ◌++◌, take, drop, replicate, fold, Option, Some, None, slice_index_or, slice_set}
 use Rattle.cnf_form.specs.Literals.{Literal}
 use Rattle.bv_dag.specs.declared.nodes.BinaryOp.{BinaryOp}

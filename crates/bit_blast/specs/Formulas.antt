@@ -1,3 +1,4 @@
+-- Formulas while they are made: their variables and clauses.
 use Rattle.std.specs.Prelude.{ℕ, ◌+◌, Bool, true, List, [], ◌∷◌, ◌++◌, Option, Some, None}
 use Rattle.cnf_form.specs.Literals.{Literal}
 use Rattle.cnf_form.specs.Clauses.{clause_of}

@@ -1,3 +1,4 @@
+-- Gates: a new variable each, and clauses that hold just where it has the gate's value.
 use Rattle.std.specs.Prelude.{List, [], ◌∷◌}
 use Rattle.cnf_form.specs.Literals.{Literal, negation}
 use Rattle.bit_blast.specs.Formulas.{Formula, next_variable, with_variable, with_clauses}

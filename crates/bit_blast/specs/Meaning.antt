@@ -1,3 +1,4 @@
+-- What gates and rows are to be worth.
 use Rattle.std.specs.Prelude.{ℕ, Bool, true, false, not, ◌&&◌, ◌||◌, List, length}
 use Rattle.cnf_form.specs.Literals.{Literal}
 use Rattle.bv_dag.specs.BitVectors.{BitVector}

@@ -1,3 +1,4 @@
+-- Multiplication by shift and add, and restoring division.
 use Rattle.std.specs.Prelude.{ℕ, ◌+◌, ◌-◌, true, false, List, [], ◌∷◌, ◌++◌, take, replicate, length}
 use Rattle.cnf_form.specs.Literals.{Literal}
 use Rattle.bit_blast.specs.Formulas.{Formula, constant}

@@ -1,3 +1,4 @@
+-- Rows of literals, adders, and tests of two rows.
 use Rattle.std.specs.Prelude.{ℕ, ◌-◌, ◌/◌, ◌%◌, ◌==◌, zero, suc, true, false, List, [], ◌∷◌, map, replicate, length, slice_index_or, slice_set}
 use Rattle.cnf_form.specs.Literals.{Literal, negation}
 use Rattle.bit_blast.specs.Formulas.{Formula, constant, next_variable, with_variable}

@@ -1,3 +1,4 @@
+-- The barrel shifter.
 use Rattle.std.specs.Prelude.{ℕ, ◌-◌, ◌*◌, nat_lt, false, if◌then◌else◌, List, ◌++◌, take, drop, replicate, length, fold}
 use Rattle.cnf_form.specs.Literals.{Literal}
 use Rattle.bit_blast.specs.Formulas.{Formula, constant}

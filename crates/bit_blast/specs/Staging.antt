@@ -1,3 +1,4 @@
+-- A stage of the shifter, as the code holds it. Only private functions speak of this.
 use Rattle.bit_blast.specs.Formulas.{Formula}
 use Rattle.bit_blast.specs.Shifts.{Stage}
 use Rattle.bit_blast.specs.declared.shifts.Stage.{Stage as Shifting}

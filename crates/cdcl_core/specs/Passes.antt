@@ -1,3 +1,4 @@
+-- What clauses are under a partial assignment, and what a pass over them comes to.
 use Rattle.std.specs.Prelude.{◌≡◌, ℕ, ◌<◌, ◌≤◌, nat_lt, length, Bool, true, false, List, Option, Some, None}
 use Rattle.std.specs.List.{list_any, list_all}
 use Rattle.cnf_form.specs.Literals.{Literal}

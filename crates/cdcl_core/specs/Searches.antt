@@ -1,3 +1,4 @@
+-- What a search keeps, and what its answers carry.
 use Rattle.std.specs.Prelude.{◌≡◌, ℕ, Bool, true, false, not, ◌⊎◌, List, [], ◌++◌, Option, Some, None, length}
 use Rattle.std.specs.List.{list_all}
 use Rattle.cnf_form.specs.Literals.{Literal}

@@ -1,3 +1,4 @@
+-- Trails: the literals that are true, in their order, each decided or forced by a clause.
 use Rattle.std.specs.Prelude.{◌≡◌, ℕ, ◌+◌, Bool, false, ◌++◌, List, [], ◌∷◌, Option, Some, None, fold, slice_set}
 use Rattle.std.specs.List.{list_any}
 use Rattle.cnf_form.specs.Literals.{Literal}

@@ -1,3 +1,4 @@
+-- Literals: variables and their negations.
 use Rattle.std.specs.Prelude.{ℕ, Bool, true, false, not, ◌==◌, ◌&&◌}
 
 -- a variable, from 1, or its negation

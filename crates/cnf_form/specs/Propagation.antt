@@ -1,3 +1,4 @@
+-- Unit propagation under partial assignments, and clauses that follow by reverse unit propagation along hints.
 use Rattle.std.specs.Prelude.{ℕ, Bool, false, not, ◌==◌, ◌-◌, List, [], ◌∷◌, Option, Some, None, filter, fold, slice_get, if◌then◌else◌}
 use Rattle.std.specs.List.{list_all}
 use Rattle.cnf_form.specs.Literals.{Literal, negation, same_truth}

@@ -1,3 +1,4 @@
+-- Logs: clauses that follow one after the other, each new, and logs that refute a formula.
 use Rattle.std.specs.Prelude.{ℕ, Bool, true, false, not, ◌&&◌, List, [], ◌∷◌, ◌++◌, map}
 use Rattle.std.specs.List.{list_any}
 use Rattle.cnf_form.specs.Literals.{Literal}

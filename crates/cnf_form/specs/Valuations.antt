@@ -1,3 +1,4 @@
+-- Valuations, and what they satisfy.
 use Rattle.std.specs.Prelude.{ℕ, Bool, false, List, slice_index_or}
 use Rattle.std.specs.List.{list_any, list_all}
 use Rattle.cnf_form.specs.Literals.{Literal, same_truth}

@@ -1,3 +1,4 @@
+-- Marks of variables that stand for a partial assignment. Only private functions speak of this.
 use Rattle.std.specs.Prelude.{ℕ, Bool, List, Option, Some, None, ◌==◌, ◌≤◌, ◌<◌, All, slice_index_or, if◌then◌else◌}
 use Rattle.proof_check.specs.declared.marks.Mark.{Mark}
 

@@ -1,3 +1,4 @@
+-- Subsets of sorted clauses, by one walk over both. Only private functions speak of this.
 use Rattle.std.specs.Prelude.{Bool, true, false, nat_lt, List, [], ◌∷◌, if◌then◌else◌}
 use Rattle.cnf_form.specs.Literals.{Literal, same_literal}
 
