@@ -1,0 +1,132 @@
+//! Questions for the solver with known answers, for its benchmark: their formulas, and what the search makes of them.
+//!
+//! - `words`: the words of the command line
+//! - `questions`: the questions, with their names
+//! - `ordering`, `parsing`, `checksums`, `products`: what each question asks, as firmware would come to it
+//! - `building`: terms, pushed where they fit
+//! - `printing`: formulas and logs as text
+#![tactic(auto)]
+
+mod building;
+mod checksums;
+mod ordering;
+mod parsing;
+mod printing;
+mod products;
+mod questions;
+mod words;
+
+use crate::printing::{count_variables, write_formula, write_log};
+use crate::questions::{QUESTIONS, Question};
+use crate::words::{Job, read_job};
+use anyhow::{Result, bail};
+use bit_blast::{bytes_of, clauses};
+use cdcl_core::{Answer, search};
+use cnf_form::Log;
+use std::alloc::Global;
+use std::io::{BufWriter, Write};
+use std::rt::Env;
+use std::{env, io};
+
+const USAGE: &str = "names | clauses NAME | formula NAME | search BUDGET NAME.. | log BUDGET NAME";
+
+// The name of each question.
+fn print_names(rt: &impl Print) -> Result<()> {
+    for question in &QUESTIONS {
+        println!(rt; "{}", question.name())?;
+    }
+    Ok(())
+}
+
+// How many variables and clauses the question's formula has.
+fn print_counts<R: Print + AllocGlobal>(rt: &R, question: Question) -> Result<()> {
+    let alloc = rt.alloc();
+    let formula = clauses(alloc, &question.query(alloc)?)?;
+    let variables = count_variables(&formula);
+    println!(rt;
+        "{} {variables} {}",
+        question.name(),
+        formula.clauses().len()
+    )?;
+    Ok(())
+}
+
+fn print_formula<R: Print + AllocGlobal>(rt: &R, question: Question) -> Result<()> {
+    let alloc = rt.alloc();
+    let formula = clauses(alloc, &question.query(alloc)?)?;
+    let mut out = BufWriter::new(alloc, io::writer(rt))?;
+    write_formula(&mut out, &formula)?;
+    out.flush()?;
+    Ok(())
+}
+
+// How the search ended, with the bytes that it found.
+fn print_answer<R: Print + AllocGlobal>(rt: &R, budget: u32, question: Question) -> Result<()> {
+    let alloc = rt.alloc();
+    let query = question.query(alloc)?;
+    let formula = clauses(alloc, &query)?;
+    let name = question.name();
+    match search(alloc, &formula, budget)? {
+        Answer::Found(values) => {
+            let bytes = hex::encode(alloc, &bytes_of(alloc, &query, &values)?)?;
+            println!(rt; "{name} found {bytes}")?;
+        }
+        Answer::Refuted(_) => println!(rt; "{name} refuted")?,
+        Answer::Spent(_) => println!(rt; "{name} spent")?,
+    }
+    Ok(())
+}
+
+fn print_answers<R: Print + AllocGlobal>(
+    rt: &R,
+    budget: u32,
+    questions: &[Question],
+) -> Result<()> {
+    for question in questions {
+        print_answer(rt, budget, *question)?;
+    }
+    Ok(())
+}
+
+// The log of the search, or none where it found a valuation.
+fn log_of(alloc: Global, budget: u32, question: Question) -> Result<Option<Log>> {
+    let formula = clauses(alloc, &question.query(alloc)?)?;
+    match search(alloc, &formula, budget)? {
+        Answer::Found(_) => Ok(None),
+        Answer::Refuted(log) => Ok(Some(log)),
+        Answer::Spent(log) => Ok(Some(log)),
+    }
+}
+
+// The log of the search, and nothing where there is none.
+fn print_log<R: Print + AllocGlobal>(rt: &R, budget: u32, question: Question) -> Result<()> {
+    let alloc = rt.alloc();
+    let Some(log) = log_of(alloc, budget, question)? else {
+        return Ok(());
+    };
+    let mut out = BufWriter::new(alloc, io::writer(rt))?;
+    write_log(&mut out, &log)?;
+    out.flush()?;
+    Ok(())
+}
+
+// The words behind the name of the program.
+fn gather<R: Env + AllocGlobal>(rt: &R) -> io::Result<Vec<String>> {
+    let mut words = Vec::new(rt.alloc());
+    for word in env::args(rt)?.skip(1) {
+        words.push(word)?;
+    }
+    Ok(words)
+}
+
+fn main(rt: HostRuntime) -> Result<()> {
+    let words = gather(&rt)?;
+    match read_job(rt.alloc(), &words)? {
+        Some(Job::Names) => print_names(&rt),
+        Some(Job::Clauses(question)) => print_counts(&rt, question),
+        Some(Job::Formula(question)) => print_formula(&rt, question),
+        Some(Job::Search(budget, questions)) => print_answers(&rt, budget, &questions),
+        Some(Job::Log(budget, question)) => print_log(&rt, budget, question),
+        None => bail!("the words are one of: {USAGE}"),
+    }
+}
