@@ -1,5 +1,5 @@
-//! Terms of a question, pushed where they fit. Unless it is said otherwise a term has 32 bits, as a register has, and an
-//! input byte is one with zeros above.
+//! Terms of a question, pushed where they fit. Unless it is said otherwise a term has 32 bits, as a register has, and
+//! an input byte has zeros above.
 
 use bv_dag::{BinaryOp, Comparison, Dag, Node, Query};
 use std::alloc::{AllocError as NoMemory, Global};

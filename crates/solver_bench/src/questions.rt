@@ -21,17 +21,17 @@ pub enum Question {
     SortedSum,
     /// The same with a sum of 9. Five different bytes have no such sum.
     SortedSumUnder,
-    /// A rising table of eight bytes with the key in its lower half, where the binary search went to the upper. None is;
-    /// orders have to be put together.
+    /// A rising table of eight bytes with the key in its lower half, where the binary search went to the upper one.
+    /// None is; orders have to be put together.
     SearchMissed,
-    /// Four printable bytes whose CRC-8 (polynomial 0x07, from 0) is 0xf4, bit by bit, without a branch. Many are: exclusive ors
-    /// beside bounds.
+    /// Four printable bytes whose CRC-8 (polynomial 0x07, from 0) is 0xf4, bit by bit, without a branch: `beee` and
+    /// others. Exclusive ors beside bounds.
     Crc8,
     /// Two bytes whose CRC-16 (polynomial 0x1021, from 0xffff) is 0x1d0f: 0, 0, and no others.
     Crc16,
     /// The same with a first byte above 0. None are, since no two pairs of bytes have the same CRC-16.
     Crc16Other,
-    /// A number of two bytes and a byte that divides it 7 times with a rest of 3, in 32 bits. Two long dividers.
+    /// A number of two bytes and a byte that divides it 7 times with a rest of 3, as 31 and 4. Two long dividers.
     Division,
     /// A dividend of eight bits that isn't the quotient times the divisor, with the rest. None is; a divider against a
     /// multiplier.
