@@ -1,10 +1,9 @@
-use Rattle.std.proofs.Common.{◌≡◌, ℕ, zero, suc, ◌+◌, ◌*◌, ◌^◌, ◌/◌, ◌%◌, ◌==◌, ◌<◌, ◌≤◌, Bool, true, false, ◌||◌, List, [], ◌∷◌, ◌++◌, length, get_or, set, take, drop, replicate, fold, All, Option, Some, None, slice_index_or, refl, ap, sym, ◌∙◌, subst, inl, inr, ◌⊎◌, arith}
-use Rattle.std.proofs.lemmas.Bool.{cases_eq, cases_lt, eqb-true, eqb-false}
-use Rattle.std.proofs.lemmas.Nat.{div-add-mod', mod_below}
-use Rattle.std.proofs.lemmas.List.{length-set, get_or_past, get_or-set_same, get_or-set_other}
+-- Each list of input bytes has a valuation of a condition's terms.
+use Rattle.std.proofs.Common.{◌≡◌, ℕ, zero, suc, ◌+◌, ◌*◌, ◌^◌, ◌/◌, ◌%◌, ◌==◌, ◌<◌, ◌≤◌, Bool, true, false, List, [], ◌∷◌, ◌++◌, length, get_or, take, drop, replicate, fold, All, Option, Some, None, refl, ap, sym, ◌∙◌, subst, inl, inr, arith}
+use Rattle.std.proofs.Math.Nat.{pow-succ'}
 use Rattle.std.proofs.lemmas.List.Elements.{All-nil, All-cons, All-append, All-push, All-take, All-drop, All-replicate, All-weaker}
 use Rattle.cnf_form.specs.Literals.{Literal, same_truth}
-use Rattle.cnf_form.specs.Valuations.{literal_value, satisfies_clause, satisfies}
+use Rattle.cnf_form.specs.Valuations.{literal_value, satisfies}
 use Rattle.bv_dag.specs.Queries.{Condition}
 use Rattle.bv_dag.specs.declared.nodes.Node.{Node}
 use Rattle.bv_dag.specs.declared.nodes.Node.TheVariants.{Num, Input, Not, Neg, Binary, Compare, Ite, Extract, Extend, Concat}
@@ -14,13 +13,13 @@ use Rattle.bit_blast.specs.Rows.{negations, zeros, number_row, fresh_row, each, 
 use Rattle.bit_blast.specs.Bytes.{bit_of, number_of_row}
 use Rattle.bit_blast.specs.Circuits.{Circuit, row_at, lowest_of, extension_of, binary_row, compare_gate, with_row, with_new_input, with_input, with_node, no_terms, circuit_of}
 use Rattle.bit_blast.proofs.EarlierClauses.{Holds}
-use Rattle.bit_blast.proofs.GateMeaning.{added}
-use Rattle.bit_blast.proofs.RowValues.{number_nil, power_step}
-use Rattle.bit_blast.proofs.BitNumbers.{number_cons}
+use Rattle.bit_blast.proofs.GateMeaning.{one_added}
+use Rattle.bit_blast.proofs.Truths.{same_true}
+use Rattle.bit_blast.proofs.Numbers.{number_nil, number_cons, low_bit}
+use Rattle.bit_blast.proofs.InputBytes.{input_at, set_cases, none_occurs}
 use Rattle.bit_blast.proofs.Scopes.{Agree, Below, RowBelow, IsScoped, MakesLiteral, MakesRow, agree_fewer, number_same, row_more, All-at, clause_variables, stays, changed, changed_at, changed_above}
-use Rattle.bit_blast.proofs.Extending.{muxes, each_extends, add_extends, binary_extends, compare_extends, negations_below, zeros_below, top_below}
-
--- Each list of input bytes has a valuation of a condition's terms.
+use Rattle.bit_blast.proofs.GateExtensions.{muxes}
+use Rattle.bit_blast.proofs.Extending.{each_extends, add_extends, binary_extends, compare_extends, negations_below, zeros_below, top_below}
 
 -- new variables are worth any number that has room in them
 pub record MakesNumber (f : Formula) (w : ℕ) (made : List Literal × Formula) : Type 0 where
@@ -35,25 +34,10 @@ next_scoped f is = record {
   only = λ v w same. is.only v w (agree_fewer f.variables (f.variables + 1) v w (omega arith) same);
 }
 
-positive_value : (b : Bool) → same_truth b true ≡ b
-positive_value true = refl
-positive_value false = refl
-
-low_by : (n r h : ℕ) (t : Bool) → (r == 1) ≡ t → r < 2 → h * 2 + r ≡ n → bit_of t + 2 * h ≡ n
-low_by n r h true test small all = let one : r ≡ 1 = eqb-true r 1 test in omega arith
-low_by n r h false test small all = let none : r ≡ 0 = omega (arith, eqb-false r 1 test) in omega arith
-
-low_bit : (n : ℕ) → bit_of (n % 2 == 1) + 2 * (n / 2) ≡ n
-low_bit n = low_by n (n % 2) (n / 2) (n % 2 == 1) refl (mod_below n 2 (omega arith)) (div-add-mod' n 2)
-
-no_bits : (n : ℕ) → n < 2 ^ 0 → 0 ≡ n
-no_bits n small = omega arith
-
-half_by : (h r n p q : ℕ) → h * 2 + r ≡ n → n < p → p ≡ 2 * q → h < q
-half_by h r n p q all small double = omega arith
-
 half_small : (n w : ℕ) → n < 2 ^ suc w → n / 2 < 2 ^ w
-half_small n w small = half_by (n / 2) (n % 2) n (2 ^ suc w) (2 ^ w) (div-add-mod' n 2) small (power_step w)
+half_small n w small =
+    let double : 2 ^ suc w ≡ 2 * 2 ^ w = pow-succ' 2 w in
+    omega arith
 
 fresh_number : (w : ℕ) (f : Formula) → IsScoped f → MakesNumber f w (fresh_row w f)
 unfolding fresh_row
@@ -61,7 +45,7 @@ fresh_number zero f is = record {
   more = omega arith;
   scoped = is;
   row = All-nil (Below f.variables);
-  worth = λ v h n small. (v, (λ k le. refl), h, number_nil v ∙ no_bits n small);
+  worth = λ v h n small. (v, (λ k le. refl), h, number_nil v ∙ omega (arith, small));
 }
 fresh_number (suc w) f is =
     let o : Literal = next_variable f in
@@ -76,7 +60,7 @@ fresh_number (suc w) f is =
           let same : Agree f.variables v a = changed_above v f.variables (f.variables + 1) (n % 2 == 1) refl in
           let b = rest.worth a (sym (is.only v a same) ∙ h) (n / 2) (half_small n w small) in
           let value : literal_value b.0 o ≡ (n % 2 == 1) =
-          positive_value (b.0 (f.variables + 1)) ∙ sym (b.1 (f.variables + 1) (omega arith)) ∙ changed_at v (f.variables + 1) (n % 2 == 1) (f.variables + 1) refl in (
+          same_true (b.0 (f.variables + 1)) ∙ sym (b.1 (f.variables + 1) (omega arith)) ∙ changed_at v (f.variables + 1) (n % 2 == 1) (f.variables + 1) refl in (
             b.0,
             (λ k le. same k le ∙ b.1 k (omega (arith, le))),
             b.2,
@@ -84,20 +68,16 @@ fresh_number (suc w) f is =
           );
     }
 
--- the literals of an input byte, if it has occurred
-abbrev pub input_at : Circuit → ℕ → Option (List Literal)
-input_at c i = slice_index_or c.inputs i None
-
 -- What is kept while terms are added: all literals are within, and a valuation satisfies the clauses so far and has
 -- the bytes in the inputs that have occurred.
 pub record HasBytes (bytes : List ℕ) (c : Circuit) : Type 0 where
   pub scoped : IsScoped c.formula
   pub rows : All (RowBelow c.formula.variables) c.rows
-  pub inputs : (i : ℕ) (row : List Literal) → input_at c i ≡ Some row → RowBelow c.formula.variables row
+  pub inputs : (i : ℕ) (row : List Literal) → input_at c.inputs i ≡ Some row → RowBelow c.formula.variables row
   pub valuation : ℕ → Bool
   pub truth : valuation 1 ≡ true
   pub satisfied : Holds valuation c.formula
-  pub worth : (i : ℕ) (row : List Literal) → input_at c i ≡ Some row → number_of_row valuation row ≡ get_or bytes i 0
+  pub worth : (i : ℕ) (row : List Literal) → input_at c.inputs i ≡ Some row → number_of_row valuation row ≡ get_or bytes i 0
 
 row_within : (bytes : List ℕ) (c : Circuit) (id : ℕ) → HasBytes bytes c → RowBelow c.formula.variables (row_at c.rows id)
 row_within bytes c id is = All-at (RowBelow c.formula.variables) c.rows id [] (All-nil (Below c.formula.variables)) is.rows
@@ -125,24 +105,6 @@ row_kept bytes c made is one =
 same_kept : (bytes : List ℕ) (c : Circuit) (row : List Literal) → HasBytes bytes c → RowBelow c.formula.variables row → HasBytes bytes (with_row c (row, c.formula))
 same_kept bytes c row is within = row_kept bytes c (row, c.formula) is (stays c.formula is.scoped, within)
 
-some_same : (a b : List Literal) → Some a ≡ Some b → a ≡ b
-some_same a b e = cc
-
-no_row : (row : List Literal) → None ≡ Some row → ⊥
-no_row row e = cc
-
--- what an input is after another has been given its row
-set_cases : (xs : List (Option (List Literal))) (i j : ℕ) (a row : List Literal) → get_or (set xs i (Some a)) j None ≡ Some row
-    → ((j ≡ i) × (a ≡ row)) ⊎ (get_or xs j None ≡ Some row)
-set_cases xs i j a row is = elim (cases_eq j i) [
-  | inl e ↦
-      elim (cases_lt i (length xs)) [
-        | inl l ↦ inl (e, some_same a row (sym (ap (λ k. get_or (set xs i (Some a)) k None) e ∙ get_or-set_same xs i (Some a) None l) ∙ is))
-        | inr l ↦ absurd (no_row row (sym (get_or_past (set xs i (Some a)) j None (omega (arith, l, e, length-set xs i (Some a)))) ∙ is))
-      ]
-  | inr n ↦ inr (sym (get_or-set_other xs i j (Some a) None n) ∙ is)
-]
-
 -- an input byte that occurs for the first time
 new_kept : (bytes : List ℕ) (c : Circuit) (i : ℕ) → All (λ b. b < 256) bytes → HasBytes bytes c → HasBytes bytes (with_new_input c i (fresh_row 8 c.formula))
 new_kept bytes c i small is =
@@ -167,14 +129,14 @@ new_kept bytes c i small is =
       ];
     }
 
-input_kept : (bytes : List ℕ) (c : Circuit) (i : ℕ) (o : Option (List Literal)) → All (λ b. b < 256) bytes → HasBytes bytes c → input_at c i ≡ o → HasBytes bytes (with_input o c i)
+input_kept : (bytes : List ℕ) (c : Circuit) (i : ℕ) (o : Option (List Literal)) → All (λ b. b < 256) bytes → HasBytes bytes c → input_at c.inputs i ≡ o → HasBytes bytes (with_input o c i)
 input_kept bytes c i None small is at = new_kept bytes c i small is
 input_kept bytes c i (Some row) small is at = same_kept bytes c row is (is.inputs i row at)
 
-number_below : (n w k : ℕ) → 1 ≤ n → RowBelow n (number_row w k)
+number_row_below : (n w k : ℕ) → 1 ≤ n → RowBelow n (number_row w k)
 unfolding number_row
-number_below n zero k first = All-nil (Below n)
-number_below n (suc w) k first = All-cons (Below n) (constant (k % 2 == 1)) (number_row w (k / 2)) first (number_below n w (k / 2) first)
+number_row_below n zero k first = All-nil (Below n)
+number_row_below n (suc w) k first = All-cons (Below n) (constant (k % 2 == 1)) (number_row w (k / 2)) first (number_row_below n w (k / 2) first)
 
 extension_below : (f : Formula) (signed : Bool) (a : List Literal) → IsScoped f → RowBelow f.variables a → Below f.variables (extension_of signed a)
 extension_below f true a is within = top_below f is a within
@@ -190,8 +152,8 @@ lowest_below f is a within = All-at (Below f.variables) a 0 (constant false) is.
 -- one more term
 node_kept : (bytes : List ℕ) (c : Circuit) (node : Node) → All (λ b. b < 256) bytes → HasBytes bytes c → HasBytes bytes (with_node c node)
 unfolding with_node
-node_kept bytes c (Num w k) small is = same_kept bytes c (number_row w k) is (number_below c.formula.variables w k is.scoped.first)
-node_kept bytes c (Input i) small is = input_kept bytes c i (input_at c i) small is refl
+node_kept bytes c (Num w k) small is = same_kept bytes c (number_row w k) is (number_row_below c.formula.variables w k is.scoped.first)
+node_kept bytes c (Input i) small is = input_kept bytes c i (input_at c.inputs i) small is refl
 node_kept bytes c (Not a) small is = same_kept bytes c (negations (row_at c.rows a)) is (negations_below c.formula.variables (row_at c.rows a) (row_within bytes c a is))
 node_kept bytes c (Neg a) small is =
     let row : List Literal = row_at c.rows a in
@@ -234,33 +196,28 @@ no_clauses : Formula
 no_clauses = record { variables = 1; clauses = [] }
 
 truth_scoped : IsScoped only_truth
-unfolding only_truth satisfies satisfies_clause no_clauses
+unfolding only_truth satisfies no_clauses
 truth_scoped = record {
   first = omega (arith, clause_variables (constant true ∷ []) no_clauses);
   only = λ v w same.
-      added v (constant true ∷ []) no_clauses
-      ∙ ap (λ b. same_truth b true || false) (same 1 (omega (arith, clause_variables (constant true ∷ []) no_clauses)))
-      ∙ sym (added w (constant true ∷ []) no_clauses);
+      one_added v (constant true) no_clauses
+      ∙ ap (λ b. same_truth b true) (same 1 (omega (arith, clause_variables (constant true ∷ []) no_clauses)))
+      ∙ sym (one_added w (constant true) no_clauses);
 }
 
 truth_holds : Holds (λ k. true) only_truth
-unfolding only_truth satisfies satisfies_clause no_clauses
-truth_holds = added (λ k. true) (constant true ∷ []) no_clauses
-
-no_input : (inputs i : ℕ) (row : List Literal) → get_or (replicate inputs None) i None ≡ Some row → ⊥
-no_input inputs i row at =
-    let P : Option (List Literal) → Type 0 = λ o. o ≡ None in
-    no_row row (sym (All-at P (replicate inputs None) i None refl (All-replicate P inputs None refl)) ∙ at)
+unfolding only_truth satisfies no_clauses
+truth_holds = one_added (λ k. true) (constant true) no_clauses
 
 none_has : (bytes : List ℕ) (inputs : ℕ) → HasBytes bytes (no_terms inputs)
 none_has bytes inputs = record {
   scoped = truth_scoped;
   rows = All-nil (RowBelow only_truth.variables);
-  inputs = λ i row at. absurd (no_input inputs i row at);
+  inputs = λ i row at. absurd (none_occurs inputs i row at);
   valuation = λ k. true;
   truth = refl;
   satisfied = truth_holds;
-  worth = λ i row at. absurd (no_input inputs i row at);
+  worth = λ i row at. absurd (none_occurs inputs i row at);
 }
 
 pub condition_has : (q : Condition) (bytes : List ℕ) → All (λ b. b < 256) bytes → HasBytes bytes (circuit_of q)

@@ -1,7 +1,8 @@
-use Rattle.std.proofs.Common.{◌≡◌, ℕ, zero, suc, ◌+◌, ◌-◌, nat_lt, Bool, true, false, if◌then◌else◌, ◌&&◌, ◌||◌, List, [], ◌∷◌, ◌++◌, length, take, replicate, fold, Option, Some, None, slice_index_or, refl, sym, ◌∙◌}
+-- Gates only add clauses: a valuation that satisfies the formula after them satisfies the one before.
+use Rattle.std.proofs.Common.{◌≡◌, ℕ, zero, suc, ◌+◌, ◌-◌, nat_lt, Bool, true, false, if◌then◌else◌, ◌&&◌, List, [], ◌∷◌, ◌++◌, length, take, replicate, fold, Option, Some, None, slice_index_or, sym, ◌∙◌}
 use Rattle.std.proofs.lemmas.Bool.{and_parts}
-use Rattle.cnf_form.specs.Literals.{Literal, negation, same_truth}
-use Rattle.cnf_form.specs.Valuations.{satisfies_clause, satisfies}
+use Rattle.cnf_form.specs.Literals.{Literal, negation}
+use Rattle.cnf_form.specs.Valuations.{literal_value, satisfies}
 use Rattle.bv_dag.specs.Queries.{Condition}
 use Rattle.bv_dag.specs.declared.nodes.BinaryOp.{BinaryOp}
 use Rattle.bv_dag.specs.declared.nodes.BinaryOp.TheVariants.{Add, Sub, Mul, Udiv, Urem, And, Or, Xor, Shl, Lshr, Ashr}
@@ -17,9 +18,8 @@ use Rattle.bit_blast.specs.Rows.{negations, zeros, top_of, with_top_negated, fre
 use Rattle.bit_blast.specs.Shifts.{Stage, with_moved, with_big, moved, next_stage, shift_end, shift_row}
 use Rattle.bit_blast.specs.Products.{partial_row, products, Division, brought_down, division_step, division}
 use Rattle.bit_blast.specs.Circuits.{Circuit, row_at, lowest_of, binary_row, compare_gate, with_input, with_node, with_asserted, no_terms, circuit_of, clauses}
-use Rattle.bit_blast.proofs.GateMeaning.{added, and_means, or_means, xor_means, mux_means, xor3_means, majority_means}
-
--- Gates only add clauses: a valuation that satisfies the formula after them satisfies the one before.
+use Rattle.bit_blast.proofs.Truths.{same_true}
+use Rattle.bit_blast.proofs.GateMeaning.{added, one_added, and_means, or_means, xor_means, mux_means, xor3_means, majority_means}
 
 abbrev pub Holds : (ℕ → Bool) → Formula → Type 0
 Holds v f = satisfies v f.clauses ≡ true
@@ -45,7 +45,7 @@ mux_before v c a b f h = first_part _ _ _ (mux_means v c a b f) h
 xor3_before : (v : ℕ → Bool) (a b c : Literal) (f : Formula) → Holds v (xor3_gate a b c f).1 → Holds v f
 xor3_before v a b c f h = first_part _ _ _ (xor3_means v a b c f) h
 
-majority_before : (v : ℕ → Bool) (a b c : Literal) (f : Formula) → Holds v (majority_gate a b c f).1 → Holds v f
+pub majority_before : (v : ℕ → Bool) (a b c : Literal) (f : Formula) → Holds v (majority_gate a b c f).1 → Holds v f
 majority_before v a b c f h = first_part _ _ _ (majority_means v a b c f) h
 
 pub fresh_before : (v : ℕ → Bool) (w : ℕ) (f : Formula) → Holds v (fresh_row w f).1 → Holds v f
@@ -118,12 +118,15 @@ stages_before v direction fill width [] s h = h
 stages_before v direction fill width (b ∷ bs) s h =
     stage_before v direction fill width s b (stages_before v direction fill width bs (next_stage direction fill width s b) h)
 
+pub end_before : (v : ℕ → Bool) (direction : Direction) (fill : Literal) (width : ℕ) (bs : List Literal) (s : Stage) → Holds v (shift_end fill (fold (next_stage direction fill width) s bs)).1 → Holds v s.formula
+unfolding shift_end
+end_before v direction fill width bs s h =
+    let t : Stage = fold (next_stage direction fill width) s bs in
+    stages_before v direction fill width bs s (each_before v (mux_gate t.big) (mux_before v t.big) (replicate (length t.row) fill) t.row t.formula h)
+
 pub shift_before : (v : ℕ → Bool) (direction : Direction) (fill : Literal) (a b : List Literal) (f : Formula) → Holds v (shift_row direction fill a b f).1 → Holds v f
-unfolding shift_row shift_end
-shift_before v direction fill a b f h =
-    let start : Stage = record { row = a; unit = 1; big = constant false; formula = f } in
-    let s : Stage = fold (next_stage direction fill (length a)) start b in
-    stages_before v direction fill (length a) b start (each_before v (mux_gate s.big) (mux_before v s.big) (replicate (length s.row) fill) s.row s.formula h)
+unfolding shift_row
+shift_before v direction fill a b f h = end_before v direction fill (length a) b (record { row = a; unit = 1; big = constant false; formula = f }) h
 
 pub binary_before : (v : ℕ → Bool) (op : BinaryOp) (a b : List Literal) (f : Formula) → Holds v (binary_row op a b f).1 → Holds v f
 unfolding binary_row
@@ -173,15 +176,13 @@ asserted_before v rows [] f h = h
 asserted_before v rows (id ∷ ids) f h =
     clause_before v (lowest_of (row_at rows id) ∷ []) f (asserted_before v rows ids (with_clause (lowest_of (row_at rows id) ∷ []) f) h)
 
-only_true : (b : Bool) → (same_truth b true || false) ≡ true → b ≡ true
-only_true true h = refl
-only_true false h = cc
+-- a clause of one literal
+pub one_true : (v : ℕ → Bool) (l : Literal) (f : Formula) → Holds v (with_clause (l ∷ []) f) → literal_value v l ≡ true
+one_true v l f h = (and_parts _ _ (sym (one_added v l f) ∙ h)).1
 
 first_true : (v : ℕ → Bool) → Holds v only_truth → v 1 ≡ true
-unfolding only_truth satisfies_clause
-first_true v h =
-    let none : Formula = record { variables = 1; clauses = [] } in
-    only_true (v 1) (and_parts _ _ (sym (added v (constant true ∷ []) none) ∙ h)).1
+unfolding only_truth
+first_true v h = sym (same_true (v 1)) ∙ one_true v (constant true) (record { variables = 1; clauses = [] }) h
 
 -- so the first clause holds
 pub truth_before : (q : Condition) (v : ℕ → Bool) → satisfies v (clauses q) ≡ true → v 1 ≡ true

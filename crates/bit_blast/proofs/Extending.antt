@@ -1,121 +1,21 @@
-use Rattle.std.proofs.Common.{◌≡◌, ℕ, ◌+◌, ◌-◌, ◌≤◌, nat_lt, Bool, true, false, ◌&&◌, ◌||◌, if◌then◌else◌, List, [], ◌∷◌, ◌++◌, length, take, drop, replicate, fold, refl, ap, ◌∙◌, arith}
+-- Each builder extends the formula that it is given.
+use Rattle.std.proofs.Common.{ℕ, ◌+◌, ◌-◌, ◌≤◌, nat_lt, Bool, true, false, if◌then◌else◌, List, [], ◌∷◌, ◌++◌, length, take, drop, replicate, fold, arith}
 use Rattle.std.proofs.lemmas.List.Elements.{All-nil, All-cons, All-head, All-tail, All-append, All-take, All-drop, All-replicate, All-map, All-set}
 use Rattle.cnf_form.specs.Literals.{Literal, negation}
-use Rattle.cnf_form.specs.Valuations.{literal_value}
 use Rattle.bv_dag.specs.declared.nodes.BinaryOp.{BinaryOp}
 use Rattle.bv_dag.specs.declared.nodes.BinaryOp.TheVariants.{Add, Sub, Mul, Udiv, Urem, And, Or, Xor, Shl, Lshr, Ashr}
 use Rattle.bv_dag.specs.declared.nodes.Comparison.{Comparison}
 use Rattle.bv_dag.specs.declared.nodes.Comparison.TheVariants.{Ult, Slt, Eq}
 use Rattle.bit_blast.specs.declared.shifts.Direction.{Direction}
 use Rattle.bit_blast.specs.declared.shifts.Direction.TheVariants.{Up, Down}
-use Rattle.bit_blast.specs.Formulas.{Formula, constant, next_variable, with_variable}
-use Rattle.bit_blast.specs.Gates.{and_clauses, xor_clauses, mux_clauses, xor3_clauses, majority_clauses, and_gate, or_gate, xor_gate, mux_gate, xor3_gate, majority_gate}
+use Rattle.bit_blast.specs.Formulas.{Formula, constant}
+use Rattle.bit_blast.specs.Gates.{and_gate, or_gate, xor_gate, mux_gate, xor3_gate, majority_gate}
 use Rattle.bit_blast.specs.Rows.{negations, zeros, top_of, with_top_negated, each, adder, add_row, sum_row, Sum, equal_from}
 use Rattle.bit_blast.specs.Shifts.{Stage, with_moved, with_big, moved, next_stage, shift_end, shift_row}
 use Rattle.bit_blast.specs.Products.{partial_row, products, Division, Restored, brought_down, division_step, division}
 use Rattle.bit_blast.specs.Circuits.{binary_row, compare_gate}
-use Rattle.bit_blast.specs.Meaning.{differ, sum_bit, carry_bit}
-use Rattle.bit_blast.proofs.GateMeaning.{and_means, or_means, xor_means, mux_means, xor3_means, majority_means}
-use Rattle.bit_blast.proofs.Scopes.{Below, RowBelow, IsScoped, IsExtension, MakesLiteral, MakesRow, literal_same, row_more, All-at, stays, joined, clauses_variables, IsGate, gate_extends}
-
--- Each builder extends the formula that it is given.
-
-same_two : (op : Bool → Bool → Bool) (a b c d : Bool) → a ≡ c → b ≡ d → op a b ≡ op c d
-same_two op a b c d e g = ap (λ x. op x b) e ∙ ap (λ x. op c x) g
-
-same_three : (op : Bool → Bool → Bool → Bool) (a b c d e f : Bool) → a ≡ d → b ≡ e → c ≡ f → op a b c ≡ op d e f
-same_three op a b c d e f g h i = ap (λ x. op x b c) g ∙ same_two (op d) b c e f h i
-
-and_is : (a b : Literal) (f : Formula) → Below f.variables a → Below f.variables b → IsGate f (and_gate a b f) (λ v. literal_value v a && literal_value v b)
-unfolding and_gate
-and_is a b f x y = record {
-  next = refl;
-  one_more = clauses_variables (and_clauses a b (next_variable f)) (with_variable f);
-  depends = λ v w same. same_two (λ p q. p && q) _ _ _ _ (literal_same v w f.variables a same x) (literal_same v w f.variables b same y);
-  says = λ v. and_means v a b f;
-}
-
-or_is : (a b : Literal) (f : Formula) → Below f.variables a → Below f.variables b → IsGate f (or_gate a b f) (λ v. literal_value v a || literal_value v b)
-unfolding or_gate and_gate
-or_is a b f x y = record {
-  next = refl;
-  one_more = clauses_variables (and_clauses (negation a) (negation b) (next_variable f)) (with_variable f);
-  depends = λ v w same. same_two (λ p q. p || q) _ _ _ _ (literal_same v w f.variables a same x) (literal_same v w f.variables b same y);
-  says = λ v. or_means v a b f;
-}
-
-xor_is : (a b : Literal) (f : Formula) → Below f.variables a → Below f.variables b → IsGate f (xor_gate a b f) (λ v. differ (literal_value v a) (literal_value v b))
-unfolding xor_gate
-xor_is a b f x y = record {
-  next = refl;
-  one_more = clauses_variables (xor_clauses a b (next_variable f)) (with_variable f);
-  depends = λ v w same. same_two differ _ _ _ _ (literal_same v w f.variables a same x) (literal_same v w f.variables b same y);
-  says = λ v. xor_means v a b f;
-}
-
-mux_is : (c a b : Literal) (f : Formula) → Below f.variables c → Below f.variables a → Below f.variables b
-    → IsGate f (mux_gate c a b f) (λ v. if (literal_value v c) then (literal_value v a) else (literal_value v b))
-unfolding mux_gate
-mux_is c a b f z x y = record {
-  next = refl;
-  one_more = clauses_variables (mux_clauses c a b (next_variable f)) (with_variable f);
-  depends = λ v w same. same_three (λ p q r. if p then q else r) _ _ _ _ _ _ (literal_same v w f.variables c same z) (literal_same v w f.variables a same x) (literal_same v w f.variables b same y);
-  says = λ v. mux_means v c a b f;
-}
-
-xor3_is : (a b c : Literal) (f : Formula) → Below f.variables a → Below f.variables b → Below f.variables c
-    → IsGate f (xor3_gate a b c f) (λ v. sum_bit (literal_value v a) (literal_value v b) (literal_value v c))
-unfolding xor3_gate
-xor3_is a b c f x y z = record {
-  next = refl;
-  one_more = clauses_variables (xor3_clauses a b c (next_variable f)) (with_variable f);
-  depends = λ v w same. same_three sum_bit _ _ _ _ _ _ (literal_same v w f.variables a same x) (literal_same v w f.variables b same y) (literal_same v w f.variables c same z);
-  says = λ v. xor3_means v a b c f;
-}
-
-majority_is : (a b c : Literal) (f : Formula) → Below f.variables a → Below f.variables b → Below f.variables c
-    → IsGate f (majority_gate a b c f) (λ v. carry_bit (literal_value v a) (literal_value v b) (literal_value v c))
-unfolding majority_gate
-majority_is a b c f x y z = record {
-  next = refl;
-  one_more = clauses_variables (majority_clauses a b c (next_variable f)) (with_variable f);
-  depends = λ v w same. same_three carry_bit _ _ _ _ _ _ (literal_same v w f.variables a same x) (literal_same v w f.variables b same y) (literal_same v w f.variables c same z);
-  says = λ v. majority_means v a b c f;
-}
-
-pub and_extends : (a b : Literal) (f : Formula) → IsScoped f → Below f.variables a → Below f.variables b → MakesLiteral f (and_gate a b f)
-and_extends a b f is x y = gate_extends f (and_gate a b f) _ is (and_is a b f x y)
-
-pub or_extends : (a b : Literal) (f : Formula) → IsScoped f → Below f.variables a → Below f.variables b → MakesLiteral f (or_gate a b f)
-or_extends a b f is x y = gate_extends f (or_gate a b f) _ is (or_is a b f x y)
-
-pub xor_extends : (a b : Literal) (f : Formula) → IsScoped f → Below f.variables a → Below f.variables b → MakesLiteral f (xor_gate a b f)
-xor_extends a b f is x y = gate_extends f (xor_gate a b f) _ is (xor_is a b f x y)
-
-pub mux_extends : (c a b : Literal) (f : Formula) → IsScoped f → Below f.variables c → Below f.variables a → Below f.variables b → MakesLiteral f (mux_gate c a b f)
-mux_extends c a b f is z x y = gate_extends f (mux_gate c a b f) _ is (mux_is c a b f z x y)
-
-xor3_extends : (a b c : Literal) (f : Formula) → IsScoped f → Below f.variables a → Below f.variables b → Below f.variables c → MakesLiteral f (xor3_gate a b c f)
-xor3_extends a b c f is x y z = gate_extends f (xor3_gate a b c f) _ is (xor3_is a b c f x y z)
-
-majority_extends : (a b c : Literal) (f : Formula) → IsScoped f → Below f.variables a → Below f.variables b → Below f.variables c → MakesLiteral f (majority_gate a b c f)
-majority_extends a b c f is x y z = gate_extends f (majority_gate a b c f) _ is (majority_is a b c f x y z)
-
--- a gate of two literals, in each formula of at least n variables
-abbrev pub Extends : ℕ → (Literal → Literal → Formula → Literal × Formula) → Type 0
-Extends n g = (a b : Literal) (f : Formula) → n ≤ f.variables → IsScoped f → Below f.variables a → Below f.variables b → MakesLiteral f (g a b f)
-
-pub ands : Extends 0 and_gate
-ands a b f more is x y = and_extends a b f is x y
-
-pub ors : Extends 0 or_gate
-ors a b f more is x y = or_extends a b f is x y
-
-pub xors : Extends 0 xor_gate
-xors a b f more is x y = xor_extends a b f is x y
-
-pub muxes : (n : ℕ) (c : Literal) → Below n c → Extends n (mux_gate c)
-muxes n c within a b f more is x y = mux_extends c a b f is (omega arith) x y
+use Rattle.bit_blast.proofs.Scopes.{Below, RowBelow, IsScoped, IsExtension, MakesLiteral, MakesRow, row_more, All-at, stays, joined}
+use Rattle.bit_blast.proofs.GateExtensions.{Extends, ands, ors, xors, muxes, xor3_extends, majority_extends}
 
 none_below : (n : ℕ) → RowBelow n []
 none_below n = All-nil (Below n)
@@ -169,9 +69,6 @@ adder_extends (k ∷ a) (l ∷ b) c f is x y z =
     (row_more f.variables m.1.variables b more (All-tail (Below f.variables) l b y))
     two.1)
 
-pub constant_below : (f : Formula) → IsScoped f → (b : Bool) → Below f.variables (constant b)
-constant_below f is b = is.first
-
 pub negations_below : (n : ℕ) (a : List Literal) → RowBelow n a → RowBelow n (negations a)
 negations_below n a x = All-map (Below n) negation a x
 
@@ -191,8 +88,8 @@ equal_extends e (k ∷ a) [] f is z x y = (stays f is, z)
 equal_extends e (k ∷ a) (l ∷ b) f is z x y =
     let d : Literal × Formula = xor_gate k l f in
     let o : Literal × Formula = and_gate e (negation d.0) d.1 in
-    let one : MakesLiteral f d = xor_extends k l f is (All-head (Below f.variables) k a x) (All-head (Below f.variables) l b y) in
-    let two : MakesLiteral d.1 o = and_extends e (negation d.0) d.1 one.0.scoped (omega (arith, z, one.0.more)) one.1 in
+    let one : MakesLiteral f d = xors k l f (omega arith) is (All-head (Below f.variables) k a x) (All-head (Below f.variables) l b y) in
+    let two : MakesLiteral d.1 o = ands e (negation d.0) d.1 (omega arith) one.0.scoped (omega (arith, z, one.0.more)) one.1 in
     let more : f.variables ≤ o.1.variables = omega (arith, one.0.more, two.0.more) in
     let rest : MakesLiteral o.1 (equal_from o.0 a b o.1) = equal_extends o.0 a b o.1 two.0.scoped two.1
     (row_more f.variables o.1.variables a more (All-tail (Below f.variables) k a x))
@@ -300,7 +197,7 @@ stage_by direction fill s b true is x y stage =
     (one.0, record { row = one.1; big = omega (arith, stage.big, one.0.more) })
 stage_by direction fill s b false is x y stage =
     let made : Literal × Formula = or_gate s.big b s.formula in
-    let one : MakesLiteral s.formula made = or_extends s.big b s.formula is stage.big y in
+    let one : MakesLiteral s.formula made = ors s.big b s.formula (omega arith) is stage.big y in
     (one.0, record { row = row_more s.formula.variables made.1.variables s.row one.0.more stage.row; big = one.1 })
 
 stage_extends : (direction : Direction) (fill : Literal) (width : ℕ) (s : Stage) (b : Literal) → IsScoped s.formula → Below s.formula.variables fill → Below s.formula.variables b → IsStage s.formula.variables s

@@ -1,3 +1,4 @@
+-- What the clauses of gates say: just that the new variable is worth what the gate is to be worth.
 use Rattle.std.proofs.Common.{◌≡◌, ℕ, Bool, true, false, not, ◌&&◌, ◌||◌, if◌then◌else◌, List, [], ◌∷◌, Option, Some, None, refl, ap, sym, ◌∙◌}
 use Rattle.std.specs.List.{list_all}
 use Rattle.std.proofs.lemmas.List.Folds.{list_all-append}
@@ -6,18 +7,9 @@ use Rattle.cnf_form.specs.Clauses.{clause_of}
 use Rattle.cnf_form.specs.Valuations.{literal_value, satisfies_clause, satisfies}
 use Rattle.cnf_form.proofs.Meaning.{clause_means, tautology_means}
 use Rattle.bit_blast.specs.Formulas.{Formula, next_variable, with_variable, with_kept, with_clause, with_clauses}
-use Rattle.bit_blast.specs.Gates.{and_clauses, xor_clauses, mux_clauses, xor3_clauses, majority_clauses, and_gate, or_gate, xor_gate, mux_gate, xor3_gate, majority_gate}
+use Rattle.bit_blast.specs.Gates.{and_clauses, xor_clauses, mux_clauses, xor3_clauses, majority_clauses, and_gate, or_gate, xor_gate, mux_gate, xor3_gate, majority_gate, gate}
 use Rattle.bit_blast.specs.Meaning.{differ, sum_bit, carry_bit}
-
--- What the clauses of gates say: just that the new variable is worth what the gate is to be worth.
-
-and_true : (b : Bool) → (b && true) ≡ b
-and_true true = refl
-and_true false = refl
-
-and_assoc : (a b c : Bool) → ((a && b) && c) ≡ (a && (b && c))
-and_assoc true b c = refl
-and_assoc false b c = refl
+use Rattle.bit_blast.proofs.Truths.{and_true, and_assoc, or_false, value_not}
 
 added_by : (v : ℕ → Bool) (c : List Literal) (f : Formula) (o : Option (List Literal)) → clause_of c ≡ o → satisfies v (with_kept o f).clauses ≡ (satisfies v f.clauses && satisfies_clause v c)
 unfolding satisfies
@@ -32,6 +24,10 @@ pub added : (v : ℕ → Bool) (c : List Literal) (f : Formula) → satisfies v 
 unfolding with_clause
 added v c f = added_by v c f (clause_of c) refl
 
+pub one_added : (v : ℕ → Bool) (l : Literal) (f : Formula) → satisfies v (with_clause (l ∷ []) f).clauses ≡ (satisfies v f.clauses && literal_value v l)
+unfolding satisfies_clause
+one_added v l f = added v (l ∷ []) f ∙ ap (λ b. satisfies v f.clauses && b) (or_false (literal_value v l))
+
 all_added : (v : ℕ → Bool) (cs : List (List Literal)) (f : Formula) → satisfies v (with_clauses cs f).clauses ≡ (satisfies v f.clauses && list_all (satisfies_clause v) cs)
 all_added v [] f = sym (and_true (satisfies v f.clauses))
 all_added v (c ∷ cs) f =
@@ -39,12 +35,10 @@ all_added v (c ∷ cs) f =
     ∙ ap (λ b. b && list_all (satisfies_clause v) cs) (added v c f)
     ∙ and_assoc (satisfies v f.clauses) (satisfies_clause v c) (list_all (satisfies_clause v) cs)
 
-same_not : (a b : Bool) → same_truth a (not b) ≡ not (same_truth a b)
-same_not true b = refl
-same_not false b = refl
-
-pub value_not : (v : ℕ → Bool) (l : Literal) → literal_value v (negation l) ≡ not (literal_value v l)
-value_not v l = same_not (v l.variable) l.positive
+-- a gate of these clauses, which say of each o that it has the value p
+gate_means : (v : ℕ → Bool) (clauses : Literal → List (List Literal)) (f : Formula) (p : Bool) → ((o : Literal) → list_all (satisfies_clause v) (clauses o) ≡ same_truth (literal_value v o) p)
+    → satisfies v (gate clauses f).1.clauses ≡ (satisfies v f.clauses && same_truth (literal_value v (gate clauses f).0) p)
+gate_means v clauses f p say = all_added v (clauses (next_variable f)) (with_variable f) ∙ ap (λ x. satisfies v f.clauses && x) (say (next_variable f))
 
 and_table : (o a b : Bool) → ((not o || (a || false)) && ((not o || (b || false)) && ((o || (not a || (not b || false))) && true))) ≡ same_truth o (a && b)
 and_table true true true = refl
@@ -56,13 +50,9 @@ and_table false true false = refl
 and_table false false true = refl
 and_table false false false = refl
 
-and_says : (v : ℕ → Bool) (a b o : Literal) → list_all (satisfies_clause v) (and_clauses a b o) ≡ same_truth (literal_value v o) (literal_value v a && literal_value v b)
-unfolding satisfies_clause
-and_says v a b o = rw (value_not v o, value_not v a, value_not v b) (and_table (literal_value v o) (literal_value v a) (literal_value v b))
-
 pub and_means : (v : ℕ → Bool) (a b : Literal) (f : Formula) → satisfies v (and_gate a b f).1.clauses ≡ (satisfies v f.clauses && same_truth (literal_value v (and_gate a b f).0) (literal_value v a && literal_value v b))
-unfolding and_gate
-and_means v a b f = all_added v (and_clauses a b (next_variable f)) (with_variable f) ∙ ap (λ x. satisfies v f.clauses && x) (and_says v a b (next_variable f))
+unfolding and_gate satisfies_clause
+and_means v a b f = gate_means v (and_clauses a b) f (literal_value v a && literal_value v b) (λ o. rw (value_not v o, value_not v a, value_not v b) (and_table (literal_value v o) (literal_value v a) (literal_value v b)))
 
 xor_table : (o a b : Bool) → ((not o || (a || (b || false))) && ((not o || (not a || (not b || false))) && ((o || (not a || (b || false))) && ((o || (a || (not b || false))) && true)))) ≡ same_truth o (differ a b)
 xor_table true true true = refl
@@ -74,13 +64,9 @@ xor_table false true false = refl
 xor_table false false true = refl
 xor_table false false false = refl
 
-xor_says : (v : ℕ → Bool) (a b o : Literal) → list_all (satisfies_clause v) (xor_clauses a b o) ≡ same_truth (literal_value v o) (differ (literal_value v a) (literal_value v b))
-unfolding satisfies_clause
-xor_says v a b o = rw (value_not v o, value_not v a, value_not v b) (xor_table (literal_value v o) (literal_value v a) (literal_value v b))
-
 pub xor_means : (v : ℕ → Bool) (a b : Literal) (f : Formula) → satisfies v (xor_gate a b f).1.clauses ≡ (satisfies v f.clauses && same_truth (literal_value v (xor_gate a b f).0) (differ (literal_value v a) (literal_value v b)))
-unfolding xor_gate
-xor_means v a b f = all_added v (xor_clauses a b (next_variable f)) (with_variable f) ∙ ap (λ x. satisfies v f.clauses && x) (xor_says v a b (next_variable f))
+unfolding xor_gate satisfies_clause
+xor_means v a b f = gate_means v (xor_clauses a b) f (differ (literal_value v a) (literal_value v b)) (λ o. rw (value_not v o, value_not v a, value_not v b) (xor_table (literal_value v o) (literal_value v a) (literal_value v b)))
 
 mux_table : (o c a b : Bool) → ((not c || (not a || (o || false))) && ((not c || (a || (not o || false))) && ((c || (not b || (o || false))) && ((c || (b || (not o || false))) && true)))) ≡ same_truth o (if c then a else b)
 mux_table true true true true = refl
@@ -100,13 +86,9 @@ mux_table false false true false = refl
 mux_table false false false true = refl
 mux_table false false false false = refl
 
-mux_says : (v : ℕ → Bool) (c a b o : Literal) → list_all (satisfies_clause v) (mux_clauses c a b o) ≡ same_truth (literal_value v o) (if (literal_value v c) then (literal_value v a) else (literal_value v b))
-unfolding satisfies_clause
-mux_says v c a b o = rw (value_not v o, value_not v a, value_not v b, value_not v c) (mux_table (literal_value v o) (literal_value v c) (literal_value v a) (literal_value v b))
-
 pub mux_means : (v : ℕ → Bool) (c a b : Literal) (f : Formula) → satisfies v (mux_gate c a b f).1.clauses ≡ (satisfies v f.clauses && same_truth (literal_value v (mux_gate c a b f).0) (if (literal_value v c) then (literal_value v a) else (literal_value v b)))
-unfolding mux_gate
-mux_means v c a b f = all_added v (mux_clauses c a b (next_variable f)) (with_variable f) ∙ ap (λ x. satisfies v f.clauses && x) (mux_says v c a b (next_variable f))
+unfolding mux_gate satisfies_clause
+mux_means v c a b f = gate_means v (mux_clauses c a b) f (if (literal_value v c) then (literal_value v a) else (literal_value v b)) (λ o. rw (value_not v o, value_not v a, value_not v b, value_not v c) (mux_table (literal_value v o) (literal_value v c) (literal_value v a) (literal_value v b)))
 
 xor3_table : (o a b c : Bool) → ((a || (b || (c || (not o || false)))) && ((a || (b || (not c || (o || false)))) && ((a || (not b || (c || (o || false)))) && ((a || (not b || (not c || (not o || false)))) && ((not a || (b || (c || (o || false)))) && ((not a || (b || (not c || (not o || false)))) && ((not a || (not b || (c || (not o || false)))) && ((not a || (not b || (not c || (o || false)))) && true)))))))) ≡ same_truth o (sum_bit a b c)
 xor3_table true true true true = refl
@@ -126,13 +108,9 @@ xor3_table false false true false = refl
 xor3_table false false false true = refl
 xor3_table false false false false = refl
 
-xor3_says : (v : ℕ → Bool) (a b c o : Literal) → list_all (satisfies_clause v) (xor3_clauses a b c o) ≡ same_truth (literal_value v o) (sum_bit (literal_value v a) (literal_value v b) (literal_value v c))
-unfolding satisfies_clause
-xor3_says v a b c o = rw (value_not v o, value_not v a, value_not v b, value_not v c) (xor3_table (literal_value v o) (literal_value v a) (literal_value v b) (literal_value v c))
-
 pub xor3_means : (v : ℕ → Bool) (a b c : Literal) (f : Formula) → satisfies v (xor3_gate a b c f).1.clauses ≡ (satisfies v f.clauses && same_truth (literal_value v (xor3_gate a b c f).0) (sum_bit (literal_value v a) (literal_value v b) (literal_value v c)))
-unfolding xor3_gate
-xor3_means v a b c f = all_added v (xor3_clauses a b c (next_variable f)) (with_variable f) ∙ ap (λ x. satisfies v f.clauses && x) (xor3_says v a b c (next_variable f))
+unfolding xor3_gate satisfies_clause
+xor3_means v a b c f = gate_means v (xor3_clauses a b c) f (sum_bit (literal_value v a) (literal_value v b) (literal_value v c)) (λ o. rw (value_not v o, value_not v a, value_not v b, value_not v c) (xor3_table (literal_value v o) (literal_value v a) (literal_value v b) (literal_value v c)))
 
 majority_table : (o a b c : Bool) → ((not a || (not b || (o || false))) && ((not a || (not c || (o || false))) && ((not b || (not c || (o || false))) && ((a || (b || (not o || false))) && ((a || (c || (not o || false))) && ((b || (c || (not o || false))) && true)))))) ≡ same_truth o (carry_bit a b c)
 majority_table true true true true = refl
@@ -152,13 +130,9 @@ majority_table false false true false = refl
 majority_table false false false true = refl
 majority_table false false false false = refl
 
-majority_says : (v : ℕ → Bool) (a b c o : Literal) → list_all (satisfies_clause v) (majority_clauses a b c o) ≡ same_truth (literal_value v o) (carry_bit (literal_value v a) (literal_value v b) (literal_value v c))
-unfolding satisfies_clause
-majority_says v a b c o = rw (value_not v o, value_not v a, value_not v b, value_not v c) (majority_table (literal_value v o) (literal_value v a) (literal_value v b) (literal_value v c))
-
 pub majority_means : (v : ℕ → Bool) (a b c : Literal) (f : Formula) → satisfies v (majority_gate a b c f).1.clauses ≡ (satisfies v f.clauses && same_truth (literal_value v (majority_gate a b c f).0) (carry_bit (literal_value v a) (literal_value v b) (literal_value v c)))
-unfolding majority_gate
-majority_means v a b c f = all_added v (majority_clauses a b c (next_variable f)) (with_variable f) ∙ ap (λ x. satisfies v f.clauses && x) (majority_says v a b c (next_variable f))
+unfolding majority_gate satisfies_clause
+majority_means v a b c f = gate_means v (majority_clauses a b c) f (carry_bit (literal_value v a) (literal_value v b) (literal_value v c)) (λ o. rw (value_not v o, value_not v a, value_not v b, value_not v c) (majority_table (literal_value v o) (literal_value v a) (literal_value v b) (literal_value v c)))
 
 or_table : (o a b : Bool) → same_truth o (not a && not b) ≡ same_truth (not o) (a || b)
 or_table true true b = refl

@@ -1,3 +1,4 @@
+-- A row moved by some places is its number shifted.
 use Rattle.std.proofs.Common.{◌≡◌, ℕ, zero, suc, ◌+◌, ◌-◌, ◌*◌, ◌/◌, ◌%◌, ◌^◌, ◌<◌, Bool, true, false, not, List, ◌∷◌, ◌++◌, length, take, drop, replicate, refl, ap, sym, ◌∙◌, arith}
 use Rattle.std.proofs.Math.Nat.{mul_comm}
 use Rattle.std.proofs.lemmas.List.{length-append, length-replicate, length-take-le, length-drop, map-append, drop-map}
@@ -7,12 +8,10 @@ use Rattle.bit_blast.specs.Bytes.{number_of_row}
 use Rattle.bit_blast.specs.Rows.{negations}
 use Rattle.bit_blast.specs.Shifts.{moved}
 use Rattle.bit_blast.specs.declared.shifts.Direction.TheVariants.{Up, Down}
-use Rattle.bit_blast.proofs.GateMeaning.{value_not}
-use Rattle.bit_blast.proofs.RowNumbers.{number_append, number_falses, number_trues, number_negations, number_take, number_drop}
+use Rattle.bit_blast.proofs.Truths.{value_not}
+use Rattle.bit_blast.proofs.Numbers.{number_append, number_falses, falses_above, number_trues, number_negations, number_take, number_drop}
 use Rattle.bit_blast.proofs.Shifting.{up, down, down_ones, up_is, down_is, down_ones_is, up_placed}
 use Rattle.bit_blast.proofs.ShiftValues.{IsMove}
-
--- A row moved by some places is its number shifted.
 
 sum_of_places : (a b l w : ℕ) → a ≡ b → l ≡ w - b → b < w → a + l ≡ w
 sum_of_places a b l w first rest less = omega arith
@@ -34,12 +33,6 @@ down_keeps fill w row by width less =
 none_first : (m : ℕ) → 0 + m ≡ m
 none_first m = omega arith
 
-no_part : (m p : ℕ) → m + p * 0 ≡ m
-no_part m p = omega arith
-
-none_last : (m p z : ℕ) → z ≡ 0 → m + p * z ≡ m
-none_last m p z is = ap (λ k. m + p * k) is ∙ no_part m p
-
 up_moves : (v : ℕ → Bool) (fill : Literal) → literal_value v fill ≡ false → (w : ℕ) (row : List Literal) (by : ℕ) → length row ≡ w → by < w → number_of_row v (moved Up fill by row) ≡ up w (number_of_row v row) by
 up_moves v fill is w row by width less =
     number_append v (replicate by fill) (take (length row - by) row)
@@ -51,10 +44,7 @@ up_moves v fill is w row by width less =
     ∙ sym (up_placed w (number_of_row v row) by (omega arith))
 
 down_moves : (v : ℕ → Bool) (fill : Literal) → literal_value v fill ≡ false → (row : List Literal) (by : ℕ) → number_of_row v (moved Down fill by row) ≡ down (number_of_row v row) by
-down_moves v fill is row by =
-    number_append v (drop by row) (replicate by fill)
-    ∙ none_last (number_of_row v (drop by row)) (2 ^ length (drop by row)) (number_of_row v (replicate by fill)) (number_falses v by fill is)
-    ∙ number_drop v by row
+down_moves v fill is row by = falses_above v (drop by row) by fill is ∙ number_drop v by row
 
 pub up_move : (v : ℕ → Bool) (fill : Literal) → literal_value v fill ≡ false → (w : ℕ) → IsMove v Up fill w (up w) 0
 up_move v fill is w = record { shift = up_is w; fills = number_falses v w fill is; keeps = up_keeps fill w; moves = up_moves v fill is w }

@@ -1,4 +1,5 @@
-use Rattle.std.proofs.Common.{◌≡◌, ℕ, zero, suc, ◌+◌, ◌<◌, ◌%◌, ◌^◌, Bool, true, false, List, [], ◌∷◌, ◌++◌, length, get_or, map, take, drop, replicate, refl, ap, sym, ◌∙◌}
+-- The row of a term is worth what the term is, given that those of its operands are.
+use Rattle.std.proofs.Common.{◌≡◌, ℕ, ◌+◌, ◌<◌, ◌%◌, ◌^◌, Bool, true, false, List, [], ◌∷◌, ◌++◌, length, get_or, map, take, drop, replicate, refl, ap, sym, ◌∙◌}
 use Rattle.std.proofs.Math.Nat.{mod-eq_of_lt}
 use Rattle.cnf_form.specs.Literals.{Literal}
 use Rattle.bv_dag.specs.BitVectors.{BitVector, IsBitVector, bvnot, bvneg, ite, extract, concat}
@@ -8,22 +9,20 @@ use Rattle.bv_dag.specs.declared.nodes.BinaryOp.TheVariants.{Add, Sub, Mul, Udiv
 use Rattle.bv_dag.specs.declared.nodes.Comparison.{Comparison}
 use Rattle.bv_dag.specs.declared.nodes.Comparison.TheVariants.{Ult, Slt, Eq}
 use Rattle.bv_dag.specs.declared.nodes.Node.TheVariants.{Binary, Compare, Ite, Extract, Extend}
-use Rattle.bv_dag.proofs.Values.{width-word_at}
 use Rattle.bit_blast.specs.Formulas.{Formula}
-use Rattle.bit_blast.specs.Bytes.{number_of_row}
 use Rattle.bit_blast.specs.Rows.{negations, number_row, neg_row, each}
 use Rattle.bit_blast.specs.Gates.{mux_gate}
 use Rattle.bit_blast.specs.Circuits.{row_at, lowest_of, extension_of, binary_row, compare_gate}
 use Rattle.bit_blast.specs.Meaning.{word_of}
 use Rattle.bit_blast.proofs.EarlierClauses.{Holds}
-use Rattle.bit_blast.proofs.SumMeaning.{word, add_means, sub_means, neg_means}
+use Rattle.bit_blast.proofs.SumMeaning.{add_means, sub_means, neg_means}
 use Rattle.bit_blast.proofs.ProductValues.{mul_means}
 use Rattle.bit_blast.proofs.QuotientValues.{udiv_means, urem_means}
 use Rattle.bit_blast.proofs.SliceMeaning.{number_means, not_means, extract_means, zero_extend_means, sign_extend_means, concat_means}
-use Rattle.bit_blast.proofs.ChoiceMeaning.{and_row_means, or_row_means, xor_row_means, ite_means, ult_row_means, slt_row_means, equal_row_means}
+use Rattle.bit_blast.proofs.Words.{word, words_of, row_word, row_width}
+use Rattle.bit_blast.proofs.PlaceByPlace.{and_row_means, or_row_means, xor_row_means, ite_means}
+use Rattle.bit_blast.proofs.ComparisonMeaning.{ult_row_means, slt_row_means, equal_row_means}
 use Rattle.bit_blast.proofs.ShiftMeaning.{shl_means, lshr_means, ashr_means}
-
--- The row of a term is worth what the term is, given that those of its operands are.
 
 pub binary_means : (v : ℕ → Bool) (op : BinaryOp) (a b : List Literal) (f : Formula) → v 1 ≡ true → 0 < length a → length a ≡ length b → Holds v (binary_row op a b f).1
     → word_of v (binary_row op a b f).0 ≡ binary op (word_of v a) (word_of v b)
@@ -50,22 +49,6 @@ compare_means v Eq a b f truth some same h = equal_row_means v a b f truth same 
 pub extend_means : (v : ℕ → Bool) (by : ℕ) (signed : Bool) (a : List Literal) → v 1 ≡ true → 0 < length a → word_of v (a ++ replicate by (extension_of signed a)) ≡ extend signed by (word_of v a)
 extend_means v by true a truth some = sign_extend_means v by a some
 extend_means v by false a truth some = zero_extend_means v by a truth
-
--- the words of rows
-abbrev pub words_of : (ℕ → Bool) → List (List Literal) → List BitVector
-words_of v rows = map (word_of v) rows
-
-no_row : (v : ℕ → Bool) → word_of v [] ≡ record { width = 0; number = 0 }
-unfolding number_of_row
-no_row v = refl
-
-pub row_word : (v : ℕ → Bool) (rows : List (List Literal)) (id : ℕ) → word_of v (row_at rows id) ≡ word_at (words_of v rows) id
-row_word v [] id = no_row v
-row_word v (r ∷ rows) zero = refl
-row_word v (r ∷ rows) (suc id) = row_word v rows id
-
-pub row_width : (v : ℕ → Bool) (rows : List (List Literal)) (id : ℕ) → length (row_at rows id) ≡ get_or (map width (words_of v rows)) id 0
-row_width v rows id = ap (λ (s : BitVector). s.width) (row_word v rows id) ∙ width-word_at (words_of v rows) id
 
 -- each kind of term
 pub num_means : (v : ℕ → Bool) (w n : ℕ) → v 1 ≡ true → IsBitVector w n → word_of v (number_row w n) ≡ record { width = w; number = n }

@@ -1,4 +1,6 @@
-use Rattle.std.proofs.Common.{◌≡◌, ℕ, suc, ◌+◌, ◌-◌, ◌*◌, ◌^◌, ◌%◌, ◌<◌, ◌≤◌, Bool, true, false, cond, List, [], ◌∷◌, length, take, drop, replicate, ap, sym, ◌∙◌, arith}
+-- The product of two rows is the standard's.
+use Rattle.std.proofs.Common.{◌≡◌, ℕ, ◌+◌, ◌-◌, ◌*◌, ◌^◌, ◌%◌, ◌<◌, ◌≤◌, Bool, true, false, cond, add-one, List, [], ◌∷◌, length, take, drop, replicate, ap, sym, ◌∙◌, arith}
+use Rattle.std.proofs.Math.Nat.{pow-succ'}
 use Rattle.std.proofs.lemmas.Nat.{pow-add}
 use Rattle.std.proofs.lemmas.List.{length-append, length-replicate, length-take-le}
 use Rattle.cnf_form.specs.Literals.{Literal}
@@ -10,13 +12,13 @@ use Rattle.bit_blast.specs.Products.{partial_row, products, mul_row}
 use Rattle.bv_dag.specs.BitVectors.{bvmul}
 use Rattle.bit_blast.specs.Meaning.{word_of}
 use Rattle.bit_blast.specs.Bytes.{bit_of, number_of_row}
-use Rattle.bit_blast.proofs.BitNumbers.{number_cons}
-use Rattle.bit_blast.proofs.AdderMeaning.{adder_length, adder_means}
-use Rattle.bit_blast.proofs.SumMeaning.{word, modulo, zeros_number}
-use Rattle.bit_blast.proofs.EarlierClauses.{Holds}
-use Rattle.bit_blast.proofs.RowValues.{number_nil, power_step, number_below, each_length, and_number, append_number, split_number, false_bit}
-
--- The product of two rows.
+use Rattle.bit_blast.proofs.Truths.{constant_value}
+use Rattle.bit_blast.proofs.EarlierClauses.{Holds, adder_before, products_before}
+use Rattle.bit_blast.proofs.Numbers.{number_nil, number_cons, number_below, number_append, number_split, number_falses}
+use Rattle.bit_blast.proofs.Words.{word}
+use Rattle.bit_blast.proofs.AdderValues.{adder_number, adder_length}
+use Rattle.bit_blast.proofs.PlaceByPlace.{length_each, masked_row_number}
+use Rattle.bit_blast.proofs.SumMeaning.{modulo}
 
 product_step : (W P Q A t d T S R p k c N : ℕ) (b : Bool) → A ≡ t + Q * d → W ≡ P * Q → p ≡ P * cond b t 0 → S + W * c ≡ T + p → R + W * k ≡ S + (2 * P) * A * N
     → (n : ℕ) × (R + W * n ≡ T + P * A * (bit_of b + 2 * N))
@@ -28,54 +30,48 @@ product_step W P Q A t d T S R p k c N false split power partial sum rest = (k +
 parts : (w low : ℕ) → low ≤ w → w ≡ low + (w - low)
 parts w low within = omega arith
 
-next : (n : ℕ) → n + 1 ≡ suc n
-next n = omega arith
-
 partial_length : (a : List Literal) (low : ℕ) (b : Literal) (f : Formula) → low ≤ length a → length (partial_row a low b f).0 ≡ length a
 unfolding partial_row
 partial_length a low b f within =
     let n = length a - low in
     let m : List Literal = (each and_gate (take n a) (replicate n b) f).0 in
     let left : length (take n a) ≡ n = length-take-le n a (omega arith) in
-    let made : length m ≡ n = each_length and_gate (take n a) (replicate n b) f (left ∙ sym (length-replicate n b)) ∙ left in
+    let made : length m ≡ n = length_each and_gate (take n a) (replicate n b) f (left ∙ sym (length-replicate n b)) ∙ left in
     length-append (zeros low) m ∙ ap (λ k. k + length m) (length-replicate low (constant false)) ∙ ap (λ k. low + k) made ∙ omega arith
 
 -- what one bit of b adds
 partial_number : (v : ℕ → Bool) (a : List Literal) (low : ℕ) (b : Literal) (f : Formula) → v 1 ≡ true → low ≤ length a → Holds v (partial_row a low b f).1
-    → Holds v f × (number_of_row v (partial_row a low b f).0 ≡ 2 ^ low * cond (literal_value v b) (number_of_row v (take (length a - low) a)) 0)
+    → number_of_row v (partial_row a low b f).0 ≡ 2 ^ low * cond (literal_value v b) (number_of_row v (take (length a - low) a)) 0
 unfolding partial_row
 partial_number v a low b f truth within h =
     let n = length a - low in
-    let m : List Literal = (each and_gate (take n a) (replicate n b) f).0 in
-    let left : length (take n a) ≡ n = length-take-le n a (omega arith) in
-    let made : Holds v f × (number_of_row v m ≡ cond (literal_value v b) (number_of_row v (take n a)) 0) = and_number v b (take n a) n f left h in
-    let none : number_of_row v (zeros low) ≡ 0 = zeros_number v truth low in
+    let made : number_of_row v (each and_gate (take n a) (replicate n b) f).0 ≡ cond (literal_value v b) (number_of_row v (take n a)) 0 = masked_row_number v b (take n a) n f (length-take-le n a (omega arith)) h in
+    let none : number_of_row v (zeros low) ≡ 0 = number_falses v low (constant false) (constant_value v truth false) in
     let up : length (zeros low) ≡ low = length-replicate low (constant false) in
-    (made.0, append_number v (zeros low) m ∙ rw (none, up, made.1) (omega arith))
+    number_append v (zeros low) (each and_gate (take n a) (replicate n b) f).0 ∙ rw (none, up, made) (omega arith)
 
 -- the product so far, and what the further bits of b add to it, but for a multiple of 2 ^ length a
 products_number : (v : ℕ → Bool) (a bs total : List Literal) (low : ℕ) (f : Formula) → v 1 ≡ true → low + length bs ≤ length a → length total ≡ length a → Holds v (products a bs low total f).1
-    → Holds v f × ((n : ℕ) × (number_of_row v (products a bs low total f).0 + 2 ^ length a * n ≡ number_of_row v total + 2 ^ low * number_of_row v a * number_of_row v bs))
+    → (n : ℕ) × (number_of_row v (products a bs low total f).0 + 2 ^ length a * n ≡ number_of_row v total + 2 ^ low * number_of_row v a * number_of_row v bs)
 unfolding products
-products_number v a [] total low f truth within same h = (h, (0, rw (number_nil v) (omega arith)))
+products_number v a [] total low f truth within same h = (0, rw (number_nil v) (omega arith))
 products_number v a (b ∷ bs) total low f truth within same h =
     let p : List Literal × Formula = partial_row a low b f in
     let s : Sum = adder total p.0 (constant false) p.1 in
     let n = length a - low in
     let alike : length total ≡ length p.0 = same ∙ sym (partial_length a low b f (omega arith)) in
     let long : length s.sums ≡ length a = adder_length total p.0 (constant false) p.1 alike ∙ same in
-    let rest : Holds v s.formula × ((k : ℕ) × (number_of_row v (products a bs (low + 1) s.sums s.formula).0 + 2 ^ length a * k ≡ number_of_row v s.sums + 2 ^ (low + 1) * number_of_row v a * number_of_row v bs)) =
+    let after : Holds v s.formula = products_before v a bs (low + 1) s.sums s.formula h in
+    let rest : (k : ℕ) × (number_of_row v (products a bs (low + 1) s.sums s.formula).0 + 2 ^ length a * k ≡ number_of_row v s.sums + 2 ^ (low + 1) * number_of_row v a * number_of_row v bs) =
     products_number v a bs s.sums (low + 1) s.formula truth (omega arith) long h in
-    let added : Holds v p.1 × (number_of_row v s.sums + 2 ^ length total * bit_of (literal_value v s.carry) ≡ number_of_row v total + number_of_row v p.0 + bit_of (literal_value v (constant false))) = adder_means v total p.0 (constant false) p.1 alike rest.0 in
+    let added : number_of_row v s.sums + 2 ^ length total * bit_of (literal_value v s.carry) ≡ number_of_row v total + number_of_row v p.0 + bit_of (literal_value v (constant false)) = adder_number v total p.0 (constant false) p.1 alike after in
     let sum : number_of_row v s.sums + 2 ^ length a * bit_of (literal_value v s.carry) ≡ number_of_row v total + number_of_row v p.0 =
-    rw (← same) (added.1 ∙ rw (false_bit v truth) (omega arith)) in
-    let one : Holds v f × (number_of_row v p.0 ≡ 2 ^ low * cond (literal_value v b) (number_of_row v (take n a)) 0) = partial_number v a low b f truth (omega arith) added.0 in
+    rw (← same) (added ∙ rw (constant_value v truth false) (omega arith)) in
+    let one : number_of_row v p.0 ≡ 2 ^ low * cond (literal_value v b) (number_of_row v (take n a)) 0 = partial_number v a low b f truth (omega arith) (adder_before v total p.0 (constant false) p.1 after) in
     let power : 2 ^ length a ≡ 2 ^ low * 2 ^ n = ap (λ k. 2 ^ k) (parts (length a) low (omega arith)) ∙ pow-add 2 low n in
-    let step : 2 ^ (low + 1) ≡ 2 * 2 ^ low = ap (λ k. 2 ^ k) (next low) ∙ power_step low in (
-      one.0,
-      rw (number_cons v b bs) (product_step _ _ (2 ^ n) (number_of_row v a) (number_of_row v (take n a)) (number_of_row v (drop n a)) _ (number_of_row v s.sums) _ (number_of_row v p.0) rest.1.0 (bit_of (literal_value v s.carry)) (number_of_row v bs) (literal_value v b)
-          (split_number v n a (omega arith)) power one.1 sum (rw (← step) rest.1.1)),
-    )
+    let step : 2 ^ (low + 1) ≡ 2 * 2 ^ low = ap (λ k. 2 ^ k) (add-one low) ∙ pow-succ' 2 low in
+    rw (number_cons v b bs) (product_step _ _ (2 ^ n) (number_of_row v a) (number_of_row v (take n a)) (number_of_row v (drop n a)) _ (number_of_row v s.sums) _ (number_of_row v p.0) rest.0 (bit_of (literal_value v s.carry)) (number_of_row v bs) (literal_value v b)
+    (number_split v n a) power one sum (rw (← step) rest.1))
 
 products_length : (a bs total : List Literal) (low : ℕ) (f : Formula) → low + length bs ≤ length a → length total ≡ length a → length (products a bs low total f).0 ≡ length a
 unfolding products
@@ -86,20 +82,17 @@ products_length a (b ∷ bs) total low f within same =
     let alike : length total ≡ length p.0 = same ∙ sym (partial_length a low b f (omega arith)) in
     products_length a bs s.sums (low + 1) s.formula (omega arith) (adder_length total p.0 (constant false) p.1 alike ∙ same)
 
--- so is the row
-pub mul_length : (a b : List Literal) (f : Formula) → length a ≡ length b → length (mul_row a b f).0 ≡ length a
+mul_length : (a b : List Literal) (f : Formula) → length a ≡ length b → length (mul_row a b f).0 ≡ length a
 mul_length a b f same = products_length a b (zeros (length a)) 0 f (omega arith) (length-replicate (length a) (constant false))
 
--- the product of two rows of one length
-pub mul_number : (v : ℕ → Bool) (a b : List Literal) (f : Formula) → v 1 ≡ true → length a ≡ length b → Holds v (mul_row a b f).1
-    → Holds v f × (number_of_row v (mul_row a b f).0 ≡ (number_of_row v a * number_of_row v b) % 2 ^ length a)
+mul_number : (v : ℕ → Bool) (a b : List Literal) (f : Formula) → v 1 ≡ true → length a ≡ length b → Holds v (mul_row a b f).1 → number_of_row v (mul_row a b f).0 ≡ (number_of_row v a * number_of_row v b) % 2 ^ length a
 mul_number v a b f truth same h =
-    let made : Holds v f × ((n : ℕ) × (number_of_row v (mul_row a b f).0 + 2 ^ length a * n ≡ number_of_row v (zeros (length a)) + 2 ^ 0 * number_of_row v a * number_of_row v b)) =
+    let made : (n : ℕ) × (number_of_row v (mul_row a b f).0 + 2 ^ length a * n ≡ number_of_row v (zeros (length a)) + 2 ^ 0 * number_of_row v a * number_of_row v b) =
     products_number v a b (zeros (length a)) 0 f truth (omega arith) (length-replicate (length a) (constant false)) h in
-    let none : number_of_row v (zeros (length a)) ≡ 0 = zeros_number v truth (length a) in
+    let none : number_of_row v (zeros (length a)) ≡ 0 = number_falses v (length a) (constant false) (constant_value v truth false) in
     let small : number_of_row v (mul_row a b f).0 < 2 ^ length a = number_below v (mul_row a b f).0 (length a) (mul_length a b f same) in
-    (made.0, modulo (length a) (number_of_row v (mul_row a b f).0) made.1.0 (number_of_row v a * number_of_row v b) small (made.1.1 ∙ rw none (omega arith)))
+    modulo (length a) (number_of_row v (mul_row a b f).0) made.0 (number_of_row v a * number_of_row v b) small (made.1 ∙ rw none (omega arith))
 
 pub mul_means : (v : ℕ → Bool) (a b : List Literal) (f : Formula) → v 1 ≡ true → length a ≡ length b → Holds v (mul_row a b f).1 → word_of v (mul_row a b f).0 ≡ bvmul (word_of v a) (word_of v b)
 unfolding bvmul
-mul_means v a b f truth same h = word _ _ _ _ (mul_length a b f same) (mul_number v a b f truth same h).1
+mul_means v a b f truth same h = word _ _ _ _ (mul_length a b f same) (mul_number v a b f truth same h)

@@ -1,5 +1,6 @@
-use Rattle.std.proofs.Common.{◌≡◌, ℕ, ◌+◌, ◌*◌, ◌≤◌, Bool, true, false, cond, eqb, ◌&&◌, List, [], ◌∷◌, length, get_or, Option, Some, None, All, refl, ap, sym, ◌∙◌, inl, inr, arith}
-use Rattle.std.proofs.lemmas.Bool.{eq-eqb, ne_eqb, cases_lt, and_from}
+-- Which variables a formula and a row depend on, and what it is that a formula can be extended to another.
+use Rattle.std.proofs.Common.{◌≡◌, ℕ, ◌+◌, ◌*◌, ◌≤◌, Bool, cond, eqb, List, [], ◌∷◌, length, get_or, Option, Some, None, All, refl, ap, ◌∙◌, inl, inr, arith}
+use Rattle.std.proofs.lemmas.Bool.{eq-eqb, ne_eqb, cases_lt}
 use Rattle.std.proofs.lemmas.List.{get_or_past}
 use Rattle.std.proofs.lemmas.List.Elements.{All-get_or, All-weaker, All-head, All-tail}
 use Rattle.cnf_form.specs.Literals.{Literal, same_truth}
@@ -8,8 +9,6 @@ use Rattle.cnf_form.specs.Valuations.{literal_value, satisfies}
 use Rattle.bit_blast.specs.Formulas.{Formula, with_kept, with_clause, with_clauses}
 use Rattle.bit_blast.specs.Bytes.{bit_of, number_of_row}
 use Rattle.bit_blast.proofs.EarlierClauses.{Holds}
-
--- Which variables a formula and a row depend on, and what it is that a formula can be extended to another.
 
 -- two valuations with one value for each variable up to n
 abbrev pub Agree : ℕ → (ℕ → Bool) → (ℕ → Bool) → Type 0
@@ -103,59 +102,3 @@ clause_variables c f = kept_variables f (clause_of c)
 pub clauses_variables : (cs : List (List Literal)) (f : Formula) → (with_clauses cs f).variables ≡ f.variables
 clauses_variables [] f = refl
 clauses_variables (c ∷ cs) f = clauses_variables cs (with_clause c f) ∙ clause_variables c f
-
-twice : (b p : Bool) → same_truth (same_truth b p) p ≡ b
-twice true true = refl
-twice true false = refl
-twice false true = refl
-twice false false = refl
-
-same_itself : (b : Bool) → same_truth b b ≡ true
-same_itself true = refl
-same_itself false = refl
-
--- what a gate says of its literal, which is of the next variable
-pub record IsGate (f : Formula) (made : Literal × Formula) (value : (ℕ → Bool) → Bool) : Type 0 where
-  pub next : made.0.variable ≡ f.variables + 1
-  pub one_more : made.1.variables ≡ f.variables + 1
-  pub depends : (v w : ℕ → Bool) → Agree f.variables v w → value v ≡ value w
-  pub says : (v : ℕ → Bool) → satisfies v made.1.clauses ≡ (satisfies v f.clauses && same_truth (literal_value v made.0) (value v))
-
-gate_scoped : (f : Formula) (made : Literal × Formula) (value : (ℕ → Bool) → Bool) → IsScoped f → IsGate f made value → IsScoped made.1
-gate_scoped f made value is gate = record {
-  first = omega (arith, gate.one_more);
-  only = λ v w same.
-      let fewer : Agree f.variables v w = agree_fewer f.variables made.1.variables v w (omega (arith, gate.one_more)) same in
-      let o : literal_value v made.0 ≡ literal_value w made.0 = literal_same v w made.1.variables made.0 same (omega (arith, gate.one_more, gate.next)) in
-      gate.says v ∙ ap (λ b. b && same_truth (literal_value v made.0) (value v)) (is.only v w fewer)
-      ∙ ap (λ b. satisfies w f.clauses && same_truth b (value v)) o
-      ∙ ap (λ b. satisfies w f.clauses && same_truth (literal_value w made.0) b) (gate.depends v w fewer) ∙ sym (gate.says w);
-}
-
-abbrev with_gate : Formula → Literal → ((ℕ → Bool) → Bool) → (ℕ → Bool) → ℕ → Bool
-with_gate f o value v = changed v o.variable (same_truth (value v) o.positive)
-
-gate_value : (f : Formula) (made : Literal × Formula) (value : (ℕ → Bool) → Bool) (v : ℕ → Bool) → IsGate f made value
-    → literal_value (with_gate f made.0 value v) made.0 ≡ value (with_gate f made.0 value v)
-gate_value f made value v gate =
-    ap (λ b. same_truth b made.0.positive) (changed_at v made.0.variable (same_truth (value v) made.0.positive) made.0.variable refl)
-    ∙ twice (value v) made.0.positive
-    ∙ gate.depends v (with_gate f made.0 value v) (changed_above v f.variables made.0.variable (same_truth (value v) made.0.positive) gate.next)
-
--- A gate extends a formula: its variable has the gate's value.
-pub gate_extends : (f : Formula) (made : Literal × Formula) (value : (ℕ → Bool) → Bool) → IsScoped f → IsGate f made value → MakesLiteral f made
-gate_extends f made value is gate = (
-  record {
-    more = omega (arith, gate.one_more);
-    scoped = gate_scoped f made value is gate;
-    extended = λ v h.
-        let w : ℕ → Bool = with_gate f made.0 value v in
-        let same : Agree f.variables v w = changed_above v f.variables made.0.variable (same_truth (value v) made.0.positive) gate.next in (
-          w,
-          same,
-          gate.says w ∙ and_from _ _ (sym (is.only v w same) ∙ h)
-              (ap (λ b. same_truth b (value w)) (gate_value f made value v gate) ∙ same_itself (value w)),
-        );
-  },
-  omega (arith, gate.one_more, gate.next),
-)

@@ -1,9 +1,7 @@
+-- The shifts of numbers of a width.
 use Rattle.std.proofs.Common.{◌≡◌, ℕ, ◌+◌, ◌-◌, ◌*◌, ◌/◌, ◌%◌, ◌^◌, ◌<◌, ◌≤◌, ap, sym, ◌∙◌, arith}
 use Rattle.std.proofs.Math.Nat.{mul_assoc, div-one, mul-one, mul-mod_left, mod-eq_of_lt, div-eq_of_lt, div-le_self, pow-le-pow_right}
-use Rattle.std.proofs.lemmas.Nat.{pow-add, shl-shr, shr-shr, mod-pow-add, mul-mod_first}
-use Rattle.bit_blast.proofs.RowNumbers.{pow_positive}
-
--- The shifts of numbers of a width.
+use Rattle.std.proofs.lemmas.Nat.{pow-add, shl-shr, shr-shr, mod-pow-add, mul-mod_first, pow_pos}
 
 -- what shifts by one distance after another have in common: by the width or more, only what comes free is left
 pub record IsShift (width : ℕ) (S : ℕ → ℕ → ℕ) (free : ℕ) : Type 0 where
@@ -68,7 +66,7 @@ down_ones_more w n i j =
     ap (λ m. 2 ^ w - 1 - m / 2 ^ j) (inner_back (2 ^ w) (y / 2 ^ i) (inner_low (2 ^ w) n (y / 2 ^ i) (div-le_self y (2 ^ i))))
     ∙ ap (λ m. 2 ^ w - 1 - m) (shr-shr y i j)
 
-ones_small : (p n : ℕ) → 0 < p → p - 1 - n < p
+pub ones_small : (p n : ℕ) → 0 < p → p - 1 - n < p
 ones_small p n some = omega arith
 
 less_none : (p : ℕ) → p - 0 ≡ p
@@ -76,7 +74,7 @@ less_none p = omega arith
 
 down_ones_all : (w n i : ℕ) → n < 2 ^ w → w ≤ i → down_ones w n i ≡ 2 ^ w - 1
 down_ones_all w n i small far =
-    ap (λ m. 2 ^ w - 1 - m) (down_all w (2 ^ w - 1 - n) i (ones_small (2 ^ w) n (pow_positive w)) far) ∙ less_none (2 ^ w - 1)
+    ap (λ m. 2 ^ w - 1 - m) (down_all w (2 ^ w - 1 - n) i (ones_small (2 ^ w) n (pow_pos w)) far) ∙ less_none (2 ^ w - 1)
 
 pub down_ones_is : (w : ℕ) → IsShift w (down_ones w) (2 ^ w - 1)
 down_ones_is w = record { none = down_ones_none w; more = down_ones_more w; all = down_ones_all w }

@@ -1,3 +1,4 @@
+-- Rows that are made without gates are the standard's.
 use Rattle.std.proofs.Common.{◌≡◌, ℕ, zero, suc, ◌+◌, ◌-◌, ◌*◌, ◌/◌, ◌%◌, ◌^◌, ◌<◌, ◌≤◌, nat_le, Bool, true, false, if◌then◌else◌, List, ◌++◌, length, take, drop, replicate, refl, ap, sym, ◌∙◌, arith}
 use Rattle.std.proofs.Math.Nat.{mul_comm, mul-add, mul-one}
 use Rattle.std.proofs.lemmas.Nat.{pow-add, field_of}
@@ -9,12 +10,11 @@ use Rattle.bit_blast.specs.Bytes.{number_of_row}
 use Rattle.bit_blast.specs.Formulas.{constant}
 use Rattle.bit_blast.specs.Rows.{negations, number_row, top_of}
 use Rattle.bit_blast.specs.Meaning.{word_of}
-use Rattle.bit_blast.proofs.SumMeaning.{constant_value, word}
-use Rattle.bit_blast.proofs.RowNumbers.{number_number_row, number_append, number_falses, number_trues, number_take, number_drop}
+use Rattle.bit_blast.proofs.Truths.{constant_value}
+use Rattle.bit_blast.proofs.Words.{word}
+use Rattle.bit_blast.proofs.Numbers.{number_number_row, number_append, falses_above, number_trues, number_take, number_drop}
 use Rattle.bit_blast.proofs.TopValues.{Topped, topped}
 use Rattle.bit_blast.proofs.Moves.{negated_number}
-
--- What rows are that are made without gates.
 
 length_number_row : (w n : ℕ) → length (number_row w n) ≡ w
 unfolding number_row
@@ -47,18 +47,10 @@ extract_means v high low a order within =
 copies_length : (a : List Literal) (by : ℕ) (l : Literal) → length (a ++ replicate by l) ≡ length a + by
 copies_length a by l = length-append a (replicate by l) ∙ ap (λ k. length a + k) (length-replicate by l)
 
-nothing_above : (m p z : ℕ) → z ≡ 0 → m + p * z ≡ m
-nothing_above m p z is = ap (λ k. m + p * k) is ∙ no_part m p
-  where
-    no_part : (m p : ℕ) → m + p * 0 ≡ m
-    no_part m p = omega arith
-
 pub zero_extend_means : (v : ℕ → Bool) (by : ℕ) (a : List Literal) → v 1 ≡ true → word_of v (a ++ replicate by (constant false)) ≡ zero_extend by (word_of v a)
 unfolding zero_extend
 zero_extend_means v by a truth =
-    word _ _ _ _ (copies_length a by (constant false))
-    (number_append v a (replicate by (constant false))
-    ∙ nothing_above (number_of_row v a) (2 ^ length a) (number_of_row v (replicate by (constant false))) (number_falses v by (constant false) (constant_value v truth false)))
+    word _ _ _ _ (copies_length a by (constant false)) (falses_above v a by (constant false) (constant_value v truth false))
 
 -- p * (q - 1) as p * q - p
 ones_above : (n p q z all : ℕ) → p * z + p ≡ all → n + p * z ≡ n + (all - p)
@@ -68,20 +60,19 @@ ones_whole : (p q z all : ℕ) → z + 1 ≡ q → all ≡ p * q → p * z + p �
 ones_whole p q z all more product =
     ap (λ k. p * z + k) (sym (mul-one p)) ∙ sym (mul-add p z 1) ∙ ap (λ k. p * k) more ∙ sym product
 
-extended : (v : ℕ → Bool) (by : ℕ) (n w : ℕ) (l : Literal) (t : Bool) → literal_value v l ≡ t
-    → n + 2 ^ w * number_of_row v (replicate by l) ≡ (if t then n + (2 ^ (w + by) - 2 ^ w) else n)
-extended v by n w l true is =
-    ones_above n (2 ^ w) (2 ^ by) (number_of_row v (replicate by l)) (2 ^ (w + by))
-    (ones_whole (2 ^ w) (2 ^ by) (number_of_row v (replicate by l)) (2 ^ (w + by)) (number_trues v by l is) (pow-add 2 w by))
-extended v by n w l false is = nothing_above n (2 ^ w) (number_of_row v (replicate by l)) (number_falses v by l is)
+extended : (v : ℕ → Bool) (by : ℕ) (a : List Literal) (l : Literal) (t : Bool) → literal_value v l ≡ t
+    → number_of_row v (a ++ replicate by l) ≡ (if t then number_of_row v a + (2 ^ (length a + by) - 2 ^ length a) else number_of_row v a)
+extended v by a l true is =
+    number_append v a (replicate by l)
+    ∙ ones_above (number_of_row v a) (2 ^ length a) (2 ^ by) (number_of_row v (replicate by l)) (2 ^ (length a + by))
+    (ones_whole (2 ^ length a) (2 ^ by) (number_of_row v (replicate by l)) (2 ^ (length a + by)) (number_trues v by l is) (pow-add 2 (length a) by))
+extended v by a l false is = falses_above v a by l is
 
 pub sign_extend_means : (v : ℕ → Bool) (by : ℕ) (a : List Literal) → 0 < length a → word_of v (a ++ replicate by (top_of a)) ≡ sign_extend by (word_of v a)
 unfolding sign_extend
 sign_extend_means v by a some =
     let top : Topped v a (2 ^ (length a - 1)) (number_of_row v (take (length a - 1) a)) = topped v a some in
-    word _ _ _ _ (copies_length a by (top_of a))
-    (number_append v a (replicate by (top_of a))
-    ∙ extended v by (number_of_row v a) (length a) (top_of a) (nat_le (2 ^ (length a - 1)) (number_of_row v a)) (sym top.sign))
+    word _ _ _ _ (copies_length a by (top_of a)) (extended v by a (top_of a) (nat_le (2 ^ (length a - 1)) (number_of_row v a)) (sym top.sign))
 
 -- one row above another
 turned : (m n : ℕ) → m + n ≡ n + m

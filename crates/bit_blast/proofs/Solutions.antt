@@ -1,9 +1,10 @@
-use Rattle.std.proofs.Common.{◌≡◌, ℕ, zero, suc, ◌==◌, ◌||◌, Bool, true, false, List, [], ◌∷◌, length, get_or, map, replicate, fold, Some, None, refl, ap, sym, subst, ◌∙◌, arith}
+-- The bytes that a satisfying valuation means are a solution of the condition.
+use Rattle.std.proofs.Common.{◌≡◌, ℕ, suc, ◌==◌, Bool, true, List, [], ◌∷◌, length, get_or, map, fold, None, refl, ap, sym, subst, ◌∙◌, arith}
 use Rattle.std.specs.List.{list_all}
-use Rattle.std.proofs.lemmas.Bool.{and_parts, and_from, eq-eqb}
+use Rattle.std.proofs.lemmas.Bool.{and_from, eq-eqb}
 use Rattle.std.proofs.lemmas.List.{length-map, length-replicate}
 use Rattle.cnf_form.specs.Literals.{Literal}
-use Rattle.cnf_form.specs.Valuations.{literal_value, satisfies_clause, satisfies}
+use Rattle.cnf_form.specs.Valuations.{literal_value, satisfies}
 use Rattle.bv_dag.specs.BitVectors.{BitVector}
 use Rattle.bv_dag.specs.Nodes.{map_in_turn, values, widths_of, word_at, width}
 use Rattle.bv_dag.specs.Graphs.{Graph, IsDag, number_of, width_of}
@@ -13,26 +14,12 @@ use Rattle.bv_dag.proofs.Values.{map-width-values}
 use Rattle.bit_blast.specs.Formulas.{Formula, with_clause}
 use Rattle.bit_blast.specs.Bytes.{number_of_row, byte_of, bytes_of}
 use Rattle.bit_blast.specs.Circuits.{Circuit, row_at, lowest_of, with_node, no_terms, circuit_of, with_asserted, clauses}
-use Rattle.bit_blast.proofs.GateMeaning.{added}
-use Rattle.bit_blast.proofs.EarlierClauses.{Holds, asserted_before, truth_before}
-use Rattle.bit_blast.proofs.ChoiceMeaning.{one_bit_number}
-use Rattle.bit_blast.proofs.NodeMeaning.{words_of, row_word, row_width}
-use Rattle.bit_blast.proofs.CircuitMeaning.{AreBytes, FitFrom, input_at, bytes_in, values_from, rows_mean, nodes_count}
+use Rattle.bit_blast.proofs.EarlierClauses.{Holds, one_true, asserted_before, truth_before}
+use Rattle.bit_blast.proofs.Words.{one_bit_number, words_of, row_word, row_width}
+use Rattle.bit_blast.proofs.InputBytes.{bytes_in, nodes_count, no_bytes}
+use Rattle.bit_blast.proofs.CircuitMeaning.{FitFrom, values_from, rows_mean}
 
--- The bytes that a satisfying valuation means are a solution of the condition.
-
-none_yet : (n i : ℕ) → input_at (replicate n None) i ≡ None
-none_yet zero i = refl
-none_yet (suc n) zero = refl
-none_yet (suc n) (suc i) = none_yet n i
-
-pub unequal : (row : List Literal) → None ≡ Some row → ⊥
-unequal row e = cc
-
-pub no_bytes : (n : ℕ) → AreBytes (replicate n None)
-no_bytes n = record { each = λ i row is. absurd (unequal row (sym (none_yet n i) ∙ is)) }
-
-pub all_fit : (graph : Graph) → IsDag graph → FitFrom graph.inputs [] graph.nodes
+all_fit : (graph : Graph) → IsDag graph → FitFrom graph.inputs [] graph.nodes
 unfolding widths_of map_in_turn
 all_fit graph dag = dag.all_fit
 
@@ -40,14 +27,15 @@ pub in_turn : (input : List ℕ) (nodes : List Node) → values input nodes ≡ 
 unfolding values map_in_turn
 in_turn input nodes = refl
 
+pub start_fits : (q : Condition) → IsDag q.graph → FitFrom (length (no_terms q.graph.inputs).inputs) [] q.graph.nodes
+start_fits q dag = subst (λ (n : ℕ). FitFrom n [] q.graph.nodes) (sym (length-replicate q.graph.inputs None)) (all_fit q.graph dag)
+
 -- the words of a circuit's rows
 pub circuit_words : (q : Condition) (v : ℕ → Bool) → IsDag q.graph → v 1 ≡ true → Holds v (circuit_of q).formula → words_of v (circuit_of q).rows ≡ values (bytes_of q v) q.graph.nodes
 unfolding circuit_of bytes_of
 circuit_words q v dag truth h =
     let start : Circuit = no_terms q.graph.inputs in
-    let fits : FitFrom (length start.inputs) [] q.graph.nodes
-    = subst (λ (n : ℕ). FitFrom n [] q.graph.nodes) (sym (length-replicate q.graph.inputs None)) (all_fit q.graph dag) in
-    rows_mean v (fold with_node start q.graph.nodes).inputs q.graph.nodes start truth (no_bytes q.graph.inputs) fits refl h
+    rows_mean v (fold with_node start q.graph.nodes).inputs q.graph.nodes start truth (no_bytes q.graph.inputs) (start_fits q dag) refl h
     ∙ sym (in_turn (bytes_in v (fold with_node start q.graph.nodes).inputs) q.graph.nodes)
 
 -- there is a byte for each input
@@ -57,13 +45,14 @@ bytes_count q v =
     length-map (circuit_of q).inputs (byte_of v) ∙ nodes_count q.graph.nodes (no_terms q.graph.inputs) ∙ length-replicate q.graph.inputs None
 
 -- each literal is true that is asserted
-only_one : (b : Bool) → (b || false) ≡ true → b ≡ true
-only_one true h = refl
-only_one false h = h
-
-one_true : (v : ℕ → Bool) (l : Literal) (f : Formula) → Holds v (with_clause (l ∷ []) f) → literal_value v l ≡ true
-unfolding satisfies_clause
-one_true v l f h = only_one (literal_value v l) (and_parts _ _ (sym (added v (l ∷ []) f) ∙ h)).1
+pub asserted_bit : (v : ℕ → Bool) (graph : Graph) (input : List ℕ) (rows : List (List Literal)) (id : ℕ) → words_of v rows ≡ values input graph.nodes → width_of graph id ≡ 1
+    → literal_value v (lowest_of (row_at rows id)) ≡ (number_of graph id input == 1)
+asserted_bit v graph input rows id words one =
+    let width_is : length (row_at rows id) ≡ 1
+    = row_width v rows id ∙ ap (λ (ws : List BitVector). get_or (map width ws) id 0) words ∙ ap (λ (ws : List ℕ). get_or ws id 0) (map-width-values input graph.nodes) ∙ one in
+    let same : number_of_row v (row_at rows id) ≡ number_of graph id input
+    = ap (λ (s : BitVector). s.number) (row_word v rows id) ∙ ap (λ (ws : List BitVector). (word_at ws id).number) words in
+    one_bit_number v (row_at rows id) width_is ∙ ap (λ m. m == 1) same
 
 each_is_one : (v : ℕ → Bool) (graph : Graph) (input : List ℕ) (rows : List (List Literal)) (ids : List ℕ) (f : Formula) → words_of v rows ≡ values input graph.nodes → AreBits graph ids
     → Holds v (with_asserted rows ids f) → list_all (λ id. number_of graph id input == 1) ids ≡ true
@@ -71,14 +60,10 @@ unfolding with_asserted
 each_is_one v graph input rows [] f words bits h = refl
 each_is_one v graph input rows (id ∷ ids) f words bits h =
     let first : width_of graph id ≡ 1 = bits 0 id (omega arith) in
-    let width_is : length (row_at rows id) ≡ 1
-    = row_width v rows id ∙ ap (λ (ws : List BitVector). get_or (map width ws) id 0) words ∙ ap (λ (ws : List ℕ). get_or ws id 0) (map-width-values input graph.nodes) ∙ first in
-    let same : number_of_row v (row_at rows id) ≡ number_of graph id input
-    = ap (λ (s : BitVector). s.number) (row_word v rows id) ∙ ap (λ (ws : List BitVector). (word_at ws id).number) words in
     let truth : literal_value v (lowest_of (row_at rows id)) ≡ true
     = one_true v (lowest_of (row_at rows id)) f (asserted_before v rows ids (with_clause (lowest_of (row_at rows id) ∷ []) f) h) in
     and_from _ _
-    (ap (λ m. m == 1) (sym same) ∙ sym (one_bit_number v (row_at rows id) width_is) ∙ truth)
+    (sym (asserted_bit v graph input rows id words first) ∙ truth)
     (each_is_one v graph input rows ids (with_clause (lowest_of (row_at rows id) ∷ []) f) words (λ k d within. bits (suc k) d (omega arith)) h)
 
 pub solution : (q : Condition) (v : ℕ → Bool) → IsDag q.graph → AreBits q.graph q.asserted → satisfies v (clauses q) ≡ true → holds q (bytes_of q v) ≡ true

@@ -1,47 +1,29 @@
-use Rattle.std.proofs.Common.{◌≡◌, ℕ, zero, suc, ◌+◌, ◌-◌, ◌*◌, ◌^◌, ◌<◌, nat_le, Bool, true, false, not, List, [], ◌∷◌, length, get_or, set, take, ap, ◌∙◌, arith}
+-- The top literal of a row, and what it is worth.
+use Rattle.std.proofs.Common.{◌≡◌, ℕ, suc, ◌+◌, ◌-◌, ◌*◌, ◌^◌, ◌<◌, nat_le, Bool, true, false, not, List, [], ◌∷◌, length, get_or, set, take, drop, ap, ◌∙◌, arith}
 use Rattle.std.proofs.lemmas.Bool.{le-leb, lt-leb}
-use Rattle.std.proofs.lemmas.List.{length-take-le}
+use Rattle.std.proofs.lemmas.List.{length-take-le, length-set, drop_more, drop_all, take-set-le, get_or-set_same}
 use Rattle.cnf_form.specs.Literals.{Literal, negation}
 use Rattle.cnf_form.specs.Valuations.{literal_value}
 use Rattle.bit_blast.specs.Bytes.{bit_of, number_of_row}
 use Rattle.bit_blast.specs.Formulas.{constant}
 use Rattle.bit_blast.specs.Rows.{top_of, with_top_negated}
-use Rattle.bit_blast.proofs.BitNumbers.{number_bound}
-use Rattle.bit_blast.proofs.GateMeaning.{value_not}
-use Rattle.bit_blast.proofs.RowNumbers.{number_nil, number_cons, pow_double_times}
+use Rattle.bit_blast.proofs.Truths.{value_not}
+use Rattle.bit_blast.proofs.Numbers.{number_one, number_below, number_split}
 
--- The top literal of a row, and what it is worth.
+number_top : (v : ℕ → Bool) (a : List Literal) (k : ℕ) (d : Literal) → length a ≡ suc k → number_of_row v a ≡ number_of_row v (take k a) + 2 ^ k * bit_of (literal_value v (get_or a k d))
+number_top v a k d is =
+    let alone : drop k a ≡ get_or a k d ∷ [] = drop_more a k d (omega arith) ∙ ap (λ ls. get_or a k d ∷ ls) (drop_all (k + 1) a (omega arith)) in
+    number_split v k a ∙ ap (λ n. number_of_row v (take k a) + 2 ^ k * n) (ap (number_of_row v) alone ∙ number_one v (get_or a k d))
 
-put_step : (x a low p q s : ℕ) → a ≡ low + s → q ≡ 2 * s → x + 2 * a ≡ x + 2 * low + q
-put_step x a low p q s rest double = omega arith
-
-last_number : (x t : ℕ) → x + 2 * 0 ≡ 0 + 2 ^ 0 * x
-last_number x t = omega arith
-
-pub number_put : (v : ℕ → Bool) (a : List Literal) (k : ℕ) (l : Literal) → length a ≡ suc k → number_of_row v (set a k l) ≡ number_of_row v (take k a) + 2 ^ k * bit_of (literal_value v l)
-number_put v [] k l is = absurd (omega arith)
-number_put v (x ∷ []) zero l is = rw (number_cons v l [], number_nil v) (last_number (bit_of (literal_value v l)) 0)
-number_put v (x ∷ y ∷ a) zero l is = absurd (omega arith)
-number_put v (x ∷ a) (suc k) l is =
-    rw (number_cons v x (set a k l), number_cons v x (take k a))
-    (put_step (bit_of (literal_value v x)) (number_of_row v (set a k l)) (number_of_row v (take k a)) 0 (2 ^ suc k * bit_of (literal_value v l)) (2 ^ k * bit_of (literal_value v l))
-    (number_put v a k l (omega arith)) (pow_double_times k (bit_of (literal_value v l))))
-
-pub number_top : (v : ℕ → Bool) (a : List Literal) (k : ℕ) (d : Literal) → length a ≡ suc k → number_of_row v a ≡ number_of_row v (take k a) + 2 ^ k * bit_of (literal_value v (get_or a k d))
-number_top v [] k d is = absurd (omega arith)
-number_top v (x ∷ []) zero d is = rw (number_cons v x [], number_nil v) (last_number (bit_of (literal_value v x)) 0)
-number_top v (x ∷ y ∷ a) zero d is = absurd (omega arith)
-number_top v (x ∷ a) (suc k) d is =
-    rw (number_cons v x a, number_cons v x (take k a))
-    (put_step (bit_of (literal_value v x)) (number_of_row v a) (number_of_row v (take k a)) 0 (2 ^ suc k * bit_of (literal_value v (get_or a k d))) (2 ^ k * bit_of (literal_value v (get_or a k d)))
-    (number_top v a k d (omega arith)) (pow_double_times k (bit_of (literal_value v (get_or a k d)))))
+number_put : (v : ℕ → Bool) (a : List Literal) (k : ℕ) (l : Literal) → length a ≡ suc k → number_of_row v (set a k l) ≡ number_of_row v (take k a) + 2 ^ k * bit_of (literal_value v l)
+number_put v a k l is =
+    number_top v (set a k l) k l (length-set a k l ∙ is)
+    ∙ ap (λ ls. number_of_row v ls + 2 ^ k * bit_of (literal_value v (get_or (set a k l) k l))) (take-set-le k a k l (omega arith))
+    ∙ ap (λ t. number_of_row v (take k a) + 2 ^ k * bit_of (literal_value v t)) (get_or-set_same a k l l (omega arith))
 
 high_or_low : (low p n : ℕ) (t : Bool) → low < p → n ≡ low + p * bit_of t → nat_le p n ≡ t
 high_or_low low p n true small is = le-leb p n (omega arith)
 high_or_low low p n false small is = lt-leb p n (omega arith)
-
-low_bound : (v : ℕ → Bool) (a : List Literal) (k : ℕ) → length a ≡ suc k → number_of_row v (take k a) < 2 ^ k
-low_bound v a k is = rw (length-take-le k a (omega arith)) at (number_bound v (take k a))
 
 -- a row and its top literal
 pub record Topped (v : ℕ → Bool) (a : List Literal) (p low : ℕ) : Type 0 where
@@ -57,7 +39,7 @@ pub topped : (v : ℕ → Bool) (a : List Literal) → 0 < length a → Topped v
 topped v a some =
     let k : ℕ = length a - 1 in
     let is : length a ≡ suc k = last_place (length a) some in
-    let small : number_of_row v (take k a) < 2 ^ k = low_bound v a k is in
+    let small : number_of_row v (take k a) < 2 ^ k = number_below v (take k a) k (length-take-le k a (omega arith)) in
     let number : number_of_row v a ≡ number_of_row v (take k a) + 2 ^ k * bit_of (literal_value v (top_of a)) = number_top v a k (constant false) is in
     record {
       small = small;

@@ -1,4 +1,5 @@
-use Rattle.bit_blast.proofs.SumMeaning.{add_means, sub_means, neg_means, ult_means}
+use Rattle.bit_blast.proofs.SumMeaning.{add_means, sub_means, neg_means}
+use Rattle.bit_blast.proofs.ComparisonMeaning.{ult_means}
 use Rattle.bit_blast.proofs.laws.sums_are_the_standards.Goals as goal
 
 pub returns-clause-add : goal.returns-clause-add

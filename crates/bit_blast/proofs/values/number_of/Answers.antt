@@ -1,7 +1,7 @@
 use Rattle.std.proofs.Common.{◌∙◌, ◌-◌, ◌*◌, ◌+◌, ap, arith, length}
 use Rattle.cnf_form.specs.Valuations.{valuation}
 use Rattle.bit_blast.specs.Bytes.{bit_of}
-use Rattle.bit_blast.proofs.BitNumbers.{number_more, number_start, high_bound}
+use Rattle.bit_blast.proofs.Reading.{number_more, number_start, high_bound}
 use Rattle.bit_blast.proofs.values.number_of.Goals as goal
 
 pub loop-i-init : goal.loop-i-init

@@ -1,4 +1,4 @@
-use Rattle.bit_blast.proofs.ChoiceMeaning.{and_row_means, or_row_means, xor_row_means, ite_means}
+use Rattle.bit_blast.proofs.PlaceByPlace.{and_row_means, or_row_means, xor_row_means, ite_means}
 use Rattle.bit_blast.proofs.laws.choices.places_are_the_standards.Goals as goal
 
 pub returns-clause-and : goal.returns-clause-and

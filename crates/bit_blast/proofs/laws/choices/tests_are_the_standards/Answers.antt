@@ -1,4 +1,4 @@
-use Rattle.bit_blast.proofs.ChoiceMeaning.{ult_row_means, slt_row_means, equal_row_means}
+use Rattle.bit_blast.proofs.ComparisonMeaning.{ult_row_means, slt_row_means, equal_row_means}
 use Rattle.bit_blast.proofs.laws.choices.tests_are_the_standards.Goals as goal
 
 pub returns-clause-ult : goal.returns-clause-ult

@@ -1,22 +1,12 @@
-use Rattle.std.proofs.Common.{◌≡◌, ℕ, ◌+◌, ◌*◌, ◌^◌, ◌<◌, ◌≤◌, Bool, true, false, List, [], ◌∷◌, length, get_or, drop, refl, ap, sym, ◌∙◌, arith}
-use Rattle.std.proofs.Math.Nat.{pow-suc, pow-le-pow_right}
+-- A row's number, read from the top place down.
+use Rattle.std.proofs.Common.{◌≡◌, ℕ, ◌+◌, ◌*◌, ◌^◌, ◌<◌, ◌≤◌, Bool, List, length, get_or, drop, ap, sym, ◌∙◌, arith}
+use Rattle.std.proofs.Math.Nat.{pow-le-pow_right}
 use Rattle.std.proofs.lemmas.List.{drop_all, length-drop}
 use Rattle.cnf_form.specs.Literals.{Literal}
 use Rattle.cnf_form.specs.Valuations.{literal_value}
 use Rattle.bit_blast.specs.Bytes.{bit_of, number_of_row}
+use Rattle.bit_blast.proofs.Numbers.{number_nil, number_cons, number_bound}
 use Rattle.bit_blast.proofs.Walks.{opened}
-
-pub bit_small : (b : Bool) → bit_of b ≤ 1
-bit_small true = omega arith
-bit_small false = omega arith
-
-pub number_bound : (v : ℕ → Bool) (ls : List Literal) → number_of_row v ls < 2 ^ length ls
-unfolding number_of_row
-number_bound v [] = omega arith
-number_bound v (l ∷ ls) =
-    let rest : number_of_row v ls < 2 ^ length ls = number_bound v ls in
-    let low : bit_of (literal_value v l) ≤ 1 = bit_small (literal_value v l) in
-    rw (pow-suc 2 (length ls)) (omega arith)
 
 -- the bits above place i of at most eight are at most seven
 pub high_bound : (v : ℕ → Bool) (row : List Literal) (i j : ℕ) → j ≡ i + 1 → length row ≤ 8 → number_of_row v (drop j row) < 128
@@ -26,19 +16,11 @@ high_bound v row i j next few =
     let power : 2 ^ length (drop j row) ≤ 2 ^ 7 = pow-le-pow_right (omega arith) short in
     omega arith
 
-pub number_cons : (v : ℕ → Bool) (l : Literal) (ls : List Literal) → number_of_row v (l ∷ ls) ≡ bit_of (literal_value v l) + 2 * number_of_row v ls
-unfolding number_of_row
-number_cons v l ls = refl
-
 pub number_more : (v : ℕ → Bool) (row : List Literal) (i j n : ℕ) (x : Literal) → i < length row → j ≡ i + 1 → x ≡ get_or row i x → n ≡ number_of_row v (drop j row)
     → bit_of (literal_value v x) + 2 * n ≡ number_of_row v (drop i row)
 number_more v row i j n x within next at above =
     sym (ap (number_of_row v) (opened row i x within at) ∙ number_cons v x (drop (i + 1) row)
     ∙ ap (λ m. bit_of (literal_value v x) + 2 * number_of_row v (drop m row)) (sym next) ∙ ap (λ m. bit_of (literal_value v x) + 2 * m) (sym above))
 
-number_none : (v : ℕ → Bool) → 0 ≡ number_of_row v []
-unfolding number_of_row
-number_none v = refl
-
 pub number_start : (v : ℕ → Bool) (row : List Literal) (i : ℕ) → length row ≤ i → 0 ≡ number_of_row v (drop i row)
-number_start v row i past = number_none v ∙ sym (ap (number_of_row v) (drop_all i row past))
+number_start v row i past = sym (ap (number_of_row v) (drop_all i row past) ∙ number_nil v)
