@@ -1,5 +1,5 @@
 -- A row moved by some places is its number shifted.
-use Rattle.std.proofs.Common.{◌≡◌, ℕ, zero, suc, ◌+◌, ◌-◌, ◌*◌, ◌/◌, ◌%◌, ◌^◌, ◌<◌, Bool, true, false, not, List, ◌∷◌, ◌++◌, length, take, drop, replicate, refl, ap, sym, ◌∙◌, arith}
+use Rattle.std.proofs.Common.{◌≡◌, ℕ, zero, suc, ◌+◌, ◌-◌, ◌*◌, ◌/◌, ◌%◌, ◌^◌, ◌<◌, Bool, true, false, not, List, ◌∷◌, ◌++◌, length, take, drop, replicate, refl, ap, sym, ◌∙◌, arith, zero-add}
 use Rattle.std.proofs.Math.Nat.{mul_comm}
 use Rattle.std.proofs.lemmas.List.{length-append, length-replicate, length-take-le, length-drop, map-append, drop-map}
 use Rattle.cnf_form.specs.Literals.{Literal, negation}
@@ -30,14 +30,11 @@ down_keeps fill w row by width less =
     length-append (drop by row) (replicate by fill)
     ∙ sum_down (length (drop by row)) by (length (replicate by fill)) w (length-drop by row ∙ ap (λ n. n - by) width) (length-replicate by fill) less
 
-none_first : (m : ℕ) → 0 + m ≡ m
-none_first m = omega arith
-
 up_moves : (v : ℕ → Bool) (fill : Literal) → literal_value v fill ≡ false → (w : ℕ) (row : List Literal) (by : ℕ) → length row ≡ w → by < w → number_of_row v (moved Up fill by row) ≡ up w (number_of_row v row) by
 up_moves v fill is w row by width less =
     number_append v (replicate by fill) (take (length row - by) row)
     ∙ ap (λ m. m + 2 ^ length (replicate by fill) * number_of_row v (take (length row - by) row)) (number_falses v by fill is)
-    ∙ none_first (2 ^ length (replicate by fill) * number_of_row v (take (length row - by) row))
+    ∙ zero-add (2 ^ length (replicate by fill) * number_of_row v (take (length row - by) row))
     ∙ ap (λ k. 2 ^ k * number_of_row v (take (length row - by) row)) (length-replicate by fill)
     ∙ ap (λ m. 2 ^ by * m) (number_take v (length row - by) row ∙ ap (λ k. number_of_row v row % 2 ^ (k - by)) width)
     ∙ mul_comm (2 ^ by) (number_of_row v row % 2 ^ (w - by))

@@ -1,3 +1,4 @@
+-- Products and divisions, walked place by place: what one place more makes, and where the walk begins or ends.
 use Rattle.std.proofs.Common.{◌≡◌, ℕ, ◌+◌, ◌<◌, ◌≤◌, List, [], ◌∷◌, ◌++◌, length, get_or, drop, refl, ap, sym, ◌∙◌, reverse}
 use Rattle.std.proofs.lemmas.List.{drop_all, reverse-append}
 use Rattle.cnf_form.specs.Literals.{Literal}

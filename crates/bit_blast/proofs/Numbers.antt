@@ -1,5 +1,5 @@
 -- Rows as numbers: their bounds, and what rows are worth that are put together, cut, copied or negated.
-use Rattle.std.proofs.Common.{◌≡◌, ℕ, zero, suc, ◌+◌, ◌*◌, ◌^◌, ◌/◌, ◌%◌, ◌==◌, ◌<◌, ◌≤◌, Bool, true, false, not, List, [], ◌∷◌, ◌++◌, length, take, drop, replicate, refl, ap, sym, ◌∙◌, arith}
+use Rattle.std.proofs.Common.{◌≡◌, ℕ, zero, suc, ◌+◌, ◌*◌, ◌^◌, ◌/◌, ◌%◌, ◌==◌, ◌<◌, ◌≤◌, Bool, true, false, not, List, [], ◌∷◌, ◌++◌, length, take, drop, replicate, refl, ap, sym, ◌∙◌, arith, add_comm}
 use Rattle.std.proofs.Math.Nat.{pow-succ', mul_assoc, mul_comm, zero-div, div-one, div-div-eq-div-mul, div-add-mod, mod-lt, mod-eq_of_lt}
 use Rattle.std.proofs.lemmas.Nat.{mod-mul-add, pow_pos}
 use Rattle.cnf_form.specs.Literals.{Literal, negation}
@@ -67,12 +67,8 @@ number_trues v (suc w) l is =
     rw (number_cons v l (replicate w l), is)
     (trues_step (number_of_row v (replicate w l)) (2 ^ w) (2 ^ suc w) (number_trues v w l is) (pow-succ' 2 w))
 
-nothing_above : (m p z : ℕ) → z ≡ 0 → m + p * z ≡ m
-nothing_above m p z is = rw is (omega arith)
-
 pub falses_above : (v : ℕ → Bool) (a : List Literal) (by : ℕ) (l : Literal) → literal_value v l ≡ false → number_of_row v (a ++ replicate by l) ≡ number_of_row v a
-falses_above v a by l is =
-    number_append v a (replicate by l) ∙ nothing_above (number_of_row v a) (2 ^ length a) (number_of_row v (replicate by l)) (number_falses v by l is)
+falses_above v a by l is = number_append v a (replicate by l) ∙ rw (number_falses v by l is) (omega arith)
 
 -- each literal negated
 negations_step : (x y m n p q : ℕ) → x + y ≡ 1 → m + n + 1 ≡ p → q ≡ 2 * p → x + 2 * m + (y + 2 * n) + 1 ≡ q
@@ -119,13 +115,10 @@ number_take v (suc k) (l ∷ ls) =
     number_cons v l (take k ls) ∙ ap (λ m. bit_of (literal_value v l) + 2 * m) (number_take v k ls)
     ∙ sym (ap (λ m. m % 2 ^ suc k) (number_cons v l ls) ∙ mod_step (bit_of (literal_value v l)) (number_of_row v ls) k (bit_small (literal_value v l)))
 
-turned : (n m r : ℕ) → m + r ≡ n → n ≡ r + m
-turned n m r all = omega arith
-
 -- a number by its low bits and those above
 pub number_split : (v : ℕ → Bool) (k : ℕ) (a : List Literal) → number_of_row v a ≡ number_of_row v (take k a) + 2 ^ k * number_of_row v (drop k a)
 number_split v k a =
-    rw (number_take v k a, number_drop v k a) (turned (number_of_row v a) (2 ^ k * (number_of_row v a / 2 ^ k)) (number_of_row v a % 2 ^ k) (div-add-mod (number_of_row v a) (2 ^ k)))
+    rw (number_take v k a, number_drop v k a) (sym (add_comm (number_of_row v a % 2 ^ k) (2 ^ k * (number_of_row v a / 2 ^ k)) ∙ div-add-mod (number_of_row v a) (2 ^ k)))
 
 -- a small number is what its low bits are
 pub number_low : (v : ℕ → Bool) (k : ℕ) (a : List Literal) → number_of_row v a < 2 ^ k → number_of_row v (take k a) ≡ number_of_row v a

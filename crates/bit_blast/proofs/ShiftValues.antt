@@ -1,5 +1,5 @@
 -- What the barrel shifter makes of the numbers of two rows.
-use Rattle.std.proofs.Common.{◌≡◌, ℕ, zero, suc, ◌+◌, ◌*◌, ◌^◌, ◌<◌, ◌≤◌, nat_lt, Bool, true, false, ◌||◌, if◌then◌else◌, List, [], ◌∷◌, length, replicate, fold, refl, ap, sym, subst, ◌∙◌, arith, inl, inr}
+use Rattle.std.proofs.Common.{◌≡◌, ℕ, zero, suc, ◌+◌, ◌*◌, ◌^◌, ◌<◌, ◌≤◌, nat_lt, Bool, true, false, ◌||◌, if◌then◌else◌, List, [], ◌∷◌, length, replicate, fold, refl, ap, sym, subst, ◌∙◌, arith, inl, inr, mul-zero, one-mul}
 use Rattle.std.proofs.Math.Nat.{mul_assoc, mul-one, mul-add, le-mul_of_pos_right}
 use Rattle.std.proofs.lemmas.Bool.{ltb-true, ltb-false, cases_Bool}
 use Rattle.std.proofs.lemmas.List.{length-replicate}
@@ -41,13 +41,10 @@ stage_big : (direction : Direction) (fill : Literal) (w : ℕ) (s : Stage) (b : 
 unfolding next_stage
 stage_big direction fill w s b is = rw is refl
 
-times_zero : (n : ℕ) → n * 0 ≡ 0
-times_zero n = omega arith
-
 -- the number after a stage that moves
 choice_is_shift : (S : ℕ → ℕ → ℕ) (n unit : ℕ) (b : Bool) → S n 0 ≡ n → (if b then S n unit else n) ≡ S n (unit * bit_of b)
 choice_is_shift S n unit true none = ap (S n) (sym (mul-one unit))
-choice_is_shift S n unit false none = sym (ap (S n) (times_zero unit) ∙ none)
+choice_is_shift S n unit false none = sym (ap (S n) (mul-zero unit) ∙ none)
 
 distance : (unit b m : ℕ) → unit * b + unit * 2 * m ≡ unit * (b + 2 * m)
 distance unit b m = ap (λ k. unit * b + k) (mul_assoc unit 2 m) ∙ sym (mul-add unit b (2 * m))
@@ -78,7 +75,7 @@ shifted_end v direction fill w S free move s width h =
       width_is = length_each (mux_gate s.big) (replicate (length s.row) fill) s.row s.formula same ∙ same ∙ width;
       is = choice_row_number v s.big (replicate (length s.row) fill) s.row s.formula same h
           ∙ ap (λ m. if literal_value v s.big then m else number_of_row v s.row) (ap (λ k. number_of_row v (replicate k fill)) width ∙ move.fills)
-          ∙ ap (λ m. if literal_value v s.big then free else m) (sym (ap (S (number_of_row v s.row)) (times_zero s.unit) ∙ move.shift.none (number_of_row v s.row) small));
+          ∙ ap (λ m. if literal_value v s.big then free else m) (sym (ap (S (number_of_row v s.row)) (mul-zero s.unit) ∙ move.shift.none (number_of_row v s.row) small));
     }
 
 -- what a stage and the bits left of the distance make of the stage's row
@@ -135,12 +132,9 @@ staged v direction fill w S free move (l ∷ b) s width h =
           (sym (stage_big direction fill w s l more)) (big_step v direction fill w S free move l b rest s width (ltb-false s.unit w more)) h
     ]
 
-one_times : (n : ℕ) → 1 * n ≡ n
-one_times n = omega arith
-
 shift_from : (S : ℕ → ℕ → ℕ) (free n far : ℕ) (t : Bool) → t ≡ false → (if t then free else S n (1 * far)) ≡ S n far
 shift_from S free n far true is = cc
-shift_from S free n far false is = ap (S n) (one_times far)
+shift_from S free n far false is = ap (S n) (one-mul far)
 
 -- a move by a barrel shifter is the shift by the distance's number
 pub shift_row_says : (v : ℕ → Bool) → v 1 ≡ true → (direction : Direction) (fill : Literal) (w : ℕ) (S : ℕ → ℕ → ℕ) (free : ℕ) → IsMove v direction fill w S free → (a b : List Literal) (f : Formula) → length a ≡ w

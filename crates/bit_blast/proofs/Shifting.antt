@@ -1,5 +1,5 @@
 -- The shifts of numbers of a width.
-use Rattle.std.proofs.Common.{◌≡◌, ℕ, ◌+◌, ◌-◌, ◌*◌, ◌/◌, ◌%◌, ◌^◌, ◌<◌, ◌≤◌, ap, sym, ◌∙◌, arith}
+use Rattle.std.proofs.Common.{◌≡◌, ℕ, ◌+◌, ◌-◌, ◌*◌, ◌/◌, ◌%◌, ◌^◌, ◌<◌, ◌≤◌, ap, sym, ◌∙◌, arith, add-zero}
 use Rattle.std.proofs.Math.Nat.{mul_assoc, div-one, mul-one, mul-mod_left, mod-eq_of_lt, div-eq_of_lt, div-le_self, pow-le-pow_right}
 use Rattle.std.proofs.lemmas.Nat.{pow-add, shl-shr, shr-shr, mod-pow-add, mul-mod_first, pow_pos}
 
@@ -48,14 +48,11 @@ down_all w n i small far = div-eq_of_lt (below_far w n i small far)
 pub down_is : (w : ℕ) → IsShift w down 0
 down_is w = record { none = λ n small. div-one n; more = shr-shr; all = down_all w }
 
-back_again : (p n : ℕ) → n < p → p - 1 - (p - 1 - n) ≡ n
-back_again p n small = omega arith
-
-down_ones_none : (w n : ℕ) → n < 2 ^ w → down_ones w n 0 ≡ n
-down_ones_none w n small = ap (λ m. 2 ^ w - 1 - m) (div-one (2 ^ w - 1 - n)) ∙ back_again (2 ^ w) n small
-
 inner_back : (p m : ℕ) → m ≤ p - 1 → p - 1 - (p - 1 - m) ≡ m
 inner_back p m low = omega arith
+
+down_ones_none : (w n : ℕ) → n < 2 ^ w → down_ones w n 0 ≡ n
+down_ones_none w n small = ap (λ m. 2 ^ w - 1 - m) (div-one (2 ^ w - 1 - n)) ∙ inner_back (2 ^ w) n (omega arith)
 
 inner_low : (p n q : ℕ) → q ≤ p - 1 - n → q ≤ p - 1
 inner_low p n q low = omega arith
@@ -80,11 +77,8 @@ pub down_ones_is : (w : ℕ) → IsShift w (down_ones w) (2 ^ w - 1)
 down_ones_is w = record { none = down_ones_none w; more = down_ones_more w; all = down_ones_all w }
 
 -- zeros below the lower places
-zero_more : (m q : ℕ) → q ≡ 0 → m + q ≡ m
-zero_more m q is = omega arith
-
 pub up_placed : (w n i : ℕ) → i ≤ w → up w n i ≡ n % 2 ^ (w - i) * 2 ^ i
 up_placed w n i within =
     ap (λ k. n * 2 ^ i % 2 ^ k) (apart i w within) ∙ mod-pow-add (n * 2 ^ i) (w - i) i
-    ∙ zero_more (n * 2 ^ i / 2 ^ i % 2 ^ (w - i) * 2 ^ i) (n * 2 ^ i % 2 ^ i) (mul-mod_left n (2 ^ i))
+    ∙ ap (λ m. n * 2 ^ i / 2 ^ i % 2 ^ (w - i) * 2 ^ i + m) (mul-mod_left n (2 ^ i)) ∙ add-zero (n * 2 ^ i / 2 ^ i % 2 ^ (w - i) * 2 ^ i)
     ∙ ap (λ m. m % 2 ^ (w - i) * 2 ^ i) (shl-shr n i)

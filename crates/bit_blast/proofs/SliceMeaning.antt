@@ -1,5 +1,5 @@
 -- Rows that are made without gates are the standard's.
-use Rattle.std.proofs.Common.{◌≡◌, ℕ, zero, suc, ◌+◌, ◌-◌, ◌*◌, ◌/◌, ◌%◌, ◌^◌, ◌<◌, ◌≤◌, nat_le, Bool, true, false, if◌then◌else◌, List, ◌++◌, length, take, drop, replicate, refl, ap, sym, ◌∙◌, arith}
+use Rattle.std.proofs.Common.{◌≡◌, ℕ, zero, suc, ◌+◌, ◌-◌, ◌*◌, ◌/◌, ◌%◌, ◌^◌, ◌<◌, ◌≤◌, nat_le, Bool, true, false, if◌then◌else◌, List, ◌++◌, length, take, drop, replicate, refl, ap, sym, ◌∙◌, arith, add_comm}
 use Rattle.std.proofs.Math.Nat.{mul_comm, mul-add, mul-one}
 use Rattle.std.proofs.lemmas.Nat.{pow-add, field_of}
 use Rattle.std.proofs.lemmas.List.{length-append, length-replicate, length-take-le, length-drop, length-map}
@@ -75,11 +75,8 @@ sign_extend_means v by a some =
     word _ _ _ _ (copies_length a by (top_of a)) (extended v by a (top_of a) (nat_le (2 ^ (length a - 1)) (number_of_row v a)) (sym top.sign))
 
 -- one row above another
-turned : (m n : ℕ) → m + n ≡ n + m
-turned m n = omega arith
-
 pub concat_means : (v : ℕ → Bool) (high low : List Literal) → word_of v (low ++ high) ≡ concat (word_of v high) (word_of v low)
 unfolding concat
 concat_means v high low =
-    word _ _ _ _ (length-append low high ∙ turned (length low) (length high))
-    (number_append v low high ∙ turned (number_of_row v low) (2 ^ length low * number_of_row v high) ∙ ap (λ m. m + number_of_row v low) (mul_comm (2 ^ length low) (number_of_row v high)))
+    word _ _ _ _ (length-append low high ∙ add_comm (length low) (length high))
+    (number_append v low high ∙ add_comm (number_of_row v low) (2 ^ length low * number_of_row v high) ∙ ap (λ m. m + number_of_row v low) (mul_comm (2 ^ length low) (number_of_row v high)))

@@ -1,5 +1,5 @@
 -- Sums, differences and negations are the standard's.
-use Rattle.std.proofs.Common.{◌≡◌, ℕ, ◌+◌, ◌-◌, ◌*◌, ◌^◌, ◌%◌, ◌<◌, Bool, true, false, List, length, ap, sym, ◌∙◌, arith}
+use Rattle.std.proofs.Common.{◌≡◌, ℕ, ◌+◌, ◌-◌, ◌*◌, ◌^◌, ◌%◌, ◌<◌, Bool, true, false, List, length, ap, sym, ◌∙◌, arith, zero-add, add-zero}
 use Rattle.std.proofs.Math.Nat.{add-mul-mod_self_left, mod-eq_of_lt}
 use Rattle.std.proofs.lemmas.List.{length-map, length-replicate}
 use Rattle.cnf_form.specs.Literals.{Literal, negation}
@@ -24,15 +24,12 @@ sums_number v a b c f same is =
     modulo (length a) (number_of_row v (adder a b c f).sums) (bit_of (literal_value v (adder a b c f).carry)) (number_of_row v a + number_of_row v b + bit_of (literal_value v c))
     (number_below v (adder a b c f).sums (length a) (adder_length a b c f same)) (adder_number v a b c f same is)
 
-no_carry : (n c : ℕ) → c ≡ 0 → n + c ≡ n
-no_carry n c none = omega arith
-
 pub add_means : (v : ℕ → Bool) (a b : List Literal) (f : Formula) → v 1 ≡ true → length a ≡ length b → Holds v (add_row a b f).1 → word_of v (add_row a b f).0 ≡ bvadd (word_of v a) (word_of v b)
 unfolding bvadd
 add_means v a b f truth same is =
     word _ _ _ _ (adder_length a b (constant false) f same)
     (sums_number v a b (constant false) f same is
-    ∙ ap (λ n. n % 2 ^ length a) (no_carry (number_of_row v a + number_of_row v b) (bit_of (literal_value v (constant false))) (ap bit_of (constant_value v truth false))))
+    ∙ ap (λ n. n % 2 ^ length a) (ap (λ c. number_of_row v a + number_of_row v b + bit_of c) (constant_value v truth false) ∙ add-zero (number_of_row v a + number_of_row v b)))
 
 with_carry : (a m b p c : ℕ) → c ≡ 1 → m + b + 1 ≡ p → a + m + c ≡ a + (p - b)
 with_carry a m b p c one all = omega arith
@@ -46,10 +43,7 @@ sub_means v a b f truth same is =
     ∙ ap (λ n. n % 2 ^ length a) (with_carry (number_of_row v a) (number_of_row v (negations b)) (number_of_row v b) (2 ^ length b) (bit_of (literal_value v (constant true))) (ap bit_of (constant_value v truth true)) (number_negations v b)))
 
 from_zero : (n m w x : ℕ) → n ≡ 0 → w ≡ x → nat2bv w (n + m) ≡ nat2bv x m
-from_zero n m w x none widths = rw (none, widths) (ap (λ k. nat2bv x k) (zero_first m))
-  where
-    zero_first : (k : ℕ) → 0 + k ≡ k
-    zero_first k = omega arith
+from_zero n m w x none widths = rw (none, widths) (ap (λ k. nat2bv x k) (zero-add m))
 
 pub neg_means : (v : ℕ → Bool) (a : List Literal) (f : Formula) → v 1 ≡ true → Holds v (neg_row a f).1 → word_of v (neg_row a f).0 ≡ bvneg (word_of v a)
 unfolding bvneg bvsub

@@ -1,3 +1,4 @@
+-- What a walk over two rows has made, in front of what it makes of the rest.
 use Rattle.std.proofs.Common.{◌≡◌, ℕ, ◌+◌, ◌<◌, ◌≤◌, min, List, [], ◌∷◌, ◌++◌, length, get_or, drop, refl, ap, sym, ◌∙◌, arith, append_assoc, append-nil, inl, inr}
 use Rattle.std.proofs.lemmas.List.{drop_all, drop_more}
 use Rattle.std.proofs.lemmas.Bool.{cases_lt}
@@ -5,8 +6,6 @@ use Rattle.cnf_form.specs.Literals.{Literal, negation}
 use Rattle.bit_blast.specs.Formulas.{Formula}
 use Rattle.bit_blast.specs.Gates.{and_gate, xor_gate, xor3_gate, majority_gate}
 use Rattle.bit_blast.specs.Rows.{each, adder, Sum, equal_from}
-
--- What a walk over two rows has made, in front of what it makes of the rest.
 
 abbrev pub with_before : List Literal → List Literal × Formula → List Literal × Formula
 with_before front made = (front ++ made.0, made.1)
