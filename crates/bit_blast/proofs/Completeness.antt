@@ -21,7 +21,7 @@ use Rattle.bit_blast.proofs.EarlierClauses.{Holds}
 use Rattle.bit_blast.proofs.Words.{words_of}
 use Rattle.bit_blast.proofs.InputBytes.{Inputs, input_at, AreBytes, AreKept, byte_at, bytes_in, no_bytes, nodes_bytes, nodes_kept}
 use Rattle.bit_blast.proofs.CircuitMeaning.{FitFrom, fits_later, values_from}
-use Rattle.bit_blast.proofs.Solutions.{asserted_bit, circuit_words, in_turn, start_fits}
+use Rattle.bit_blast.proofs.Solutions.{asserted_means, circuit_words, in_turn, start_fits}
 use Rattle.bit_blast.proofs.Assigning.{condition_has}
 
 -- Each input byte of a term has literals behind it.
@@ -71,21 +71,9 @@ same_values q v input dag worth =
     eight : (row : List Literal) → length row ≡ 8 → take 8 row ≡ row
     eight row is = take_all 8 row (omega (arith, is))
 
--- what is asserted is satisfied
-asserted_hold : (v : ℕ → Bool) (graph : Graph) (input : List ℕ) (rows : List (List Literal)) (ids : List ℕ) (f : Formula) → words_of v rows ≡ values input graph.nodes → AreBits graph ids
-    → list_all (λ id. number_of graph id input == 1) ids ≡ true → Holds v f → Holds v (with_asserted rows ids f)
-unfolding with_asserted
-asserted_hold v graph input rows [] f words bits each h = h
-asserted_hold v graph input rows (id ∷ ids) f words bits each h =
-    let both = and_parts (number_of graph id input == 1) (list_all (λ id. number_of graph id input == 1) ids) each in
-    let first : width_of graph id ≡ 1 = bits 0 id (omega arith) in
-    let l : Literal = lowest_of (row_at rows id) in
-    let next : Holds v (with_clause (l ∷ []) f) = one_added v l f ∙ and_from _ _ h (asserted_bit v graph input rows id words first ∙ both.0) in
-    asserted_hold v graph input rows ids (with_clause (l ∷ []) f) words (λ k d within. bits (suc k) d (omega arith)) both.1 next
-
 pub has_valuation : (q : Condition) (input : List ℕ) → IsDag q.graph → AreBits q.graph q.asserted → All (λ b. b < 256) input → holds q input ≡ true → (v : ℕ → Bool) × (satisfies v (clauses q) ≡ true)
 unfolding clauses
 has_valuation q input dag bits small is =
     let has = condition_has q input small in
     let words = circuit_words q has.valuation dag has.truth has.satisfied ∙ same_values q has.valuation input dag has.worth in
-    (has.valuation, asserted_hold has.valuation q.graph input (circuit_of q).rows q.asserted (circuit_of q).formula words bits (and_parts _ _ is).1 has.satisfied)
+    (has.valuation, asserted_means has.valuation q.graph input (circuit_of q).rows q.asserted (circuit_of q).formula words bits ∙ and_from _ _ has.satisfied (and_parts _ _ is).1)

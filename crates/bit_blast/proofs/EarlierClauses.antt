@@ -176,13 +176,9 @@ asserted_before v rows [] f h = h
 asserted_before v rows (id ∷ ids) f h =
     clause_before v (lowest_of (row_at rows id) ∷ []) f (asserted_before v rows ids (with_clause (lowest_of (row_at rows id) ∷ []) f) h)
 
--- a clause of one literal
-pub one_true : (v : ℕ → Bool) (l : Literal) (f : Formula) → Holds v (with_clause (l ∷ []) f) → literal_value v l ≡ true
-one_true v l f h = (and_parts _ _ (sym (one_added v l f) ∙ h)).1
-
 first_true : (v : ℕ → Bool) → Holds v only_truth → v 1 ≡ true
 unfolding only_truth
-first_true v h = sym (same_true (v 1)) ∙ one_true v (constant true) (record { variables = 1; clauses = [] }) h
+first_true v h = sym (same_true (v 1)) ∙ (and_parts _ _ (sym (one_added v (constant true) (record { variables = 1; clauses = [] })) ∙ h)).1
 
 -- so the first clause holds
 pub truth_before : (q : Condition) (v : ℕ → Bool) → satisfies v (clauses q) ≡ true → v 1 ≡ true

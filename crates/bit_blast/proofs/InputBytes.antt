@@ -64,68 +64,41 @@ new_bytes inputs i row bytes eight = record {
   ];
 }
 
--- a step keeps the input bytes that have occurred, and their number
-same_kept : (inputs : Inputs) → AreKept inputs inputs
-same_kept inputs = record { each = λ i row is. is }
+-- what holds of the input bytes holds after a term, if it holds after one more
+input_case : (P : Inputs → Type 0) (c : Circuit) (i : ℕ) (o : Option (List Literal)) → input_at c.inputs i ≡ o → P c.inputs → (input_at c.inputs i ≡ None → P (set c.inputs i (Some (fresh_row 8 c.formula).0))) → P (with_input o c i).inputs
+input_case P c i None is old new = new is
+input_case P c i (Some row) is old new = old
 
-input_kept : (c : Circuit) (i : ℕ) (o : Option (List Literal)) → input_at c.inputs i ≡ o → AreKept c.inputs (with_input o c i).inputs
-input_kept c i None is = new_kept c.inputs i (fresh_row 8 c.formula).0 is
-input_kept c i (Some row) is = same_kept c.inputs
-
-node_kept : (c : Circuit) (n : Node) → AreKept c.inputs (with_node c n).inputs
+node_case : (P : Inputs → Type 0) (c : Circuit) (n : Node) → P c.inputs → ((i : ℕ) → input_at c.inputs i ≡ None → P (set c.inputs i (Some (fresh_row 8 c.formula).0))) → P (with_node c n).inputs
 unfolding with_node
-node_kept c (Num w m) = same_kept c.inputs
-node_kept c (Input i) = input_kept c i (input_at c.inputs i) refl
-node_kept c (Not a) = same_kept c.inputs
-node_kept c (Neg a) = same_kept c.inputs
-node_kept c (Binary op a b) = same_kept c.inputs
-node_kept c (Compare op a b) = same_kept c.inputs
-node_kept c (Ite t a b) = same_kept c.inputs
-node_kept c (Extract high low a) = same_kept c.inputs
-node_kept c (Extend by signed a) = same_kept c.inputs
-node_kept c (Concat high low) = same_kept c.inputs
+node_case P c (Num w m) old new = old
+node_case P c (Input i) old new = input_case P c i (input_at c.inputs i) refl old (new i)
+node_case P c (Not a) old new = old
+node_case P c (Neg a) old new = old
+node_case P c (Binary op a b) old new = old
+node_case P c (Compare op a b) old new = old
+node_case P c (Ite t a b) old new = old
+node_case P c (Extract high low a) old new = old
+node_case P c (Extend by signed a) old new = old
+node_case P c (Concat high low) old new = old
 
-pub nodes_kept : (nodes : List Node) (c : Circuit) → AreKept c.inputs (fold with_node c nodes).inputs
-nodes_kept [] c = same_kept c.inputs
-nodes_kept (n ∷ nodes) c = record { each = λ i row is. (nodes_kept nodes (with_node c n)).each i row ((node_kept c n).each i row is) }
-
-input_count : (c : Circuit) (i : ℕ) (o : Option (List Literal)) → length (with_input o c i).inputs ≡ length c.inputs
-input_count c i None = length-set c.inputs i (Some (fresh_row 8 c.formula).0)
-input_count c i (Some row) = refl
+-- a term keeps the input bytes that have occurred, their number, and that each has eight literals
+node_kept : (c : Circuit) (n : Node) → AreKept c.inputs (with_node c n).inputs
+node_kept c n = node_case (AreKept c.inputs) c n (record { each = λ i row is. is }) (λ i none. new_kept c.inputs i (fresh_row 8 c.formula).0 none)
 
 pub node_count : (c : Circuit) (n : Node) → length (with_node c n).inputs ≡ length c.inputs
-unfolding with_node
-node_count c (Num w m) = refl
-node_count c (Input i) = input_count c i (input_at c.inputs i)
-node_count c (Not a) = refl
-node_count c (Neg a) = refl
-node_count c (Binary op a b) = refl
-node_count c (Compare op a b) = refl
-node_count c (Ite t a b) = refl
-node_count c (Extract high low a) = refl
-node_count c (Extend by signed a) = refl
-node_count c (Concat high low) = refl
+node_count c n = node_case (λ inputs. length inputs ≡ length c.inputs) c n refl (λ i none. length-set c.inputs i (Some (fresh_row 8 c.formula).0))
+
+pub node_bytes : (c : Circuit) (n : Node) → AreBytes c.inputs → AreBytes (with_node c n).inputs
+node_bytes c n bytes = node_case AreBytes c n bytes (λ i none. new_bytes c.inputs i (fresh_row 8 c.formula).0 bytes (length_fresh 8 c.formula))
+
+pub nodes_kept : (nodes : List Node) (c : Circuit) → AreKept c.inputs (fold with_node c nodes).inputs
+nodes_kept [] c = record { each = λ i row is. is }
+nodes_kept (n ∷ nodes) c = record { each = λ i row is. (nodes_kept nodes (with_node c n)).each i row ((node_kept c n).each i row is) }
 
 pub nodes_count : (nodes : List Node) (c : Circuit) → length (fold with_node c nodes).inputs ≡ length c.inputs
 nodes_count [] c = refl
 nodes_count (n ∷ nodes) c = nodes_count nodes (with_node c n) ∙ node_count c n
-
-input_bytes : (c : Circuit) (i : ℕ) (o : Option (List Literal)) → AreBytes c.inputs → AreBytes (with_input o c i).inputs
-input_bytes c i None bytes = new_bytes c.inputs i (fresh_row 8 c.formula).0 bytes (length_fresh 8 c.formula)
-input_bytes c i (Some row) bytes = bytes
-
-pub node_bytes : (c : Circuit) (n : Node) → AreBytes c.inputs → AreBytes (with_node c n).inputs
-unfolding with_node
-node_bytes c (Num w m) bytes = bytes
-node_bytes c (Input i) bytes = input_bytes c i (input_at c.inputs i) bytes
-node_bytes c (Not a) bytes = bytes
-node_bytes c (Neg a) bytes = bytes
-node_bytes c (Binary op a b) bytes = bytes
-node_bytes c (Compare op a b) bytes = bytes
-node_bytes c (Ite t a b) bytes = bytes
-node_bytes c (Extract high low a) bytes = bytes
-node_bytes c (Extend by signed a) bytes = bytes
-node_bytes c (Concat high low) bytes = bytes
 
 pub nodes_bytes : (nodes : List Node) (c : Circuit) → AreBytes c.inputs → AreBytes (fold with_node c nodes).inputs
 nodes_bytes [] c bytes = bytes

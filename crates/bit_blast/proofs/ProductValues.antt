@@ -1,5 +1,5 @@
 -- The product of two rows is the standard's.
-use Rattle.std.proofs.Common.{◌≡◌, ℕ, ◌+◌, ◌-◌, ◌*◌, ◌^◌, ◌%◌, ◌<◌, ◌≤◌, Bool, true, false, cond, add-one, List, [], ◌∷◌, length, take, drop, replicate, ap, sym, ◌∙◌, arith}
+use Rattle.std.proofs.Common.{◌≡◌, ℕ, ◌+◌, ◌-◌, ◌*◌, ◌^◌, ◌%◌, ◌<◌, ◌≤◌, Bool, true, false, if◌then◌else◌, add-one, List, [], ◌∷◌, length, take, drop, replicate, ap, sym, ◌∙◌, arith}
 use Rattle.std.proofs.Math.Nat.{pow-succ'}
 use Rattle.std.proofs.lemmas.Nat.{pow-add}
 use Rattle.std.proofs.lemmas.List.{length-append, length-replicate, length-take-le}
@@ -20,7 +20,7 @@ use Rattle.bit_blast.proofs.AdderValues.{adder_number, adder_length}
 use Rattle.bit_blast.proofs.PlaceByPlace.{length_each, masked_row_number}
 use Rattle.bit_blast.proofs.SumMeaning.{modulo}
 
-product_step : (W P Q A t d T S R p k c N : ℕ) (b : Bool) → A ≡ t + Q * d → W ≡ P * Q → p ≡ P * cond b t 0 → S + W * c ≡ T + p → R + W * k ≡ S + (2 * P) * A * N
+product_step : (W P Q A t d T S R p k c N : ℕ) (b : Bool) → A ≡ t + Q * d → W ≡ P * Q → p ≡ P * (if b then t else 0) → S + W * c ≡ T + p → R + W * k ≡ S + (2 * P) * A * N
     → (n : ℕ) × (R + W * n ≡ T + P * A * (bit_of b + 2 * N))
 product_step W P Q A t d T S R p k c N true split power partial sum rest =
     let whole : P * A ≡ P * t + W * d = rw (split, power) (omega arith) in
@@ -41,11 +41,11 @@ partial_length a low b f within =
 
 -- what one bit of b adds
 partial_number : (v : ℕ → Bool) (a : List Literal) (low : ℕ) (b : Literal) (f : Formula) → v 1 ≡ true → low ≤ length a → Holds v (partial_row a low b f).1
-    → number_of_row v (partial_row a low b f).0 ≡ 2 ^ low * cond (literal_value v b) (number_of_row v (take (length a - low) a)) 0
+    → number_of_row v (partial_row a low b f).0 ≡ 2 ^ low * (if literal_value v b then number_of_row v (take (length a - low) a) else 0)
 unfolding partial_row
 partial_number v a low b f truth within h =
     let n = length a - low in
-    let made : number_of_row v (each and_gate (take n a) (replicate n b) f).0 ≡ cond (literal_value v b) (number_of_row v (take n a)) 0 = masked_row_number v b (take n a) n f (length-take-le n a (omega arith)) h in
+    let made : number_of_row v (each and_gate (take n a) (replicate n b) f).0 ≡ (if literal_value v b then number_of_row v (take n a) else 0) = masked_row_number v b (take n a) n f (length-take-le n a (omega arith)) h in
     let none : number_of_row v (zeros low) ≡ 0 = number_falses v low (constant false) (constant_value v truth false) in
     let up : length (zeros low) ≡ low = length-replicate low (constant false) in
     number_append v (zeros low) (each and_gate (take n a) (replicate n b) f).0 ∙ rw (none, up, made) (omega arith)
@@ -67,7 +67,7 @@ products_number v a (b ∷ bs) total low f truth within same h =
     let added : number_of_row v s.sums + 2 ^ length total * bit_of (literal_value v s.carry) ≡ number_of_row v total + number_of_row v p.0 + bit_of (literal_value v (constant false)) = adder_number v total p.0 (constant false) p.1 alike after in
     let sum : number_of_row v s.sums + 2 ^ length a * bit_of (literal_value v s.carry) ≡ number_of_row v total + number_of_row v p.0 =
     rw (← same) (added ∙ rw (constant_value v truth false) (omega arith)) in
-    let one : number_of_row v p.0 ≡ 2 ^ low * cond (literal_value v b) (number_of_row v (take n a)) 0 = partial_number v a low b f truth (omega arith) (adder_before v total p.0 (constant false) p.1 after) in
+    let one : number_of_row v p.0 ≡ 2 ^ low * (if literal_value v b then number_of_row v (take n a) else 0) = partial_number v a low b f truth (omega arith) (adder_before v total p.0 (constant false) p.1 after) in
     let power : 2 ^ length a ≡ 2 ^ low * 2 ^ n = ap (λ k. 2 ^ k) (parts (length a) low (omega arith)) ∙ pow-add 2 low n in
     let step : 2 ^ (low + 1) ≡ 2 * 2 ^ low = ap (λ k. 2 ^ k) (add-one low) ∙ pow-succ' 2 low in
     rw (number_cons v b bs) (product_step _ _ (2 ^ n) (number_of_row v a) (number_of_row v (take n a)) (number_of_row v (drop n a)) _ (number_of_row v s.sums) _ (number_of_row v p.0) rest.0 (bit_of (literal_value v s.carry)) (number_of_row v bs) (literal_value v b)

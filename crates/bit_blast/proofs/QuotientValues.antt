@@ -1,5 +1,5 @@
 -- The quotient and the rest of two rows are the standard's.
-use Rattle.std.proofs.Common.{◌≡◌, ℕ, zero, suc, ◌+◌, ◌-◌, ◌*◌, ◌/◌, ◌%◌, ◌==◌, ◌^◌, ◌<◌, ◌≤◌, Bool, true, false, cond, if◌then◌else◌, List, [], ◌∷◌, ◌++◌, length, take, refl, ap, sym, ◌∙◌, arith}
+use Rattle.std.proofs.Common.{◌≡◌, ℕ, zero, suc, ◌+◌, ◌-◌, ◌*◌, ◌/◌, ◌%◌, ◌==◌, ◌^◌, ◌<◌, ◌≤◌, Bool, true, false, if◌then◌else◌, List, [], ◌∷◌, ◌++◌, length, take, refl, ap, sym, ◌∙◌, arith}
 use Rattle.std.proofs.Math.Nat.{pow-le-pow_right, pow-succ'}
 use Rattle.std.proofs.lemmas.Nat.{div-mul-add, mod-mul-add}
 use Rattle.std.proofs.lemmas.Bool.{eqb-true, eqb-false}
@@ -28,7 +28,7 @@ record IsDivided (quotient rest dividend divisor above : ℕ) : Type 0 where
 
 -- the next bit: the divisor is taken from the rest where it can be
 one_bit_more : (q r a d p m s x : ℕ) (b : Bool) → IsDivided q r a d p → x ≤ 1 → s < m → s + d + m * bit_of b ≡ (x + 2 * r) + m
-    → IsDivided (bit_of b + 2 * q) (cond b s (x + 2 * r)) (x + 2 * a) d (2 * p)
+    → IsDivided (bit_of b + 2 * q) (if b then s else x + 2 * r) (x + 2 * a) d (2 * p)
 one_bit_more q r a d p m s x true is bit within difference = record {
   exact = let e = is.exact in omega arith;
   small = λ some. let below : r < d = is.small some in omega arith;
@@ -76,7 +76,7 @@ record IsStep (v : ℕ → Bool) (x : Literal) (rest : List Literal) (divisor mo
   taken : ℕ
   within : taken < modulus
   is_taken : taken + divisor + modulus * bit_of (literal_value v made.bit) ≡ brought_number v x rest + modulus
-  left : number_of_row v made.rest ≡ cond (literal_value v made.bit) taken (brought_number v x rest)
+  left : number_of_row v made.rest ≡ (if literal_value v made.bit then taken else brought_number v x rest)
 
 step_number : (v : ℕ → Bool) (x : Literal) (negated rest : List Literal) (f : Formula) (d w : ℕ) → v 1 ≡ true → length negated ≡ w + 1 → length rest ≡ w + 1
     → number_of_row v negated + d + 1 ≡ 2 ^ (w + 1) → number_of_row v rest < 2 ^ w → Holds v (division_step x negated rest f).formula
@@ -99,7 +99,7 @@ step_number v x negated rest f d w truth long_divisor long divisor small h =
       taken = number_of_row v s.sums;
       within = number_below v s.sums (w + 1) sums;
       is_taken = difference (number_of_row v s.sums) (2 ^ (w + 1) * bit_of (literal_value v s.carry)) (brought_number v x rest) (number_of_row v negated) d (2 ^ (w + 1)) _ sum (ap bit_of (constant_value v truth true)) divisor;
-      left = chosen ∙ ap (λ n. cond (literal_value v s.carry) (number_of_row v s.sums) n) is;
+      left = chosen ∙ ap (λ n. if literal_value v s.carry then number_of_row v s.sums else n) is;
     }
 
 step_length : (x : Literal) (negated rest : List Literal) (f : Formula) (w : ℕ) → length negated ≡ w + 1 → length rest ≡ w + 1 → length (division_step x negated rest f).rest ≡ w + 1

@@ -1,7 +1,7 @@
 -- The bytes that a satisfying valuation means are a solution of the condition.
-use Rattle.std.proofs.Common.{◌≡◌, ℕ, suc, ◌==◌, Bool, true, List, [], ◌∷◌, length, get_or, map, fold, None, refl, ap, sym, subst, ◌∙◌, arith}
+use Rattle.std.proofs.Common.{◌≡◌, ℕ, suc, ◌==◌, ◌&&◌, Bool, true, List, [], ◌∷◌, length, get_or, map, fold, None, refl, ap, sym, subst, ◌∙◌, arith}
 use Rattle.std.specs.List.{list_all}
-use Rattle.std.proofs.lemmas.Bool.{and_from, eq-eqb}
+use Rattle.std.proofs.lemmas.Bool.{and_parts, and_from, eq-eqb}
 use Rattle.std.proofs.lemmas.List.{length-map, length-replicate}
 use Rattle.cnf_form.specs.Literals.{Literal}
 use Rattle.cnf_form.specs.Valuations.{literal_value, satisfies}
@@ -14,7 +14,9 @@ use Rattle.bv_dag.proofs.Values.{map-width-values}
 use Rattle.bit_blast.specs.Formulas.{Formula, with_clause}
 use Rattle.bit_blast.specs.Bytes.{number_of_row, byte_of, bytes_of}
 use Rattle.bit_blast.specs.Circuits.{Circuit, row_at, lowest_of, with_node, no_terms, circuit_of, with_asserted, clauses}
-use Rattle.bit_blast.proofs.EarlierClauses.{Holds, one_true, asserted_before, truth_before}
+use Rattle.bit_blast.proofs.Truths.{and_true, and_assoc}
+use Rattle.bit_blast.proofs.GateMeaning.{one_added}
+use Rattle.bit_blast.proofs.EarlierClauses.{Holds, asserted_before, truth_before}
 use Rattle.bit_blast.proofs.Words.{one_bit_number, words_of, row_word, row_width}
 use Rattle.bit_blast.proofs.InputBytes.{bytes_in, nodes_count, no_bytes}
 use Rattle.bit_blast.proofs.CircuitMeaning.{FitFrom, values_from, rows_mean}
@@ -44,8 +46,8 @@ unfolding circuit_of bytes_of
 bytes_count q v =
     length-map (circuit_of q).inputs (byte_of v) ∙ nodes_count q.graph.nodes (no_terms q.graph.inputs) ∙ length-replicate q.graph.inputs None
 
--- each literal is true that is asserted
-pub asserted_bit : (v : ℕ → Bool) (graph : Graph) (input : List ℕ) (rows : List (List Literal)) (id : ℕ) → words_of v rows ≡ values input graph.nodes → width_of graph id ≡ 1
+-- a condition's clauses say that its terms are made so, and that each is 1 that is asserted
+asserted_bit : (v : ℕ → Bool) (graph : Graph) (input : List ℕ) (rows : List (List Literal)) (id : ℕ) → words_of v rows ≡ values input graph.nodes → width_of graph id ≡ 1
     → literal_value v (lowest_of (row_at rows id)) ≡ (number_of graph id input == 1)
 asserted_bit v graph input rows id words one =
     let width_is : length (row_at rows id) ≡ 1
@@ -54,17 +56,16 @@ asserted_bit v graph input rows id words one =
     = ap (λ (s : BitVector). s.number) (row_word v rows id) ∙ ap (λ (ws : List BitVector). (word_at ws id).number) words in
     one_bit_number v (row_at rows id) width_is ∙ ap (λ m. m == 1) same
 
-each_is_one : (v : ℕ → Bool) (graph : Graph) (input : List ℕ) (rows : List (List Literal)) (ids : List ℕ) (f : Formula) → words_of v rows ≡ values input graph.nodes → AreBits graph ids
-    → Holds v (with_asserted rows ids f) → list_all (λ id. number_of graph id input == 1) ids ≡ true
+pub asserted_means : (v : ℕ → Bool) (graph : Graph) (input : List ℕ) (rows : List (List Literal)) (ids : List ℕ) (f : Formula) → words_of v rows ≡ values input graph.nodes → AreBits graph ids
+    → satisfies v (with_asserted rows ids f).clauses ≡ (satisfies v f.clauses && list_all (λ id. number_of graph id input == 1) ids)
 unfolding with_asserted
-each_is_one v graph input rows [] f words bits h = refl
-each_is_one v graph input rows (id ∷ ids) f words bits h =
+asserted_means v graph input rows [] f words bits = sym (and_true (satisfies v f.clauses))
+asserted_means v graph input rows (id ∷ ids) f words bits =
+    let l : Literal = lowest_of (row_at rows id) in
     let first : width_of graph id ≡ 1 = bits 0 id (omega arith) in
-    let truth : literal_value v (lowest_of (row_at rows id)) ≡ true
-    = one_true v (lowest_of (row_at rows id)) f (asserted_before v rows ids (with_clause (lowest_of (row_at rows id) ∷ []) f) h) in
-    and_from _ _
-    (sym (asserted_bit v graph input rows id words first) ∙ truth)
-    (each_is_one v graph input rows ids (with_clause (lowest_of (row_at rows id) ∷ []) f) words (λ k d within. bits (suc k) d (omega arith)) h)
+    asserted_means v graph input rows ids (with_clause (l ∷ []) f) words (λ k d within. bits (suc k) d (omega arith))
+    ∙ ap (λ b. b && list_all (λ id. number_of graph id input == 1) ids) (one_added v l f ∙ ap (λ b. satisfies v f.clauses && b) (asserted_bit v graph input rows id words first))
+    ∙ and_assoc (satisfies v f.clauses) (number_of graph id input == 1) (list_all (λ id. number_of graph id input == 1) ids)
 
 pub solution : (q : Condition) (v : ℕ → Bool) → IsDag q.graph → AreBits q.graph q.asserted → satisfies v (clauses q) ≡ true → holds q (bytes_of q v) ≡ true
 unfolding clauses
@@ -72,4 +73,4 @@ solution q v dag bits h =
     let circuit : Holds v (circuit_of q).formula = asserted_before v (circuit_of q).rows q.asserted (circuit_of q).formula h in
     let words : words_of v (circuit_of q).rows ≡ values (bytes_of q v) q.graph.nodes = circuit_words q v dag (truth_before q v h) circuit in
     and_from _ _ (eq-eqb _ _ (bytes_count q v))
-    (each_is_one v q.graph (bytes_of q v) (circuit_of q).rows q.asserted (circuit_of q).formula words bits h)
+    (and_parts _ _ (sym (asserted_means v q.graph (bytes_of q v) (circuit_of q).rows q.asserted (circuit_of q).formula words bits) ∙ h)).1
