@@ -15,13 +15,12 @@ use Rattle.bit_blast.specs.Circuits.{Circuit, with_input, with_node}
 use Rattle.bit_blast.specs.Meaning.{word_of}
 use Rattle.bit_blast.proofs.EarlierClauses.{Holds, nodes_before}
 use Rattle.bit_blast.proofs.Words.{word, words_of}
-use Rattle.bit_blast.proofs.InputBytes.{Inputs, input_at, AreKept, AreBytes, length_fresh, nodes_kept, node_count, node_bytes, bytes_in, byte_at}
+use Rattle.bit_blast.proofs.InputBytes.{Inputs, input_at, AreKept, AreBytes, length_fresh, nodes_kept, node_count, node_bytes, bytes_in, byte_is}
 use Rattle.bit_blast.proofs.NodeMeaning.{num_means, not_term, neg_term, binary_term, compare_term, ite_term, extract_term, extend_term, concat_term}
 
 byte_row : (v : ℕ → Bool) (all : Inputs) (i : ℕ) (row : List Literal) → length row ≡ 8 → input_at all i ≡ Some row → word_of v row ≡ record { width = 8; number = slice_index (bytes_in v all) i }
 byte_row v all i row eight is =
-    word (length row) 8 (number_of_row v row) (slice_index (bytes_in v all) i) eight
-    (sym (byte_at v all i ∙ ap (byte_of v) is ∙ ap (number_of_row v) (take_all 8 row (omega arith))))
+    word (length row) 8 (number_of_row v row) (slice_index (bytes_in v all) i) eight (sym (byte_is v all i row eight is))
 
 -- one more term
 pushed : (v : ℕ → Bool) (c : Circuit) (row : List Literal) (w : BitVector) → word_of v row ≡ w → words_of v (c.rows ++ row ∷ []) ≡ words_of v c.rows ++ w ∷ []

@@ -19,7 +19,7 @@ use Rattle.bit_blast.specs.Circuits.{Circuit, row_at, lowest_of, with_input, wit
 use Rattle.bit_blast.proofs.GateMeaning.{one_added}
 use Rattle.bit_blast.proofs.EarlierClauses.{Holds}
 use Rattle.bit_blast.proofs.Words.{words_of}
-use Rattle.bit_blast.proofs.InputBytes.{Inputs, input_at, AreBytes, AreKept, byte_at, bytes_in, no_bytes, nodes_bytes, nodes_kept}
+use Rattle.bit_blast.proofs.InputBytes.{Inputs, input_at, AreBytes, AreKept, byte_is, bytes_in, no_bytes, nodes_bytes, nodes_kept}
 use Rattle.bit_blast.proofs.CircuitMeaning.{FitFrom, fits_later, values_from}
 use Rattle.bit_blast.proofs.Solutions.{asserted_means, circuit_words, in_turn, start_fits}
 use Rattle.bit_blast.proofs.Assigning.{condition_has}
@@ -65,11 +65,8 @@ unfolding circuit_of bytes_of
 same_values q v input dag worth =
     let all : Inputs = (circuit_of q).inputs in
     let agree : (i : ℕ) (row : List Literal) → input_at all i ≡ Some row → slice_index (bytes_in v all) i ≡ slice_index input i
-    = λ i row is. byte_at v all i ∙ ap (byte_of v) is ∙ ap (number_of_row v) (eight row ((circuit_bytes q).each i row is)) ∙ worth i row is in
+    = λ i row is. byte_is v all i row ((circuit_bytes q).each i row is) is ∙ worth i row is in
     in_turn (bytes_in v all) q.graph.nodes ∙ nodes_same v input all agree q.graph.nodes (no_terms q.graph.inputs) [] [] (start_fits q dag) refl ∙ sym (in_turn input q.graph.nodes)
-  where
-    eight : (row : List Literal) → length row ≡ 8 → take 8 row ≡ row
-    eight row is = take_all 8 row (omega (arith, is))
 
 pub has_valuation : (q : Condition) (input : List ℕ) → IsDag q.graph → AreBits q.graph q.asserted → All (λ b. b < 256) input → holds q input ≡ true → (v : ℕ → Bool) × (satisfies v (clauses q) ≡ true)
 unfolding clauses

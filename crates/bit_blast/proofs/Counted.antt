@@ -27,16 +27,16 @@ fresh_none front f = ap {B = List Literal × Formula} (λ ks. (ks, f)) (append-n
 pub fresh_end : (w i : ℕ) (front : List Literal) (f : Formula) → w ≤ i → (front, f) ≡ with_before front (fresh_row (w - i) f)
 fresh_end w i front f past = sym (rw (none_left w i past) (fresh_none front f))
 
-number_step : (w n : ℕ) (front : List Literal) → (front ++ constant (n % 2 == 1) ∷ []) ++ number_row w (n / 2) ≡ front ++ number_row (suc w) n
+number_row_step : (w n : ℕ) (front : List Literal) → (front ++ constant (n % 2 == 1) ∷ []) ++ number_row w (n / 2) ≡ front ++ number_row (suc w) n
 unfolding number_row
-number_step w n front = append_assoc front (constant (n % 2 == 1) ∷ []) (number_row w (n / 2))
+number_row_step w n front = append_assoc front (constant (n % 2 == 1) ∷ []) (number_row w (n / 2))
 
-pub number_more : (w i n : ℕ) (front : List Literal) → i < w → (front ++ constant (n % 2 == 1) ∷ []) ++ number_row (w - (i + 1)) (n / 2) ≡ front ++ number_row (w - i) n
-number_more w i n front within = rw (one_less w i within) (number_step (w - (i + 1)) n front)
+pub number_row_more : (w i n : ℕ) (front : List Literal) → i < w → (front ++ constant (n % 2 == 1) ∷ []) ++ number_row (w - (i + 1)) (n / 2) ≡ front ++ number_row (w - i) n
+number_row_more w i n front within = rw (one_less w i within) (number_row_step (w - (i + 1)) n front)
 
-number_none : (n : ℕ) (front : List Literal) → front ++ number_row 0 n ≡ front
+number_row_none : (n : ℕ) (front : List Literal) → front ++ number_row 0 n ≡ front
 unfolding number_row
-number_none n front = append-nil front
+number_row_none n front = append-nil front
 
-pub number_end : (w i n : ℕ) (front : List Literal) → w ≤ i → front ≡ front ++ number_row (w - i) n
-number_end w i n front past = sym (rw (none_left w i past) (number_none n front))
+pub number_row_end : (w i n : ℕ) (front : List Literal) → w ≤ i → front ≡ front ++ number_row (w - i) n
+number_row_end w i n front past = sym (rw (none_left w i past) (number_row_none n front))

@@ -1,13 +1,13 @@
 -- The input bytes of a circuit: a term makes at most one, of eight literals, and the others stay as they are.
-use Rattle.std.proofs.Common.{◌≡◌, ℕ, zero, suc, ◌⊎◌, Bool, List, [], ◌∷◌, length, set, map, replicate, fold, Option, Some, None, refl, ap, sym, ◌∙◌, arith, inl, inr}
+use Rattle.std.proofs.Common.{◌≡◌, ℕ, zero, suc, ◌⊎◌, Bool, List, [], ◌∷◌, length, set, map, replicate, fold, Option, Some, None, refl, ap, sym, ◌∙◌, arith, inl, inr, ◌≤◌, take}
 use Rattle.std.specs.Prelude.{slice_index, slice_index_or}
 use Rattle.std.proofs.lemmas.Bool.{cases_eq, cases_lt}
-use Rattle.std.proofs.lemmas.List.{length-set, get_or_past, get_or-set_same, get_or-set_other}
+use Rattle.std.proofs.lemmas.List.{length-set, get_or_past, get_or-set_same, get_or-set_other, take_all}
 use Rattle.cnf_form.specs.Literals.{Literal}
 use Rattle.bv_dag.specs.declared.nodes.Node.{Node}
 use Rattle.bv_dag.specs.declared.nodes.Node.TheVariants.{Num, Input, Not, Neg, Binary, Compare, Ite, Extract, Extend, Concat}
 use Rattle.bit_blast.specs.Formulas.{Formula, with_variable}
-use Rattle.bit_blast.specs.Bytes.{byte_of}
+use Rattle.bit_blast.specs.Bytes.{number_of_row, byte_of}
 use Rattle.bit_blast.specs.Rows.{fresh_row}
 use Rattle.bit_blast.specs.Circuits.{Circuit, with_input, with_node}
 
@@ -120,7 +120,10 @@ no_bytes n = record { each = λ i row is. absurd (none_occurs n i row is) }
 abbrev pub bytes_in : (ℕ → Bool) → Inputs → List ℕ
 bytes_in v inputs = map (byte_of v) inputs
 
-pub byte_at : (v : ℕ → Bool) (inputs : Inputs) (i : ℕ) → slice_index (bytes_in v inputs) i ≡ byte_of v (input_at inputs i)
+byte_at : (v : ℕ → Bool) (inputs : Inputs) (i : ℕ) → slice_index (bytes_in v inputs) i ≡ byte_of v (input_at inputs i)
 byte_at v [] i = refl
 byte_at v (o ∷ inputs) zero = refl
 byte_at v (o ∷ inputs) (suc i) = byte_at v inputs i
+
+pub byte_is : (v : ℕ → Bool) (inputs : Inputs) (i : ℕ) (row : List Literal) → length row ≡ 8 → input_at inputs i ≡ Some row → slice_index (bytes_in v inputs) i ≡ number_of_row v row
+byte_is v inputs i row eight is = byte_at v inputs i ∙ ap (byte_of v) is ∙ ap (number_of_row v) (take_all 8 row (omega arith))

@@ -1,6 +1,6 @@
 -- Rows as numbers: their bounds, and what rows are worth that are put together, cut, copied or negated.
 use Rattle.std.proofs.Common.{◌≡◌, ℕ, zero, suc, ◌+◌, ◌*◌, ◌^◌, ◌/◌, ◌%◌, ◌==◌, ◌<◌, ◌≤◌, Bool, true, false, not, List, [], ◌∷◌, ◌++◌, length, take, drop, replicate, refl, ap, sym, ◌∙◌, arith, add_comm}
-use Rattle.std.proofs.Math.Nat.{pow-succ', mul_assoc, mul_comm, zero-div, div-one, div-div-eq-div-mul, div-add-mod, mod-lt, mod-eq_of_lt}
+use Rattle.std.proofs.Math.Nat.{pow-succ', mul_assoc, mul_comm, zero-div, div-one, div-div-eq-div-mul, div-add-mod, mod-lt, mod-eq_of_lt, add-mul-mod_self_left}
 use Rattle.std.proofs.lemmas.Nat.{mod-mul-add, pow_pos}
 use Rattle.cnf_form.specs.Literals.{Literal, negation}
 use Rattle.cnf_form.specs.Valuations.{literal_value}
@@ -19,6 +19,10 @@ bit_not false = refl
 
 pub power_times : (n m : ℕ) → 2 ^ suc n * m ≡ 2 * (2 ^ n * m)
 power_times n m = ap (λ k. k * m) (pow-succ' 2 n) ∙ mul_assoc 2 (2 ^ n) m
+
+-- a number that is small, but for a multiple
+pub modulo : (w r k n : ℕ) → r < 2 ^ w → r + 2 ^ w * k ≡ n → r ≡ n % 2 ^ w
+modulo w r k n small all = sym (mod-eq_of_lt small) ∙ sym (add-mul-mod_self_left r (2 ^ w) k) ∙ ap (λ m. m % 2 ^ w) all
 
 pub number_nil : (v : ℕ → Bool) → number_of_row v [] ≡ 0
 unfolding number_of_row

@@ -1,5 +1,5 @@
 -- The product of two rows is the standard's.
-use Rattle.std.proofs.Common.{◌≡◌, ℕ, ◌+◌, ◌-◌, ◌*◌, ◌^◌, ◌%◌, ◌<◌, ◌≤◌, Bool, true, false, if◌then◌else◌, add-one, List, [], ◌∷◌, length, take, drop, replicate, ap, sym, ◌∙◌, arith}
+use Rattle.std.proofs.Common.{◌≡◌, ℕ, ◌+◌, ◌-◌, ◌*◌, ◌^◌, ◌%◌, ◌<◌, ◌≤◌, Bool, true, false, if◌then◌else◌, add-one, List, [], ◌∷◌, length, take, drop, replicate, ap, sym, ◌∙◌, arith, add-sub_of_le}
 use Rattle.std.proofs.Math.Nat.{pow-succ'}
 use Rattle.std.proofs.lemmas.Nat.{pow-add}
 use Rattle.std.proofs.lemmas.List.{length-append, length-replicate, length-take-le}
@@ -14,11 +14,10 @@ use Rattle.bit_blast.specs.Meaning.{word_of}
 use Rattle.bit_blast.specs.Bytes.{bit_of, number_of_row}
 use Rattle.bit_blast.proofs.Truths.{constant_value}
 use Rattle.bit_blast.proofs.EarlierClauses.{Holds, adder_before, products_before}
-use Rattle.bit_blast.proofs.Numbers.{number_nil, number_cons, number_below, number_append, number_split, number_falses}
+use Rattle.bit_blast.proofs.Numbers.{modulo, number_nil, number_cons, number_below, number_append, number_split, number_falses}
 use Rattle.bit_blast.proofs.Words.{word}
 use Rattle.bit_blast.proofs.AdderValues.{adder_number, adder_length}
 use Rattle.bit_blast.proofs.PlaceByPlace.{length_each, masked_row_number}
-use Rattle.bit_blast.proofs.SumMeaning.{modulo}
 
 product_step : (W P Q A t d T S R p k c N : ℕ) (b : Bool) → A ≡ t + Q * d → W ≡ P * Q → p ≡ P * (if b then t else 0) → S + W * c ≡ T + p → R + W * k ≡ S + (2 * P) * A * N
     → (n : ℕ) × (R + W * n ≡ T + P * A * (bit_of b + 2 * N))
@@ -26,9 +25,6 @@ product_step W P Q A t d T S R p k c N true split power partial sum rest =
     let whole : P * A ≡ P * t + W * d = rw (split, power) (omega arith) in
     (k + c + d, omega arith)
 product_step W P Q A t d T S R p k c N false split power partial sum rest = (k + c, omega arith)
-
-parts : (w low : ℕ) → low ≤ w → w ≡ low + (w - low)
-parts w low within = omega arith
 
 partial_length : (a : List Literal) (low : ℕ) (b : Literal) (f : Formula) → low ≤ length a → length (partial_row a low b f).0 ≡ length a
 unfolding partial_row
@@ -68,7 +64,8 @@ products_number v a (b ∷ bs) total low f truth within same h =
     let sum : number_of_row v s.sums + 2 ^ length a * bit_of (literal_value v s.carry) ≡ number_of_row v total + number_of_row v p.0 =
     rw (← same) (added ∙ rw (constant_value v truth false) (omega arith)) in
     let one : number_of_row v p.0 ≡ 2 ^ low * (if literal_value v b then number_of_row v (take n a) else 0) = partial_number v a low b f truth (omega arith) (adder_before v total p.0 (constant false) p.1 after) in
-    let power : 2 ^ length a ≡ 2 ^ low * 2 ^ n = ap (λ k. 2 ^ k) (parts (length a) low (omega arith)) ∙ pow-add 2 low n in
+    let within_a : low ≤ length a = omega arith in
+    let power : 2 ^ length a ≡ 2 ^ low * 2 ^ n = ap (λ k. 2 ^ k) (sym (add-sub_of_le within_a)) ∙ pow-add 2 low n in
     let step : 2 ^ (low + 1) ≡ 2 * 2 ^ low = ap (λ k. 2 ^ k) (add-one low) ∙ pow-succ' 2 low in
     rw (number_cons v b bs) (product_step _ _ (2 ^ n) (number_of_row v a) (number_of_row v (take n a)) (number_of_row v (drop n a)) _ (number_of_row v s.sums) _ (number_of_row v p.0) rest.0 (bit_of (literal_value v s.carry)) (number_of_row v bs) (literal_value v b)
     (number_split v n a) power one sum (rw (← step) rest.1))

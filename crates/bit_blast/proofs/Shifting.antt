@@ -1,5 +1,5 @@
 -- The shifts of numbers of a width.
-use Rattle.std.proofs.Common.{◌≡◌, ℕ, ◌+◌, ◌-◌, ◌*◌, ◌/◌, ◌%◌, ◌^◌, ◌<◌, ◌≤◌, ap, sym, ◌∙◌, arith, add-zero}
+use Rattle.std.proofs.Common.{◌≡◌, ℕ, ◌+◌, ◌-◌, ◌*◌, ◌/◌, ◌%◌, ◌^◌, ◌<◌, ◌≤◌, ap, sym, ◌∙◌, arith, add-zero, sub-add_cancel}
 use Rattle.std.proofs.Math.Nat.{mul_assoc, div-one, mul-one, mul-mod_left, mod-eq_of_lt, div-eq_of_lt, div-le_self, pow-le-pow_right}
 use Rattle.std.proofs.lemmas.Nat.{pow-add, shl-shr, shr-shr, mod-pow-add, mul-mod_first, pow_pos}
 
@@ -19,12 +19,9 @@ down n i = n / 2 ^ i
 abbrev pub down_ones : ℕ → ℕ → ℕ → ℕ
 down_ones width n i = 2 ^ width - 1 - (2 ^ width - 1 - n) / 2 ^ i
 
-apart : (w i : ℕ) → w ≤ i → i ≡ (i - w) + w
-apart w i far = omega arith
-
 multiple : (w n i : ℕ) → w ≤ i → n * 2 ^ i % 2 ^ w ≡ 0
 multiple w n i far =
-    ap (λ k. n * 2 ^ k % 2 ^ w) (apart w i far) ∙ ap (λ m. n * m % 2 ^ w) (pow-add 2 (i - w) w)
+    ap (λ k. n * 2 ^ k % 2 ^ w) (sym (sub-add_cancel far)) ∙ ap (λ m. n * m % 2 ^ w) (pow-add 2 (i - w) w)
     ∙ ap (λ m. m % 2 ^ w) (sym (mul_assoc n (2 ^ (i - w)) (2 ^ w))) ∙ mul-mod_left (n * 2 ^ (i - w)) (2 ^ w)
 
 up_more : (w n i j : ℕ) → up w (up w n i) j ≡ up w n (i + j)
@@ -79,6 +76,6 @@ down_ones_is w = record { none = down_ones_none w; more = down_ones_more w; all 
 -- zeros below the lower places
 pub up_placed : (w n i : ℕ) → i ≤ w → up w n i ≡ n % 2 ^ (w - i) * 2 ^ i
 up_placed w n i within =
-    ap (λ k. n * 2 ^ i % 2 ^ k) (apart i w within) ∙ mod-pow-add (n * 2 ^ i) (w - i) i
+    ap (λ k. n * 2 ^ i % 2 ^ k) (sym (sub-add_cancel within)) ∙ mod-pow-add (n * 2 ^ i) (w - i) i
     ∙ ap (λ m. n * 2 ^ i / 2 ^ i % 2 ^ (w - i) * 2 ^ i + m) (mul-mod_left n (2 ^ i)) ∙ add-zero (n * 2 ^ i / 2 ^ i % 2 ^ (w - i) * 2 ^ i)
     ∙ ap (λ m. m % 2 ^ (w - i) * 2 ^ i) (shl-shr n i)

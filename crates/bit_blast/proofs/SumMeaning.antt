@@ -1,6 +1,5 @@
 -- Sums, differences and negations are the standard's.
 use Rattle.std.proofs.Common.{◌≡◌, ℕ, ◌+◌, ◌-◌, ◌*◌, ◌^◌, ◌%◌, ◌<◌, Bool, true, false, List, length, ap, sym, ◌∙◌, arith, zero-add, add-zero}
-use Rattle.std.proofs.Math.Nat.{add-mul-mod_self_left, mod-eq_of_lt}
 use Rattle.std.proofs.lemmas.List.{length-map, length-replicate}
 use Rattle.cnf_form.specs.Literals.{Literal, negation}
 use Rattle.cnf_form.specs.Valuations.{literal_value}
@@ -11,12 +10,9 @@ use Rattle.bit_blast.specs.Bytes.{bit_of, number_of_row}
 use Rattle.bit_blast.specs.Meaning.{word_of}
 use Rattle.bit_blast.proofs.EarlierClauses.{Holds}
 use Rattle.bit_blast.proofs.Truths.{constant_value}
-use Rattle.bit_blast.proofs.Numbers.{number_below, number_falses, number_negations}
+use Rattle.bit_blast.proofs.Numbers.{modulo, number_below, number_falses, number_negations}
 use Rattle.bit_blast.proofs.Words.{word}
 use Rattle.bit_blast.proofs.AdderValues.{adder_number, adder_length}
-
-pub modulo : (w r k n : ℕ) → r < 2 ^ w → r + 2 ^ w * k ≡ n → r ≡ n % 2 ^ w
-modulo w r k n small all = sym (mod-eq_of_lt small) ∙ sym (add-mul-mod_self_left r (2 ^ w) k) ∙ ap (λ m. m % 2 ^ w) all
 
 sums_number : (v : ℕ → Bool) (a b : List Literal) (c : Literal) (f : Formula) → length a ≡ length b → Holds v (adder a b c f).formula
     → number_of_row v (adder a b c f).sums ≡ (number_of_row v a + number_of_row v b + bit_of (literal_value v c)) % 2 ^ length a
