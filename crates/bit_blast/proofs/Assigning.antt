@@ -18,8 +18,9 @@ use Rattle.bit_blast.proofs.Truths.{same_true}
 use Rattle.bit_blast.proofs.Numbers.{number_nil, number_cons, low_bit}
 use Rattle.bit_blast.proofs.InputBytes.{input_at, set_cases, none_occurs}
 use Rattle.bit_blast.proofs.Scopes.{Agree, Below, RowBelow, IsScoped, MakesLiteral, MakesRow, agree_fewer, number_same, row_more, All-at, clause_variables, stays, changed, changed_at, changed_above}
+use Rattle.bit_blast.proofs.RowsBelow.{none_below, negations_below, zeros_below, number_row_below, extension_below, lowest_below}
 use Rattle.bit_blast.proofs.GateExtensions.{muxes}
-use Rattle.bit_blast.proofs.Extending.{each_extends, add_extends, binary_extends, compare_extends, negations_below, zeros_below, top_below}
+use Rattle.bit_blast.proofs.Extending.{each_extends, add_extends, binary_extends, compare_extends}
 
 -- new variables are worth any number that has room in them
 pub record MakesNumber (f : Formula) (w : ℕ) (made : List Literal × Formula) : Type 0 where
@@ -133,21 +134,9 @@ input_kept : (bytes : List ℕ) (c : Circuit) (i : ℕ) (o : Option (List Litera
 input_kept bytes c i None small is at = new_kept bytes c i small is
 input_kept bytes c i (Some row) small is at = same_kept bytes c row is (is.inputs i row at)
 
-number_row_below : (n w k : ℕ) → 1 ≤ n → RowBelow n (number_row w k)
-unfolding number_row
-number_row_below n zero k first = All-nil (Below n)
-number_row_below n (suc w) k first = All-cons (Below n) (constant (k % 2 == 1)) (number_row w (k / 2)) first (number_row_below n w (k / 2) first)
-
-extension_below : (f : Formula) (signed : Bool) (a : List Literal) → IsScoped f → RowBelow f.variables a → Below f.variables (extension_of signed a)
-extension_below f true a is within = top_below f is a within
-extension_below f false a is within = is.first
-
 test_kept : (bytes : List ℕ) (c : Circuit) (made : Literal × Formula) → HasBytes bytes c → MakesLiteral c.formula made → HasBytes bytes (with_row c (made.0 ∷ [], made.1))
 test_kept bytes c made is one =
     row_kept bytes c (made.0 ∷ [], made.1) is (one.0, All-cons (Below made.1.variables) made.0 [] one.1 (All-nil (Below made.1.variables)))
-
-lowest_below : (f : Formula) → IsScoped f → (a : List Literal) → RowBelow f.variables a → Below f.variables (lowest_of a)
-lowest_below f is a within = All-at (Below f.variables) a 0 (constant false) is.first within
 
 -- one more term
 node_kept : (bytes : List ℕ) (c : Circuit) (node : Node) → All (λ b. b < 256) bytes → HasBytes bytes c → HasBytes bytes (with_node c node)

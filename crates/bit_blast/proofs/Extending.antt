@@ -15,10 +15,8 @@ use Rattle.bit_blast.specs.Shifts.{Stage, with_moved, with_big, moved, next_stag
 use Rattle.bit_blast.specs.Products.{partial_row, products, Division, Restored, brought_down, division_step, division}
 use Rattle.bit_blast.specs.Circuits.{binary_row, compare_gate}
 use Rattle.bit_blast.proofs.Scopes.{Below, RowBelow, IsScoped, IsExtension, MakesLiteral, MakesRow, row_more, All-at, stays, joined}
+use Rattle.bit_blast.proofs.RowsBelow.{none_below, negations_below, zeros_below, top_below, top_negated_below, brought_below, moved_below}
 use Rattle.bit_blast.proofs.GateExtensions.{Extends, ands, ors, xors, muxes, xor3_extends, majority_extends}
-
-none_below : (n : ℕ) → RowBelow n []
-none_below n = All-nil (Below n)
 
 first_made : (f : Formula) (o : Literal × Formula) (rest : List Literal × Formula) → MakesLiteral f o → MakesRow o.1 rest → MakesRow f (o.0 ∷ rest.0, rest.1)
 first_made f o rest one more =
@@ -68,18 +66,6 @@ adder_extends (k ∷ a) (l ∷ b) c f is x y z =
     (row_more f.variables m.1.variables a more (All-tail (Below f.variables) k a x))
     (row_more f.variables m.1.variables b more (All-tail (Below f.variables) l b y))
     two.1)
-
-pub negations_below : (n : ℕ) (a : List Literal) → RowBelow n a → RowBelow n (negations a)
-negations_below n a x = All-map (Below n) negation a x
-
-pub zeros_below : (f : Formula) → IsScoped f → (w : ℕ) → RowBelow f.variables (zeros w)
-zeros_below f is w = All-replicate (Below f.variables) w (constant false) is.first
-
-pub top_below : (f : Formula) → IsScoped f → (a : List Literal) → RowBelow f.variables a → Below f.variables (top_of a)
-top_below f is a x = All-at (Below f.variables) a (length a - 1) (constant false) is.first x
-
-top_negated_below : (f : Formula) → IsScoped f → (a : List Literal) → RowBelow f.variables a → RowBelow f.variables (with_top_negated a)
-top_negated_below f is a x = All-set (Below f.variables) a (length a - 1) (negation (top_of a)) (top_below f is a x) x
 
 pub equal_extends : (e : Literal) (a b : List Literal) (f : Formula) → IsScoped f → Below f.variables e → RowBelow f.variables a → RowBelow f.variables b → MakesLiteral f (equal_from e a b f)
 unfolding equal_from
@@ -138,9 +124,6 @@ record MakesRestored (f : Formula) (r : Restored) : Type 0 where
   bit : Below r.formula.variables r.bit
   rest : RowBelow r.formula.variables r.rest
 
-brought_below : (n : ℕ) (a : Literal) (r : List Literal) → Below n a → RowBelow n r → RowBelow n (brought_down a r)
-brought_below n a r x y = All-cons (Below n) a (take (length r - 1) r) x (All-take (Below n) (length r - 1) r y)
-
 step_extends : (x : Literal) (negated rest : List Literal) (f : Formula) → IsScoped f → Below f.variables x → RowBelow f.variables negated → RowBelow f.variables rest
     → MakesRestored f (division_step x negated rest f)
 unfolding division_step
@@ -182,10 +165,6 @@ pub record IsStage (n : ℕ) (s : Stage) : Type 0 where
 
 abbrev MakesStage : Formula → Stage → Type 0
 MakesStage f s = IsExtension f s.formula × IsStage s.formula.variables s
-
-moved_below : (direction : Direction) (fill : Literal) (by n : ℕ) (x : List Literal) → Below n fill → RowBelow n x → RowBelow n (moved direction fill by x)
-moved_below Up fill by n x f r = All-append (Below n) (replicate by fill) (take (length x - by) x) (All-replicate (Below n) by fill f) (All-take (Below n) (length x - by) x r)
-moved_below Down fill by n x f r = All-append (Below n) (drop by x) (replicate by fill) (All-drop (Below n) by x r) (All-replicate (Below n) by fill f)
 
 stage_by : (direction : Direction) (fill : Literal) (s : Stage) (b : Literal) (t : Bool) → IsScoped s.formula → Below s.formula.variables fill → Below s.formula.variables b → IsStage s.formula.variables s
     → MakesStage s.formula (if t then with_moved s (each (mux_gate b) (moved direction fill s.unit s.row) s.row s.formula) else with_big s (or_gate s.big b s.formula))

@@ -22,6 +22,7 @@ pub mod ShiftMeaning
 pub mod SliceMeaning
 pub mod NodeMeaning
 pub mod Scopes
+pub mod RowsBelow
 pub mod GateExtensions
 pub mod Extending
 pub mod InputBytes
