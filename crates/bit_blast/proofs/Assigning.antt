@@ -1,5 +1,5 @@
 -- Each list of input bytes has a valuation of a condition's terms.
-use Rattle.std.proofs.Common.{◌≡◌, ℕ, zero, suc, ◌+◌, ◌*◌, ◌^◌, ◌/◌, ◌%◌, ◌==◌, ◌<◌, ◌≤◌, Bool, true, false, List, [], ◌∷◌, ◌++◌, length, get_or, take, drop, replicate, fold, All, Option, Some, None, refl, ap, sym, ◌∙◌, subst, inl, inr, arith}
+use Rattle.std.proofs.Common.{◌≡◌, ℕ, zero, suc, ◌+◌, ◌*◌, ◌^◌, ◌/◌, ◌%◌, ◌==◌, ◌<◌, ◌≤◌, Bool, true, List, [], ◌∷◌, ◌++◌, length, get_or, take, drop, replicate, fold, All, Option, Some, None, refl, ap, sym, ◌∙◌, subst, inl, inr, arith}
 use Rattle.std.proofs.Math.Nat.{pow-succ'}
 use Rattle.std.proofs.lemmas.List.Elements.{All-nil, All-cons, All-append, All-push, All-take, All-drop, All-replicate, All-weaker}
 use Rattle.cnf_form.specs.Literals.{Literal, same_truth}
@@ -18,7 +18,7 @@ use Rattle.bit_blast.proofs.Truths.{same_true}
 use Rattle.bit_blast.proofs.Numbers.{number_nil, number_cons, low_bit}
 use Rattle.bit_blast.proofs.InputBytes.{input_at, set_cases, none_occurs}
 use Rattle.bit_blast.proofs.Scopes.{Agree, Below, RowBelow, IsScoped, MakesLiteral, MakesRow, agree_fewer, number_same, row_more, All-at, clause_variables, stays, changed, changed_at, changed_above}
-use Rattle.bit_blast.proofs.RowsBelow.{none_below, negations_below, zeros_below, number_row_below, extension_below, lowest_below}
+use Rattle.bit_blast.proofs.RowsBelow.{negations_below, zeros_below, number_row_below, extension_below, lowest_below}
 use Rattle.bit_blast.proofs.GateExtensions.{muxes}
 use Rattle.bit_blast.proofs.Extending.{each_extends, add_extends, binary_extends, compare_extends}
 

@@ -1,7 +1,7 @@
 -- The rows of a circuit are worth what its terms are, on the bytes that its inputs are worth.
-use Rattle.std.proofs.Common.{◌≡◌, ℕ, suc, ◌<◌, Bool, true, List, [], ◌∷◌, ◌++◌, length, map, take, fold, Option, Some, None, refl, ap, sym, subst, ◌∙◌, arith}
+use Rattle.std.proofs.Common.{◌≡◌, ℕ, suc, ◌<◌, Bool, true, List, [], ◌∷◌, ◌++◌, length, map, take, fold, Option, Some, None, refl, ap, sym, subst, ◌∙◌}
 use Rattle.std.specs.Prelude.{slice_index, slice_get}
-use Rattle.std.proofs.lemmas.List.{map-append, take_all, get_or-set_same}
+use Rattle.std.proofs.lemmas.List.{map-append, get_or-set_same}
 use Rattle.cnf_form.specs.Literals.{Literal}
 use Rattle.bv_dag.specs.BitVectors.{BitVector}
 use Rattle.bv_dag.specs.Nodes.{node_value, node_width, Fits, word_at, width}
@@ -9,7 +9,7 @@ use Rattle.bv_dag.specs.declared.nodes.Node.{Node}
 use Rattle.bv_dag.specs.declared.nodes.Node.TheVariants.{Num, Input, Not, Neg, Binary, Compare, Ite, Extract, Extend, Concat}
 use Rattle.bv_dag.proofs.Values.{width-node_value}
 use Rattle.bit_blast.specs.Formulas.{Formula}
-use Rattle.bit_blast.specs.Bytes.{number_of_row, byte_of}
+use Rattle.bit_blast.specs.Bytes.{number_of_row}
 use Rattle.bit_blast.specs.Rows.{fresh_row}
 use Rattle.bit_blast.specs.Circuits.{Circuit, with_input, with_node}
 use Rattle.bit_blast.specs.Meaning.{word_of}

@@ -1,24 +1,19 @@
 -- Input bytes on which a condition holds have a valuation that satisfies its clauses.
-use Rattle.std.proofs.Common.{◌≡◌, ℕ, suc, ◌<◌, ◌==◌, Bool, true, List, [], ◌∷◌, ◌++◌, length, get_or, fold, Option, Some, None, refl, ap, sym, subst, ◌∙◌, arith, slice_index, take}
+use Rattle.std.proofs.Common.{◌≡◌, ℕ, ◌<◌, Bool, true, List, [], ◌∷◌, ◌++◌, length, get_or, fold, Option, Some, None, refl, ap, sym, subst, ◌∙◌, slice_index}
 use Rattle.std.specs.Prelude.{All}
-use Rattle.std.specs.List.{list_all}
 use Rattle.std.proofs.lemmas.Bool.{and_parts, and_from}
-use Rattle.std.proofs.lemmas.List.{get_or-set_same, take_all}
+use Rattle.std.proofs.lemmas.List.{get_or-set_same}
 use Rattle.cnf_form.specs.Literals.{Literal}
 use Rattle.cnf_form.specs.Valuations.{satisfies}
 use Rattle.bv_dag.specs.BitVectors.{BitVector}
 use Rattle.bv_dag.specs.Nodes.{Fits, node_value, node_width, values, word_at}
-use Rattle.bv_dag.specs.Graphs.{Graph, IsDag, number_of, width_of}
+use Rattle.bv_dag.specs.Graphs.{IsDag}
 use Rattle.bv_dag.specs.Queries.{Condition, AreBits, holds}
 use Rattle.bv_dag.specs.declared.nodes.Node.{Node}
 use Rattle.bv_dag.specs.declared.nodes.Node.TheVariants.{Num, Input, Not, Neg, Binary, Compare, Ite, Extract, Extend, Concat}
-use Rattle.bit_blast.specs.Formulas.{Formula, with_clause}
 use Rattle.bit_blast.specs.Rows.{fresh_row}
-use Rattle.bit_blast.specs.Bytes.{number_of_row, byte_of, bytes_of}
-use Rattle.bit_blast.specs.Circuits.{Circuit, row_at, lowest_of, with_input, with_node, no_terms, circuit_of, with_asserted, clauses}
-use Rattle.bit_blast.proofs.GateMeaning.{one_added}
-use Rattle.bit_blast.proofs.EarlierClauses.{Holds}
-use Rattle.bit_blast.proofs.Words.{words_of}
+use Rattle.bit_blast.specs.Bytes.{number_of_row, bytes_of}
+use Rattle.bit_blast.specs.Circuits.{Circuit, with_input, with_node, no_terms, circuit_of, clauses}
 use Rattle.bit_blast.proofs.InputBytes.{Inputs, input_at, AreBytes, AreKept, byte_is, bytes_in, no_bytes, nodes_bytes, nodes_kept}
 use Rattle.bit_blast.proofs.CircuitMeaning.{FitFrom, fits_later, values_from}
 use Rattle.bit_blast.proofs.Solutions.{asserted_means, circuit_words, in_turn, start_fits}

@@ -1,6 +1,6 @@
 -- Each builder extends the formula that it is given.
-use Rattle.std.proofs.Common.{ℕ, ◌+◌, ◌-◌, ◌≤◌, nat_lt, Bool, true, false, if◌then◌else◌, List, [], ◌∷◌, ◌++◌, length, take, drop, replicate, fold, arith}
-use Rattle.std.proofs.lemmas.List.Elements.{All-nil, All-cons, All-head, All-tail, All-append, All-take, All-drop, All-replicate, All-map, All-set}
+use Rattle.std.proofs.Common.{ℕ, ◌+◌, ◌-◌, ◌≤◌, nat_lt, Bool, true, false, if◌then◌else◌, List, [], ◌∷◌, ◌++◌, length, take, replicate, fold, arith}
+use Rattle.std.proofs.lemmas.List.Elements.{All-cons, All-head, All-tail, All-append, All-take, All-replicate}
 use Rattle.cnf_form.specs.Literals.{Literal, negation}
 use Rattle.bv_dag.specs.declared.nodes.BinaryOp.{BinaryOp}
 use Rattle.bv_dag.specs.declared.nodes.BinaryOp.TheVariants.{Add, Sub, Mul, Udiv, Urem, And, Or, Xor, Shl, Lshr, Ashr}
@@ -14,7 +14,7 @@ use Rattle.bit_blast.specs.Rows.{negations, zeros, top_of, with_top_negated, eac
 use Rattle.bit_blast.specs.Shifts.{Stage, with_moved, with_big, moved, next_stage, shift_end, shift_row}
 use Rattle.bit_blast.specs.Products.{partial_row, products, Division, Restored, brought_down, division_step, division}
 use Rattle.bit_blast.specs.Circuits.{binary_row, compare_gate}
-use Rattle.bit_blast.proofs.Scopes.{Below, RowBelow, IsScoped, IsExtension, MakesLiteral, MakesRow, row_more, All-at, stays, joined}
+use Rattle.bit_blast.proofs.Scopes.{Below, RowBelow, IsScoped, IsExtension, MakesLiteral, MakesRow, row_more, stays, joined}
 use Rattle.bit_blast.proofs.RowsBelow.{none_below, negations_below, zeros_below, top_below, top_negated_below, brought_below, moved_below}
 use Rattle.bit_blast.proofs.GateExtensions.{Extends, ands, ors, xors, muxes, xor3_extends, majority_extends}
 

@@ -1,5 +1,5 @@
 -- Rows that are made without gates are of the variables that their parts are of.
-use Rattle.std.proofs.Common.{ℕ, zero, suc, ◌+◌, ◌-◌, ◌/◌, ◌%◌, ◌==◌, ◌≤◌, Bool, true, false, List, [], ◌∷◌, ◌++◌, length, take, drop, replicate}
+use Rattle.std.proofs.Common.{ℕ, zero, suc, ◌-◌, ◌/◌, ◌%◌, ◌==◌, ◌≤◌, Bool, true, false, List, [], length, take, drop, replicate}
 use Rattle.std.proofs.lemmas.List.Elements.{All-nil, All-cons, All-append, All-take, All-drop, All-replicate, All-map, All-set}
 use Rattle.cnf_form.specs.Literals.{Literal, negation}
 use Rattle.bit_blast.specs.declared.shifts.Direction.{Direction}
