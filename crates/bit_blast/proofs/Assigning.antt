@@ -87,8 +87,8 @@ rows_more : (m n : ℕ) (rows : List (List Literal)) → m ≤ n → All (RowBel
 rows_more m n rows le all = All-weaker (RowBelow m) (RowBelow n) (λ row within. row_more m n row le within) rows all
 
 -- one more row
-row_kept : (bytes : List ℕ) (c : Circuit) (made : List Literal × Formula) → HasBytes bytes c → MakesRow c.formula made → HasBytes bytes (with_row c made)
-row_kept bytes c made is one =
+row_has : (bytes : List ℕ) (c : Circuit) (made : List Literal × Formula) → HasBytes bytes c → MakesRow c.formula made → HasBytes bytes (with_row c made)
+row_has bytes c made is one =
     let m : ℕ = c.formula.variables in
     let n : ℕ = made.1.variables in
     let w = one.0.extended is.valuation is.satisfied in
@@ -103,12 +103,12 @@ row_kept bytes c made is one =
     }
 
 -- a row of literals that there are
-same_kept : (bytes : List ℕ) (c : Circuit) (row : List Literal) → HasBytes bytes c → RowBelow c.formula.variables row → HasBytes bytes (with_row c (row, c.formula))
-same_kept bytes c row is within = row_kept bytes c (row, c.formula) is (stays c.formula is.scoped, within)
+same_has : (bytes : List ℕ) (c : Circuit) (row : List Literal) → HasBytes bytes c → RowBelow c.formula.variables row → HasBytes bytes (with_row c (row, c.formula))
+same_has bytes c row is within = row_has bytes c (row, c.formula) is (stays c.formula is.scoped, within)
 
 -- an input byte that occurs for the first time
-new_kept : (bytes : List ℕ) (c : Circuit) (i : ℕ) → All (λ b. b < 256) bytes → HasBytes bytes c → HasBytes bytes (with_new_input c i (fresh_row 8 c.formula))
-new_kept bytes c i small is =
+new_has : (bytes : List ℕ) (c : Circuit) (i : ℕ) → All (λ b. b < 256) bytes → HasBytes bytes c → HasBytes bytes (with_new_input c i (fresh_row 8 c.formula))
+new_has bytes c i small is =
     let made : List Literal × Formula = fresh_row 8 c.formula in
     let m : ℕ = c.formula.variables in
     let n : ℕ = made.1.variables in
@@ -130,55 +130,55 @@ new_kept bytes c i small is =
       ];
     }
 
-input_kept : (bytes : List ℕ) (c : Circuit) (i : ℕ) (o : Option (List Literal)) → All (λ b. b < 256) bytes → HasBytes bytes c → input_at c.inputs i ≡ o → HasBytes bytes (with_input o c i)
-input_kept bytes c i None small is at = new_kept bytes c i small is
-input_kept bytes c i (Some row) small is at = same_kept bytes c row is (is.inputs i row at)
+input_has : (bytes : List ℕ) (c : Circuit) (i : ℕ) (o : Option (List Literal)) → All (λ b. b < 256) bytes → HasBytes bytes c → input_at c.inputs i ≡ o → HasBytes bytes (with_input o c i)
+input_has bytes c i None small is at = new_has bytes c i small is
+input_has bytes c i (Some row) small is at = same_has bytes c row is (is.inputs i row at)
 
-test_kept : (bytes : List ℕ) (c : Circuit) (made : Literal × Formula) → HasBytes bytes c → MakesLiteral c.formula made → HasBytes bytes (with_row c (made.0 ∷ [], made.1))
-test_kept bytes c made is one =
-    row_kept bytes c (made.0 ∷ [], made.1) is (one.0, All-cons (Below made.1.variables) made.0 [] one.1 (All-nil (Below made.1.variables)))
+test_has : (bytes : List ℕ) (c : Circuit) (made : Literal × Formula) → HasBytes bytes c → MakesLiteral c.formula made → HasBytes bytes (with_row c (made.0 ∷ [], made.1))
+test_has bytes c made is one =
+    row_has bytes c (made.0 ∷ [], made.1) is (one.0, All-cons (Below made.1.variables) made.0 [] one.1 (All-nil (Below made.1.variables)))
 
 -- one more term
-node_kept : (bytes : List ℕ) (c : Circuit) (node : Node) → All (λ b. b < 256) bytes → HasBytes bytes c → HasBytes bytes (with_node c node)
+node_has : (bytes : List ℕ) (c : Circuit) (node : Node) → All (λ b. b < 256) bytes → HasBytes bytes c → HasBytes bytes (with_node c node)
 unfolding with_node
-node_kept bytes c (Num w k) small is = same_kept bytes c (number_row w k) is (number_row_below c.formula.variables w k is.scoped.first)
-node_kept bytes c (Input i) small is = input_kept bytes c i (input_at c.inputs i) small is refl
-node_kept bytes c (Not a) small is = same_kept bytes c (negations (row_at c.rows a)) is (negations_below c.formula.variables (row_at c.rows a) (row_within bytes c a is))
-node_kept bytes c (Neg a) small is =
+node_has bytes c (Num w k) small is = same_has bytes c (number_row w k) is (number_row_below c.formula.variables w k is.scoped.first)
+node_has bytes c (Input i) small is = input_has bytes c i (input_at c.inputs i) small is refl
+node_has bytes c (Not a) small is = same_has bytes c (negations (row_at c.rows a)) is (negations_below c.formula.variables (row_at c.rows a) (row_within bytes c a is))
+node_has bytes c (Neg a) small is =
     let row : List Literal = row_at c.rows a in
-    row_kept bytes c (neg_row row c.formula) is
+    row_has bytes c (neg_row row c.formula) is
     (add_extends (zeros (length row)) (negations row) (constant true) c.formula is.scoped (zeros_below c.formula is.scoped (length row))
     (negations_below c.formula.variables row (row_within bytes c a is)) is.scoped.first)
-node_kept bytes c (Binary op a b) small is =
-    row_kept bytes c (binary_row op (row_at c.rows a) (row_at c.rows b) c.formula) is
+node_has bytes c (Binary op a b) small is =
+    row_has bytes c (binary_row op (row_at c.rows a) (row_at c.rows b) c.formula) is
     (binary_extends op (row_at c.rows a) (row_at c.rows b) c.formula is.scoped (row_within bytes c a is) (row_within bytes c b is))
-node_kept bytes c (Compare op a b) small is =
-    test_kept bytes c (compare_gate op (row_at c.rows a) (row_at c.rows b) c.formula) is
+node_has bytes c (Compare op a b) small is =
+    test_has bytes c (compare_gate op (row_at c.rows a) (row_at c.rows b) c.formula) is
     (compare_extends op (row_at c.rows a) (row_at c.rows b) c.formula is.scoped (row_within bytes c a is) (row_within bytes c b is))
-node_kept bytes c (Ite t a b) small is =
+node_has bytes c (Ite t a b) small is =
     let n : ℕ = c.formula.variables in
     let l : Literal = lowest_of (row_at c.rows t) in
-    row_kept bytes c (each (mux_gate l) (row_at c.rows a) (row_at c.rows b) c.formula) is
+    row_has bytes c (each (mux_gate l) (row_at c.rows a) (row_at c.rows b) c.formula) is
     (each_extends n (mux_gate l) (muxes n l (lowest_below c.formula is.scoped (row_at c.rows t) (row_within bytes c t is))) (row_at c.rows a) (row_at c.rows b) c.formula (omega arith)
     is.scoped (row_within bytes c a is) (row_within bytes c b is))
-node_kept bytes c (Extract high low a) small is =
+node_has bytes c (Extract high low a) small is =
     let P : Literal → Type 0 = Below c.formula.variables in
     let row : List Literal = row_at c.rows a in
-    same_kept bytes c (drop low (take (high + 1) row)) is (All-drop P low (take (high + 1) row) (All-take P (high + 1) row (row_within bytes c a is)))
-node_kept bytes c (Extend by signed a) small is =
+    same_has bytes c (drop low (take (high + 1) row)) is (All-drop P low (take (high + 1) row) (All-take P (high + 1) row (row_within bytes c a is)))
+node_has bytes c (Extend by signed a) small is =
     let P : Literal → Type 0 = Below c.formula.variables in
     let row : List Literal = row_at c.rows a in
-    same_kept bytes c (row ++ replicate by (extension_of signed row)) is
+    same_has bytes c (row ++ replicate by (extension_of signed row)) is
     (All-append P row (replicate by (extension_of signed row)) (row_within bytes c a is)
     (All-replicate P by (extension_of signed row) (extension_below c.formula signed row is.scoped (row_within bytes c a is))))
-node_kept bytes c (Concat high low) small is =
+node_has bytes c (Concat high low) small is =
     let P : Literal → Type 0 = Below c.formula.variables in
-    same_kept bytes c (row_at c.rows low ++ row_at c.rows high) is
+    same_has bytes c (row_at c.rows low ++ row_at c.rows high) is
     (All-append P (row_at c.rows low) (row_at c.rows high) (row_within bytes c low is) (row_within bytes c high is))
 
-nodes_kept : (bytes : List ℕ) (nodes : List Node) (c : Circuit) → All (λ b. b < 256) bytes → HasBytes bytes c → HasBytes bytes (fold with_node c nodes)
-nodes_kept bytes [] c small is = is
-nodes_kept bytes (node ∷ nodes) c small is = nodes_kept bytes nodes (with_node c node) small (node_kept bytes c node small is)
+nodes_has : (bytes : List ℕ) (nodes : List Node) (c : Circuit) → All (λ b. b < 256) bytes → HasBytes bytes c → HasBytes bytes (fold with_node c nodes)
+nodes_has bytes [] c small is = is
+nodes_has bytes (node ∷ nodes) c small is = nodes_has bytes nodes (with_node c node) small (node_has bytes c node small is)
 
 -- the one variable that there is at first
 no_clauses : Formula
@@ -211,4 +211,4 @@ none_has bytes inputs = record {
 
 pub condition_has : (q : Condition) (bytes : List ℕ) → All (λ b. b < 256) bytes → HasBytes bytes (circuit_of q)
 unfolding circuit_of
-condition_has q bytes small = nodes_kept bytes q.graph.nodes (no_terms q.graph.inputs) small (none_has bytes q.graph.inputs)
+condition_has q bytes small = nodes_has bytes q.graph.nodes (no_terms q.graph.inputs) small (none_has bytes q.graph.inputs)

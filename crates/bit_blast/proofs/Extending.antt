@@ -137,9 +137,9 @@ step_extends x negated rest f is xin nin rin =
     one.sums (row_more f.variables d.formula.variables shifted one.extends.more sin) in
     record { extends = joined f d.formula made.1 one.extends two.0; bit = omega (arith, one.carry, two.0.more); rest = two.1 }
 
-division_more : (f : Formula) (above : Division) (r : Restored) → MakesDivision f above → MakesRestored above.formula r
+quotient_more : (f : Formula) (above : Division) (r : Restored) → MakesDivision f above → MakesRestored above.formula r
     → MakesDivision f (record { quotient = r.bit ∷ above.quotient; rest = r.rest; formula = r.formula })
-division_more f above r one two = record {
+quotient_more f above r one two = record {
   extends = joined f above.formula r.formula one.extends two.extends;
   quotient = All-cons (Below r.formula.variables) r.bit above.quotient two.bit (row_more above.formula.variables r.formula.variables above.quotient two.extends.more one.quotient);
   rest = two.rest;
@@ -154,7 +154,7 @@ division_extends (k ∷ a) negated start is x y q r =
     let above : Division = division a negated start in
     let one : MakesDivision f above = division_extends a negated start is (All-tail (Below f.variables) k a x) y q r in
     let kin : k.variable ≤ f.variables = All-head (Below f.variables) k a x in
-    division_more f above (division_step k negated above.rest above.formula) one
+    quotient_more f above (division_step k negated above.rest above.formula) one
     (step_extends k negated above.rest above.formula one.extends.scoped (omega (arith, kin, one.extends.more))
     (row_more f.variables above.formula.variables negated one.extends.more y) one.rest)
 
@@ -166,15 +166,15 @@ pub record IsStage (n : ℕ) (s : Stage) : Type 0 where
 abbrev MakesStage : Formula → Stage → Type 0
 MakesStage f s = IsExtension f s.formula × IsStage s.formula.variables s
 
-stage_by : (direction : Direction) (fill : Literal) (s : Stage) (b : Literal) (t : Bool) → IsScoped s.formula → Below s.formula.variables fill → Below s.formula.variables b → IsStage s.formula.variables s
+stage_made : (direction : Direction) (fill : Literal) (s : Stage) (b : Literal) (t : Bool) → IsScoped s.formula → Below s.formula.variables fill → Below s.formula.variables b → IsStage s.formula.variables s
     → MakesStage s.formula (if t then with_moved s (each (mux_gate b) (moved direction fill s.unit s.row) s.row s.formula) else with_big s (or_gate s.big b s.formula))
-stage_by direction fill s b true is x y stage =
+stage_made direction fill s b true is x y stage =
     let f : Formula = s.formula in
     let made : List Literal × Formula = each (mux_gate b) (moved direction fill s.unit s.row) s.row f in
     let one : MakesRow f made = each_extends f.variables (mux_gate b) (muxes f.variables b y) (moved direction fill s.unit s.row) s.row f (omega arith) is
     (moved_below direction fill s.unit f.variables s.row x stage.row) stage.row in
     (one.0, record { row = one.1; big = omega (arith, stage.big, one.0.more) })
-stage_by direction fill s b false is x y stage =
+stage_made direction fill s b false is x y stage =
     let made : Literal × Formula = or_gate s.big b s.formula in
     let one : MakesLiteral s.formula made = ors s.big b s.formula (omega arith) is stage.big y in
     (one.0, record { row = row_more s.formula.variables made.1.variables s.row one.0.more stage.row; big = one.1 })
@@ -182,7 +182,7 @@ stage_by direction fill s b false is x y stage =
 stage_extends : (direction : Direction) (fill : Literal) (width : ℕ) (s : Stage) (b : Literal) → IsScoped s.formula → Below s.formula.variables fill → Below s.formula.variables b → IsStage s.formula.variables s
     → MakesStage s.formula (next_stage direction fill width s b)
 unfolding next_stage
-stage_extends direction fill width s b is x y stage = stage_by direction fill s b (nat_lt s.unit width) is x y stage
+stage_extends direction fill width s b is x y stage = stage_made direction fill s b (nat_lt s.unit width) is x y stage
 
 stages_extend : (direction : Direction) (fill : Literal) (width : ℕ) (bs : List Literal) (s : Stage) → IsScoped s.formula → Below s.formula.variables fill → RowBelow s.formula.variables bs → IsStage s.formula.variables s
     → MakesStage s.formula (fold (next_stage direction fill width) s bs)

@@ -19,12 +19,12 @@ use Rattle.bit_blast.proofs.Words.{word}
 use Rattle.bit_blast.proofs.AdderValues.{adder_number, adder_length}
 use Rattle.bit_blast.proofs.PlaceByPlace.{length_each, masked_row_number}
 
-product_step : (W P Q A t d T S R p k c N : ℕ) (b : Bool) → A ≡ t + Q * d → W ≡ P * Q → p ≡ P * (if b then t else 0) → S + W * c ≡ T + p → R + W * k ≡ S + (2 * P) * A * N
+one_bit_added : (W P Q A t d T S R p k c N : ℕ) (b : Bool) → A ≡ t + Q * d → W ≡ P * Q → p ≡ P * (if b then t else 0) → S + W * c ≡ T + p → R + W * k ≡ S + (2 * P) * A * N
     → (n : ℕ) × (R + W * n ≡ T + P * A * (bit_of b + 2 * N))
-product_step W P Q A t d T S R p k c N true split power partial sum rest =
+one_bit_added W P Q A t d T S R p k c N true split power partial sum rest =
     let whole : P * A ≡ P * t + W * d = rw (split, power) (omega arith) in
     (k + c + d, omega arith)
-product_step W P Q A t d T S R p k c N false split power partial sum rest = (k + c, omega arith)
+one_bit_added W P Q A t d T S R p k c N false split power partial sum rest = (k + c, omega arith)
 
 partial_length : (a : List Literal) (low : ℕ) (b : Literal) (f : Formula) → low ≤ length a → length (partial_row a low b f).0 ≡ length a
 unfolding partial_row
@@ -67,7 +67,7 @@ products_number v a (b ∷ bs) total low f truth within same h =
     let within_a : low ≤ length a = omega arith in
     let power : 2 ^ length a ≡ 2 ^ low * 2 ^ n = ap (λ k. 2 ^ k) (sym (add-sub_of_le within_a)) ∙ pow-add 2 low n in
     let step : 2 ^ (low + 1) ≡ 2 * 2 ^ low = ap (λ k. 2 ^ k) (add-one low) ∙ pow-succ' 2 low in
-    rw (number_cons v b bs) (product_step _ _ (2 ^ n) (number_of_row v a) (number_of_row v (take n a)) (number_of_row v (drop n a)) _ (number_of_row v s.sums) _ (number_of_row v p.0) rest.0 (bit_of (literal_value v s.carry)) (number_of_row v bs) (literal_value v b)
+    rw (number_cons v b bs) (one_bit_added _ _ (2 ^ n) (number_of_row v a) (number_of_row v (take n a)) (number_of_row v (drop n a)) _ (number_of_row v s.sums) _ (number_of_row v p.0) rest.0 (bit_of (literal_value v s.carry)) (number_of_row v bs) (literal_value v b)
     (number_split v n a) power one sum (rw (← step) rest.1))
 
 products_length : (a bs total : List Literal) (low : ℕ) (f : Formula) → low + length bs ≤ length a → length total ≡ length a → length (products a bs low total f).0 ≡ length a
