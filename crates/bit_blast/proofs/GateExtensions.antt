@@ -1,23 +1,14 @@
 -- A gate extends the formula that it is given: its variable, which is new, has the gate's value.
-use Rattle.std.proofs.Common.{◌≡◌, ℕ, ◌+◌, ◌≤◌, Bool, true, false, ◌&&◌, if◌then◌else◌, List, refl, ap, sym, ◌∙◌, arith}
+use Rattle.std.proofs.Common.{◌≡◌, ℕ, ◌+◌, ◌≤◌, Bool, ◌&&◌, if◌then◌else◌, List, refl, ap, sym, ◌∙◌, arith}
 use Rattle.std.proofs.lemmas.Bool.{and_from}
 use Rattle.cnf_form.specs.Literals.{Literal, negation, same_truth}
 use Rattle.cnf_form.specs.Valuations.{literal_value, satisfies}
 use Rattle.bit_blast.specs.Formulas.{Formula, next_variable, with_variable}
 use Rattle.bit_blast.specs.Gates.{gate, and_clauses, xor_clauses, mux_clauses, xor3_clauses, majority_clauses, and_gate, or_gate, xor_gate, mux_gate, xor3_gate, majority_gate}
 use Rattle.bit_blast.specs.Meaning.{differ, sum_bit, carry_bit}
+use Rattle.bit_blast.proofs.Truths.{twice, same_itself}
 use Rattle.bit_blast.proofs.GateMeaning.{and_means, xor_means, mux_means, xor3_means, majority_means}
 use Rattle.bit_blast.proofs.Scopes.{Agree, Below, IsScoped, MakesLiteral, agree_fewer, literal_same, changed, changed_at, changed_above, clauses_variables}
-
-twice : (b p : Bool) → same_truth (same_truth b p) p ≡ b
-twice true true = refl
-twice true false = refl
-twice false true = refl
-twice false false = refl
-
-same_itself : (b : Bool) → same_truth b b ≡ true
-same_itself true = refl
-same_itself false = refl
 
 -- what a gate says of its literal, which is of the next variable
 record IsGate (f : Formula) (made : Literal × Formula) (value : (ℕ → Bool) → Bool) : Type 0 where

@@ -64,7 +64,7 @@ new_bytes inputs i row bytes eight = record {
   ];
 }
 
--- what holds of the input bytes holds after a term, if it holds after one more
+-- What holds of the inputs holds after a term too, if it still holds where one more has occurred.
 input_case : (P : Inputs → Type 0) (c : Circuit) (i : ℕ) (o : Option (List Literal)) → input_at c.inputs i ≡ o → P c.inputs → (input_at c.inputs i ≡ None → P (set c.inputs i (Some (fresh_row 8 c.formula).0))) → P (with_input o c i).inputs
 input_case P c i None is old new = new is
 input_case P c i (Some row) is old new = old

@@ -20,6 +20,16 @@ pub same_true : (b : Bool) → same_truth b true ≡ b
 same_true true = refl
 same_true false = refl
 
+pub twice : (b p : Bool) → same_truth (same_truth b p) p ≡ b
+twice true true = refl
+twice true false = refl
+twice false true = refl
+twice false false = refl
+
+pub same_itself : (b : Bool) → same_truth b b ≡ true
+same_itself true = refl
+same_itself false = refl
+
 pub truths : (a b : Bool) → same_truth a b ≡ true → a ≡ b
 truths true b h = sym h
 truths false true h = cc
