@@ -57,17 +57,20 @@ fn are(formula: &Cnf, want: &[&[i64]]) -> bool {
         })
 }
 
-const LOWEST: Node = Node::Extract {
-    high: 0,
-    low: 0,
-    operand: 0,
-};
+// Bits of the input byte, whose variables are 2 to 9.
+fn bits(high: u32, low: u32) -> Node {
+    Node::Extract {
+        high,
+        low,
+        operand: 0,
+    }
+}
 
 #[test]
 fn one_bit_is_one(rt: HostRuntime) -> Result<(), Fail> {
     let nodes = [
         Node::Input(0),
-        LOWEST,
+        bits(0, 0),
         Node::Num { width: 1, value: 1 },
         Node::Compare(Comparison::Eq, 1, 2),
     ];
@@ -94,7 +97,7 @@ fn one_bit_is_one(rt: HostRuntime) -> Result<(), Fail> {
 
 #[test]
 fn one_bit_is_doubled(rt: HostRuntime) -> Result<(), Fail> {
-    let nodes = [Node::Input(0), LOWEST, Node::Binary(BinaryOp::Add, 1, 1)];
+    let nodes = [Node::Input(0), bits(0, 0), Node::Binary(BinaryOp::Add, 1, 1)];
     let query = query_of(&rt, rt.alloc(), &nodes)?;
     let formula = clauses(rt.alloc(), &query)?;
     assert!(rt;
@@ -113,6 +116,119 @@ fn one_bit_is_doubled(rt: HostRuntime) -> Result<(), Fail> {
                 &[-1, 2, -11],
                 &[-1, 2, -11],
                 &[10],
+            ]
+        )
+    );
+    Ok(())
+}
+
+#[test]
+fn one_bit_chooses(rt: HostRuntime) -> Result<(), Fail> {
+    let nodes = [
+        Node::Input(0),
+        bits(0, 0),
+        bits(1, 1),
+        bits(2, 2),
+        Node::Ite {
+            condition: 1,
+            yes: 2,
+            no: 3,
+        },
+    ];
+    let query = query_of(&rt, rt.alloc(), &nodes)?;
+    let formula = clauses(rt.alloc(), &query)?;
+    assert!(rt;
+        are(
+            &formula,
+            &[
+                &[1],
+                &[-2, -3, 10],
+                &[-2, 3, -10],
+                &[2, -4, 10],
+                &[2, 4, -10],
+                &[10],
+            ]
+        )
+    );
+    Ok(())
+}
+
+#[test]
+fn one_bit_is_below(rt: HostRuntime) -> Result<(), Fail> {
+    let nodes = [
+        Node::Input(0),
+        bits(0, 0),
+        bits(1, 1),
+        Node::Compare(Comparison::Ult, 1, 2),
+    ];
+    let query = query_of(&rt, rt.alloc(), &nodes)?;
+    let formula = clauses(rt.alloc(), &query)?;
+    assert!(rt;
+        are(
+            &formula,
+            &[
+                &[1],
+                &[1, 2, -3, -10],
+                &[-1, 2, -3, 10],
+                &[1, 2, 3, 10],
+                &[-1, 2, 3, -10],
+                &[1, -2, -3, 10],
+                &[-1, -2, -3, -10],
+                &[1, -2, 3, -10],
+                &[-1, -2, 3, 10],
+                &[-2, 3, 11],
+                &[-1, -2, 11],
+                &[-1, 3, 11],
+                &[2, -3, -11],
+                &[1, 2, -11],
+                &[1, -3, -11],
+                &[-11],
+            ]
+        )
+    );
+    Ok(())
+}
+
+#[test]
+fn two_bits_are_shifted(rt: HostRuntime) -> Result<(), Fail> {
+    let nodes = [
+        Node::Input(0),
+        bits(1, 0),
+        bits(3, 2),
+        Node::Binary(BinaryOp::Shl, 1, 2),
+        Node::Extract {
+            high: 1,
+            low: 1,
+            operand: 3,
+        },
+    ];
+    let query = query_of(&rt, rt.alloc(), &nodes)?;
+    let formula = clauses(rt.alloc(), &query)?;
+    assert!(rt;
+        are(
+            &formula,
+            &[
+                &[1],
+                &[1, -4, 10],
+                &[-1, -4, -10],
+                &[-2, 4, 10],
+                &[2, 4, -10],
+                &[-2, -4, 11],
+                &[2, -4, -11],
+                &[-3, 4, 11],
+                &[3, 4, -11],
+                &[1, -12],
+                &[-5, -12],
+                &[-1, 5, 12],
+                &[1, 12, 13],
+                &[-1, 12, -13],
+                &[-10, -12, 13],
+                &[10, -12, -13],
+                &[1, 12, 14],
+                &[-1, 12, -14],
+                &[-11, -12, 14],
+                &[11, -12, -14],
+                &[14],
             ]
         )
     );

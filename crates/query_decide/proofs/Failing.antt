@@ -9,7 +9,7 @@ use Rattle.bv_dag.specs.Queries.{AreBits, Condition, holds}
 use Rattle.bit_blast.specs.Circuits.{clauses}
 use Rattle.bit_blast.proofs.Completeness.{has_valuation}
 use Rattle.query_decide.specs.Decisions.{IsUnsatisfiable}
-use Rattle.query_decide.specs.Occurring.{IsAlone}
+use Rattle.query_decide.specs.Occurring.{IsAlone, asserted_inputs}
 use Rattle.query_decide.proofs.Agreeing.{same_holds}
 
 byte_below : (input : List ℕ) (place : ℕ) → All (λ b. b < 256) input → slice_index input place < 256
@@ -19,9 +19,9 @@ by_length : (q : Condition) (input : List ℕ) (b : Bool) → (length input == q
 by_length q input true long is = is ((Decides-eqb (length input) q.graph.inputs).0 long)
 by_length q input false short is = rw short refl
 
-pub none_holds : (q : Condition) (place : ℕ) → IsDag q.graph → IsAlone q.graph.nodes place → ((b : ℕ) → b < 256 → holds q (slice_set (replicate q.graph.inputs 0) place b) ≡ false) → IsUnsatisfiable q
-none_holds q place dag alone none input small =
-    by_length q input (length input == q.graph.inputs) refl (λ long. same_holds q input place dag alone long ∙ none (slice_index input place) (byte_below input place small))
+pub none_holds : (q : Condition) (place : ℕ) → IsAlone (asserted_inputs q) place → ((b : ℕ) → b < 256 → holds q (slice_set (replicate q.graph.inputs 0) place b) ≡ false) → IsUnsatisfiable q
+none_holds q place alone none input small =
+    by_length q input (length input == q.graph.inputs) refl (λ long. same_holds q input place alone long ∙ none (slice_index input place) (byte_below input place small))
 
 -- a formula without a valuation is that of no condition that holds
 not_true : (b : Bool) → (b ≡ true → ⊥) → b ≡ false

@@ -1,3 +1,3 @@
-pub mod Meeting
+pub mod Joining
 pub mod Agreeing
 pub mod Failing

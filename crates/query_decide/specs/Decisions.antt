@@ -4,7 +4,7 @@ use Rattle.cnf_form.specs.Refutations.{Step, follows_all, is_fresh}
 use Rattle.cdcl_core.specs.Searches.{has_no_empty}
 use Rattle.bv_dag.specs.Queries.{Condition, holds}
 use Rattle.bit_blast.specs.Circuits.{clauses}
-use Rattle.query_decide.specs.Occurring.{HasTwoInputs}
+use Rattle.query_decide.specs.Occurring.{HasTwo, asserted_inputs}
 use Rattle.query_decide.specs.declared.decision.Decision.{Decision}
 use Rattle.query_decide.specs.declared.decision.Decision.TheVariants.{Sat, Unsat, Spent}
 
@@ -12,9 +12,10 @@ use Rattle.query_decide.specs.declared.decision.Decision.TheVariants.{Sat, Unsat
 abbrev pub IsUnsatisfiable : Condition → Type 0
 IsUnsatisfiable q = (input : List ℕ) → All (λ b. b < 256) input → holds q input ≡ false
 
--- the budget was spent on a question over two input bytes at least: so many clauses were derived, each new, and none empty
+-- the budget was spent on a question that rests on two input bytes at least: so many clauses were derived, each new, and
+-- none empty
 pub record IsSpent (q : Condition) (budget : ℕ) (log : List Step) : Type 0 where
-  pub wide : HasTwoInputs q.graph.nodes
+  pub wide : HasTwo (asserted_inputs q)
   pub whole : length log ≡ budget
   pub no_empty : has_no_empty log ≡ true
   pub follows : follows_all (clauses q) log ≡ true

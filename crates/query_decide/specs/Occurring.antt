@@ -1,43 +1,56 @@
--- Which input bytes occur among the terms of a table.
-use Rattle.std.specs.Prelude.{◌≡◌, ◌≢◌, ℕ, ◌==◌, if◌then◌else◌, List, Some, fold, slice_get}
+-- Which input bytes a condition rests on: those that stand under its asserted terms.
+use Rattle.std.specs.Prelude.{◌≡◌, ◌≢◌, ℕ, List, [], ◌∷◌, ◌++◌, All, slice_index_or}
+use Rattle.std.specs.List.{flat_map, Contains, AllZip}
+use Rattle.bv_dag.specs.Nodes.{map_in_turn}
+use Rattle.bv_dag.specs.Queries.{Condition}
 use Rattle.bv_dag.specs.declared.nodes.Node.{Node}
 use Rattle.bv_dag.specs.declared.nodes.Node.TheVariants.{Num, Input, Not, Neg, Binary, Compare, Ite, Extract, Extend, Concat}
 use Rattle.query_decide.specs.declared.occurrence.Occurrence.{Occurrence}
 use Rattle.query_decide.specs.declared.occurrence.Occurrence.TheVariants.{NoInput, OneInput, MoreInputs}
 
--- one input byte more
-abbrev pub with_input : Occurrence → ℕ → Occurrence
-with_input NoInput i = OneInput i
-with_input (OneInput k) i = if k == i then OneInput k else MoreInputs
-with_input MoreInputs i = MoreInputs
+-- the input bytes under a term, from those under its operands
+abbrev pub node_inputs : (operand : ℕ → List ℕ) → Node → List ℕ
+node_inputs operand (Num w v) = []
+node_inputs operand (Input i) = i ∷ []
+node_inputs operand (Not a) = operand a
+node_inputs operand (Neg a) = operand a
+node_inputs operand (Binary op a b) = operand a ++ operand b
+node_inputs operand (Compare op a b) = operand a ++ operand b
+node_inputs operand (Ite c a b) = operand c ++ operand a ++ operand b
+node_inputs operand (Extract high low a) = operand a
+node_inputs operand (Extend by signed a) = operand a
+node_inputs operand (Concat high low) = operand high ++ operand low
 
--- one term more
-abbrev pub with_term : Occurrence → Node → Occurrence
-with_term found (Input i) = with_input found i
-with_term found (Num w v) = found
-with_term found (Not a) = found
-with_term found (Neg a) = found
-with_term found (Binary op a b) = found
-with_term found (Compare op a b) = found
-with_term found (Ite t a b) = found
-with_term found (Extract high low a) = found
-with_term found (Extend by signed a) = found
-with_term found (Concat high low) = found
+-- those under the term at a place
+abbrev pub inputs_at : List (List ℕ) → ℕ → List ℕ
+inputs_at under k = slice_index_or under k []
 
--- none, just one, or more
-unfoldable pub occurring : List Node → Occurrence
-occurring nodes = fold with_term NoInput nodes
+-- those under each term of a table
+unfoldable pub inputs_of : List Node → List (List ℕ)
+inputs_of nodes = map_in_turn (λ before n. node_inputs (inputs_at before) n) nodes
 
--- two different input bytes occur
-pub record HasTwoInputs (nodes : List Node) : Type 0 where
+-- those under the terms that a condition asserts
+abbrev pub asserted_inputs : Condition → List ℕ
+asserted_inputs q = flat_map (inputs_at (inputs_of q.graph.nodes)) q.asserted
+
+-- two different bytes are among these
+pub record HasTwo (inputs : List ℕ) : Type 0 where
   pub first : ℕ
   pub second : ℕ
   pub differ : first ≢ second
-  pub first_place : ℕ
-  pub second_place : ℕ
-  pub first_there : slice_get nodes first_place ≡ Some (Input first)
-  pub second_there : slice_get nodes second_place ≡ Some (Input second)
+  pub first_there : Contains inputs first
+  pub second_there : Contains inputs second
 
--- no other input byte occurs
-abbrev pub IsAlone : List Node → ℕ → Type 0
-IsAlone nodes place = (id i : ℕ) → slice_get nodes id ≡ Some (Input i) → i ≡ place
+-- each of these is this byte
+abbrev pub IsAlone : List ℕ → ℕ → Type 0
+IsAlone inputs place = All (λ i. i ≡ place) inputs
+
+-- what is said of input bytes is so
+abbrev pub IsOccurrence : List ℕ → Occurrence → Type 0
+IsOccurrence inputs NoInput = inputs ≡ []
+IsOccurrence inputs (OneInput place) = Contains inputs place × IsAlone inputs place
+IsOccurrence inputs MoreInputs = HasTwo inputs
+
+-- of each term of a table is said what is so of the input bytes under it
+abbrev pub AreOccurrences : List (List ℕ) → List Occurrence → Type 0
+AreOccurrences under found = AllZip IsOccurrence under found

@@ -1,10 +1,10 @@
 //! Deciding a question.
 
-ghost use Rattle.std.specs.Prelude.{IfOk};
+ghost use Rattle.std.specs.Prelude.{ℕ, IfOk};
 ghost use Rattle.bv_dag.specs.Graphs.{IsDag};
 ghost use Rattle.bv_dag.specs.Queries.{AreBits};
 ghost use Rattle.query_decide.specs.Decisions.{IsDecided};
-ghost use Rattle.query_decide.specs.Occurring.{HasTwoInputs, IsAlone};
+ghost use Rattle.query_decide.specs.Occurring.{asserted_inputs, HasTwo, IsAlone};
 
 use crate::decision::Decision;
 use crate::occurrence::{Occurrence, occurring};
@@ -15,18 +15,11 @@ use cdcl_core::{Answer, search};
 use std::alloc::{AllocError as NoMemory, Global};
 use tool_io::Bytes;
 
-// The answer of a question in which this byte occurs alone, or none.
-fn decide_byte(
-    alloc: Global,
-    query: &Query,
-    place: usize,
-    budget: u32,
-) -> Result<Decision, NoMemory>
-    requires dag { IsDag query.now.graph }
-    requires alone { IsAlone query.now.graph.nodes place }
-    ensures { IfOk result (IsDecided query.now budget) }
+// The answer of a question that rests on this byte alone, or on none: no budget is spent.
+fn decide_byte(alloc: Global, query: &Query, place: usize) -> Result<Decision, NoMemory>
+    requires { IsAlone (asserted_inputs query.now) place }
+    ensures { (budget : ℕ) → IfOk result (IsDecided query.now budget) }
 {
-    let _budget = budget;
     match try_byte(alloc, query, place)? {
         Some(input) => Ok(Decision::Sat(Bytes::from_vec(input))),
         None => Ok(Decision::Unsat),
@@ -37,7 +30,7 @@ fn decide_byte(
 fn decide_by_clauses(alloc: Global, query: &Query, budget: u32) -> Result<Decision, NoMemory>
     requires dag { IsDag query.now.graph }
     requires bits { AreBits query.now.graph query.now.asserted }
-    requires wide { HasTwoInputs query.now.graph.nodes }
+    requires wide { HasTwo (asserted_inputs query.now) }
     ensures { IfOk result (IsDecided query.now budget) }
 {
     let formula = clauses(alloc, query)?;
@@ -51,17 +44,14 @@ fn decide_by_clauses(alloc: Global, query: &Query, budget: u32) -> Result<Decisi
     }
 }
 
-/// Whether some input bytes meet the condition. A condition in which one input byte occurs at most is decided by the
-/// values of that byte, and else by its clauses and a search that derives at most so many.
+/// Whether some input bytes meet the condition. One that rests on one input byte at most is decided by the values of
+/// that byte, and else by its clauses and a search that derives at most so many.
 pub fn decide(alloc: Global, query: &Query, budget: u32) -> Result<Decision, NoMemory>
     ensures { IfOk result (IsDecided query.now budget) }
 {
-    // The terms that are asserted have one bit.
-    let _asserted = query.asserted();
-    let nodes = query.dag().nodes();
-    match occurring(nodes) {
-        Occurrence::NoInput => decide_byte(alloc, query, 0, budget),
-        Occurrence::OneInput(place) => decide_byte(alloc, query, place, budget),
+    match occurring(alloc, query.dag().nodes(), query.asserted())? {
+        Occurrence::NoInput => decide_byte(alloc, query, 0),
+        Occurrence::OneInput(place) => decide_byte(alloc, query, place),
         Occurrence::MoreInputs => decide_by_clauses(alloc, query, budget),
     }
 }

@@ -1,6 +1,7 @@
-//! Questions on input bytes, decided: by trying the 256 values of the one byte that occurs, or by clauses and a search.
+//! Questions on input bytes, decided: by trying the 256 values of the one byte that a question rests on, or by clauses
+//! and a search.
 //!
-//! - `occurrence`: which input bytes occur
+//! - `occurrence`: which input bytes a question rests on
 //! - `one_byte`: trying the values of one byte
 //! - `decision`: what is answered
 //! - `deciding`: `decide`

@@ -1,89 +1,115 @@
-//! Questions with known answers. What is found is tried.
+//! Questions with known answers: what is found is tried.
 
-ghost use Rattle.std.specs.Prelude.{◌≡◌, ◌<◌, IfOk, OnOk, length};
+mod table;
+mod terms;
 
+use crate::tests::table::{COMPARISONS, Known, PRODUCTS, QUOTIENTS, Row, SHIFTS, SUMS};
+use crate::tests::terms::Term::{Byte, Is, Num, Of};
+use crate::tests::terms::{Term, query_of};
 use crate::{Decision, decide};
-use bv_dag::{BinaryOp, Comparison, Dag, Node, Query};
+use bv_dag::BinaryOp::{Add, Mul, Sub};
+use bv_dag::Comparison::Eq;
+use bv_dag::Query;
 use std::alloc::{AllocError as NoMemory, Global};
 use std::process::Abort;
 use std::test::Fail;
 
-const EIGHT: u32 = 8;
-
-fn push(rt: &impl Abort, dag: &mut Dag, node: Node) -> Result<usize, NoMemory> {
-    assert!(rt; dag.fits(&node));
-    dag.push(node)
-}
-
-fn assert_term(rt: &impl Abort, query: &mut Query, id: usize) -> Result<(), NoMemory> {
-    assert!(rt; id < query.dag().len());
-    assert!(rt; query.dag().width_of(id) == 1);
-    query.assert(id)
-}
-
-// An operation on the input bytes at two places, equal to each of these numbers.
-fn question(
+// The answer, if the budget was not spent. What is found is tried.
+fn answered(
     rt: &impl Abort,
     alloc: Global,
-    op: BinaryOp,
-    places: (usize, usize),
-    wanted: &[u64],
-) -> Result<Query, NoMemory> {
-    let mut dag = Dag::new(alloc, 2);
-    let left = push(rt, &mut dag, Node::Input(places.0))?;
-    let right = push(rt, &mut dag, Node::Input(places.1))?;
-    let term = push(rt, &mut dag, Node::Binary(op, left, right))?;
-    let mut tests = Vec::new(alloc);
-    for value in wanted {
-        let number = push(
-            rt,
-            &mut dag,
-            Node::Num {
-                width: EIGHT,
-                value: *value,
-            },
-        )?;
-        let test = push(rt, &mut dag, Node::Compare(Comparison::Eq, term, number))?;
-        tests.push(test)?;
+    query: &Query,
+    budget: u32,
+) -> Result<Option<Known>, NoMemory> {
+    match decide(alloc, query, budget)? {
+        Decision::Sat(input) => {
+            assert!(rt; query.holds(alloc, input.as_slice())?);
+            Ok(Some(Known::Sat))
+        }
+        Decision::Unsat => Ok(Some(Known::Unsat)),
+        Decision::Spent(log) => {
+            assert_eq!(rt; log.steps().len(), budget as usize);
+            Ok(None)
+        }
     }
-    let mut query = Query::new(dag, Vec::new(alloc));
-    for test in &tests {
-        assert_term(rt, &mut query, *test)?;
-    }
-    Ok(query)
 }
+
+fn are_answered(rt: &impl Abort, alloc: Global, rows: &[Row]) -> Result<(), NoMemory> {
+    for (known, because, terms) in rows {
+        let query = query_of(rt, alloc, 4, terms, &[])?;
+        assert_eq!(rt;
+            answered(rt, alloc, &query, 2000)?,
+            Some(*known),
+            "{because}"
+        );
+    }
+    Ok(())
+}
+
+#[test]
+fn sums_have_the_known_answers(rt: HostRuntime) -> Result<(), Fail> {
+    are_answered(&rt, rt.alloc(), &SUMS)?;
+    Ok(())
+}
+
+#[test]
+fn products_have_the_known_answers(rt: HostRuntime) -> Result<(), Fail> {
+    are_answered(&rt, rt.alloc(), &PRODUCTS)?;
+    Ok(())
+}
+
+#[test]
+fn quotients_have_the_known_answers(rt: HostRuntime) -> Result<(), Fail> {
+    are_answered(&rt, rt.alloc(), &QUOTIENTS)?;
+    Ok(())
+}
+
+#[test]
+fn shifts_have_the_known_answers(rt: HostRuntime) -> Result<(), Fail> {
+    are_answered(&rt, rt.alloc(), &SHIFTS)?;
+    Ok(())
+}
+
+#[test]
+fn comparisons_have_the_known_answers(rt: HostRuntime) -> Result<(), Fail> {
+    are_answered(&rt, rt.alloc(), &COMPARISONS)?;
+    Ok(())
+}
+
+const SUM: Term = Of(Add, &Byte(0), &Byte(1));
+
+const DIFFERENCE: Term = Of(Sub, &Byte(0), &Byte(1));
+
+const SQUARE: Term = Of(Mul, &Byte(0), &Byte(0));
+
+const TWO_SUMS: [Term; 2] = [Is(Eq, &SUM, &Num(5)), Is(Eq, &SUM, &Num(6))];
 
 #[test]
 fn no_bytes_have_two_sums(rt: HostRuntime) -> Result<(), Fail> {
-    let alloc = rt.alloc();
-    let query = question(&rt, alloc, BinaryOp::Add, (0, 1), &[5, 6])?;
-    assert!(rt; matches!(decide(alloc, &query, 2000)?, Decision::Unsat));
+    let query = query_of(&rt, rt.alloc(), 2, &TWO_SUMS, &[])?;
+    assert_eq!(rt;
+        answered(&rt, rt.alloc(), &query, 2000)?,
+        Some(Known::Unsat)
+    );
     Ok(())
 }
 
+const TWO_IS_A_SQUARE: [Term; 1] = [Is(Eq, &SQUARE, &Num(2))];
+
+// A question that rests on one byte spends no budget, also where its table names another byte.
 #[test]
 fn no_square_is_two(rt: HostRuntime) -> Result<(), Fail> {
-    let alloc = rt.alloc();
-    let query = question(&rt, alloc, BinaryOp::Mul, (1, 1), &[2])?;
-    assert!(rt; matches!(decide(alloc, &query, 1)?, Decision::Unsat));
+    let query = query_of(&rt, rt.alloc(), 2, &TWO_IS_A_SQUARE, &[SUM])?;
+    assert_eq!(rt; answered(&rt, rt.alloc(), &query, 1)?, Some(Known::Unsat));
     Ok(())
 }
 
+const OF_TWO_PARITIES: [Term; 2] = [Is(Eq, &SUM, &Num(5)), Is(Eq, &DIFFERENCE, &Num(2))];
+
+// Unit propagation alone doesn't show that a sum and a difference are both even or both odd.
 #[test]
-fn what_is_found_holds(rt: HostRuntime) -> Result<(), Fail> {
-    let alloc = rt.alloc();
-    for (op, places, wanted) in [
-        (BinaryOp::Add, (0, 1), 5),
-        (BinaryOp::Mul, (0, 1), 143),
-        (BinaryOp::Udiv, (0, 1), 9),
-        (BinaryOp::Xor, (1, 0), 255),
-        (BinaryOp::Mul, (1, 1), 225),
-    ] {
-        let query = question(&rt, alloc, op, places, &[wanted])?;
-        let Decision::Sat(input) = decide(alloc, &query, 2000)? else {
-            return Err("some bytes do".into());
-        };
-        assert!(rt; query.holds(alloc, input.as_slice())?);
-    }
+fn one_clause_may_not_be_enough(rt: HostRuntime) -> Result<(), Fail> {
+    let query = query_of(&rt, rt.alloc(), 2, &OF_TWO_PARITIES, &[])?;
+    assert_eq!(rt; answered(&rt, rt.alloc(), &query, 1)?, None);
     Ok(())
 }
