@@ -7,3 +7,5 @@ pub mod Negating
 pub mod Marks
 pub mod Values
 pub mod Leading
+pub mod Pending
+pub mod Noting

@@ -55,7 +55,7 @@ kept_all q r (l ∷ ls) h =
     let parts : (q l ≡ true) × (list_all q ls ≡ true) = and_parts _ _ h in
     kept_all_by q r l (filter r ls) (r l) parts.0 (kept_all q r ls parts.1)
 
-open_all : (q : Literal → Bool) (a : ℕ → Option Bool) (p : List Literal) (l : Literal) → open_literals a p ≡ l ∷ [] → list_all q p ≡ true → q l ≡ true
+pub open_all : (q : Literal → Bool) (a : ℕ → Option Bool) (p : List Literal) (l : Literal) → open_literals a p ≡ l ∷ [] → list_all q p ≡ true → q l ≡ true
 unfolding open_literals
 open_all q a p l is h =
     (and_parts (q l) true (sym (ap (list_all q) is) ∙ kept_all q (λ k. not (is_false a k)) p h)).0

@@ -1,3 +1,4 @@
 pub mod Trails
+pub mod Places
 pub mod Passes
 pub mod Searches

@@ -1,8 +1,9 @@
 -- What clauses are under a partial assignment, and what a pass over them comes to.
-use Rattle.std.specs.Prelude.{◌≡◌, ℕ, ◌<◌, ◌≤◌, nat_lt, length, Bool, true, false, List, Option, Some, None}
+use Rattle.std.specs.Prelude.{◌≡◌, ℕ, ◌+◌, ◌<◌, ◌≤◌, ◌⊎◌, nat_lt, length, Bool, true, false, List, Option, Some, None, slice_get}
 use Rattle.std.specs.List.{list_any, list_all}
-use Rattle.cnf_form.specs.Literals.{Literal}
+use Rattle.cnf_form.specs.Literals.{Literal, negation, same_literal}
 use Rattle.cnf_form.specs.Propagation.{assign, is_true, is_falsified, unit_literal, numbered, hint_is_falsified}
+use Rattle.cdcl_core.specs.declared.trail.Entry.{Entry}
 use Rattle.cdcl_core.specs.declared.propagation.State.{State}
 use Rattle.cdcl_core.specs.declared.propagation.State.TheVariants.{Falsified, Forces, Open, Satisfied}
 use Rattle.cdcl_core.specs.declared.propagation.Passed.{Passed}
@@ -10,6 +11,7 @@ use Rattle.cdcl_core.specs.declared.propagation.Passed.TheVariants.{Conflict, Ch
 use Rattle.cdcl_core.specs.declared.descent.Settled.{Settled}
 use Rattle.cdcl_core.specs.declared.descent.Settled.TheVariants.{AtConflict, AtChoice, AtEnd}
 use Rattle.cdcl_core.specs.Trails.{Assignment, values_of, IsTrail, free_count}
+use Rattle.cdcl_core.specs.Places.{is_among}
 
 -- whether each variable of the clause is below n
 unfoldable pub is_below : ℕ → List Literal → Bool
@@ -45,6 +47,22 @@ with_open Satisfied l = Satisfied
 abbrev pub AreCalm : (ℕ → Option Bool) → List (List Literal) → Type 0
 AreCalm a clauses = (l : Literal) → a l.variable ≡ None → list_any (is_falsified (assign a l)) clauses ≡ false
 
+-- the entry at this place makes the literal true
+abbrev pub IsLiteralAt : List Entry → ℕ → Literal → Type 0
+IsLiteralAt entries place l = (entry : Entry) × (slice_get entries place ≡ Some entry) × (entry.literal ≡ l)
+
+-- an entry from this place on makes a literal of the clause false
+pub record IsTouched (entries : List Entry) (first : ℕ) (c : List Literal) : Type 0 where
+  pub place : ℕ
+  pub entry : Entry
+  pub late : first ≤ place
+  pub there : slice_get entries place ≡ Some entry
+  pub has : list_any (same_literal (negation entry.literal)) c ≡ true
+
+-- each clause is calm, or has yet to be looked at: for an entry from this place on, or since it is one of those to come
+abbrev pub ArePending : List (List Literal) → List Entry → (first : ℕ) → (to_come : List ℕ) → Type 0
+ArePending clauses entries first to_come = (k : ℕ) (c : List Literal) → slice_get clauses k ≡ Some c → IsCalm (values_of entries) c ⊎ IsTouched entries first c ⊎ (is_among to_come k ≡ true)
+
 -- a literal to choose, and none where each clause is satisfied
 abbrev pub IsChoice : (ℕ → Option Bool) → ℕ → List (List Literal) → Option Literal → Type 0
 IsChoice a n clauses None = list_all (has_true a) clauses ≡ true
@@ -63,8 +81,9 @@ IsSettled clauses n a (AtConflict k) = hint_is_falsified a (numbered clauses k) 
 IsSettled clauses n a (AtChoice l) = AreCalm a clauses × IsFree a n l
 IsSettled clauses n a AtEnd = list_all (has_true a) clauses ≡ true
 
--- a trail went on from another: it is a trail still, and no variable lost its value
+-- a trail went on from another: it is a trail still, and each further entry gave a variable a value
 pub record IsFollowed (clauses : List (List Literal)) (old now : Assignment) : Type 0 where
   pub trail : IsTrail clauses now.entries
   pub size : length now.marks ≡ length old.marks
-  pub no_more : free_count now.marks ≤ free_count old.marks
+  pub longer : length old.entries ≤ length now.entries
+  pub no_more : length now.entries + free_count now.marks ≤ length old.entries + free_count old.marks

@@ -1,18 +1,20 @@
-//! Choices and propagation in turn, until a clause is false or each is satisfied. What follows from the last literals is
-//! made true first, and then a pass over all clauses shows that none is false or forces a literal, before one is chosen.
+//! Choices and propagation in turn, until a clause is false or each is satisfied. Passes over all clauses come first, until
+//! none is false or forces a literal: it is *calm*. After that only the clauses are looked at in which a literal becomes
+//! false, and the others stay calm.
 
-ghost use Rattle.std.specs.Prelude.{◌≡◌, true, length, IfOk, OnOk};
+ghost use Rattle.std.specs.Prelude.{◌≡◌, ◌<◌, true, length, IfOk, IfSome, OnOk, None};
 ghost use Rattle.std.specs.List.{list_all};
-ghost use Rattle.cdcl_core.specs.Trails.{values_of, IsTrail};
-ghost use Rattle.cdcl_core.specs.Passes.{is_below, IsFree, IsSettled, IsFollowed};
+ghost use Rattle.cnf_form.specs.Propagation.{numbered, hint_is_falsified};
+ghost use Rattle.cdcl_core.specs.Trails.{values_of, IsTrail, free_count};
+ghost use Rattle.cdcl_core.specs.Passes.{is_below, IsFree, AreCalm, IsSettled, IsFollowed};
 ghost use Rattle.cdcl_core.specs.Searches.{IsDescent};
 
+use crate::clause_list::ClauseList;
 use crate::following::follow;
-use crate::occurrences::Occurrences;
 use crate::order::Order;
 use crate::propagation::{Passed, pass};
 use crate::trail::{Entry, Trail};
-use cnf_form::{Clause, Lit};
+use cnf_form::Lit;
 use std::alloc::AllocError as NoMemory;
 
 /// Where unit propagation ends.
@@ -26,51 +28,95 @@ pub enum Settled {
     AtEnd,
 }
 
-/// Makes literals true that follow from the entries from this place on, or that clauses force, until a clause is false
-/// or none forces a literal.
-pub fn propagate(
-    trail: &mut Trail,
-    clauses: &[Clause],
-    occurrences: &Occurrences,
-    first: usize,
-) -> Result<Settled, NoMemory>
+/// Passes over the clauses, and makes all true that they force, until a clause is false or none forces a literal.
+pub fn propagate(trail: &mut Trail, clauses: &ClauseList) -> Result<Settled, NoMemory>
     requires below { list_all (is_below (length trail.old.marks)) clauses.now ≡ true }
     requires trail { IsTrail clauses.now trail.old.entries }
     ensures followed { OnOk result (IsFollowed clauses.now trail.old trail.new) }
     ensures settled { IfOk result (IsSettled clauses.now (length trail.old.marks) (values_of trail.new.entries)) }
 {
-    let mut next = first;
     'passes: loop {
-        if let Some(number) = follow(trail, clauses, occurrences, next)? {
-            return Ok(Settled::AtConflict(number));
-        }
-        next = trail.entries().len();
-        match pass(trail, clauses)? {
+        let first = trail.entries().len();
+        match pass(trail, clauses.as_slice())? {
             Passed::Conflict(number) => return Ok(Settled::AtConflict(number)),
-            Passed::Changed => {}
+            Passed::Changed => {
+                if let Some(number) = follow(trail, clauses, first)? {
+                    return Ok(Settled::AtConflict(number));
+                }
+            }
             Passed::Quiet(Some(literal)) => return Ok(Settled::AtChoice(literal)),
             Passed::Quiet(None) => return Ok(Settled::AtEnd),
         }
     }
 }
 
-// The literal that the order has first, or this one if it has none.
-fn chosen(trail: &Trail, order: &Order, literal: Lit) -> Lit
-    requires { IsFree (values_of trail.now.entries) (length trail.now.marks) literal }
-    ensures { IsFree (values_of trail.now.entries) (length trail.now.marks) result }
+// The literal to choose where no clause is false or forces one: the first of the order, or if it has none what a pass
+// over the clauses finds.
+fn next_choice(trail: &mut Trail, clauses: &ClauseList, order: &Order) -> Result<Settled, NoMemory>
+    requires below { list_all (is_below (length trail.old.marks)) clauses.now ≡ true }
+    requires trail { IsTrail clauses.now trail.old.entries }
+    requires calm { AreCalm (values_of trail.old.entries) clauses.now }
+    ensures followed { OnOk result (IsFollowed clauses.now trail.old trail.new) }
+    ensures settled { IfOk result (IsSettled clauses.now (length trail.old.marks) (values_of trail.new.entries)) }
 {
     match order.pick(trail) {
-        Some(first) => first,
-        None => literal,
+        Some(literal) => Ok(Settled::AtChoice(literal)),
+        None => propagate(trail, clauses),
     }
 }
 
-/// Chooses literals and makes those true that follow, until a clause is false, whose number is the answer, or each
-/// clause is satisfied.
+// Chooses a literal, and makes those true that follow, until a clause is false, whose number is the answer, or none
+// forces a literal.
+fn choose(trail: &mut Trail, clauses: &ClauseList, literal: Lit) -> Result<Option<usize>, NoMemory>
+    requires below { list_all (is_below (length trail.old.marks)) clauses.now ≡ true }
+    requires trail { IsTrail clauses.now trail.old.entries }
+    requires calm { AreCalm (values_of trail.old.entries) clauses.now }
+    requires free { IsFree (values_of trail.old.entries) (length trail.old.marks) literal }
+    ensures trail { OnOk result (IsTrail clauses.now trail.new.entries) }
+    ensures size { OnOk result (length trail.new.marks ≡ length trail.old.marks) }
+    ensures fewer { OnOk result (free_count trail.new.marks < free_count trail.old.marks) }
+    ensures conflict { IfOk result (λ o. IfSome o (λ k. hint_is_falsified (values_of trail.new.entries) (numbered clauses.now k) ≡ true)) }
+    ensures calm { IfOk result (λ o. o ≡ None → AreCalm (values_of trail.new.entries) clauses.now) }
+{
+    let first = trail.entries().len();
+    trail.push(Entry {
+        literal,
+        reason: None,
+    })?;
+    follow(trail, clauses, first)
+}
+
+// Chooses literals where no clause is false or forces one, and so on, as `descend` does.
+fn descend_from(
+    trail: &mut Trail,
+    clauses: &ClauseList,
+    order: &Order,
+) -> Result<Option<usize>, NoMemory>
+    requires below { list_all (is_below (length trail.old.marks)) clauses.now ≡ true }
+    requires trail { IsTrail clauses.now trail.old.entries }
+    requires calm { AreCalm (values_of trail.old.entries) clauses.now }
+    ensures trail { OnOk result (IsTrail clauses.now trail.new.entries) }
+    ensures size { OnOk result (length trail.new.marks ≡ length trail.old.marks) }
+    ensures descent { IfOk result (IsDescent clauses.now (values_of trail.new.entries)) }
+{
+    'choices: loop {
+        match next_choice(trail, clauses, order)? {
+            Settled::AtConflict(number) => return Ok(Some(number)),
+            Settled::AtEnd => return Ok(None),
+            Settled::AtChoice(literal) => {
+                if let Some(number) = choose(trail, clauses, literal)? {
+                    return Ok(Some(number));
+                }
+            }
+        }
+    }
+}
+
+/// Makes all true that clauses force, and then chooses literals and makes those true that follow, until a clause is
+/// false, whose number is the answer, or each clause is satisfied.
 pub fn descend(
     trail: &mut Trail,
-    clauses: &[Clause],
-    occurrences: &Occurrences,
+    clauses: &ClauseList,
     order: &Order,
 ) -> Result<Option<usize>, NoMemory>
     requires below { list_all (is_below (length trail.old.marks)) clauses.now ≡ true }
@@ -79,19 +125,9 @@ pub fn descend(
     ensures size { OnOk result (length trail.new.marks ≡ length trail.old.marks) }
     ensures descent { IfOk result (IsDescent clauses.now (values_of trail.new.entries)) }
 {
-    let mut first = trail.entries().len();
-    'choices: loop {
-        match propagate(trail, clauses, occurrences, first)? {
-            Settled::AtConflict(number) => return Ok(Some(number)),
-            Settled::AtChoice(open) => {
-                let literal = chosen(trail, order, open);
-                first = trail.entries().len();
-                trail.push(Entry {
-                    literal,
-                    reason: None,
-                })?;
-            }
-            Settled::AtEnd => return Ok(None),
-        }
+    match propagate(trail, clauses)? {
+        Settled::AtConflict(number) => Ok(Some(number)),
+        Settled::AtEnd => Ok(None),
+        Settled::AtChoice(_) => descend_from(trail, clauses, order),
     }
 }

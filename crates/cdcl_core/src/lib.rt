@@ -4,7 +4,8 @@
 //! - `solver`: the search: it runs until a clause is false, learns from that, goes back, and runs again
 //! - `descent`: choices and propagation in turn
 //! - `propagation`: what a clause is while some variables have values, and passes over all clauses
-//! - `following`, `occurrences`: what follows from literals that have become true, by the clauses in which they stand
+//! - `clause_list`: the clauses, with the places in which each literal stands
+//! - `following`: what follows from literals that have become true, by the clauses in which their negations stand
 //! - `trail`: the literals that are true, in their order, with the clauses that forced them
 //! - `lesson`: what is learnt: the clause that the analysis found, if it follows and is new, or the negated decisions
 //! - `analysis`: the first point through which all led to a conflict
@@ -17,11 +18,11 @@
 
 mod analysis;
 mod bounds;
+mod clause_list;
 mod descent;
 mod following;
 mod lesson;
 mod levels;
-mod occurrences;
 mod order;
 mod propagation;
 mod restarts;

@@ -1,10 +1,10 @@
 //! Unit propagation: a clause whose literals are all false but one forces that one. A pass over the clauses makes all
 //! true that is forced, or shows that no clause is false or forces a literal.
 
-ghost use Rattle.std.specs.Prelude.{◌≡◌, ◌≤◌, true, length, IfOk, OnOk};
+ghost use Rattle.std.specs.Prelude.{◌≡◌, true, length, IfOk, OnOk};
 ghost use Rattle.std.specs.List.{list_all};
-ghost use Rattle.cdcl_core.specs.Trails.{values_of, IsTrail, free_count};
-ghost use Rattle.cdcl_core.specs.Passes.{is_below, with_open, IsState, IsPass};
+ghost use Rattle.cdcl_core.specs.Trails.{values_of, IsTrail};
+ghost use Rattle.cdcl_core.specs.Passes.{is_below, with_open, IsState, IsPass, IsFollowed};
 
 use crate::trail::{Entry, Trail};
 use cnf_form::{Clause, Lit};
@@ -67,9 +67,7 @@ pub fn state_of(trail: &Trail, clause: &Clause) -> State
 pub fn pass(trail: &mut Trail, clauses: &[Clause]) -> Result<Passed, NoMemory>
     requires below { list_all (is_below (length trail.old.marks)) clauses.now ≡ true }
     requires trail { IsTrail clauses.now trail.old.entries }
-    ensures trail { OnOk result (IsTrail clauses.now trail.new.entries) }
-    ensures size { OnOk result (length trail.new.marks ≡ length trail.old.marks) }
-    ensures no_more { OnOk result (free_count trail.new.marks ≤ free_count trail.old.marks) }
+    ensures followed { OnOk result (IsFollowed clauses.now trail.old trail.new) }
     ensures passed { IfOk result (IsPass clauses.now (length trail.old.marks) trail.old trail.new) }
 {
     let mut is_changed = false;

@@ -13,10 +13,10 @@ ghost use Rattle.cdcl_core.specs.Searches.{IfFound, IfRefuted, IfSpent, has_no_e
 
 use crate::analysis::analyse;
 use crate::bounds::last_variable;
+use crate::clause_list::{ClauseList, clause_list};
 use crate::descent::descend;
 use crate::lesson::lesson;
 use crate::levels::Levels;
-use crate::occurrences::Occurrences;
 use crate::order::Order;
 use crate::restarts::Restarts;
 use crate::trail::Trail;
@@ -37,10 +37,9 @@ pub enum Answer {
 // The clauses of the formula and those learnt, the log of these, and the literals that are true now.
 #[derive(Drop)]
 struct Solver {
-    clauses: Vec<Clause>,
+    clauses: ClauseList,
     log: Log,
     trail: Trail,
-    occurrences: Occurrences,
     order: Order,
     restarts: Restarts,
 }
@@ -60,15 +59,14 @@ fn go_back(trail: &mut Trail, clause: &Clause, len: usize)
 
 impl Solver {
     fn new(alloc: Global, formula: &Cnf) -> Result<Solver, NoMemory>
-        ensures search { IfOk result (λ s. IsSearch formula.now s.clauses.items s.log s.trail) }
+        ensures search { IfOk result (λ s. IsSearch formula.now s.clauses s.log s.trail) }
         ensures log { IfOk result (λ s. s.log ≡ []) }
     {
         let last = last_variable(formula.clauses());
         Ok(Solver {
-            clauses: formula.clauses().to_vec(alloc)?,
+            clauses: clause_list(alloc, formula.clauses())?,
             log: Log::new(alloc),
             trail: Trail::new(alloc, last as usize + 1)?,
-            occurrences: Occurrences::new(alloc, last as usize + 1, formula.clauses())?,
             order: Order::new(alloc, last)?,
             restarts: Restarts::new(),
         })
@@ -76,17 +74,12 @@ impl Solver {
 
     // Goes on until a clause is false, whose number is the answer, or each is satisfied.
     fn run(&mut self, formula: &Cnf) -> Result<Option<usize>, NoMemory>
-        requires { IsSearch formula.now self.old.clauses.items self.old.log self.old.trail }
-        ensures search { OnOk result (IsSearch formula.now self.new.clauses.items self.new.log self.new.trail) }
+        requires { IsSearch formula.now self.old.clauses self.old.log self.old.trail }
+        ensures search { OnOk result (IsSearch formula.now self.new.clauses self.new.log self.new.trail) }
         ensures log { OnOk result (self.new.log ≡ self.old.log) }
-        ensures descent { IfOk result (IsDescent self.new.clauses.items (values_of self.new.trail.entries)) }
+        ensures descent { IfOk result (IsDescent self.new.clauses (values_of self.new.trail.entries)) }
     {
-        descend(
-            &mut self.trail,
-            &self.clauses,
-            &self.occurrences,
-            &self.order,
-        )
+        descend(&mut self.trail, &self.clauses, &self.order)
     }
 
     // What the analysis of a conflict finds, and nothing where no literal was decided. The variables that it meets become
@@ -97,7 +90,7 @@ impl Solver {
         levels: &Levels,
         conflict: usize,
     ) -> Result<Option<LogStep>, NoMemory>
-        ensures clauses { self.new.clauses.items ≡ self.old.clauses.items }
+        ensures clauses { self.new.clauses ≡ self.old.clauses }
         ensures log { self.new.log ≡ self.old.log }
         ensures trail { self.new.trail ≡ self.old.trail }
     {
@@ -108,7 +101,7 @@ impl Solver {
             alloc,
             self.trail.size(),
             self.trail.entries(),
-            &self.clauses,
+            self.clauses.as_slice(),
             levels,
             conflict,
         )?;
@@ -124,11 +117,11 @@ impl Solver {
         levels: &Levels,
         conflict: usize,
     ) -> Result<LogStep, NoMemory>
-        requires search { IsSearch formula.now self.old.clauses.items self.old.log self.old.trail }
-        requires conflict { hint_is_falsified (values_of self.old.trail.entries) (numbered self.old.clauses.items conflict) ≡ true }
-        ensures search { OnOk result (IsSearch formula.now self.new.clauses.items self.new.log self.new.trail) }
+        requires search { IsSearch formula.now self.old.clauses self.old.log self.old.trail }
+        requires conflict { hint_is_falsified (values_of self.old.trail.entries) (numbered self.old.clauses conflict) ≡ true }
+        ensures search { OnOk result (IsSearch formula.now self.new.clauses self.new.log self.new.trail) }
         ensures log { OnOk result (self.new.log ≡ self.old.log) }
-        ensures lesson { IfOk result (IsLesson self.new.clauses.items (length self.new.trail.marks)) }
+        ensures lesson { IfOk result (IsLesson self.new.clauses (length self.new.trail.marks)) }
     {
         let found = self.found(alloc, levels, conflict)?;
         lesson(
@@ -136,7 +129,7 @@ impl Solver {
             formula,
             &self.log,
             &self.trail,
-            &self.clauses,
+            self.clauses.as_slice(),
             conflict,
             found,
         )
@@ -145,7 +138,7 @@ impl Solver {
     // How many entries to keep once a clause is learnt: none where a restart is due. The literals that are true now are
     // those to choose next.
     fn kept(&mut self, levels: &Levels, clause: &Clause) -> usize
-        ensures clauses { self.new.clauses.items ≡ self.old.clauses.items }
+        ensures clauses { self.new.clauses ≡ self.old.clauses }
         ensures log { self.new.log ≡ self.old.log }
         ensures trail { self.new.trail ≡ self.old.trail }
     {
@@ -159,7 +152,7 @@ impl Solver {
     // Goes back to where the clause that was learnt may go on.
     fn go_back(&mut self, levels: &Levels, clause: &Clause)
         requires { AreApart unassigned self.old.trail.entries }
-        ensures clauses { self.new.clauses.items ≡ self.old.clauses.items }
+        ensures clauses { self.new.clauses ≡ self.old.clauses }
         ensures log { self.new.log ≡ self.old.log }
         ensures front { IsFront self.new.trail.entries self.old.trail.entries }
         ensures size { length self.new.trail.marks ≡ length self.old.trail.marks }
@@ -171,10 +164,10 @@ impl Solver {
 
     // Learns a clause from the one of this number, which is false, and answers whether it is empty.
     fn learn(&mut self, alloc: Global, formula: &Cnf, conflict: usize) -> Result<bool, NoMemory>
-        requires search { IsSearch formula.now self.old.clauses.items self.old.log self.old.trail }
-        requires conflict { hint_is_falsified (values_of self.old.trail.entries) (numbered self.old.clauses.items conflict) ≡ true }
+        requires search { IsSearch formula.now self.old.clauses self.old.log self.old.trail }
+        requires conflict { hint_is_falsified (values_of self.old.trail.entries) (numbered self.old.clauses conflict) ≡ true }
         ensures refuted { IfOk result (λ ended. OnTrue ended (refutes formula.now self.new.log ≡ true)) }
-        ensures search { IfOk result (λ ended. OnFalse ended (IsSearch formula.now self.new.clauses.items self.new.log self.new.trail)) }
+        ensures search { IfOk result (λ ended. OnFalse ended (IsSearch formula.now self.new.clauses self.new.log self.new.trail)) }
         ensures one_more { OnOk result (length self.new.log ≡ length self.old.log + 1) }
     {
         let levels = Levels::new(alloc, &self.trail)?;
@@ -185,8 +178,7 @@ impl Solver {
         }
         let clause = step.clause().clone()?;
         self.go_back(&levels, &clause);
-        self.occurrences.add(&clause, self.clauses.len())?;
-        self.clauses.push(clause)?;
+        self.clauses.push(alloc, clause)?;
         self.log.push(step)?;
         Ok(false)
     }

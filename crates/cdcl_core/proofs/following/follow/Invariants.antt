@@ -1,5 +1,13 @@
-use Rattle.cdcl_core.specs.Passes.{IsFollowed}
+use Rattle.std.proofs.Common.{[], ◌+◌, ◌-◌, length}
+use Rattle.cdcl_core.specs.Trails.{free_count}
+use Rattle.cdcl_core.specs.Passes.{ArePending, IsFollowed}
 use Rattle.cdcl_core.proofs.following.follow.Given as goal
 
-abbrev pub invariant-loop-place : goal.invariant-loop-place
-invariant-loop-place l = IsFollowed l.clauses l.initial.trail l.trail
+abbrev pub invariant-loop-literal : goal.invariant-loop-literal
+invariant-loop-literal l = record {
+  followed : IsFollowed l.clauses l.initial.trail l.trail;
+  pending : ArePending l.clauses l.initial.trail.entries l.first [] → ArePending l.clauses l.trail.entries l.place [];
+}
+
+abbrev pub decreases-loop-literal : goal.decreases-loop-literal
+decreases-loop-literal l = length l.trail.entries + free_count l.trail.marks - l.place

@@ -1,5 +1,9 @@
-use Rattle.cdcl_core.specs.Passes.{IsFollowed}
+use Rattle.std.proofs.Common.{ℕ, ◌≤◌, length, drop}
+use Rattle.cdcl_core.specs.Passes.{ArePending, IsFollowed}
 use Rattle.cdcl_core.proofs.following.look_at.Given as goal
 
 abbrev pub invariant-loop-place : goal.invariant-loop-place
-invariant-loop-place l = IsFollowed l.clauses l.initial.trail l.trail
+invariant-loop-place l = record {
+  followed : IsFollowed l.clauses l.initial.trail l.trail;
+  looked : (first : ℕ) → first ≤ length l.initial.trail.entries → ArePending l.clauses l.initial.trail.entries first l.places → ArePending l.clauses l.trail.entries first (drop l.place-index l.places);
+}

@@ -9,7 +9,7 @@ loop-i-init c = begun c.args.clauses.now c.args.trail.now c.requires.trail
 
 pub state_of-requires : goal.state_of-requires
 state_of-requires c =
-    rw c.loop-i.invariant.size (below_at _ c.args.clauses.now c.loop-i.i c.index-clauses-i.result c.loop-i-test.true c.index-clauses-i.is c.requires.below)
+    rw c.loop-i.invariant.followed.size (below_at _ c.args.clauses.now c.loop-i.i c.index-clauses-i.result c.loop-i-test.true c.index-clauses-i.is c.requires.below)
 
 pub returns-in-Falsified-clause-passed : goal.returns-in-Falsified-clause-passed
 returns-in-Falsified-clause-passed c =

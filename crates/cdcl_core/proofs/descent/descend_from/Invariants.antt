@@ -1,11 +1,13 @@
 use Rattle.std.proofs.Common.{◌≡◌, length}
-use Rattle.cdcl_core.specs.Trails.{IsTrail, free_count}
-use Rattle.cdcl_core.proofs.descent.descend.Given as goal
+use Rattle.cdcl_core.specs.Trails.{IsTrail, values_of, free_count}
+use Rattle.cdcl_core.specs.Passes.{AreCalm}
+use Rattle.cdcl_core.proofs.descent.descend_from.Given as goal
 
 abbrev pub invariant-choices : goal.invariant-choices
 invariant-choices l = record {
   trail : IsTrail l.clauses l.trail.entries;
   size : length l.trail.marks ≡ length l.initial.trail.marks;
+  calm : AreCalm (values_of l.trail.entries) l.clauses;
 }
 
 abbrev pub decreases-choices : goal.decreases-choices

@@ -1,0 +1,148 @@
+//! Clauses, with the places in which each literal stands, so that only those are looked at where it becomes false.
+
+ghost use Rattle.std.specs.Prelude.{◌≡◌, ℕ, ◌+◌, ◌*◌, ◌<◌, ◌++◌, ◌∷◌, [], List, Some, true, OnOk, OnErr, IfOk, slice_get, length};
+ghost use Rattle.std.specs.List.{list_any};
+ghost use Rattle.cnf_form.specs.Literals.{Literal, same_literal};
+ghost use Rattle.cdcl_core.specs.Places.{index_of, is_among, places_of, AreKept};
+
+use cnf_form::{Clause, Lit};
+use std::alloc::{AllocError as NoMemory, Global};
+use std::marker::Model;
+
+/// The places of clauses, by literal: those in which the variable k stands are at place 2 k + 1, those with its negation
+/// at place 2 k.
+#[derive(Debug, Drop)]
+struct Places {
+    lists: Vec<Vec<usize>>,
+}
+
+impl Model for Places {
+    ghost use Rattle.std.specs.Prelude.{ℕ, List, map};
+
+    ghost Value = { List (List ℕ) };
+
+    ghost view = { λ p. map (λ v. v.items) p.lists.items };
+}
+
+fn index(literal: Lit) -> usize
+    ensures { result ≡ index_of literal }
+{
+    let even = literal.variable() as usize * 2;
+    if literal.is_positive() {
+        even + 1
+    } else {
+        even
+    }
+}
+
+impl Places {
+    // Makes room for a list at this index.
+    fn reach(&mut self, alloc: Global, index: usize) -> Result<(), NoMemory>
+        ensures there { OnOk result (index < length self.new) }
+        ensures kept { AreKept self.old self.new }
+    {
+        while self.lists.len() <= index {
+            self.lists.push(Vec::new(alloc))?;
+        }
+        Ok(())
+    }
+
+    // Notes that the literal stands in the clause at this place.
+    fn put(&mut self, alloc: Global, literal: Lit, place: usize) -> Result<(), NoMemory>
+        ensures noted { OnOk result (is_among (places_of self.new literal) place ≡ true) }
+        ensures kept { AreKept self.old self.new }
+    {
+        let index = index(literal);
+        self.reach(alloc, index)?;
+        self.lists[index].push(place)?;
+        Ok(())
+    }
+
+    // Notes the clause at this place.
+    fn add(&mut self, alloc: Global, clause: &Clause, place: usize) -> Result<(), NoMemory>
+        ensures noted { OnOk result ((l : Literal) → list_any (same_literal l) clause.now ≡ true → is_among (places_of self.new l) place ≡ true) }
+        ensures kept { AreKept self.old self.new }
+    {
+        for literal in clause.literals() {
+            self.put(alloc, *literal, place)?;
+        }
+        Ok(())
+    }
+
+    // The places of the clauses in which the literal stands.
+    fn of(&self, literal: Lit) -> &[usize]
+        ensures { result.now ≡ places_of self.now literal }
+    {
+        match self.lists.get(index(literal)) {
+            Some(places) => places.as_slice(),
+            None => &[],
+        }
+    }
+}
+
+/// Clauses in their order.
+#[derive(Debug, Drop)]
+pub struct ClauseList {
+    clauses: Vec<Clause>,
+    places: Places,
+}
+
+impl Model for ClauseList {
+    ghost use Rattle.std.specs.Prelude.{List};
+    ghost use Rattle.cnf_form.specs.Literals.{Literal};
+    ghost use Rattle.cdcl_core.specs.Places.{AreNoted};
+
+    ghost Value = { List (List Literal) };
+
+    ghost view = { λ c. c.clauses.items };
+
+    ghost invariant = { λ c. AreNoted c.clauses.items c.places };
+}
+
+impl ClauseList {
+    /// No clauses.
+    pub fn new(alloc: Global) -> ClauseList
+        ensures { result ≡ [] }
+    {
+        ClauseList {
+            clauses: Vec::new(alloc),
+            places: Places {
+                lists: Vec::new(alloc),
+            },
+        }
+    }
+
+    /// Puts a clause behind the others.
+    pub fn push(&mut self, alloc: Global, clause: Clause) -> Result<(), NoMemory>
+        ensures ok { OnOk result (self.new ≡ self.old ++ clause ∷ []) }
+        ensures err { OnErr result (self.new ≡ self.old) }
+    {
+        self.places.add(alloc, &clause, self.clauses.len())?;
+        self.clauses.push(clause)?;
+        Ok(())
+    }
+
+    pub fn as_slice(&self) -> &[Clause]
+        ensures { result.now ≡ self.now }
+    {
+        self.clauses.as_slice()
+    }
+
+    /// The places of clauses, with all of those in which the literal stands.
+    pub fn places(&self, literal: Lit) -> &[usize]
+        ensures { (k : ℕ) (c : List Literal) → slice_get self.now k ≡ Some c → list_any (same_literal literal) c ≡ true → is_among result.now k ≡ true }
+    {
+        self.places.of(literal)
+    }
+}
+
+/// The clauses of a formula.
+pub fn clause_list(alloc: Global, formula: &[Clause]) -> Result<ClauseList, NoMemory>
+    ensures { IfOk result (λ list. list ≡ formula.now) }
+{
+    let mut list = ClauseList::new(alloc);
+    for clause in formula {
+        list.push(alloc, clause.clone()?)?;
+    }
+    Ok(list)
+}
