@@ -51,7 +51,7 @@ fn answered(rt: &impl Abort, alloc: Global, formula: &Cnf, budget: u32) -> Resul
             Ok(Kind::Refuted)
         }
         Answer::Spent(log) => {
-            assert!(rt; check(alloc, formula, &log)? && fresh(formula, &log));
+            assert!(rt; check(alloc, formula, &log)? && fresh(alloc, formula, &log)?);
             assert_eq!(rt; log.steps().len(), budget as usize);
             Ok(Kind::Spent)
         }

@@ -1,5 +1,5 @@
 pub mod Assigning
 pub mod Walks
 pub mod Turns
-pub mod Subsets
+pub mod Supersets
 pub mod Opened

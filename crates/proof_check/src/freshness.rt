@@ -1,74 +1,59 @@
-//! Whether the clauses of a log are fresh.
+//! Whether the clauses of a log are fresh. A clause is a subset of another just where it is false once each literal of the
+//! other is: so that one is marked, and the others are looked at up to their first literal that isn't false.
 
-ghost use Rattle.std.specs.Prelude.{◌≡◌, ◌++◌};
+ghost use Rattle.std.specs.Prelude.{◌≡◌, ◌++◌, IfOk};
 ghost use Rattle.std.specs.List.{list_any};
-ghost use Rattle.cnf_form.specs.Literals.{same_literal};
-ghost use Rattle.cnf_form.specs.Clauses.{is_subset};
+ghost use Rattle.cnf_form.specs.Propagation.{is_falsified};
 ghost use Rattle.cnf_form.specs.Refutations.{clauses_of, is_new, is_fresh};
-ghost use Rattle.proof_check.specs.Merging.{is_met};
+ghost use Rattle.proof_check.specs.Marking.{marked};
 
-use cnf_form::{Clause, Cnf, Lit, Log, LogStep};
+use crate::checking::{falsify, is_falsified};
+use crate::marks::Marks;
+use cnf_form::{Clause, Cnf, Log, LogStep};
+use std::alloc::{AllocError as NoMemory, Global};
 
-fn is_same(first: Lit, second: Lit) -> bool
-    ensures { result ≡ same_literal first second }
+fn has_falsified(marks: &Marks, clauses: &[Clause]) -> bool
+    ensures { result ≡ list_any (is_falsified (marked marks.now)) clauses.now }
 {
-    first.variable() == second.variable() && first.is_positive() == second.is_positive()
+    clauses.iter().any(|c| is_falsified(marks, c.literals()))
 }
 
-// Whether each literal of the first list is met in the second, by one walk over both.
-fn is_met(small: &[Lit], large: &[Lit]) -> bool
-    ensures { result ≡ is_met small.now large.now }
+fn step_has_falsified(marks: &Marks, steps: &[LogStep]) -> bool
+    ensures { result ≡ list_any (λ s. is_falsified (marked marks.now) s.clause) steps.now }
 {
-    let mut met = 0;
-    for literal in large {
-        if met == small.len() {
-            return true;
-        }
-        let wanted = small[met];
-        if wanted.variable() < literal.variable() {
-            return false;
-        }
-        if is_same(wanted, *literal) {
-            met += 1;
-        }
-    }
-    met == small.len()
-}
-
-fn is_subset(small: &Clause, large: &Clause) -> bool
-    ensures { result ≡ is_subset small.now large.now }
-{
-    is_met(small.literals(), large.literals())
-}
-
-fn has_subset(clauses: &[Clause], clause: &Clause) -> bool
-    ensures { result ≡ list_any (λ d. is_subset d clause.now) clauses.now }
-{
-    clauses.iter().any(|d| is_subset(d, clause))
-}
-
-fn step_has_subset(steps: &[LogStep], clause: &Clause) -> bool
-    ensures { result ≡ list_any (λ s. is_subset s.clause clause.now) steps.now }
-{
-    steps.iter().any(|s| is_subset(s.clause(), clause))
+    steps
+        .iter()
+        .any(|s| is_falsified(marks, s.clause().literals()))
 }
 
 /// Whether no clause of the formula or of an earlier step is a subset of this one.
-pub fn is_new(formula: &[Clause], earlier: &[LogStep], clause: &Clause) -> bool
-    ensures { result ≡ is_new (formula.now ++ clauses_of earlier.now) clause.now }
+pub fn is_new(
+    marks: &mut Marks,
+    formula: &[Clause],
+    earlier: &[LogStep],
+    clause: &Clause,
+) -> Result<bool, NoMemory>
+    ensures { IfOk result (λ yes. yes ≡ is_new (formula.now ++ clauses_of earlier.now) clause.now) }
 {
-    !has_subset(formula, clause) && !step_has_subset(earlier, clause)
+    falsify(marks, clause.literals())?;
+    Ok(!has_falsified(marks, formula) && !step_has_falsified(marks, earlier))
 }
 
 /// Whether no clause of the log is a superset of a clause of the formula or of an earlier one of the log.
-pub fn fresh(formula: &Cnf, log: &Log) -> bool
-    ensures { result ≡ is_fresh formula.now log.now }
+pub fn fresh(alloc: Global, formula: &Cnf, log: &Log) -> Result<bool, NoMemory>
+    ensures { IfOk result (λ yes. yes ≡ is_fresh formula.now log.now) }
 {
+    let mut marks = Marks::new(alloc);
     let steps = log.steps();
     for i in 0..steps.len() {
-        if !is_new(formula.clauses(), &steps[..i], steps[i].clause()) {
-            return false;
+        if !is_new(
+            &mut marks,
+            formula.clauses(),
+            &steps[..i],
+            steps[i].clause(),
+        )? {
+            return Ok(false);
         }
     }
-    true
+    Ok(true)
 }

@@ -21,6 +21,8 @@ pub fn may_come_next(
     ensures { IfOk result (λ yes. yes ≡ (follows (formula.now ++ clauses_of log.now) step.now.clause step.now.hints && is_new (formula.now ++ clauses_of log.now) step.now.clause)) }
 {
     let mut marks = Marks::new(alloc);
-    let does_follow = follows(&mut marks, formula.clauses(), log.steps(), step)?;
-    Ok(does_follow && is_new(formula.clauses(), log.steps(), step.clause()))
+    if !follows(&mut marks, formula.clauses(), log.steps(), step)? {
+        return Ok(false);
+    }
+    is_new(&mut marks, formula.clauses(), log.steps(), step.clause())
 }

@@ -54,7 +54,7 @@ fn refutations_by_hand(rt: HostRuntime) -> Result<(), Fail> {
     )?;
     assert!(rt; check(alloc, &formula, &log)?);
     assert!(rt; ends_empty(&log));
-    assert!(rt; fresh(&formula, &log));
+    assert!(rt; fresh(alloc, &formula, &log)?);
     let cases = [
         ([1, 2, 3].as_slice(), true),
         (&[1, 2], false),
@@ -94,13 +94,13 @@ fn supersets_are_not_fresh(rt: HostRuntime) -> Result<(), Fail> {
         step(&rt, alloc, &[b()], &[1, 2])?,
         step(&rt, alloc, &[c, a()], &[1])?,
     )?;
-    assert!(rt; !fresh(&formula, &of_the_formula));
+    assert!(rt; !fresh(alloc, &formula, &of_the_formula)?);
     let of_the_log = log_of(
         alloc,
         step(&rt, alloc, &[b()], &[1, 2])?,
         step(&rt, alloc, &[b(), c], &[4])?,
     )?;
-    assert!(rt; !fresh(&formula, &of_the_log));
+    assert!(rt; !fresh(alloc, &formula, &of_the_log)?);
     Ok(())
 }
 
