@@ -97,7 +97,11 @@ fn one_bit_is_one(rt: HostRuntime) -> Result<(), Fail> {
 
 #[test]
 fn one_bit_is_doubled(rt: HostRuntime) -> Result<(), Fail> {
-    let nodes = [Node::Input(0), bits(0, 0), Node::Binary(BinaryOp::Add, 1, 1)];
+    let nodes = [
+        Node::Input(0),
+        bits(0, 0),
+        Node::Binary(BinaryOp::Add, 1, 1),
+    ];
     let query = query_of(&rt, rt.alloc(), &nodes)?;
     let formula = clauses(rt.alloc(), &query)?;
     assert!(rt;

@@ -10,7 +10,7 @@ ghost use Rattle.cdcl_core.specs.Passes.{is_below, IsFree, AreCalm, IsSettled, I
 ghost use Rattle.cdcl_core.specs.Searches.{IsDescent};
 
 use crate::clause_list::ClauseList;
-use crate::following::follow;
+use crate::following::{follow, follow_last};
 use crate::order::Order;
 use crate::propagation::{Passed, pass};
 use crate::trail::{Entry, Trail};
@@ -112,8 +112,8 @@ fn descend_from(
     }
 }
 
-/// Makes all true that clauses force, and then chooses literals and makes those true that follow, until a clause is
-/// false, whose number is the answer, or each clause is satisfied.
+/// Makes all true that clauses force, the last one first, since that is the one that was learnt. Then it chooses literals
+/// and makes those true that follow, until a clause is false, whose number is the answer, or each clause is satisfied.
 pub fn descend(
     trail: &mut Trail,
     clauses: &ClauseList,
@@ -125,6 +125,10 @@ pub fn descend(
     ensures size { OnOk result (length trail.new.marks ≡ length trail.old.marks) }
     ensures descent { IfOk result (IsDescent clauses.now (values_of trail.new.entries)) }
 {
+    let conflict = follow_last(trail, clauses)?;
+    if conflict.is_some() {
+        return Ok(conflict);
+    }
     match propagate(trail, clauses)? {
         Settled::AtConflict(number) => Ok(Some(number)),
         Settled::AtEnd => Ok(None),

@@ -105,3 +105,20 @@ pub fn follow(
     }
     Ok(None)
 }
+
+/// Looks at the last clause, and makes literals true that follow from the one that it forces, until a clause is false,
+/// whose number is the answer, or nothing more is found.
+pub fn follow_last(trail: &mut Trail, clauses: &ClauseList) -> Result<Option<usize>, NoMemory>
+    requires below { list_all (is_below (length trail.old.marks)) clauses.now ≡ true }
+    requires trail { IsTrail clauses.now trail.old.entries }
+    ensures followed { OnOk result (IsFollowed clauses.now trail.old trail.new) }
+    ensures conflict { IfOk result (λ o. IfSome o (λ k. hint_is_falsified (values_of trail.new.entries) (numbered clauses.now k) ≡ true)) }
+{
+    let first = trail.entries().len();
+    let last = clauses.as_slice().len().saturating_sub(1);
+    let conflict = look(trail, clauses.as_slice(), last)?;
+    if conflict.is_some() {
+        return Ok(conflict);
+    }
+    follow(trail, clauses, first)
+}
