@@ -27,13 +27,13 @@ const B2: Term = Byte(2);
 const B3: Term = Byte(3);
 
 // Bytes as numbers of 16 bits, and of 32 bits with a sign.
-const W0: Term = Longer(8, &B0);
+const LONG_0: Term = Longer(8, &B0);
 
-const W1: Term = Longer(8, &B1);
+const LONG_1: Term = Longer(8, &B1);
 
-const S0: Term = Signed(24, &B0);
+const SIGNED_0: Term = Signed(24, &B0);
 
-const S1: Term = Signed(24, &B1);
+const SIGNED_1: Term = Signed(24, &B1);
 
 // Four bytes as a little-endian word.
 const WORD: Term = Join(&Join(&B3, &B2), &Join(&B1, &B0));
@@ -44,7 +44,7 @@ const SUM_OF_THREE: Term = Of(Add, &SUM_OF_TWO, &B2);
 
 const DIFFERENCE: Term = Of(Sub, &B0, &B1);
 
-const SUM_WITH_SIGN: Term = Of(Add, &S0, &S1);
+const SUM_WITH_SIGN: Term = Of(Add, &SIGNED_0, &SIGNED_1);
 
 pub const SUMS: [Row; 6] = [
     (
@@ -91,7 +91,7 @@ pub const SUMS: [Row; 6] = [
 
 const PRODUCT: Term = Of(Mul, &B0, &B1);
 
-const LONG_PRODUCT: Term = Of(Mul, &W0, &W1);
+const LONG_PRODUCT: Term = Of(Mul, &LONG_0, &LONG_1);
 
 // The lowest four bits of three bytes, squared.
 const SQUARE_0: Term = Of(Mul, &Longer(12, &Low(3, &B0)), &Longer(12, &Low(3, &B0)));
