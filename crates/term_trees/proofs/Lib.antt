@@ -1,0 +1,3 @@
+pub mod TreeLaws
+pub mod Terms
+pub mod Ranges
