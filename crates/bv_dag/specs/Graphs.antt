@@ -1,3 +1,4 @@
+-- Graphs of terms: nodes in a row, each of which fits behind those before it, so that every term has a width and a value.
 use Rattle.std.specs.Prelude.{◌≡◌, ℕ, List, [], ◌∷◌, ◌++◌, take, Some, slice_get}
 use Rattle.bv_dag.specs.BitVectors.{BitVector}
 use Rattle.bv_dag.specs.Nodes.{Fits, values, widths_of, width_in, word_at}

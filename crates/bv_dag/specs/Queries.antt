@@ -1,3 +1,4 @@
+-- Conditions on input bytes: terms of one bit, each of which is asserted, as by the command `assert` of SMT-LIB.
 use Rattle.std.specs.Prelude.{◌≡◌, ◌==◌, ◌&&◌, ℕ, Bool, List, All, length}
 use Rattle.std.specs.List.{list_all}
 use Rattle.bv_dag.specs.Graphs.{Graph, number_of, width_of}

@@ -8,7 +8,7 @@ mod query;
 mod words;
 
 pub use graph::Dag;
-pub use nodes::{BinaryOp, Comparison, Node};
+pub use nodes::{BinaryOp, Comparison, Node, Widths};
 pub use query::{Query, are_ones};
 pub use words::Word;
 
