@@ -12,7 +12,7 @@ use Rattle.bv_dag.specs.Queries.{Condition, AreBits, holds}
 use Rattle.bv_dag.specs.declared.nodes.Node.{Node}
 use Rattle.bv_dag.specs.declared.nodes.Node.TheVariants.{Num, Input, Not, Neg, Binary, Compare, Ite, Extract, Extend, Concat}
 use Rattle.bit_blast.specs.Rows.{fresh_row}
-use Rattle.bit_blast.specs.Bytes.{number_of_row, bytes_of}
+use Rattle.bit_blast.specs.Bytes.{number_of_row, bytes_of, MeansBytes}
 use Rattle.bit_blast.specs.Circuits.{Circuit, with_input, with_node, no_terms, circuit_of, clauses}
 use Rattle.bit_blast.proofs.InputBytes.{Inputs, input_at, AreBytes, AreKept, byte_is, bytes_in, no_bytes, nodes_bytes, nodes_kept}
 use Rattle.bit_blast.proofs.CircuitMeaning.{FitFrom, fits_later, values_from}
@@ -63,9 +63,9 @@ same_values q v input dag worth =
     = λ i row is. byte_is v all i row ((circuit_bytes q).each i row is) is ∙ worth i row is in
     in_turn (bytes_in v all) q.graph.nodes ∙ nodes_same v input all agree q.graph.nodes (no_terms q.graph.inputs) [] [] (start_fits q dag) refl ∙ sym (in_turn input q.graph.nodes)
 
-pub has_valuation : (q : Condition) (input : List ℕ) → IsDag q.graph → AreBits q.graph q.asserted → All (λ b. b < 256) input → holds q input ≡ true → (v : ℕ → Bool) × (satisfies v (clauses q) ≡ true)
+pub has_valuation : (q : Condition) (input : List ℕ) → IsDag q.graph → AreBits q.graph q.asserted → All (λ b. b < 256) input → holds q input ≡ true → (v : ℕ → Bool) × (satisfies v (clauses q) ≡ true) × MeansBytes q v input
 unfolding clauses
 has_valuation q input dag bits small is =
     let has = condition_has q input small in
     let words = circuit_words q has.valuation dag has.truth has.satisfied ∙ same_values q has.valuation input dag has.worth in
-    (has.valuation, asserted_means has.valuation q.graph input (circuit_of q).rows q.asserted (circuit_of q).formula words bits ∙ and_from _ _ has.satisfied (and_parts _ _ is).1)
+    (has.valuation, asserted_means has.valuation q.graph input (circuit_of q).rows q.asserted (circuit_of q).formula words bits ∙ and_from _ _ has.satisfied (and_parts _ _ is).1, has.worth)

@@ -1,5 +1,5 @@
 -- The numbers that rows of literals are under a valuation, and the input bytes that it means.
-use Rattle.std.specs.Prelude.{ℕ, ◌+◌, ◌*◌, Bool, true, false, List, [], ◌∷◌, Option, Some, None, map, take}
+use Rattle.std.specs.Prelude.{◌≡◌, ℕ, ◌+◌, ◌*◌, Bool, true, false, List, [], ◌∷◌, Option, Some, None, map, take, slice_index, slice_index_or}
 use Rattle.cnf_form.specs.Literals.{Literal}
 use Rattle.cnf_form.specs.Valuations.{literal_value}
 use Rattle.bv_dag.specs.Queries.{Condition}
@@ -22,3 +22,7 @@ byte_of v (Some row) = number_of_row v (take 8 row)
 -- the input bytes that a valuation of a condition's formula means
 unfoldable pub bytes_of : Condition → (ℕ → Bool) → List ℕ
 bytes_of q v = map (byte_of v) (circuit_of q).inputs
+
+-- the valuation means just these input bytes, wherever one occurs
+abbrev pub MeansBytes : Condition → (ℕ → Bool) → List ℕ → Type 0
+MeansBytes q v input = (i : ℕ) (row : List Literal) → slice_index_or (circuit_of q).inputs i None ≡ Some row → number_of_row v row ≡ slice_index input i

@@ -4,7 +4,7 @@ ghost use Rattle.std.specs.Prelude.{◌≡◌, ℕ, ◌<◌, Bool, true, List, A
 ghost use Rattle.cnf_form.specs.Valuations.{satisfies};
 ghost use Rattle.bv_dag.specs.Graphs.{IsDag};
 ghost use Rattle.bv_dag.specs.Queries.{Condition, AreBits, holds};
-ghost use Rattle.bit_blast.specs.Bytes.{bytes_of};
+ghost use Rattle.bit_blast.specs.Bytes.{bytes_of, MeansBytes};
 ghost use Rattle.bit_blast.specs.Circuits.{clauses};
 
 /// The input bytes that a valuation means are as many as the condition has, and where the valuation satisfies the
@@ -14,7 +14,8 @@ pub fn valuations_are_solutions()
     ensures hold { (q : Condition) (v : ℕ → Bool) → IsDag q.graph → AreBits q.graph q.asserted → satisfies v (clauses q) ≡ true → holds q (bytes_of q v) ≡ true }
 {}
 
-/// Input bytes on which a condition holds have a valuation that satisfies its clauses.
+/// Input bytes on which a condition holds extend to a valuation that satisfies its clauses: it means just these bytes.
 pub fn solutions_are_valuations()
-    ensures { (q : Condition) (input : List ℕ) → IsDag q.graph → AreBits q.graph q.asserted → All (λ b. b < 256) input → holds q input ≡ true → (v : ℕ → Bool) × (satisfies v (clauses q) ≡ true) }
+    ensures { (q : Condition) (input : List ℕ) → IsDag q.graph → AreBits q.graph q.asserted → All (λ b. b < 256) input → holds q input ≡ true →
+        (v : ℕ → Bool) × (satisfies v (clauses q) ≡ true) × MeansBytes q v input }
 {}
