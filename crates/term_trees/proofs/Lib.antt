@@ -1,3 +1,4 @@
 pub mod TreeLaws
 pub mod Terms
 pub mod Ranges
+pub mod Conditions

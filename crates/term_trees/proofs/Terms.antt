@@ -12,7 +12,7 @@ use Rattle.term_trees.specs.Trees.{node_tree, tree_of, tree_width, IsTerm}
 use Rattle.term_trees.proofs.TreeLaws.{tree_by_cases, width-tree_of}
 
 -- the width of a node's operand, among those of the nodes before it
-before-width : (g : Graph) (id k : ℕ) → id ≤ length g.nodes → k < id → get_or (widths_of (take id g.nodes)) k 0 ≡ tree_width (tree_of g k)
+pub before-width : (g : Graph) (id k : ℕ) → id ≤ length g.nodes → k < id → get_or (widths_of (take id g.nodes)) k 0 ≡ tree_width (tree_of g k)
 unfolding widths_of
 before-width g id k l h = get_or-map_in_turn-take _ g.nodes id k 0 h l ∙ sym (width-tree_of g k)
 

@@ -20,6 +20,11 @@ pub length-trees : (nodes : List Node) → length (trees nodes) ≡ length nodes
 unfolding trees
 length-trees nodes = length-map_in_turn _ nodes
 
+-- the trees of nodes with one more behind them
+pub trees-push : (nodes : List Node) (n : Node) → trees (nodes ++ n ∷ []) ≡ trees nodes ++ node_tree (tree_at (trees nodes)) n ∷ []
+unfolding trees
+trees-push nodes n = map_in_turn-push (λ before m. node_tree (tree_at before) m) nodes n
+
 -- a node behind the others changes no tree
 pub tree_of-with_node : (g : Graph) (n : Node) (id : ℕ) → id < length g.nodes → tree_of (with_node g n) id ≡ tree_of g id
 unfolding trees
@@ -27,9 +32,8 @@ tree_of-with_node g n id h = get_or-map_in_turn-append _ g.nodes (n ∷ []) id _
 
 -- the new node's tree is as its case says
 pub tree_of-new : (g : Graph) (n : Node) → tree_of (with_node g n) (length g.nodes) ≡ node_tree (tree_of g) n
-unfolding trees
 tree_of-new g n =
-    ap (λ (ts : List Tree). tree_at ts (length g.nodes)) (map_in_turn-push (λ before m. node_tree (tree_at before) m) g.nodes n)
+    ap (λ (ts : List Tree). tree_at ts (length g.nodes)) (trees-push g.nodes n)
     ∙ ap (λ k. tree_at (trees g.nodes ++ node_tree (tree_of g) n ∷ []) k) (sym (length-trees g.nodes))
     ∙ get_or-append_seam (trees g.nodes) (node_tree (tree_of g) n) [] _
 

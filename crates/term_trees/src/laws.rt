@@ -1,7 +1,8 @@
 //! What holds of every graph and its trees.
 
-ghost use Rattle.std.specs.Prelude.{◌≡◌, ◌<◌, ℕ, List, Some, All, length, slice_get};
+ghost use Rattle.std.specs.Prelude.{◌≡◌, ◌<◌, ℕ, List, Some, All, length, map, slice_get};
 ghost use Rattle.bv_dag.specs.Graphs.{Graph, IsDag, val, width_of, with_node};
+ghost use Rattle.bv_dag.specs.Queries.{Condition, holds};
 ghost use Rattle.bv_dag.specs.declared.nodes.Node.{Node};
 ghost use Rattle.term_trees.specs.Growth.{Continues};
 ghost use Rattle.term_trees.specs.Trees.{Tree, node_tree, tree_of, tree_width, tree_value, IsTerm, IsOfWidth};
@@ -43,4 +44,9 @@ pub fn trees_of_a_dag_are_terms()
 /// A well-formed tree is worth a bit-vector of its width, whatever the input bytes are.
 pub fn values_are_of_their_width()
     ensures { (inputs : ℕ) (input : List ℕ) (tree : Tree) → All (λ b. b < 256) input → IsTerm inputs tree → IsOfWidth (tree_width tree) (tree_value input tree) }
+{}
+
+/// Conditions over as many input bytes whose asserted terms are the same trees hold on the same bytes.
+pub fn conditions_of_the_same_trees_are_one()
+    ensures { (c d : Condition) (input : List ℕ) → c.graph.inputs ≡ d.graph.inputs → map (tree_of c.graph) c.asserted ≡ map (tree_of d.graph) d.asserted → holds c input ≡ holds d input }
 {}
