@@ -1,0 +1,5 @@
+pub mod Pieces
+pub mod Chunked
+pub mod Writes
+pub mod ChunkItems
+pub mod ChunkWrites

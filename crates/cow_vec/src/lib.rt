@@ -1,0 +1,9 @@
+//! A list in chunks that its copies share: a copy costs a table of references, and a write copies at most one chunk.
+#![tactic(auto)]
+
+mod chunk;
+mod list;
+#[cfg(test)]
+mod tests;
+
+pub use list::CowVec;
