@@ -1,0 +1,10 @@
+//! The terms of a symbolic run, in a table that copies share.
+#![tactic(auto)]
+
+mod entry;
+mod table;
+#[cfg(test)]
+mod tests;
+mod values;
+
+pub use table::Terms;
