@@ -38,15 +38,6 @@ kept_width_in_bounds inputs entries id e all kept there read =
     let is : e.width ≡ width_in (nodes_of entries) id = sym (get_or-kept_widths entries id e read) ∙ ap (λ (ws : List ℕ). get_or ws id 0) kept in
     rw is (width_in_bounds inputs (nodes_of entries) all id there)
 
--- no kept width is above 64
-pub kept_widths_at_most_64 : (inputs : ℕ) (entries : List TableEntry) → AllFit inputs (nodes_of entries) → kept_widths entries ≡ widths_of (nodes_of entries) → (id : ℕ) → get_or (kept_widths entries) id 0 ≤ 64
-kept_widths_at_most_64 inputs entries all kept id =
-    rw kept
-    (elim (cases_lt id (length (nodes_of entries))) [
-      | inl there ↦ (width_in_bounds inputs (nodes_of entries) all id there).1
-      | inr past ↦ omega (arith, get_or_past (widths_of (nodes_of entries)) id 0 (omega (arith, past, length-widths_of (nodes_of entries))))
-    ])
-
 -- one entry more
 pub nodes_of-push : (entries : List TableEntry) (e : TableEntry) → nodes_of (entries ++ e ∷ []) ≡ nodes_of entries ++ e.node ∷ []
 nodes_of-push entries e = map-append (λ (e : TableEntry). e.node) entries (e ∷ [])

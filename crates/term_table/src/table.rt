@@ -3,9 +3,9 @@
 ghost use Rattle.std.specs.Prelude.{◌≡◌, ◌↔◌, ◌<◌, ◌≤◌, [], IsTrue, IfOk, OnOk, OnErr, Some, length, slice_get, take};
 ghost use Rattle.bv_dag.specs.Nodes.{Fits, widths_of};
 
-use crate::entry::{TableEntry, entry_at, is_fit, width_of_node};
+use crate::entry::{TableEntry, entry_at, width_at};
 use crate::values::words_of_first;
-use bv_dag::Node;
+use bv_dag::{Node, Widths};
 use cow_vec::CowVec;
 use std::alloc::{AllocError as NoMemory, Global};
 use std::marker::Model;
@@ -28,6 +28,16 @@ impl Model for Terms {
     ghost view = { λ t. record { inputs = t.inputs; nodes = nodes_of t.entries } };
 
     ghost invariant = { λ t. IsDag (record { inputs = t.inputs; nodes = nodes_of t.entries }) × (kept_widths t.entries ≡ widths_of (nodes_of t.entries)) };
+}
+
+impl Widths for Terms {
+    ghost use Rattle.bv_dag.specs.Nodes.{widths_of};
+
+    ghost widths = { λ t. widths_of t.nodes };
+
+    fn width_at(&self, id: usize) -> u32 {
+        width_at(&self.entries, id)
+    }
 }
 
 impl Terms {
@@ -82,7 +92,7 @@ impl Terms {
     pub fn fits(&self, node: &Node) -> bool
         ensures { IsTrue result ↔ Fits self.now.inputs (widths_of self.now.nodes) node.now }
     {
-        is_fit(node, self.inputs, &self.entries)
+        node.fits(self.inputs, self)
     }
 
     /// Puts the node behind the others, and answers its place.
@@ -92,7 +102,7 @@ impl Terms {
         ensures ok { OnOk result (self.new ≡ with_node self.old node) }
         ensures err { OnErr result (self.new ≡ self.old) }
     {
-        let width = width_of_node(&node, &self.entries);
+        let width = node.width(&*self);
         let id = self.entries.len();
         self.entries.push(TableEntry { node, width })?;
         Ok(id)
