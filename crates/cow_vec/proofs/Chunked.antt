@@ -19,7 +19,8 @@ IsChunked-none = record {
 }
 
 -- the pieces before one are full
-pub length-joined_pieces-take : {T : Type 0} (pieces : List (List T)) (len k : ℕ) → IsChunked pieces len → k ≤ length pieces → CHUNK * k ≤ len →
+pub length-joined_pieces-take : {T : Type 0} (pieces : List (List T)) (len k : ℕ) →
+    IsChunked pieces len → k ≤ length pieces → CHUNK * k ≤ len →
     length (joined_pieces (take k pieces)) ≡ CHUNK * k
 length-joined_pieces-take pieces len zero chunked h l = refl
 length-joined_pieces-take pieces len (suc k) chunked h l =
@@ -28,20 +29,25 @@ length-joined_pieces-take pieces len (suc k) chunked h l =
     (omega (arith, chunked.held k [] (omega (arith, h)), chunked.at_most k [] (omega (arith, h)), length-joined_pieces-take pieces len k chunked (omega (arith, h)) (omega (arith, l))))
 
 -- the chunk of an item is there
-pub chunk_there : {T : Type 0} (pieces : List (List T)) (len i : ℕ) → IsChunked pieces len → i < len → i / CHUNK < length pieces
+pub chunk_there : {T : Type 0} (pieces : List (List T)) (len i : ℕ) → IsChunked pieces len →
+    i < len → i / CHUNK < length pieces
 chunk_there pieces len i chunked h = omega (arith, chunked.enough)
 
 -- and has the item
-pub item_there : {T : Type 0} (pieces : List (List T)) (len i : ℕ) (d : List T) → IsChunked pieces len → i < len → i % CHUNK < length (get_or pieces (i / CHUNK) d)
+pub item_there : {T : Type 0} (pieces : List (List T)) (len i : ℕ) (d : List T) →
+    IsChunked pieces len → i < len → i % CHUNK < length (get_or pieces (i / CHUNK) d)
 item_there pieces len i d chunked h = omega (arith, chunked.held (i / CHUNK) d (chunk_there pieces len i chunked h))
 
 -- so many items stand before the chunk of an item
-pub length-joined_pieces-before : {T : Type 0} (pieces : List (List T)) (len i : ℕ) → IsChunked pieces len → i < len → length (joined_pieces (take (i / CHUNK) pieces)) ≡ CHUNK * (i / CHUNK)
+pub length-joined_pieces-before : {T : Type 0} (pieces : List (List T)) (len i : ℕ) →
+    IsChunked pieces len → i < len →
+    length (joined_pieces (take (i / CHUNK) pieces)) ≡ CHUNK * (i / CHUNK)
 length-joined_pieces-before pieces len i chunked h =
     length-joined_pieces-take pieces len (i / CHUNK) chunked (omega (arith, chunk_there pieces len i chunked h)) (omega arith)
 
 -- the chunks have all items
-pub items_covered : {T : Type 0} (pieces : List (List T)) (len : ℕ) → IsChunked pieces len → len ≤ length (joined_pieces pieces)
+pub items_covered : {T : Type 0} (pieces : List (List T)) (len : ℕ) → IsChunked pieces len →
+    len ≤ length (joined_pieces pieces)
 items_covered pieces len chunked =
     elim (cases_lt 0 len) [
       | inl some ↦
@@ -52,11 +58,17 @@ items_covered pieces len chunked =
       | inr none ↦ omega (arith, none)
     ]
 
-pub length-items : {T : Type 0} (pieces : List (List T)) (len : ℕ) → IsChunked pieces len → length (take len (joined_pieces pieces)) ≡ len
+pub length-items : {T : Type 0} (pieces : List (List T)) (len : ℕ) → IsChunked pieces len →
+    length (take len (joined_pieces pieces)) ≡ len
 length-items pieces len chunked = length-take-le len (joined_pieces pieces) (items_covered pieces len chunked)
 
+pub below_len : {T : Type 0} (pieces : List (List T)) (len i : ℕ) → IsChunked pieces len →
+    i < length (take len (joined_pieces pieces)) → i < len
+below_len pieces len i chunked h = omega (arith, h, length-items pieces len chunked)
+
 -- an item stands in its chunk
-pub get_or-items : {T : Type 0} (pieces : List (List T)) (len i : ℕ) (d : List T) (e : T) → IsChunked pieces len → i < len →
+pub get_or-items : {T : Type 0} (pieces : List (List T)) (len i : ℕ) (d : List T) (e : T) →
+    IsChunked pieces len → i < len →
     get_or (take len (joined_pieces pieces)) i e ≡ get_or (get_or pieces (i / CHUNK) d) (i % CHUNK) e
 get_or-items pieces len i d e chunked h =
     let place : i ≡ length (joined_pieces (take (i / CHUNK) pieces)) + i % CHUNK = omega (arith, length-joined_pieces-before pieces len i chunked h) in
@@ -64,14 +76,16 @@ get_or-items pieces len i d e chunked h =
     ∙ ap (λ k. get_or (joined_pieces pieces) k e) place
     ∙ get_or-flat_map (λ p. p) pieces (i / CHUNK) (i % CHUNK) d e (chunk_there pieces len i chunked h) (item_there pieces len i d chunked h)
 
-pub slice_get-items : {T : Type 0} (pieces : List (List T)) (len i : ℕ) (d : List T) (x : T) → IsChunked pieces len → i < len → x ≡ get_or (get_or pieces (i / CHUNK) d) (i % CHUNK) x →
+pub slice_get-items : {T : Type 0} (pieces : List (List T)) (len i : ℕ) (d : List T) (x : T) →
+    IsChunked pieces len → i < len → x ≡ get_or (get_or pieces (i / CHUNK) d) (i % CHUNK) x →
     Some x ≡ slice_get (take len (joined_pieces pieces)) i
 slice_get-items pieces len i d x chunked h e =
     ap Some (e ∙ sym (get_or-items pieces len i d x chunked h))
     ∙ sym (slice_get-get_or (take len (joined_pieces pieces)) i x (omega (arith, length-items pieces len chunked)))
 
 -- one chunk is replaced, and the others have what is needed of them
-pub IsChunked-set : {T : Type 0} (pieces : List (List T)) (len more k : ℕ) (p : List T) → IsChunked pieces len → len ≤ more → more ≤ CHUNK * length pieces →
+pub IsChunked-set : {T : Type 0} (pieces : List (List T)) (len more k : ℕ) (p : List T) →
+    IsChunked pieces len → len ≤ more → more ≤ CHUNK * length pieces →
     min CHUNK (more - CHUNK * k) ≤ length p → length p ≤ CHUNK → ((j : ℕ) → j < length pieces → j ≢ k → min CHUNK (more - CHUNK * j) ≤ min CHUNK (len - CHUNK * j)) →
     IsChunked (set pieces k p) more
 IsChunked-set pieces len more k p chunked grows enough held at_most others =
@@ -93,7 +107,8 @@ IsChunked-set pieces len more k p chunked grows enough held at_most others =
     }
 
 -- one chunk more, where all others are full
-pub IsChunked-push : {T : Type 0} (pieces : List (List T)) (len : ℕ) (x : T) → IsChunked pieces len → len % CHUNK ≡ 0 → IsChunked (pieces ++ (x ∷ []) ∷ []) (len + 1)
+pub IsChunked-push : {T : Type 0} (pieces : List (List T)) (len : ℕ) (x : T) →
+    IsChunked pieces len → len % CHUNK ≡ 0 → IsChunked (pieces ++ (x ∷ []) ∷ []) (len + 1)
 IsChunked-push pieces len x chunked even =
     let one : length (pieces ++ (x ∷ []) ∷ []) ≡ length pieces + 1 = length_push pieces (x ∷ []) in
     let all : length pieces ≡ len / CHUNK = omega (arith, chunked.enough, chunked.needed, even) in
@@ -119,7 +134,9 @@ IsChunked-push pieces len x chunked even =
     }
 
 -- the first chunks, of which none is left over
-pub IsChunked-take : {T : Type 0} (pieces : List (List T)) (len fewer n : ℕ) → IsChunked pieces len → fewer ≤ len → fewer ≤ CHUNK * n → CHUNK * n < fewer + CHUNK → IsChunked (take n pieces) fewer
+pub IsChunked-take : {T : Type 0} (pieces : List (List T)) (len fewer n : ℕ) →
+    IsChunked pieces len → fewer ≤ len → fewer ≤ CHUNK * n → CHUNK * n < fewer + CHUNK →
+    IsChunked (take n pieces) fewer
 IsChunked-take pieces len fewer n chunked h enough needed =
     let within : n ≤ length pieces = omega (arith, chunked.enough, h, needed) in
     let so_many : length (take n pieces) ≡ n = length-take-le n pieces within in

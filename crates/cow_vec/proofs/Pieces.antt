@@ -6,7 +6,8 @@ use Rattle.std.proofs.Math.Seq.{take-append-add}
 use Rattle.cow_vec.specs.Chunks.{joined_pieces}
 
 -- the pieces before one, that one, and those behind it
-pub joined_pieces_split : {T : Type 0} (pieces : List (List T)) (k : ℕ) (d : List T) → k < length pieces →
+pub joined_pieces_split : {T : Type 0} (pieces : List (List T)) (k : ℕ) (d : List T) →
+    k < length pieces →
     joined_pieces pieces ≡ joined_pieces (take k pieces) ++ (get_or pieces k d ++ joined_pieces (drop (k + 1) pieces))
 joined_pieces_split pieces k d h =
     ap joined_pieces (sym (take-append-drop k pieces))
@@ -14,7 +15,8 @@ joined_pieces_split pieces k d h =
     ∙ ap (λ (rest : List (List _)). joined_pieces (take k pieces) ++ joined_pieces rest) (drop_more pieces k d h)
 
 -- the same after one is replaced
-pub joined_pieces-set : {T : Type 0} (pieces : List (List T)) (k : ℕ) (p : List T) → k < length pieces →
+pub joined_pieces-set : {T : Type 0} (pieces : List (List T)) (k : ℕ) (p : List T) →
+    k < length pieces →
     joined_pieces (set pieces k p) ≡ joined_pieces (take k pieces) ++ (p ++ joined_pieces (drop (k + 1) pieces))
 joined_pieces-set pieces k p h =
     let next : suc k ≡ k + 1 = omega arith in
@@ -23,10 +25,12 @@ joined_pieces-set pieces k p h =
     ∙ ap (λ n. joined_pieces (take k pieces) ++ (p ++ joined_pieces (drop n pieces))) next
 
 -- one more piece
-pub joined_pieces-push : {T : Type 0} (pieces : List (List T)) (p : List T) → joined_pieces (pieces ++ p ∷ []) ≡ joined_pieces pieces ++ p
+pub joined_pieces-push : {T : Type 0} (pieces : List (List T)) (p : List T) →
+    joined_pieces (pieces ++ p ∷ []) ≡ joined_pieces pieces ++ p
 joined_pieces-push pieces p =
     flat_map-append (λ q. q) pieces (p ∷ []) ∙ ap (λ (q : List _). joined_pieces pieces ++ q) (append-nil p)
 
 -- what is taken of two lists ends in the second
-pub take_into : {T : Type 0} (xs ys : List T) (n j : ℕ) → length xs + j ≡ n → take n (xs ++ ys) ≡ xs ++ take j ys
+pub take_into : {T : Type 0} (xs ys : List T) (n j : ℕ) → length xs + j ≡ n →
+    take n (xs ++ ys) ≡ xs ++ take j ys
 take_into xs ys n j e = ap (λ k. take k (xs ++ ys)) (sym e) ∙ take-append-add xs ys j

@@ -9,7 +9,8 @@ use Rattle.cow_vec.proofs.Pieces.{joined_pieces_split, joined_pieces-set, joined
 use Rattle.cow_vec.proofs.Chunked.{IsChunked-set, IsChunked-take, chunk_there, items_covered, item_there, length-joined_pieces-before, length-joined_pieces-take}
 
 -- an item is put in place of another
-pub items-set : {T : Type 0} (pieces : List (List T)) (len i : ℕ) (d : List T) (x : T) → IsChunked pieces len → i < len →
+pub items-set : {T : Type 0} (pieces : List (List T)) (len i : ℕ) (d : List T) (x : T) →
+    IsChunked pieces len → i < len →
     take len (joined_pieces (set pieces (i / CHUNK) (set (get_or pieces (i / CHUNK) d) (i % CHUNK) x))) ≡ set (take len (joined_pieces pieces)) i x
 items-set pieces len i d x chunked h =
     let there : i / CHUNK < length pieces = chunk_there pieces len i chunked h in
@@ -27,7 +28,8 @@ items-set pieces len i d x chunked h =
     )
     ∙ take-set-lt len (joined_pieces pieces) i x h
 
-pub IsChunked-set_item : {T : Type 0} (pieces : List (List T)) (len i : ℕ) (d : List T) (x : T) → IsChunked pieces len → i < len →
+pub IsChunked-set_item : {T : Type 0} (pieces : List (List T)) (len i : ℕ) (d : List T) (x : T) →
+    IsChunked pieces len → i < len →
     IsChunked (set pieces (i / CHUNK) (set (get_or pieces (i / CHUNK) d) (i % CHUNK) x)) len
 IsChunked-set_item pieces len i d x chunked h =
     let there : i / CHUNK < length pieces = chunk_there pieces len i chunked h in
@@ -38,24 +40,30 @@ IsChunked-set_item pieces len i d x chunked h =
     (λ j l other. omega arith)
 
 -- the last chunk, where it has room, stands behind all others
-last_there : {T : Type 0} (pieces : List (List T)) (len : ℕ) → IsChunked pieces len → (len % CHUNK ≡ 0 → ⊥) → length pieces ≡ len / CHUNK + 1
+last_there : {T : Type 0} (pieces : List (List T)) (len : ℕ) → IsChunked pieces len →
+    (len % CHUNK ≡ 0 → ⊥) → length pieces ≡ len / CHUNK + 1
 last_there pieces len chunked room = omega (arith, chunked.enough, chunked.needed, room)
 
-pub last_within : {T : Type 0} (pieces : List (List T)) (len : ℕ) → IsChunked pieces len → (len % CHUNK ≡ 0 → ⊥) → len / CHUNK < length pieces
+pub last_within : {T : Type 0} (pieces : List (List T)) (len : ℕ) → IsChunked pieces len →
+    (len % CHUNK ≡ 0 → ⊥) → len / CHUNK < length pieces
 last_within pieces len chunked room = omega (arith, last_there pieces len chunked room)
 
 -- and has all items that the list has of it
-pub last_held : {T : Type 0} (pieces : List (List T)) (len : ℕ) (d : List T) → IsChunked pieces len → (len % CHUNK ≡ 0 → ⊥) → len % CHUNK ≤ length (get_or pieces (len / CHUNK) d)
+pub last_held : {T : Type 0} (pieces : List (List T)) (len : ℕ) (d : List T) →
+    IsChunked pieces len → (len % CHUNK ≡ 0 → ⊥) →
+    len % CHUNK ≤ length (get_or pieces (len / CHUNK) d)
 last_held pieces len d chunked room = omega (arith, chunked.held (len / CHUNK) d (last_within pieces len chunked room))
 
-length-last : {T : Type 0} (pieces : List (List T)) (len : ℕ) (d : List T) (x : T) → IsChunked pieces len → (len % CHUNK ≡ 0 → ⊥) →
+length-last : {T : Type 0} (pieces : List (List T)) (len : ℕ) (d : List T) (x : T) →
+    IsChunked pieces len → (len % CHUNK ≡ 0 → ⊥) →
     length (take (len % CHUNK) (get_or pieces (len / CHUNK) d) ++ x ∷ []) ≡ len % CHUNK + 1
 length-last pieces len d x chunked room =
     length_push (take (len % CHUNK) (get_or pieces (len / CHUNK) d)) x
     ∙ ap (λ n. n + 1) (length-take-le (len % CHUNK) (get_or pieces (len / CHUNK) d) (last_held pieces len d chunked room))
 
 -- a value is put into the last chunk
-pub items-push_to_last : {T : Type 0} (pieces : List (List T)) (len : ℕ) (d : List T) (x : T) → IsChunked pieces len → (len % CHUNK ≡ 0 → ⊥) →
+pub items-push_to_last : {T : Type 0} (pieces : List (List T)) (len : ℕ) (d : List T) (x : T) →
+    IsChunked pieces len → (len % CHUNK ≡ 0 → ⊥) →
     take (len + 1) (joined_pieces (set pieces (len / CHUNK) (take (len % CHUNK) (get_or pieces (len / CHUNK) d) ++ x ∷ []))) ≡ take len (joined_pieces pieces) ++ x ∷ []
 items-push_to_last pieces len d x chunked room =
     let within : len / CHUNK < length pieces = last_within pieces len chunked room in
@@ -77,7 +85,8 @@ items-push_to_last pieces len d x chunked room =
     ∙ sym (append_assoc before kept (x ∷ []))
     ∙ ap (λ (q : List _). q ++ x ∷ []) (sym (ap (take len) old ∙ take_into before piece len (len % CHUNK) (omega (arith, start))))
 
-pub IsChunked-push_to_last : {T : Type 0} (pieces : List (List T)) (len : ℕ) (d : List T) (x : T) → IsChunked pieces len → (len % CHUNK ≡ 0 → ⊥) →
+pub IsChunked-push_to_last : {T : Type 0} (pieces : List (List T)) (len : ℕ) (d : List T) (x : T) →
+    IsChunked pieces len → (len % CHUNK ≡ 0 → ⊥) →
     IsChunked (set pieces (len / CHUNK) (take (len % CHUNK) (get_or pieces (len / CHUNK) d) ++ x ∷ [])) (len + 1)
 IsChunked-push_to_last pieces len d x chunked room =
     let so_many : length pieces ≡ len / CHUNK + 1 = last_there pieces len chunked room in
@@ -89,7 +98,8 @@ IsChunked-push_to_last pieces len d x chunked room =
     (λ j l other. omega (arith, l, other, so_many))
 
 -- a value is put into a chunk of its own
-pub items-push_chunk : {T : Type 0} (pieces : List (List T)) (len : ℕ) (x : T) → IsChunked pieces len → len % CHUNK ≡ 0 →
+pub items-push_chunk : {T : Type 0} (pieces : List (List T)) (len : ℕ) (x : T) →
+    IsChunked pieces len → len % CHUNK ≡ 0 →
     take (len + 1) (joined_pieces (pieces ++ (x ∷ []) ∷ [])) ≡ take len (joined_pieces pieces) ++ x ∷ []
 items-push_chunk pieces len x chunked even =
     let all : length pieces ≡ len / CHUNK = omega (arith, chunked.enough, chunked.needed, even) in
@@ -102,7 +112,8 @@ items-push_chunk pieces len x chunked even =
     ∙ ap (λ (q : List _). q ++ x ∷ []) (sym (take_all len (joined_pieces pieces) (omega (arith, so_many))))
 
 -- the first items stand in the first chunks
-pub items-take : {T : Type 0} (pieces : List (List T)) (len fewer n : ℕ) → IsChunked pieces len → fewer ≤ len → fewer ≤ CHUNK * n → CHUNK * n < fewer + CHUNK →
+pub items-take : {T : Type 0} (pieces : List (List T)) (len fewer n : ℕ) → IsChunked pieces len →
+    fewer ≤ len → fewer ≤ CHUNK * n → CHUNK * n < fewer + CHUNK →
     take fewer (joined_pieces (take n pieces)) ≡ take fewer (take len (joined_pieces pieces))
 items-take pieces len fewer n chunked h enough needed =
     sym (take-append-le fewer (joined_pieces (take n pieces)) (joined_pieces (drop n pieces)) (items_covered (take n pieces) fewer (IsChunked-take pieces len fewer n chunked h enough needed)))

@@ -14,9 +14,12 @@ pieces_of {T} chunks = map (λ (c : Arc (Vec T Global) Global). (arc_value c).it
 abbrev pub joined_pieces : {T : Type 0} → List (List T) → List T
 joined_pieces pieces = flat_map (λ p. p) pieces
 
--- There are as many pieces as `len` items need. Each has what is needed of it, so 64 before the last, and no more than 64.
+-- There are as many pieces as `len` items need. Each has what is needed of it, and no more than
+-- a whole chunk. So those before the last are whole, and the last may have items past `len`.
 pub record IsChunked {T : Type 0} (pieces : List (List T)) (len : ℕ) : Type 0 where
   pub enough : len ≤ CHUNK * length pieces
   pub needed : CHUNK * length pieces < len + CHUNK
-  pub held : (k : ℕ) (d : List T) → k < length pieces → min CHUNK (len - CHUNK * k) ≤ length (slice_index_or pieces k d)
-  pub at_most : (k : ℕ) (d : List T) → k < length pieces → length (slice_index_or pieces k d) ≤ CHUNK
+  pub held : (k : ℕ) (d : List T) → k < length pieces →
+      min CHUNK (len - CHUNK * k) ≤ length (slice_index_or pieces k d)
+  pub at_most : (k : ℕ) (d : List T) → k < length pieces →
+      length (slice_index_or pieces k d) ≤ CHUNK

@@ -78,7 +78,8 @@ impl<T: Copy> CowVec<T> {
         Ok(())
     }
 
-    /// Puts the value in place of the item at `i`. It copies one chunk where another list holds it too.
+    /// Puts the value in place of the item at `i`. It copies the item's chunk where another list
+    /// holds it too.
     pub fn set(&mut self, i: usize, value: T) -> Result<(), NoMemory>
         requires { i < length self.old }
         ensures ok { OnOk result (self.new ≡ slice_set self.old i value) }

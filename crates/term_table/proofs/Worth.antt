@@ -10,7 +10,9 @@ use Rattle.bv_dag.specs.declared.nodes.Node.{Node}
 use Rattle.bv_dag.proofs.Fitting.{Fits-values, length-values, value_read, values_more}
 
 -- a node fits the values of those before it
-pub fits_values : (inputs : ℕ) (input : List ℕ) (nodes : List Node) (words : List BitVector) (id : ℕ) (n : Node) → AllFit inputs nodes → slice_get nodes id ≡ Some n → words ≡ values input (take id nodes) → Fits inputs (map width words) n
+pub fits_values : (inputs : ℕ) (input : List ℕ) (nodes : List Node) (words : List BitVector) (id : ℕ) (n : Node) →
+    AllFit inputs nodes → slice_get nodes id ≡ Some n → words ≡ values input (take id nodes) →
+    Fits inputs (map width words) n
 fits_values inputs input nodes words id n all read each = rw each (Fits-values inputs input nodes id n all read)
 
 -- no terms have no values
@@ -18,7 +20,8 @@ pub values-none : (input : List ℕ) → values input [] ≡ []
 values-none input = nil_from_length (values input []) (length-values input [])
 
 -- the values with one more
-pub values_next : (input : List ℕ) (nodes : List Node) (words : List BitVector) (id : ℕ) (n : Node) → slice_get nodes id ≡ Some n → words ≡ values input (take id nodes) →
+pub values_next : (input : List ℕ) (nodes : List Node) (words : List BitVector) (id : ℕ) (n : Node) →
+    slice_get nodes id ≡ Some n → words ≡ values input (take id nodes) →
     words ++ node_value input (word_at words) n ∷ [] ≡ values input (take (id + 1) nodes)
 values_next input nodes words id n read each =
     rw each (
@@ -27,7 +30,8 @@ values_next input nodes words id n read each =
     )
 
 -- the value of the next term is its value among all
-pub value_of_next : (input : List ℕ) (nodes : List Node) (words : List BitVector) (id : ℕ) (n : Node) → slice_get nodes id ≡ Some n → words ≡ values input (take id nodes) →
+pub value_of_next : (input : List ℕ) (nodes : List Node) (words : List BitVector) (id : ℕ) (n : Node) →
+    slice_get nodes id ≡ Some n → words ≡ values input (take id nodes) →
     node_value input (word_at words) n ≡ word_at (values input nodes) id
 value_of_next input nodes words id n read each =
     let there : id < length nodes = slice_get_within nodes id n read in

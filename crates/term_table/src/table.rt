@@ -27,7 +27,8 @@ impl Model for Terms {
 
     ghost view = { λ t. record { inputs = t.inputs; nodes = nodes_of t.entries } };
 
-    ghost invariant = { λ t. IsDag (record { inputs = t.inputs; nodes = nodes_of t.entries }) × (kept_widths t.entries ≡ widths_of (nodes_of t.entries)) };
+    ghost invariant = { λ t. IsDag (record { inputs = t.inputs; nodes = nodes_of t.entries })
+        × (kept_widths t.entries ≡ widths_of (nodes_of t.entries)) };
 }
 
 impl Widths for Terms {
@@ -125,7 +126,8 @@ impl Terms {
         })
     }
 
-    /// What the term at a place is worth, given one byte for each input. It evaluates the terms up to that place.
+    /// What the term at a place is worth, given one byte for each input. It evaluates the terms up
+    /// to that place.
     pub fn value_of(&self, alloc: Global, id: usize, input: &[u8]) -> Result<u64, NoMemory>
         requires there { id < length self.now.nodes }
         requires each_input { length input.now ≡ self.now.inputs }
