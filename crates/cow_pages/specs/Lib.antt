@@ -1,0 +1,2 @@
+pub mod SymbolicMemory
+pub mod Contents

@@ -1,0 +1,135 @@
+//! Pages of symbolic memory.
+
+ghost use Rattle.std.specs.Prelude.{◌≡◌, ◌<◌, length, map as mapped, slice_get, slice_set, Some, IfOk, OnOk, OnErr};
+ghost use Rattle.cow_pages.specs.SymbolicMemory.{number_bytes, page_with};
+
+use crate::byte::Byte;
+use std::alloc::{AllocError as NoMemory, Global};
+use std::marker::Model;
+
+/// A page of 256 bytes, and what may be done on it.
+#[derive(Drop)]
+pub struct Page {
+    flags: u8,
+    content: Content,
+}
+
+/// The bytes of a page. They are bare numbers until a term is written among them.
+#[derive(Drop)]
+enum Content {
+    Numbers(Vec<u8>),
+    Mixed(Vec<Byte>),
+}
+
+impl Model for Page {
+    ghost use Rattle.std.specs.Prelude.{◌≡◌, length};
+    ghost use Rattle.cow_pages.specs.SymbolicMemory as memory;
+
+    ghost Value = { memory.SymbolicPage };
+
+    ghost coded = { memory.page_code };
+
+    ghost use Rattle.cow_pages.specs.Contents.{bytes_of};
+
+    ghost view = { λ p. record { flags = p.flags; bytes = bytes_of p.content } };
+
+    ghost invariant = { λ p. length (bytes_of p.content) ≡ 256 };
+}
+
+/// These numbers as bytes of symbolic memory.
+fn mixed(alloc: Global, numbers: &[u8]) -> Result<Vec<Byte>, NoMemory>
+    ensures { IfOk result (λ bytes. bytes.items ≡ number_bytes numbers.now) }
+{
+    numbers.iter().map(|number| Byte::Number(*number)).collect(alloc)
+}
+
+impl Content {
+    ghost use Rattle.cow_pages.specs.Contents.{bytes_of};
+
+    /// The byte at this offset.
+    fn byte(&self, offset: usize) -> Byte
+        requires { offset < length (bytes_of self.now) }
+        ensures { slice_get (bytes_of self.now) offset ≡ Some result }
+    {
+        match self {
+            Content::Numbers(numbers) => Byte::Number(numbers[offset]),
+            Content::Mixed(bytes) => bytes[offset],
+        }
+    }
+
+    /// A copy of its own.
+    fn copy(&self) -> Result<Content, NoMemory>
+        ensures { IfOk result (λ copy. bytes_of copy ≡ bytes_of self.now) }
+    {
+        match self {
+            Content::Numbers(numbers) => Ok(Content::Numbers(Vec::from_slice(*numbers.allocator(), numbers)?)),
+            Content::Mixed(bytes) => Ok(Content::Mixed(Vec::from_slice(*bytes.allocator(), bytes)?)),
+        }
+    }
+
+    /// Puts a byte at this offset.
+    fn set(&mut self, offset: usize, byte: Byte) -> Result<(), NoMemory>
+        requires { offset < length (bytes_of self.old) }
+        ensures ok { OnOk result (bytes_of self.new ≡ slice_set (bytes_of self.old) offset byte) }
+        ensures err { OnErr result (bytes_of self.new ≡ bytes_of self.old) }
+    {
+        match self {
+            Content::Numbers(numbers) => match byte {
+                Byte::Number(number) => numbers[offset] = number,
+                Byte::Term(_) => {
+                    let mut bytes = mixed(*numbers.allocator(), numbers)?;
+                    bytes[offset] = byte;
+                    *self = Content::Mixed(bytes);
+                }
+            },
+            Content::Mixed(bytes) => bytes[offset] = byte,
+        }
+        Ok(())
+    }
+}
+
+impl Page {
+    /// A page of these numbers.
+    pub(crate) fn of_numbers(alloc: Global, flags: u8, numbers: &[u8]) -> Result<Page, NoMemory>
+        requires { length numbers.now ≡ 256 }
+        ensures { IfOk result (λ page. page ≡ record { flags = flags; bytes = number_bytes numbers.now }) }
+    {
+        Ok(Page {
+            flags,
+            content: Content::Numbers(Vec::from_slice(alloc, numbers)?),
+        })
+    }
+
+    /// What may be done there: bit 0 to execute, bit 1 to write, bit 2 to read.
+    pub fn flags(&self) -> u8
+        ensures { result ≡ self.now.flags }
+    {
+        self.flags
+    }
+
+    /// The byte at this offset.
+    pub fn byte(&self, offset: u8) -> Byte
+        ensures { slice_get self.now.bytes offset ≡ Some result }
+    {
+        self.content.byte(offset as usize)
+    }
+
+    /// Puts a byte at this offset.
+    pub(crate) fn set(&mut self, offset: u8, byte: Byte) -> Result<(), NoMemory>
+        ensures ok { OnOk result (self.new ≡ page_with self.old offset byte) }
+        ensures err { OnErr result (self.new ≡ self.old) }
+    {
+        self.content.set(offset as usize, byte)
+    }
+}
+
+impl Clone for Page {
+    ghost is_clone = { λ page copy. copy ≡ page };
+
+    fn clone(&self) -> Result<Page, NoMemory> {
+        Ok(Page {
+            flags: self.flags,
+            content: self.content.copy()?,
+        })
+    }
+}
