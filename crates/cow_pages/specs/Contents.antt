@@ -5,6 +5,6 @@ use Rattle.cow_pages.specs.declared.byte.Byte.{Byte}
 use Rattle.cow_pages.specs.declared.page.Content.{Content}
 use Rattle.cow_pages.specs.declared.page.Content.TheVariants.{Numbers, Mixed}
 
-abbrev pub bytes_of : Content → List Byte
-bytes_of (Numbers numbers) = number_bytes numbers.items
-bytes_of (Mixed bytes) = bytes.items
+abbrev pub content_bytes : Content → List Byte
+content_bytes (Numbers numbers) = number_bytes numbers.items
+content_bytes (Mixed bytes) = bytes.items

@@ -1,2 +1,3 @@
 pub mod SymbolicMemory
 pub mod Contents
+pub mod Groups

@@ -4,6 +4,8 @@ use Rattle.std.specs.Coded.{Coded, code_by, coded×, coded⊎, coded_ℕ, coded_
 use Rattle.std.specs.FinMap.{FinMap, get, insert, code}
 use Rattle.std.specs.Ordering.{nat_cmp}
 use Rattle.std.proofs.Common.{inl, inr}
+use Rattle.std.specs.Option.{option_map}
+use Rattle.elf_load.specs.declared.page.Page.{Page}
 use Rattle.cow_pages.specs.declared.byte.Byte.{Byte}
 use Rattle.cow_pages.specs.declared.byte.Byte.TheVariants.{Number, Term}
 
@@ -19,6 +21,33 @@ number_bytes numbers = map (λ n. Number n) numbers
 -- a page with another byte at an offset
 abbrev pub page_with : SymbolicPage → ℕ → Byte → SymbolicPage
 page_with page offset byte = record { flags = page.flags; bytes = slice_set page.bytes offset byte }
+
+-- the page of an image, its bytes as numbers
+abbrev pub as_symbolic : Page → SymbolicPage
+as_symbolic page = record { flags = page.flags; bytes = number_bytes page.bytes }
+
+-- the mapped pages by their numbers
+abbrev pub SymbolicMemory : Type 0
+SymbolicMemory = FinMap nat_cmp SymbolicPage
+
+-- the byte at an offset of a page, 0 where there is no page
+abbrev pub page_byte : Option SymbolicPage → ℕ → Byte
+page_byte None offset = Number 0
+page_byte (Some page) offset = slice_index_or page.bytes offset (Number 0)
+
+-- the byte at an address, 0 where no page is mapped
+abbrev pub memory_byte : SymbolicMemory → ℕ → Byte
+memory_byte memory address = page_byte (get memory (address / 256)) (address % 256)
+
+-- memory with another page in the place of one, if there was one
+abbrev pub with_page : SymbolicMemory → ℕ → Option SymbolicPage → SymbolicMemory
+with_page memory number None = memory
+with_page memory number (Some page) = insert memory number page
+
+-- memory with another byte at an address. Where no page is mapped it stays as it is
+abbrev pub memory_with : SymbolicMemory → ℕ → Byte → SymbolicMemory
+memory_with memory address byte =
+    with_page memory (address / 256) (option_map (λ page. page_with page (address % 256) byte) (get memory (address / 256)))
 
 -- The codes of bytes and pages, by which they are told apart.
 abbrev pub byte_to_sum : Byte → ℕ ⊎ ℕ
@@ -38,3 +67,6 @@ byte_code = code_by (ℕ ⊎ ℕ) (coded⊎ coded_ℕ coded_ℕ) byte_to_sum byt
 
 abbrev pub page_code : Coded SymbolicPage
 page_code = code_by (ℕ × List Byte) (coded× coded_ℕ (coded_list byte_code)) (λ p. (p.flags, p.bytes)) (λ c. record { flags = c.0; bytes = c.1 }) (λ _. refl)
+
+abbrev pub memory_code : Coded SymbolicMemory
+memory_code = code coded_ℕ page_code

@@ -2,6 +2,7 @@
 #![tactic(auto)]
 
 mod byte;
+mod group;
 mod page;
 
 pub use byte::Byte;

@@ -29,11 +29,11 @@ impl Model for Page {
 
     ghost coded = { memory.page_code };
 
-    ghost use Rattle.cow_pages.specs.Contents.{bytes_of};
+    ghost use Rattle.cow_pages.specs.Contents.{content_bytes};
 
-    ghost view = { λ p. record { flags = p.flags; bytes = bytes_of p.content } };
+    ghost view = { λ p. record { flags = p.flags; bytes = content_bytes p.content } };
 
-    ghost invariant = { λ p. length (bytes_of p.content) ≡ 256 };
+    ghost invariant = { λ p. length (content_bytes p.content) ≡ 256 };
 }
 
 /// These numbers as bytes of symbolic memory.
@@ -44,12 +44,12 @@ fn mixed(alloc: Global, numbers: &[u8]) -> Result<Vec<Byte>, NoMemory>
 }
 
 impl Content {
-    ghost use Rattle.cow_pages.specs.Contents.{bytes_of};
+    ghost use Rattle.cow_pages.specs.Contents.{content_bytes};
 
     /// The byte at this offset.
     fn byte(&self, offset: usize) -> Byte
-        requires { offset < length (bytes_of self.now) }
-        ensures { slice_get (bytes_of self.now) offset ≡ Some result }
+        requires { offset < length (content_bytes self.now) }
+        ensures { slice_get (content_bytes self.now) offset ≡ Some result }
     {
         match self {
             Content::Numbers(numbers) => Byte::Number(numbers[offset]),
@@ -59,7 +59,7 @@ impl Content {
 
     /// A copy of its own.
     fn copy(&self) -> Result<Content, NoMemory>
-        ensures { IfOk result (λ copy. bytes_of copy ≡ bytes_of self.now) }
+        ensures { IfOk result (λ copy. content_bytes copy ≡ content_bytes self.now) }
     {
         match self {
             Content::Numbers(numbers) => Ok(Content::Numbers(Vec::from_slice(*numbers.allocator(), numbers)?)),
@@ -69,9 +69,9 @@ impl Content {
 
     /// Puts a byte at this offset.
     fn set(&mut self, offset: usize, byte: Byte) -> Result<(), NoMemory>
-        requires { offset < length (bytes_of self.old) }
-        ensures ok { OnOk result (bytes_of self.new ≡ slice_set (bytes_of self.old) offset byte) }
-        ensures err { OnErr result (bytes_of self.new ≡ bytes_of self.old) }
+        requires { offset < length (content_bytes self.old) }
+        ensures ok { OnOk result (content_bytes self.new ≡ slice_set (content_bytes self.old) offset byte) }
+        ensures err { OnErr result (content_bytes self.new ≡ content_bytes self.old) }
     {
         match self {
             Content::Numbers(numbers) => match byte {

@@ -1,0 +1,77 @@
+-- The groups of 64 pages that a memory stands in, by their numbers.
+use Rattle.std.specs.Prelude.{◌≡◌, ℕ, ◌+◌, ◌*◌, ◌/◌, ◌%◌, ◌<◌, ◌≤◌, List, [], ◌∷◌, ◌++◌, map, length, slice_index_or, Option, Some, None}
+use Rattle.std.specs.Arc.{arc_value}
+use Rattle.std.specs.FinMap.{find, from_entries}
+use Rattle.std.specs.Option.{option_map}
+use Rattle.std.specs.Ordering.{nat_cmp}
+use Rattle.std.specs.declared.alloc.Global.{Global}
+use Rattle.std.specs.declared.sync.Arc.{Arc}
+use Rattle.cow_pages.specs.SymbolicMemory.{SymbolicPage, SymbolicMemory}
+
+-- what stands at the places of a group: a page, or none
+abbrev pub Places : Type 0
+Places = List (Option SymbolicPage)
+
+-- a page behind a counted reference, if there is one
+abbrev pub shared_page : Option (Arc SymbolicPage Global) → Option SymbolicPage
+shared_page page = option_map (λ (p : Arc SymbolicPage Global). arc_value p) page
+
+-- the pages behind counted references
+abbrev pub shared_places : List (Option (Arc SymbolicPage Global)) → Places
+shared_places pages = map (λ (p : Option (Arc SymbolicPage Global)). shared_page p) pages
+
+-- what stands at a place
+abbrev pub at_place : Places → ℕ → Option SymbolicPage
+at_place places place = slice_index_or places place None
+
+-- the groups of a memory, each with its number
+abbrev pub Groups : Type 0
+Groups = List (ℕ × Places)
+
+-- those behind counted references
+abbrev pub shared_groups : List (ℕ × Arc Places Global) → Groups
+shared_groups groups = map (λ (g : ℕ × Arc Places Global). (g.0, arc_value g.1)) groups
+
+-- the group at a place of the list
+abbrev pub group_at : Groups → ℕ → ℕ × Places
+group_at groups i = slice_index_or groups i (0, [])
+
+-- the numbers rise, and each group has 64 places
+pub record AreGroups (groups : Groups) : Type 0 where
+  pub in_order : (i j : ℕ) → i < j → j < length groups → (group_at groups i).0 < (group_at groups j).0
+  pub full : (i : ℕ) → i < length groups → length (group_at groups i).1 ≡ 64
+
+-- the group at this place of the list has the number
+pub record IsGroupAt (groups : Groups) (number i : ℕ) : Type 0 where
+  pub in_range : i < length groups
+  pub has_number : (group_at groups i).0 ≡ number
+
+-- no group has the number, and one that had it would stand at this place of the list
+pub record IsGapFor (groups : Groups) (number i : ℕ) : Type 0 where
+  pub in_range : i ≤ length groups
+  pub below : (j : ℕ) → j < i → (group_at groups j).0 < number
+  pub above : (j : ℕ) → i ≤ j → j < length groups → number < (group_at groups j).0
+
+-- the page at a place of a group that may be there
+abbrev pub page_in_group : Option Places → ℕ → Option SymbolicPage
+page_in_group None place = None
+page_in_group (Some places) place = at_place places place
+
+-- the page of a number, of which 64 stand in a group
+abbrev pub page_in : Groups → ℕ → Option SymbolicPage
+page_in groups number = page_in_group (find nat_cmp (number / 64) groups) (number % 64)
+
+-- the pages at places, with their numbers from n on
+abbrev pub numbered_from : ℕ → Places → List (ℕ × SymbolicPage)
+numbered_from n [] = []
+numbered_from n (None ∷ places) = numbered_from (n + 1) places
+numbered_from n (Some page ∷ places) = (n, page) ∷ numbered_from (n + 1) places
+
+-- the pages of groups, with their numbers
+abbrev pub pages_in : Groups → List (ℕ × SymbolicPage)
+pages_in [] = []
+pages_in (g ∷ groups) = numbered_from (64 * g.0) g.1 ++ pages_in groups
+
+-- the memory that stands in groups
+unfoldable pub memory_in : Groups → SymbolicMemory
+memory_in groups = from_entries (pages_in groups)
