@@ -1,1 +1,6 @@
 pub mod SharedPlaces
+pub mod GroupLookups
+pub mod Searching
+pub mod PageLookups
+pub mod SharedGroups
+pub mod GroupChanges

@@ -13,7 +13,7 @@ use std::marker::Model;
 use std::sync::Arc;
 
 /// How many pages have a place in a group.
-const GROUP_SIZE: usize = 64;
+pub(crate) const GROUP_SIZE: u32 = 64;
 
 /// The places of 64 pages. A place is empty where no page is mapped.
 #[derive(Drop)]
@@ -63,7 +63,7 @@ impl Group {
         ensures places { IfOk result (λ group. length group ≡ 64) }
         ensures empty { IfOk result (λ group. (place : ℕ) → at_place group place ≡ None) }
     {
-        let mut pages = Vec::with_capacity(alloc, GROUP_SIZE)?;
+        let mut pages = Vec::with_capacity(alloc, GROUP_SIZE as usize)?;
         for _place in 0..GROUP_SIZE {
             pages.push(None)?;
         }
@@ -103,7 +103,7 @@ impl Clone for Group {
     ghost is_clone = { λ group copy. copy ≡ group };
 
     fn clone(&self) -> Result<Group, NoMemory> {
-        let mut pages = Vec::with_capacity(*self.pages.allocator(), GROUP_SIZE)?;
+        let mut pages = Vec::with_capacity(*self.pages.allocator(), GROUP_SIZE as usize)?;
         for page in &self.pages {
             pages.push(share_page(page)?)?;
         }

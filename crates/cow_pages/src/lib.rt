@@ -3,6 +3,7 @@
 
 mod byte;
 mod group;
+mod groups;
 mod page;
 
 pub use byte::Byte;

@@ -1,0 +1,66 @@
+-- What a binary search for a group's number finds.
+use Rattle.std.proofs.Common.{◌≡◌, ℕ, ◌<◌, ◌≤◌, List, [], ◌∷◌, length, map, get_or, Ok, Err, refl, sym, ap, ◌∙◌, arith}
+use Rattle.std.specs.Arc.{arc_value}
+use Rattle.std.specs.Prelude.{Result, IfOk, IfErr}
+use Rattle.std.specs.List.Sorted.{IsBinarySearchResult, IsNonDecreasingBy, IsSearchInRange}
+use Rattle.std.specs.Ordering.{nat_cmp, ordering_index}
+use Rattle.std.specs.declared.alloc.Global.{Global}
+use Rattle.std.specs.declared.sync.Arc.{Arc}
+use Rattle.std.proofs.lemmas.Bool.Decides.{nat_tests}
+use Rattle.std.proofs.lemmas.Cmp.{ranked}
+use Rattle.std.proofs.lemmas.List.{length-map, get_or-map}
+use Rattle.std.proofs.lemmas.List.Sorted.{IsNonDecreasingBy-from_default}
+use Rattle.cow_pages.specs.Groups.{Places, group_at, shared_groups, AreGroups, IsGroupAt, IsGapFor}
+
+-- how many there are
+pub length-shared_groups : (groups : List (ℕ × Arc Places Global)) → length (shared_groups groups) ≡ length groups
+length-shared_groups groups = length-map groups (λ (g : ℕ × Arc Places Global). (g.0, arc_value g.1))
+
+-- the group at a place
+pub at-shared_groups : (groups : List (ℕ × Arc Places Global)) (i : ℕ) (d : ℕ × Arc Places Global) → i < length groups → let g = get_or groups i d in group_at (shared_groups groups) i ≡ (g.0, arc_value g.1)
+at-shared_groups groups i d within = get_or-map (λ (g : ℕ × Arc Places Global). (g.0, arc_value g.1)) groups i d (0, []) within
+
+module _ (groups : List (ℕ × Arc Places Global)) (d : ℕ × Arc Places Global) (are : AreGroups (shared_groups groups)) (k : ℕ) where
+  number_there : (i : ℕ) → i < length groups → (group_at (shared_groups groups) i).0 ≡ (get_or groups i d).0
+  number_there i within = ap (λ (g : ℕ × Places). g.0) (at-shared_groups groups i d within)
+
+  rise : (i j : ℕ) → i < j → j < length groups → (get_or groups i d).0 < (get_or groups j d).0
+  rise i j lt within =
+      omega (arith, number_there i (omega arith), number_there j within, are.in_order i j lt (omega (arith, length-shared_groups groups)))
+
+  comparisons_never_fall : IsNonDecreasingBy (λ g. ordering_index (nat_cmp g.0 k)) groups
+  comparisons_never_fall = IsNonDecreasingBy-from_default (λ g. ordering_index (nat_cmp g.0 k)) groups d (λ i j le within.
+      let never_fall : (get_or groups i d).0 ≤ (get_or groups j d).0 = grind (arith, rise i j, λ (same : i ≡ j). ap (λ n. (get_or groups n d).0) same) in
+      grind (arith, nat_tests))
+
+  found_there : (i : ℕ) → i < length groups → IsBinarySearchResult (λ g. nat_cmp g.0 k) groups (Ok i) → IsGroupAt (shared_groups groups) k i
+  found_there i within equal = record {
+      in_range = omega (arith, length-shared_groups groups);
+      has_number = number_there i within ∙ ranked _ k _ (sym (equal d))
+    }
+
+  gap_there : (i : ℕ) → i ≤ length groups → IsBinarySearchResult (λ g. nat_cmp g.0 k) groups (Err i) → IsGapFor (shared_groups groups) k i
+  gap_there i within parted = record {
+      in_range = omega (arith, length-shared_groups groups);
+      below = λ j lt. omega (arith, number_there j (omega arith), ranked _ k _ (sym ((parted comparisons_never_fall).0 j d (omega arith) lt)));
+      above = λ j le small. let inside : j < length groups = omega (arith, length-shared_groups groups) in
+        omega (arith, number_there j inside, ranked _ k _ (sym ((parted comparisons_never_fall).1 j d le inside)))
+    }
+
+-- the group of the number, or the gap where it would stand
+group_found : (groups : List (ℕ × Arc Places Global)) (k i : ℕ) → AreGroups (shared_groups groups) → i < length groups → IsBinarySearchResult (λ g. nat_cmp g.0 k) groups (Ok i) → IsGroupAt (shared_groups groups) k i
+group_found [] k i are within equal = absurd (omega (arith, within))
+group_found (g ∷ groups) k i are within equal = found_there (g ∷ groups) g are k i within equal
+
+gap_found : (groups : List (ℕ × Arc Places Global)) (k i : ℕ) → AreGroups (shared_groups groups) → i ≤ length groups → IsBinarySearchResult (λ g. nat_cmp g.0 k) groups (Err i) → IsGapFor (shared_groups groups) k i
+gap_found [] k i are within parted = record { in_range = within; below = λ j lt. absurd (omega (arith, within)); above = λ j le small. absurd (omega (arith, small)) }
+gap_found (g ∷ groups) k i are within parted = gap_there (g ∷ groups) g are k i within parted
+
+-- what the search says in either case
+pub search_found : (groups : List (ℕ × Arc Places Global)) (k : ℕ) (r : Result ℕ ℕ) → AreGroups (shared_groups groups) → IsSearchInRange r (length groups) → IsBinarySearchResult (λ g. nat_cmp g.0 k) groups r → IfOk r (IsGroupAt (shared_groups groups) k)
+search_found groups k (Ok i) are within answer = group_found groups k i are within answer
+search_found groups k (Err i) are within answer = tt
+
+pub search_gap : (groups : List (ℕ × Arc Places Global)) (k : ℕ) (r : Result ℕ ℕ) → AreGroups (shared_groups groups) → IsSearchInRange r (length groups) → IsBinarySearchResult (λ g. nat_cmp g.0 k) groups r → IfErr r (IsGapFor (shared_groups groups) k)
+search_gap groups k (Ok i) are within answer = tt
+search_gap groups k (Err i) are within answer = gap_found groups k i are within answer
