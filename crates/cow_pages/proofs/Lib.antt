@@ -4,3 +4,4 @@ pub mod Searching
 pub mod PageLookups
 pub mod SharedGroups
 pub mod GroupChanges
+pub mod SharedChanges

@@ -1,11 +1,13 @@
 //! The groups of a memory, in the order of their numbers.
 
-ghost use Rattle.std.specs.Prelude.{◌≡◌, ◌<◌, ◌/◌, ◌%◌, slice_set, Some, IfOk, IfErr, OnOk, OnErr};
+ghost use Rattle.std.specs.Prelude.{◌≡◌, ◌<◌, ◌/◌, ◌%◌, length, slice_set, Some, IfOk, IfErr, OnOk, OnErr};
 ghost use Rattle.std.specs.Arc.{arc_value};
 ghost use Rattle.std.specs.FinMap as map;
-ghost use Rattle.std.specs.Option.{option_copied};
-ghost use Rattle.cow_pages.specs.Groups.{AreGroups, IsGapFor, IsGroupAt, memory_in, page_in, shared_groups};
+ghost use Rattle.std.specs.Option.{option_copied, option_map};
+ghost use Rattle.cow_pages.specs.Groups.{AreGroups, IsGapFor, IsGroupAt, at_place, memory_in, page_in, shared_groups};
+ghost use Rattle.cow_pages.specs.SymbolicMemory.{page_with, with_page};
 
+use crate::byte::Byte;
 use crate::group::{GROUP_SIZE, Group};
 use crate::page::Page;
 use std::alloc::{AllocError as NoMemory, Global};
@@ -29,4 +31,79 @@ pub(crate) fn page_of(groups: &[(u32, Arc<Group>)], number: u32) -> Option<&Page
         Ok(place) => groups[place].1.page((number % GROUP_SIZE) as usize),
         Err(_) => None,
     }
+}
+
+/// The place of the group of this number. Where there is none, one without pages is put in.
+fn group_place(groups: &mut Vec<(u32, Arc<Group>)>, number: u32) -> Result<usize, NoMemory>
+    requires { AreGroups (shared_groups groups.old.items) }
+    ensures groups { AreGroups (shared_groups groups.new.items) }
+    ensures same { memory_in (shared_groups groups.new.items) ≡ memory_in (shared_groups groups.old.items) }
+    ensures place { IfOk result (IsGroupAt (shared_groups groups.new.items) number) }
+{
+    match search(groups, number) {
+        Ok(place) => Ok(place),
+        Err(place) => {
+            let alloc = *groups.allocator();
+            let group = Arc::new(alloc, Group::new(alloc)?)?;
+            groups.insert(place, (number, group))?;
+            Ok(place)
+        }
+    }
+}
+
+/// Puts a page to a place of a group. Where the group is shared, this is done to a copy of its own.
+fn put_page(group: &mut Arc<Group>, place: usize, page: Arc<Page>) -> Result<(), NoMemory>
+    requires { place < 64 }
+    ensures ok { OnOk result (arc_value group.new ≡ slice_set (arc_value group.old) place (Some (arc_value page))) }
+    ensures err { OnErr result (arc_value group.new ≡ arc_value group.old) }
+    ensures size { length (arc_value group.new) ≡ length (arc_value group.old) }
+{
+    Arc::make_mut(group)?.put(place, page);
+    Ok(())
+}
+
+/// Puts a byte to this offset of the page at a place of a group. Where the group is shared, this is done to a copy of its own.
+fn write_byte(group: &mut Arc<Group>, place: usize, offset: u8, byte: Byte) -> Result<(), NoMemory>
+    requires { place < 64 }
+    ensures ok { OnOk result (arc_value group.new ≡ slice_set (arc_value group.old) place (option_map (λ page. page_with page offset byte) (at_place (arc_value group.old) place))) }
+    ensures err { OnErr result (arc_value group.new ≡ arc_value group.old) }
+    ensures size { length (arc_value group.new) ≡ length (arc_value group.old) }
+{
+    Arc::make_mut(group)?.write(place, offset, byte)
+}
+
+/// Puts a page to its place.
+pub(crate) fn add_page(groups: &mut Vec<(u32, Arc<Group>)>, number: u32, page: Page) -> Result<(), NoMemory>
+    requires { AreGroups (shared_groups groups.old.items) }
+    ensures groups { AreGroups (shared_groups groups.new.items) }
+    ensures ok { OnOk result (memory_in (shared_groups groups.new.items) ≡ map.insert (memory_in (shared_groups groups.old.items)) number page) }
+    ensures err { OnErr result (memory_in (shared_groups groups.new.items) ≡ memory_in (shared_groups groups.old.items)) }
+{
+    let page = Arc::new(*groups.allocator(), page)?;
+    let place = group_place(groups, number / GROUP_SIZE)?;
+    put_page(&mut groups[place].1, (number % GROUP_SIZE) as usize, page)
+}
+
+/// Puts a byte to this offset of the page of this number, if it is mapped.
+pub(crate) fn write(groups: &mut Vec<(u32, Arc<Group>)>, number: u32, offset: u8, byte: Byte) -> Result<(), NoMemory>
+    requires { AreGroups (shared_groups groups.old.items) }
+    ensures groups { AreGroups (shared_groups groups.new.items) }
+    ensures ok { OnOk result (memory_in (shared_groups groups.new.items) ≡ with_page (memory_in (shared_groups groups.old.items)) number (option_map (λ page. page_with page offset byte) (map.get (memory_in (shared_groups groups.old.items)) number))) }
+    ensures err { OnErr result (memory_in (shared_groups groups.new.items) ≡ memory_in (shared_groups groups.old.items)) }
+{
+    match search(groups, number / GROUP_SIZE) {
+        Ok(place) => write_byte(&mut groups[place].1, (number % GROUP_SIZE) as usize, offset, byte),
+        Err(_) => Ok(()),
+    }
+}
+
+/// The same groups, shared.
+pub(crate) fn share(groups: &Vec<(u32, Arc<Group>)>) -> Result<Vec<(u32, Arc<Group>)>, NoMemory>
+    ensures { IfOk result (λ copy. shared_groups copy.items ≡ shared_groups groups.now.items) }
+{
+    let mut copy = Vec::with_capacity(*groups.allocator(), groups.len())?;
+    for (number, group) in groups {
+        copy.push((*number, Arc::try_clone(group)?))?;
+    }
+    Ok(copy)
 }

@@ -5,6 +5,8 @@ mod byte;
 mod group;
 mod groups;
 mod page;
+mod pages;
 
 pub use byte::Byte;
 pub use page::Page;
+pub use pages::Pages;

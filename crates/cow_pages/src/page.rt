@@ -7,6 +7,9 @@ use crate::byte::Byte;
 use std::alloc::{AllocError as NoMemory, Global};
 use std::marker::Model;
 
+/// The bytes of a page.
+pub(crate) const PAGE_SIZE: u32 = 256;
+
 /// A page of 256 bytes, and what may be done on it.
 #[derive(Drop)]
 pub struct Page {

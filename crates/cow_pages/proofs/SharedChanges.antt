@@ -1,0 +1,92 @@
+-- Groups behind counted references, as they are changed.
+use Rattle.std.proofs.Common.{◌≡◌, ℕ, ◌+◌, ◌/◌, ◌%◌, ◌<◌, ◌≤◌, List, [], ◌∷◌, ◌++◌, length, map, get_or, take, drop, set, Some, None, refl, sym, ap, subst, ◌∙◌, arith}
+use Rattle.std.specs.Prelude.{Option, insert}
+use Rattle.std.specs.Arc.{arc_value}
+use Rattle.std.specs.FinMap as finite
+use Rattle.std.specs.Option.{option_map}
+use Rattle.std.specs.declared.alloc.Global.{Global}
+use Rattle.std.specs.declared.sync.Arc.{Arc}
+use Rattle.std.proofs.lemmas.List.{length-map, map-append, map-set, take-map, drop-map, take_more}
+use Rattle.cow_pages.specs.SymbolicMemory.{SymbolicPage, with_page}
+use Rattle.cow_pages.specs.Groups.{Places, at_place, group_at, shared_groups, AreGroups, IsGroupAt, IsGapFor, page_in, memory_in}
+use Rattle.cow_pages.proofs.SharedPlaces.{set_there}
+use Rattle.cow_pages.proofs.GroupLookups.{are_groups-replaced}
+use Rattle.cow_pages.proofs.Searching.{length-shared_groups, at-shared_groups}
+use Rattle.cow_pages.proofs.PageLookups.{get_in_groups}
+use Rattle.cow_pages.proofs.GroupChanges.{changed_groups, memory-changed, are_groups-more, memory-more, group_put_in}
+use Rattle.cow_pages.proofs.SharedGroups.{group_read, page_read, page_missing}
+
+-- one more group is shared
+pub shared_groups_more : (done all : List (ℕ × Arc Places Global)) (i : ℕ) (g copy : ℕ × Arc Places Global) → shared_groups done ≡ take i (shared_groups all) → i < length all → copy.0 ≡ g.0 → arc_value copy.1 ≡ arc_value g.1 → g ≡ get_or all i g → shared_groups (done ++ copy ∷ []) ≡ take (i + 1) (shared_groups all)
+shared_groups_more done all i g copy kept h number same read =
+    map-append (λ (e : ℕ × Arc Places Global). (e.0, arc_value e.1)) done (copy ∷ [])
+    ∙ ap (λ gs. gs ++ (copy.0, arc_value copy.1) ∷ []) kept
+    ∙ ap (λ n. take i (shared_groups all) ++ (n, arc_value copy.1) ∷ []) number
+    ∙ ap (λ ps. take i (shared_groups all) ++ (g.0, ps) ∷ []) same
+    ∙ ap (λ (e : ℕ × Places). take i (shared_groups all) ++ e ∷ []) (sym (at-shared_groups all i g h ∙ ap (λ (e : ℕ × Arc Places Global). (e.0, arc_value e.1)) (sym read)))
+    ∙ sym (take_more (shared_groups all) i (0, []) (omega (arith, h, length-shared_groups all)))
+
+-- A new group is put into a gap.
+shared_groups-insert : (groups : List (ℕ × Arc Places Global)) (i : ℕ) (g : ℕ × Arc Places Global) → shared_groups (insert groups i g) ≡ insert (shared_groups groups) i (g.0, arc_value g.1)
+shared_groups-insert groups i g =
+    map-append (λ (e : ℕ × Arc Places Global). (e.0, arc_value e.1)) (take i groups) (g ∷ drop i groups)
+    ∙ ap (λ gs. gs ++ (g.0, arc_value g.1) ∷ shared_groups (drop i groups)) (sym (take-map (λ (e : ℕ × Arc Places Global). (e.0, arc_value e.1)) i groups))
+    ∙ ap (λ gs. take i (shared_groups groups) ++ (g.0, arc_value g.1) ∷ gs) (sym (drop-map (λ (e : ℕ × Arc Places Global). (e.0, arc_value e.1)) i groups))
+
+module _ (groups : List (ℕ × Arc Places Global)) (k i : ℕ) (g : Arc Places Global) (are : AreGroups (shared_groups groups)) (gap : IsGapFor (shared_groups groups) k i) (size : length (arc_value g) ≡ 64) where
+  pub are_groups_with_new : AreGroups (shared_groups (insert groups i (k, g)))
+  are_groups_with_new = rw shared_groups-insert (are_groups-more (shared_groups groups) k i are gap (arc_value g) size)
+
+  pub memory_with_new : ((place : ℕ) → at_place (arc_value g) place ≡ None) → memory_in (shared_groups (insert groups i (k, g))) ≡ memory_in (shared_groups groups)
+  memory_with_new empty = ap memory_in (shared_groups-insert groups i (k, g)) ∙ memory-more (shared_groups groups) k i are gap (arc_value g) size empty
+
+  pub new_group_at : IsGroupAt (shared_groups (insert groups i (k, g))) k i
+  new_group_at = rw shared_groups-insert (group_put_in (shared_groups groups) k i are gap (arc_value g))
+
+-- A group is changed at its place.
+module _ (groups : List (ℕ × Arc Places Global)) (number i : ℕ) (g : ℕ × Arc Places Global) (new : Arc Places Global) (are : AreGroups (shared_groups groups)) (at : IsGroupAt (shared_groups groups) (number / 64) i) (read : g ≡ get_or groups i g) where
+  there : group_at (shared_groups groups) i ≡ (g.0, arc_value g.1)
+  there = group_read groups (number / 64) i g at read
+
+  its_number : g.0 ≡ number / 64
+  its_number = ap (λ (e : ℕ × Places). e.0) (sym there) ∙ at.has_number
+
+  shared_groups-changed : shared_groups (set groups i (g.0, new)) ≡ set (shared_groups groups) i (number / 64, arc_value new)
+  shared_groups-changed =
+      map-set (λ (e : ℕ × Arc Places Global). (e.0, arc_value e.1)) groups i (g.0, new)
+      ∙ ap (λ n. set (shared_groups groups) i (n, arc_value new)) its_number
+
+  pub are_groups_then : length (arc_value new) ≡ length (arc_value g.1) → AreGroups (shared_groups (set groups i (g.0, new)))
+  are_groups_then size =
+      rw shared_groups-changed
+      (are_groups-replaced (shared_groups groups) (number / 64) i are at (arc_value new) (size ∙ ap (λ (e : ℕ × Places). length e.1) (sym there) ∙ are.full i at.in_range))
+
+  pub memory_then : (page : Option SymbolicPage) → (page ≡ None → page_in (shared_groups groups) number ≡ None) → arc_value new ≡ set (arc_value g.1) (number % 64) page → memory_in (shared_groups (set groups i (g.0, new))) ≡ with_page (memory_in (shared_groups groups)) number page
+  memory_then page still_none is =
+      ap memory_in (shared_groups-changed
+        ∙ ap (λ ps. set (shared_groups groups) i (number / 64, ps)) (is ∙ ap (λ (e : ℕ × Places). set e.1 (number % 64) page) (sym there)))
+      ∙ memory-changed (shared_groups groups) number i are at page still_none
+
+  pub memory_kept : arc_value new ≡ arc_value g.1 → memory_in (shared_groups (set groups i (g.0, new))) ≡ memory_in (shared_groups groups)
+  memory_kept same =
+      ap memory_in (map-set (λ (e : ℕ × Arc Places Global). (e.0, arc_value e.1)) groups i (g.0, new)
+        ∙ ap (λ ps. set (shared_groups groups) i (g.0, ps)) same
+        ∙ ap (set (shared_groups groups) i) (sym there)
+        ∙ set_there (shared_groups groups) i (0, []))
+
+  page_here : at_place (arc_value g.1) (number % 64) ≡ page_in (shared_groups groups) number
+  page_here = page_read groups number i g (arc_value g.1) are at (ap (λ (e : ℕ × Arc Places Global). arc_value e.1) read)
+
+  pub memory_after : (change : SymbolicPage → SymbolicPage) → arc_value new ≡ set (arc_value g.1) (number % 64) (option_map change (at_place (arc_value g.1) (number % 64))) → memory_in (shared_groups (set groups i (g.0, new))) ≡ with_page (memory_in (shared_groups groups)) number (option_map change (finite.get (memory_in (shared_groups groups)) number))
+  memory_after change is =
+      memory_then _ (λ none. sym page_here ∙ none_before change _ none) is
+      ∙ ap (λ o. with_page (memory_in (shared_groups groups)) number (option_map change o)) (page_here ∙ sym (get_in_groups (shared_groups groups) number are))
+    where
+      none_before : (f : SymbolicPage → SymbolicPage) (o : Option SymbolicPage) → option_map f o ≡ None → o ≡ None
+      none_before f None e = refl
+      none_before f (Some page) e = cc e
+
+-- where the page isn't mapped nothing changes
+pub memory_without : (groups : List (ℕ × Arc Places Global)) (number i : ℕ) (change : SymbolicPage → SymbolicPage) → AreGroups (shared_groups groups) → IsGapFor (shared_groups groups) (number / 64) i → memory_in (shared_groups groups) ≡ with_page (memory_in (shared_groups groups)) number (option_map change (finite.get (memory_in (shared_groups groups)) number))
+memory_without groups number i change are gap =
+    sym (ap (λ o. with_page (memory_in (shared_groups groups)) number (option_map change o)) (get_in_groups (shared_groups groups) number are ∙ sym (page_missing groups number i gap)))

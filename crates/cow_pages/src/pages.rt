@@ -1,0 +1,95 @@
+//! The memory of a symbolic run.
+
+ghost use Rattle.std.specs.Prelude.{◌≡◌, ◌/◌, ℕ, IsSome, IfOk, OnOk, OnErr};
+ghost use Rattle.std.specs.FinMap as map;
+ghost use Rattle.std.specs.Option.{option_copied, option_map};
+ghost use Rattle.cow_pages.specs.SymbolicMemory.{as_symbolic, memory_byte, memory_with};
+
+use crate::byte::Byte;
+use crate::group::Group;
+use crate::groups::{add_page, page_of, share, write};
+use crate::page::{PAGE_SIZE, Page};
+use elf_load::Image;
+use std::alloc::{AllocError as NoMemory, Global};
+use std::marker::Model;
+use std::sync::Arc;
+
+/// The memory of a symbolic run: mapped pages by their numbers. Which pages are mapped, and what may be done on them, never
+/// changes.
+///
+/// Its copies share their pages until one of them writes there.
+#[derive(Drop)]
+pub struct Pages {
+    /// The groups of pages with their numbers, which rise.
+    groups: Vec<(u32, Arc<Group>)>,
+}
+
+impl Model for Pages {
+    ghost use Rattle.cow_pages.specs.SymbolicMemory as memory;
+    ghost use Rattle.cow_pages.specs.Groups.{AreGroups, memory_in, shared_groups};
+
+    ghost Value = { memory.SymbolicMemory };
+
+    ghost coded = { memory.memory_code };
+
+    ghost view = { λ p. memory_in (shared_groups p.groups.items) };
+
+    ghost invariant = { λ p. AreGroups (shared_groups p.groups.items) };
+}
+
+impl Pages {
+    /// The memory that an image begins with.
+    pub fn new(alloc: Global, image: &Image) -> Result<Pages, NoMemory>
+        ensures { IfOk result (λ pages. (number : ℕ) → map.get pages number ≡ option_map as_symbolic (map.get image.now.pages number)) }
+    {
+        let mut groups = Vec::new(alloc);
+        for (number, page) in image.pages() {
+            let page = Page::of_numbers(alloc, page.flags, &page.bytes)?;
+            add_page(&mut groups, *number, page)?;
+        }
+        Ok(Pages { groups })
+    }
+
+    /// The page of this number, if it is mapped.
+    pub fn page(&self, number: u32) -> Option<&Page>
+        ensures { option_copied result ≡ map.get self.now number }
+    {
+        page_of(&self.groups, number)
+    }
+
+    /// What may be done on the page of this number, if it is mapped.
+    pub fn flags(&self, page: u32) -> Option<u8>
+        ensures { result ≡ option_map (λ p. p.flags) (map.get self.now page) }
+    {
+        let found = self.page(page)?;
+        Some(found.flags())
+    }
+
+    /// The byte at this address of a mapped page.
+    pub fn read(&self, address: u32) -> Byte
+        requires { IsSome (map.get self.now (address / 256)) }
+        ensures { result ≡ memory_byte self.now address }
+    {
+        let page = self.page(address / PAGE_SIZE).unwrap();
+        page.byte((address % PAGE_SIZE) as u8)
+    }
+
+    /// Puts a byte to this address of a mapped page. Where the page is shared, this is done to a copy of its own.
+    pub fn write(&mut self, address: u32, byte: Byte) -> Result<(), NoMemory>
+        requires { IsSome (map.get self.old (address / 256)) }
+        ensures ok { OnOk result (self.new ≡ memory_with self.old address byte) }
+        ensures err { OnErr result (self.new ≡ self.old) }
+    {
+        let offset = (address % PAGE_SIZE) as u8;
+        write(&mut self.groups, address / PAGE_SIZE, offset, byte)
+    }
+
+    /// The same memory, with the same pages. What is written to one of the two isn't seen in the other.
+    pub fn share(&self) -> Result<Pages, NoMemory>
+        ensures { IfOk result (λ copy. copy ≡ self.now) }
+    {
+        Ok(Pages {
+            groups: share(&self.groups)?,
+        })
+    }
+}
