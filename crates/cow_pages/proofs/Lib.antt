@@ -5,3 +5,4 @@ pub mod PageLookups
 pub mod SharedGroups
 pub mod GroupChanges
 pub mod SharedChanges
+pub mod ImagePages
