@@ -1,7 +1,7 @@
 -- What a page that is put into its group, and a new group without pages, change of a memory.
 use Rattle.std.proofs.Common.{◌≡◌, ℕ, ◌+◌, ◌-◌, ◌*◌, ◌/◌, ◌%◌, ◌<◌, ◌≤◌, ◌≢◌, Bool, true, false, cond, List, [], length, get_or, set, Some, None, refl, sym, ap, subst, ◌∙◌, arith, length-set, get_or-set_same, get_or-set_other}
 use Rattle.std.proofs.Common.{inl, inr}
-use Rattle.std.specs.Prelude.{◌==◌, ◌⊎◌, Option, insert}
+use Rattle.std.specs.Prelude.{◌==◌, ◌⊎◌, Option, IfSome, insert}
 use Rattle.std.specs.FinMap as map
 use Rattle.std.specs.FinMap.{find, get-insert, same_map, nat_cmp-IsAntisymmetric}
 use Rattle.std.specs.Ordering.{nat_cmp}
@@ -9,7 +9,7 @@ use Rattle.std.specs.Cmp.{unsigned_tied}
 use Rattle.std.proofs.lemmas.Bool.{cases_eq, cases_lt, cases_order}
 use Rattle.std.proofs.lemmas.Cmp.{nat_cmp_total}
 use Rattle.std.proofs.lemmas.List.Edits.{get_or-insert_at, get_or-insert_below, get_or-insert_above, length-insert}
-use Rattle.cow_pages.specs.SymbolicMemory.{SymbolicPage, SymbolicMemory, with_page}
+use Rattle.cow_pages.specs.SymbolicMemory.{SymbolicPage, SymbolicMemory, IsWhole, with_page}
 use Rattle.cow_pages.specs.Groups.{Places, Groups, at_place, group_at, AreGroups, IsGroupAt, IsGapFor, page_in, page_in_group, memory_in}
 use Rattle.cow_pages.proofs.GroupLookups.{find_group, find_in_gap, find-replaced, find-put_in, are_groups-replaced, test_of_other, test_of_same}
 use Rattle.cow_pages.proofs.PageLookups.{get_in_groups, same_memory}
@@ -22,8 +22,19 @@ module _ (groups : Groups) (number i : ℕ) (are : AreGroups groups) (at : IsGro
   abbrev changed_places : Places
   changed_places = set (group_at groups i).1 (number % 64) page
 
-  pub are_groups-changed : AreGroups (changed_groups groups number i page)
-  are_groups-changed = are_groups-replaced groups (number / 64) i are at changed_places (length-set (group_at groups i).1 (number % 64) page ∙ are.full i at.in_range)
+  all_whole : IfSome page IsWhole → (place : ℕ) → IfSome (at_place changed_places place) IsWhole
+  all_whole whole place = elim (cases_eq place (number % 64)) [
+      inl same ↦
+        subst (λ (o : Option SymbolicPage). IfSome o IsWhole)
+        (sym (ap (at_place changed_places) same ∙ get_or-set_same (group_at groups i).1 (number % 64) page None (omega (arith, are.full i at.in_range)))) whole
+    | inr other ↦
+        subst (λ (o : Option SymbolicPage). IfSome o IsWhole)
+        (sym (get_or-set_other (group_at groups i).1 (number % 64) place page None other)) (are.whole i place at.in_range)
+    ]
+
+  pub are_groups-changed : IfSome page IsWhole → AreGroups (changed_groups groups number i page)
+  are_groups-changed whole =
+      are_groups-replaced groups (number / 64) i are at changed_places (length-set (group_at groups i).1 (number % 64) page ∙ are.full i at.in_range) (all_whole whole)
 
   in_group : (q : ℕ) → q / 64 ≡ number / 64 → at_place (group_at groups i).1 (q % 64) ≡ page_in groups q
   in_group q same =
@@ -61,13 +72,13 @@ none_for_none q number groups none = elim (cases_eq q number) [
   ]
 
 -- memory has the page
-pub memory-changed : (groups : Groups) (number i : ℕ) → AreGroups groups → IsGroupAt groups (number / 64) i → (page : Option SymbolicPage) → (page ≡ None → page_in groups number ≡ None) → memory_in (changed_groups groups number i page) ≡ with_page (memory_in groups) number page
-memory-changed groups number i are at None still_none =
-    same_memory _ groups (are_groups-changed groups number i are at None) are (λ q.
+pub memory-changed : (groups : Groups) (number i : ℕ) → AreGroups groups → IsGroupAt groups (number / 64) i → (page : Option SymbolicPage) → IfSome page IsWhole → (page ≡ None → page_in groups number ≡ None) → memory_in (changed_groups groups number i page) ≡ with_page (memory_in groups) number page
+memory-changed groups number i are at None whole still_none =
+    same_memory _ groups (are_groups-changed groups number i are at None whole) are (λ q.
       page_in-changed groups number i are at None q ∙ none_for_none q number groups (still_none refl))
-memory-changed groups number i are at (Some page) still_none =
+memory-changed groups number i are at (Some page) whole still_none =
     same_map nat_cmp_total nat_cmp-IsAntisymmetric _ _ (λ q.
-      get_in_groups _ q (are_groups-changed groups number i are at (Some page))
+      get_in_groups _ q (are_groups-changed groups number i are at (Some page) whole)
       ∙ page_in-changed groups number i are at (Some page) q
       ∙ ap (cond (q == number) (Some page)) (sym (get_in_groups groups q are))
       ∙ ap (λ b. cond b (Some page) (map.get (memory_in groups) q)) (sym (unsigned_tied q number))
@@ -129,13 +140,23 @@ module _ (groups : Groups) (k i : ℕ) (are : AreGroups groups) (gap : IsGapFor 
       ]
     ]
 
-  pub are_groups-more : length places ≡ 64 → AreGroups (insert groups i (k, places))
-  are_groups-more size = record {
+  whole_there : ((place : ℕ) → at_place places place ≡ None) → (j place : ℕ) → j < length groups + 1 → IfSome (at_place (group_at more_groups j).1 place) IsWhole
+  whole_there empty j place within = elim (cases_order j i) [
+      inl same ↦ subst (λ (o : Option SymbolicPage). IfSome o IsWhole) (sym (ap (λ (g : ℕ × Places). at_place g.1 place) (in_gap j same) ∙ empty place)) tt
+    | inr other ↦ elim other [
+        inl before ↦ subst (λ (g : ℕ × Places). IfSome (at_place g.1 place) IsWhole) (sym (before_gap j before)) (are.whole j place (omega (arith, gap.in_range)))
+      | inr behind ↦ subst (λ (g : ℕ × Places). IfSome (at_place g.1 place) IsWhole) (sym (behind_gap j behind)) (are.whole (j - 1) place (omega arith))
+      ]
+    ]
+
+  pub are_groups-more : length places ≡ 64 → ((place : ℕ) → at_place places place ≡ None) → AreGroups (insert groups i (k, places))
+  are_groups-more size empty = record {
       in_order = λ m n less within. elim (cases_lt m i) [
           inl before ↦ rise_from_before m n before less (omega (arith, count))
         | inr behind ↦ rise_from_gap m n behind less (omega (arith, count))
         ];
-      full = λ j within. size_there size j (omega (arith, count))
+      full = λ j within. size_there size j (omega (arith, count));
+      whole = λ j place within. whole_there empty j place (omega (arith, count))
     }
 
   pub page_in-more : ((place : ℕ) → at_place places place ≡ None) → (q : ℕ) → page_in (insert groups i (k, places)) q ≡ page_in groups q
@@ -151,7 +172,7 @@ module _ (groups : Groups) (k i : ℕ) (are : AreGroups groups) (gap : IsGapFor 
         ]
 
   pub memory-more : length places ≡ 64 → ((place : ℕ) → at_place places place ≡ None) → memory_in (insert groups i (k, places)) ≡ memory_in groups
-  memory-more size empty = same_memory _ groups (are_groups-more size) are (page_in-more empty)
+  memory-more size empty = same_memory _ groups (are_groups-more size empty) are (page_in-more empty)
 
   pub group_put_in : IsGroupAt (insert groups i (k, places)) k i
   group_put_in = record { in_range = omega (arith, count, gap.in_range); has_number = number_in i refl }

@@ -38,7 +38,7 @@ nothing_more None = refl
 nothing_more (Some page) = refl
 
 pub no_groups : AreGroups []
-no_groups = record { in_order = λ i j lt within. absurd (omega (arith, within)); full = λ i within. absurd (omega (arith, within)) }
+no_groups = record { in_order = λ i j lt within. absurd (omega (arith, within)); full = λ i within. absurd (omega (arith, within)); whole = λ i place within. absurd (omega (arith, within)) }
 
 none_in_no_groups : (q : ℕ) → get (memory_in []) q ≡ None
 unfolding memory_in

@@ -6,3 +6,4 @@ pub mod SharedGroups
 pub mod GroupChanges
 pub mod SharedChanges
 pub mod ImagePages
+pub mod ByteWrites

@@ -1,7 +1,7 @@
 -- The pages that stand in groups, by their numbers.
-use Rattle.std.proofs.Common.{◌≡◌, ℕ, zero, suc, ◌+◌, ◌-◌, ◌*◌, ◌/◌, ◌%◌, ◌<◌, ◌≤◌, ◌≢◌, Bool, true, false, cond, List, [], ◌∷◌, ◌++◌, length, get_or, set, Some, None, refl, sym, ap, ◌∙◌, arith, get_or-set_same, get_or-set_other}
+use Rattle.std.proofs.Common.{◌≡◌, ℕ, zero, suc, ◌+◌, ◌-◌, ◌*◌, ◌/◌, ◌%◌, ◌<◌, ◌≤◌, ◌≢◌, Bool, true, false, cond, List, [], ◌∷◌, ◌++◌, length, get_or, set, Some, None, refl, sym, ap, subst, ◌∙◌, arith, get_or-set_same, get_or-set_other}
 use Rattle.std.proofs.Common.{inl, inr}
-use Rattle.std.specs.Prelude.{◌==◌, Option, insert}
+use Rattle.std.specs.Prelude.{◌==◌, Option, IfSome, insert}
 use Rattle.std.specs.FinMap as map
 use Rattle.std.specs.FinMap.{find, get-from_entries, get-insert, same_map, nat_cmp-IsAntisymmetric}
 use Rattle.std.specs.Option.{option_or}
@@ -11,7 +11,7 @@ use Rattle.std.proofs.lemmas.Bool.{cases_eq, cases_lt}
 use Rattle.std.proofs.lemmas.List.{get_or_past}
 use Rattle.std.proofs.lemmas.Bool.Decides.{nat_tests}
 use Rattle.std.proofs.lemmas.Cmp.{nat_cmp_total}
-use Rattle.cow_pages.specs.SymbolicMemory.{SymbolicPage, SymbolicMemory, with_page}
+use Rattle.cow_pages.specs.SymbolicMemory.{SymbolicPage, SymbolicMemory, IsWhole, with_page}
 use Rattle.cow_pages.specs.Groups.{Places, Groups, at_place, group_at, AreGroups, IsGroupAt, IsGapFor, page_in, page_in_group, numbered_from, pages_in, memory_in}
 use Rattle.cow_pages.proofs.GroupLookups.{find_step, find_past, find_first, find_no_group, find_group, groups_behind, find-replaced, find-put_in, test_of_other, test_of_same}
 
@@ -84,3 +84,14 @@ get_in_groups groups q are = get-from_entries nat_cmp_total (pages_in groups) q 
 pub same_memory : (one other : Groups) → AreGroups one → AreGroups other → ((q : ℕ) → page_in one q ≡ page_in other q) → memory_in one ≡ memory_in other
 same_memory one other are_one are_other same =
     same_map nat_cmp_total nat_cmp-IsAntisymmetric (memory_in one) (memory_in other) (λ q. get_in_groups one q are_one ∙ same q ∙ sym (get_in_groups other q are_other))
+
+-- each page has all of its bytes
+found_whole : (groups : Groups) (n place : ℕ) → AreGroups groups → IfSome (page_in_group (find nat_cmp n groups) place) IsWhole
+found_whole [] n place are = tt
+found_whole (g ∷ groups) n place are = elim (cases_eq n g.0) [
+    inl same ↦ subst (λ o. IfSome (page_in_group o place) IsWhole) (sym (find_first n g groups same)) (are.whole 0 place (omega arith))
+  | inr other ↦ subst (λ o. IfSome (page_in_group o place) IsWhole) (sym (find_past n g groups other)) (found_whole groups n place (groups_behind g groups are))
+  ]
+
+pub pages_whole : (groups : Groups) (q : ℕ) → AreGroups groups → IfSome (map.get (memory_in groups) q) IsWhole
+pages_whole groups q are = subst (λ (o : Option SymbolicPage). IfSome o IsWhole) (sym (get_in_groups groups q are)) (found_whole groups (q / 64) (q % 64) are)

@@ -1,12 +1,12 @@
 -- The groups of 64 pages that a memory stands in, by their numbers.
-use Rattle.std.specs.Prelude.{◌≡◌, ℕ, ◌+◌, ◌*◌, ◌/◌, ◌%◌, ◌<◌, ◌≤◌, List, [], ◌∷◌, ◌++◌, map, length, slice_index_or, Option, Some, None}
+use Rattle.std.specs.Prelude.{◌≡◌, ℕ, ◌+◌, ◌*◌, ◌/◌, ◌%◌, ◌<◌, ◌≤◌, List, [], ◌∷◌, ◌++◌, map, length, slice_index_or, Option, Some, None, IfSome}
 use Rattle.std.specs.Arc.{arc_value}
 use Rattle.std.specs.FinMap.{find, from_entries}
 use Rattle.std.specs.Option.{option_map}
 use Rattle.std.specs.Ordering.{nat_cmp}
 use Rattle.std.specs.declared.alloc.Global.{Global}
 use Rattle.std.specs.declared.sync.Arc.{Arc}
-use Rattle.cow_pages.specs.SymbolicMemory.{SymbolicPage, SymbolicMemory}
+use Rattle.cow_pages.specs.SymbolicMemory.{SymbolicPage, SymbolicMemory, IsWhole}
 
 -- what stands at the places of a group: a page, or none
 abbrev pub Places : Type 0
@@ -36,10 +36,11 @@ shared_groups groups = map (λ (g : ℕ × Arc Places Global). (g.0, arc_value g
 abbrev pub group_at : Groups → ℕ → ℕ × Places
 group_at groups i = slice_index_or groups i (0, [])
 
--- the numbers rise, and each group has 64 places
+-- the numbers rise, each group has 64 places, and each page all of its bytes
 pub record AreGroups (groups : Groups) : Type 0 where
   pub in_order : (i j : ℕ) → i < j → j < length groups → (group_at groups i).0 < (group_at groups j).0
   pub full : (i : ℕ) → i < length groups → length (group_at groups i).1 ≡ 64
+  pub whole : (i place : ℕ) → i < length groups → IfSome (at_place (group_at groups i).1 place) IsWhole
 
 -- the group at this place of the list has the number
 pub record IsGroupAt (groups : Groups) (number i : ℕ) : Type 0 where

@@ -1,5 +1,5 @@
 -- The memory of a symbolic run: pages by their numbers, and the bytes at addresses.
-use Rattle.std.specs.Prelude.{◌≡◌, ℕ, ◌⊎◌, ◌/◌, ◌%◌, List, map, Option, Some, None, slice_set, slice_index_or, refl}
+use Rattle.std.specs.Prelude.{◌≡◌, ℕ, ◌⊎◌, ◌/◌, ◌%◌, List, map, length, Option, Some, None, slice_set, slice_index_or, refl}
 use Rattle.std.specs.Coded.{Coded, code_by, coded×, coded⊎, coded_ℕ, coded_list}
 use Rattle.std.specs.FinMap.{FinMap, get, insert, code}
 use Rattle.std.specs.Ordering.{nat_cmp}
@@ -13,6 +13,10 @@ use Rattle.cow_pages.specs.declared.byte.Byte.TheVariants.{Number, Term}
 pub record SymbolicPage : Type 0 where
   pub flags : ℕ
   pub bytes : List Byte
+
+-- it has all of its bytes
+abbrev pub IsWhole : SymbolicPage → Type 0
+IsWhole page = length page.bytes ≡ 256
 
 -- numbers as bytes
 abbrev pub number_bytes : List ℕ → List Byte
@@ -29,6 +33,10 @@ as_symbolic page = record { flags = page.flags; bytes = number_bytes page.bytes 
 -- the mapped pages by their numbers
 abbrev pub SymbolicMemory : Type 0
 SymbolicMemory = FinMap nat_cmp SymbolicPage
+
+-- what may be done on the page of a number, if it is mapped
+abbrev pub memory_flags : SymbolicMemory → ℕ → Option ℕ
+memory_flags memory number = option_map (λ page. page.flags) (get memory number)
 
 -- the byte at an offset of a page, 0 where there is no page
 abbrev pub page_byte : Option SymbolicPage → ℕ → Byte

@@ -1,11 +1,11 @@
 //! The groups of a memory, in the order of their numbers.
 
-ghost use Rattle.std.specs.Prelude.{◌≡◌, ◌<◌, ◌/◌, ◌%◌, length, slice_set, Some, IfOk, IfErr, OnOk, OnErr};
+ghost use Rattle.std.specs.Prelude.{◌≡◌, ◌<◌, ◌/◌, ◌%◌, slice_set, Some, IfOk, IfErr, OnOk, OnErr};
 ghost use Rattle.std.specs.Arc.{arc_value};
 ghost use Rattle.std.specs.FinMap as map;
 ghost use Rattle.std.specs.Option.{option_copied, option_map};
 ghost use Rattle.cow_pages.specs.Groups.{AreGroups, IsGapFor, IsGroupAt, at_place, memory_in, page_in, shared_groups};
-ghost use Rattle.cow_pages.specs.SymbolicMemory.{page_with, with_page};
+ghost use Rattle.cow_pages.specs.SymbolicMemory.{IsWhole, page_with, with_page};
 
 use crate::byte::Byte;
 use crate::group::{GROUP_SIZE, Group};
@@ -56,7 +56,6 @@ fn put_page(group: &mut Arc<Group>, place: usize, page: Arc<Page>) -> Result<(),
     requires { place < 64 }
     ensures ok { OnOk result (arc_value group.new ≡ slice_set (arc_value group.old) place (Some (arc_value page))) }
     ensures err { OnErr result (arc_value group.new ≡ arc_value group.old) }
-    ensures size { length (arc_value group.new) ≡ length (arc_value group.old) }
 {
     Arc::make_mut(group)?.put(place, page);
     Ok(())
@@ -67,14 +66,14 @@ fn write_byte(group: &mut Arc<Group>, place: usize, offset: u8, byte: Byte) -> R
     requires { place < 64 }
     ensures ok { OnOk result (arc_value group.new ≡ slice_set (arc_value group.old) place (option_map (λ page. page_with page offset byte) (at_place (arc_value group.old) place))) }
     ensures err { OnErr result (arc_value group.new ≡ arc_value group.old) }
-    ensures size { length (arc_value group.new) ≡ length (arc_value group.old) }
 {
     Arc::make_mut(group)?.write(place, offset, byte)
 }
 
 /// Puts a page to its place.
 pub(crate) fn add_page(groups: &mut Vec<(u32, Arc<Group>)>, number: u32, page: Page) -> Result<(), NoMemory>
-    requires { AreGroups (shared_groups groups.old.items) }
+    requires groups { AreGroups (shared_groups groups.old.items) }
+    requires whole { IsWhole page }
     ensures groups { AreGroups (shared_groups groups.new.items) }
     ensures ok { OnOk result (memory_in (shared_groups groups.new.items) ≡ map.insert (memory_in (shared_groups groups.old.items)) number page) }
     ensures err { OnErr result (memory_in (shared_groups groups.new.items) ≡ memory_in (shared_groups groups.old.items)) }

@@ -1,9 +1,9 @@
 //! The memory of a symbolic run.
 
-ghost use Rattle.std.specs.Prelude.{◌≡◌, ◌/◌, ℕ, IsSome, IfOk, OnOk, OnErr};
+ghost use Rattle.std.specs.Prelude.{◌≡◌, ◌/◌, ◌==◌, ℕ, if◌then◌else◌, IsSome, IfSome, IfOk, OnOk, OnErr};
 ghost use Rattle.std.specs.FinMap as map;
 ghost use Rattle.std.specs.Option.{option_copied, option_map};
-ghost use Rattle.cow_pages.specs.SymbolicMemory.{as_symbolic, memory_byte, memory_with};
+ghost use Rattle.cow_pages.specs.SymbolicMemory.{IsWhole, as_symbolic, memory_byte, memory_flags, memory_with};
 
 use crate::byte::Byte;
 use crate::group::Group;
@@ -52,14 +52,15 @@ impl Pages {
 
     /// The page of this number, if it is mapped.
     pub fn page(&self, number: u32) -> Option<&Page>
-        ensures { option_copied result ≡ map.get self.now number }
+        ensures value { option_copied result ≡ map.get self.now number }
+        ensures whole { IfSome (map.get self.now number) IsWhole }
     {
         page_of(&self.groups, number)
     }
 
     /// What may be done on the page of this number, if it is mapped.
     pub fn flags(&self, page: u32) -> Option<u8>
-        ensures { result ≡ option_map (λ p. p.flags) (map.get self.now page) }
+        ensures { result ≡ memory_flags self.now page }
     {
         let found = self.page(page)?;
         Some(found.flags())
@@ -78,6 +79,8 @@ impl Pages {
     pub fn write(&mut self, address: u32, byte: Byte) -> Result<(), NoMemory>
         requires { IsSome (map.get self.old (address / 256)) }
         ensures ok { OnOk result (self.new ≡ memory_with self.old address byte) }
+        ensures bytes { OnOk result ((x : ℕ) → memory_byte self.new x ≡ (if x == address then byte else memory_byte self.old x)) }
+        ensures flags { OnOk result ((number : ℕ) → memory_flags self.new number ≡ memory_flags self.old number) }
         ensures err { OnErr result (self.new ≡ self.old) }
     {
         let offset = (address % PAGE_SIZE) as u8;

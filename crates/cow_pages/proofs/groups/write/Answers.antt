@@ -1,18 +1,18 @@
 use Rattle.std.proofs.lemmas.Result.{on_ok_weaker, on_err_weaker}
 use Rattle.cow_pages.specs.SymbolicMemory.{page_with}
-use Rattle.cow_pages.proofs.SharedChanges.{are_groups_then, memory_after, memory_kept, memory_without}
+use Rattle.cow_pages.proofs.SharedChanges.{are_groups_written, memory_written, memory_kept, memory_without}
 use Rattle.cow_pages.proofs.groups.write.Goals as goal
 
 pub returns-in-Ok-clause-groups : goal.returns-in-Ok-clause-groups
 returns-in-Ok-clause-groups c =
-    are_groups_then c.args.groups.now.items c.args.number c.in-Ok.place c.index_mut.result.now c.write_byte.new.group c.requires (rw c.deref.ensures.value at c.in-Ok.ensures.found) c.index_mut.ensures.value
-    c.write_byte.ensures.size
+    are_groups_written c.args.groups.now.items c.args.number c.in-Ok.place c.index_mut.result.now c.write_byte.new.group c.requires (rw c.deref.ensures.value at c.in-Ok.ensures.found) c.index_mut.ensures.value
+    c.args.offset c.args.byte c.write_byte.result c.write_byte.ensures.ok c.write_byte.ensures.err
 
 pub returns-in-Ok-clause-ok : goal.returns-in-Ok-clause-ok
 returns-in-Ok-clause-ok c =
     on_ok_weaker _
-    (memory_after c.args.groups.now.items c.args.number c.in-Ok.place c.index_mut.result.now c.write_byte.new.group c.requires (rw c.deref.ensures.value at c.in-Ok.ensures.found) c.index_mut.ensures.value
-      (λ page. page_with page c.args.offset c.args.byte))
+    (memory_written c.args.groups.now.items c.args.number c.in-Ok.place c.index_mut.result.now c.write_byte.new.group c.requires (rw c.deref.ensures.value at c.in-Ok.ensures.found) c.index_mut.ensures.value
+      c.args.offset c.args.byte)
     c.write_byte.ensures.ok
 
 pub returns-in-Ok-clause-err : goal.returns-in-Ok-clause-err

@@ -1,12 +1,18 @@
-use Rattle.std.proofs.Common.{sym, ap, ◌∙◌}
+use Rattle.std.proofs.Common.{sym, ap, subst, ◌∙◌}
+use Rattle.std.specs.Prelude.{IfSome}
 use Rattle.std.specs.FinMap.{get}
-use Rattle.cow_pages.specs.SymbolicMemory.{SymbolicMemory}
+use Rattle.cow_pages.specs.SymbolicMemory.{SymbolicMemory, IsWhole}
 use Rattle.cow_pages.specs.Groups.{shared_groups}
-use Rattle.cow_pages.proofs.PageLookups.{get_in_groups}
+use Rattle.cow_pages.proofs.PageLookups.{get_in_groups, pages_whole}
 use Rattle.cow_pages.proofs.pages.Pages.page.Goals as goal
 
-pub returns : goal.returns
-returns c =
+pub returns-clause-value : goal.returns-clause-value
+returns-clause-value c =
     (rw c.deref.ensures.value at c.page_of.ensures)
     ∙ sym (get_in_groups (shared_groups c.self.inside.groups.items) c.args.number c.self.invariant)
     ∙ ap (λ (m : SymbolicMemory). get m c.args.number) c.self.view_is
+
+pub returns-clause-whole : goal.returns-clause-whole
+returns-clause-whole c =
+    subst (λ (m : SymbolicMemory). IfSome (get m c.args.number) IsWhole) c.self.view_is
+    (pages_whole (shared_groups c.self.inside.groups.items) c.args.number c.self.invariant)
