@@ -1,9 +1,9 @@
 -- The bytes and flags of a memory after a byte was written.
-use Rattle.std.proofs.Common.{◌≡◌, ℕ, ◌/◌, ◌%◌, ◌<◌, ◌≢◌, Bool, true, false, cond, length, set, get_or, Some, None, refl, sym, ap, subst, ◌∙◌, arith, get_or-set_same, get_or-set_other}
+use Rattle.std.proofs.Common.{◌≡◌, ℕ, ◌/◌, ◌%◌, ◌<◌, ◌≢◌, Bool, true, false, cond, length, set, get_or, Bor, Some, None, refl, sym, ap, subst, ◌∙◌, arith, get_or-set_same, get_or-set_other}
 use Rattle.std.proofs.Common.{inl, inr}
-use Rattle.std.specs.Prelude.{◌==◌, Option, IsSome, IfSome, if◌then◌else◌}
+use Rattle.std.specs.Prelude.{◌==◌, Option, is_some, IsSome, IfSome, if◌then◌else◌}
 use Rattle.std.specs.FinMap.{get, get-insert}
-use Rattle.std.specs.Option.{option_map}
+use Rattle.std.specs.Option.{option_map, option_copied}
 use Rattle.std.specs.Cmp.{unsigned_tied}
 use Rattle.std.proofs.lemmas.Bool.{cases_eq}
 use Rattle.std.proofs.lemmas.Cmp.{nat_cmp_total}
@@ -66,18 +66,31 @@ module _ (memory : SymbolicMemory) (address : ℕ) (byte : Byte) (page : Symboli
             ap (λ b. option_map (λ (p : SymbolicPage). p.flags) (cond b (Some (page_with page (address % 256) byte)) (get memory q))) (test_of_other q (address / 256) other)
         ]
 
+-- what a reference shows is there where the reference is
+pub is_some-copied : {X : Type 0} (r : Option (Bor X)) → is_some r ≡ is_some (option_copied r)
+is_some-copied None = refl
+is_some-copied (Some x) = refl
+
+-- a page has flags where it is mapped
+pub is_some-memory_flags : (memory : SymbolicMemory) (q : ℕ) → is_some (memory_flags memory q) ≡ is_some (get memory q)
+is_some-memory_flags memory q = by_cases (get memory q)
+  where
+    by_cases : (o : Option SymbolicPage) → is_some (option_map (λ p. p.flags) o) ≡ is_some o
+    by_cases None = refl
+    by_cases (Some page) = refl
+
 by_page : {P : Type 0} (o : Option SymbolicPage) → IsSome o → IfSome o IsWhole → ((page : SymbolicPage) → o ≡ Some page → IsWhole page → P) → P
 by_page None there whole use_it = cc there
 by_page (Some page) there whole use_it = use_it page refl whole
 
 -- the byte there is the one that was written, and each other is as it was
-pub bytes_written : (old new : SymbolicMemory) (address : ℕ) (byte : Byte) → IsSome (get old (address / 256)) → IfSome (get old (address / 256)) IsWhole → new ≡ memory_with old address byte → (x : ℕ) → memory_byte new x ≡ (if x == address then byte else memory_byte old x)
+pub bytes_written : (old new : SymbolicMemory) (address : ℕ) (byte : Byte) → IsSome (memory_flags old (address / 256)) → IfSome (get old (address / 256)) IsWhole → new ≡ memory_with old address byte → (x : ℕ) → memory_byte new x ≡ (if x == address then byte else memory_byte old x)
 bytes_written old new address byte there whole is x =
     ap (λ (m : SymbolicMemory). memory_byte m x) is
-    ∙ by_page (get old (address / 256)) there whole (λ page here all. bytes_then old address byte page here all x)
+    ∙ by_page (get old (address / 256)) (sym (is_some-memory_flags old (address / 256)) ∙ there) whole (λ page here all. bytes_then old address byte page here all x)
 
 -- flags are as they were
-pub flags_kept : (old new : SymbolicMemory) (address : ℕ) (byte : Byte) → IsSome (get old (address / 256)) → IfSome (get old (address / 256)) IsWhole → new ≡ memory_with old address byte → (q : ℕ) → memory_flags new q ≡ memory_flags old q
+pub flags_kept : (old new : SymbolicMemory) (address : ℕ) (byte : Byte) → IsSome (memory_flags old (address / 256)) → IfSome (get old (address / 256)) IsWhole → new ≡ memory_with old address byte → (q : ℕ) → memory_flags new q ≡ memory_flags old q
 flags_kept old new address byte there whole is q =
     ap (λ (m : SymbolicMemory). memory_flags m q) is
-    ∙ by_page (get old (address / 256)) there whole (λ page here all. flags_then old address byte page here all q)
+    ∙ by_page (get old (address / 256)) (sym (is_some-memory_flags old (address / 256)) ∙ there) whole (λ page here all. flags_then old address byte page here all q)

@@ -97,10 +97,10 @@ pub(crate) fn write(groups: &mut Vec<(u32, Arc<Group>)>, number: u32, offset: u8
 }
 
 /// The same groups, shared.
-pub(crate) fn share(groups: &Vec<(u32, Arc<Group>)>) -> Result<Vec<(u32, Arc<Group>)>, NoMemory>
-    ensures { IfOk result (λ copy. shared_groups copy.items ≡ shared_groups groups.now.items) }
+pub(crate) fn share(alloc: Global, groups: &[(u32, Arc<Group>)]) -> Result<Vec<(u32, Arc<Group>)>, NoMemory>
+    ensures { IfOk result (λ copy. shared_groups copy.items ≡ shared_groups groups.now) }
 {
-    let mut copy = Vec::with_capacity(*groups.allocator(), groups.len())?;
+    let mut copy = Vec::with_capacity(alloc, groups.len())?;
     for (number, group) in groups {
         copy.push((*number, Arc::try_clone(group)?))?;
     }

@@ -10,3 +10,6 @@ mod pages;
 pub use byte::Byte;
 pub use page::Page;
 pub use pages::Pages;
+
+#[cfg(test)]
+mod tests;

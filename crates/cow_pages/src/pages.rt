@@ -1,6 +1,6 @@
 //! The memory of a symbolic run.
 
-ghost use Rattle.std.specs.Prelude.{◌≡◌, ◌/◌, ◌==◌, ℕ, if◌then◌else◌, IsSome, IfSome, IfOk, OnOk, OnErr};
+ghost use Rattle.std.specs.Prelude.{◌≡◌, ◌/◌, ◌==◌, ℕ, if◌then◌else◌, is_some, IsSome, IfSome, IfOk, OnOk, OnErr};
 ghost use Rattle.std.specs.FinMap as map;
 ghost use Rattle.std.specs.Option.{option_copied, option_map};
 ghost use Rattle.cow_pages.specs.SymbolicMemory.{IsWhole, as_symbolic, memory_byte, memory_flags, memory_with};
@@ -53,6 +53,7 @@ impl Pages {
     /// The page of this number, if it is mapped.
     pub fn page(&self, number: u32) -> Option<&Page>
         ensures value { option_copied result ≡ map.get self.now number }
+        ensures mapped { is_some result ≡ is_some (memory_flags self.now number) }
         ensures whole { IfSome (map.get self.now number) IsWhole }
     {
         page_of(&self.groups, number)
@@ -68,7 +69,7 @@ impl Pages {
 
     /// The byte at this address of a mapped page.
     pub fn read(&self, address: u32) -> Byte
-        requires { IsSome (map.get self.now (address / 256)) }
+        requires { IsSome (memory_flags self.now (address / 256)) }
         ensures { result ≡ memory_byte self.now address }
     {
         let page = self.page(address / PAGE_SIZE).unwrap();
@@ -77,7 +78,7 @@ impl Pages {
 
     /// Puts a byte to this address of a mapped page. Where the page is shared, this is done to a copy of its own.
     pub fn write(&mut self, address: u32, byte: Byte) -> Result<(), NoMemory>
-        requires { IsSome (map.get self.old (address / 256)) }
+        requires { IsSome (memory_flags self.old (address / 256)) }
         ensures ok { OnOk result (self.new ≡ memory_with self.old address byte) }
         ensures bytes { OnOk result ((x : ℕ) → memory_byte self.new x ≡ (if x == address then byte else memory_byte self.old x)) }
         ensures flags { OnOk result ((number : ℕ) → memory_flags self.new number ≡ memory_flags self.old number) }
@@ -92,7 +93,7 @@ impl Pages {
         ensures { IfOk result (λ copy. copy ≡ self.now) }
     {
         Ok(Pages {
-            groups: share(&self.groups)?,
+            groups: share(*self.groups.allocator(), &self.groups)?,
         })
     }
 }

@@ -3,4 +3,4 @@ use Rattle.cow_pages.specs.Groups.{shared_groups}
 use Rattle.cow_pages.proofs.groups.share.Given as goal
 
 abbrev pub invariant-loop-number : goal.invariant-loop-number
-invariant-loop-number l = shared_groups l.copy.items ≡ take l.number-index (shared_groups l.number-items)
+invariant-loop-number l = shared_groups l.copy.items ≡ take l.number-index (shared_groups l.groups)
