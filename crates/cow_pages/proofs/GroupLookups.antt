@@ -1,16 +1,15 @@
 -- Groups that are found by their numbers, and what one that is put in, or in the place of another, changes.
-use Rattle.std.proofs.Common.{◌≡◌, ℕ, zero, suc, ◌+◌, ◌<◌, ◌≤◌, ◌≢◌, Bool, true, false, cond, List, [], ◌∷◌, ◌++◌, length, take, drop, get_or, set, Some, None, refl, sym, ap, subst, ◌∙◌, arith, length-set, get_or-set_same, get_or-set_other}
+use Rattle.std.proofs.Common.{◌≡◌, ℕ, zero, suc, ◌<◌, ◌≤◌, ◌≢◌, Bool, true, false, cond, List, [], ◌∷◌, length, set, Some, None, refl, sym, ap, subst, ◌∙◌, arith, length-set, get_or-set_same, get_or-set_other}
 use Rattle.std.proofs.Common.{inl, inr}
 use Rattle.std.specs.Prelude.{◌==◌, Option, IfSome, insert}
-use Rattle.cow_pages.specs.SymbolicMemory.{IsWhole}
+use Rattle.cow_pages.specs.SymbolicMemory.{HasAllBytes}
 use Rattle.std.specs.FinMap.{find}
 use Rattle.std.specs.Ordering.{nat_cmp}
 use Rattle.std.specs.Cmp.{unsigned_tied}
 use Rattle.std.proofs.lemmas.Bool.{cases_eq, cases_lt}
 use Rattle.std.proofs.lemmas.Bool.Decides.{nat_tests}
 use Rattle.std.proofs.lemmas.Grind.{common_steps}
-use Rattle.std.proofs.lemmas.List.Edits.{get_or-insert_at, get_or-insert_below, get_or-insert_above, length-insert}
-use Rattle.cow_pages.specs.Groups.{Places, Groups, at_place, group_at, AreGroups, IsGroupAt, IsGapFor}
+use Rattle.cow_pages.specs.Groups.{Places, Groups, page_at_place, group_at, AreGroups, IsGroupAt, IsGapFor}
 
 -- one step of a look-up
 pub find_step : {X : Type 0} (q : ℕ) (e : ℕ × X) (l : List (ℕ × X)) → find nat_cmp q (e ∷ l) ≡ cond (q == e.0) (Some e.1) (find nat_cmp q l)
@@ -37,17 +36,17 @@ find_no_group (g ∷ groups) k none =
 
 pub find_in_gap : (groups : Groups) (k i : ℕ) → IsGapFor groups k i → find nat_cmp k groups ≡ None
 find_in_gap groups k i gap = find_no_group groups k (λ j small same. elim (cases_lt j i) [
-      inl before ↦ omega (arith, gap.below j before)
-    | inr behind ↦ omega (arith, gap.above j behind small)
-  ])
+  | inl before ↦ omega (arith, gap.below j before)
+  | inr behind ↦ omega (arith, gap.above j behind small)
+])
 
 -- what is said of groups holds of all but the first
 pub groups_behind : (g : ℕ × Places) (groups : Groups) → AreGroups (g ∷ groups) → AreGroups groups
 groups_behind g groups are = record {
-    in_order = λ i j lt within. are.in_order (suc i) (suc j) (omega arith) (omega arith);
-    full = λ i within. are.full (suc i) (omega arith);
-    whole = λ i place within. are.whole (suc i) place (omega arith)
-  }
+  in_order = λ i j lt within. are.in_order (suc i) (suc j) (omega arith) (omega arith);
+  full = λ i within. are.full (suc i) (omega arith);
+  whole = λ i place within. are.whole (suc i) place (omega arith);
+}
 
 place_behind : (g : ℕ × Places) (groups : Groups) (k i : ℕ) → IsGroupAt (g ∷ groups) k (suc i) → IsGroupAt groups k i
 place_behind g groups k i at = record { in_range = omega (arith, at.in_range); has_number = at.has_number }
@@ -86,21 +85,21 @@ find-replaced (g ∷ groups) k (suc i) are at places q =
     ∙ ap (cond (q == k) (Some places)) (sym (find_step q g groups))
 
 -- they are groups again
-pub are_groups-replaced : (groups : Groups) (k i : ℕ) → AreGroups groups → IsGroupAt groups k i → (places : Places) → length places ≡ 64 → ((place : ℕ) → IfSome (at_place places place) IsWhole) → AreGroups (set groups i (k, places))
+pub are_groups-replaced : (groups : Groups) (k i : ℕ) → AreGroups groups → IsGroupAt groups k i → (places : Places) → length places ≡ 64 → ((place : ℕ) → IfSome (page_at_place places place) HasAllBytes) → AreGroups (set groups i (k, places))
 are_groups-replaced groups k i are at places size all_whole = record {
-    in_order = λ m n lt within. grind (arith, common_steps, are.in_order m n, are.in_order m i, are.in_order i n, at.in_range, at.has_number);
-    full = λ m within. grind (arith, common_steps, are.full m, at.in_range, size);
-    whole = λ m place within. elim (cases_eq m i) [
-        inl same ↦
-          subst (λ (g : ℕ × Places). IfSome (at_place g.1 place) IsWhole)
-          (sym (ap (group_at (set groups i (k, places))) same ∙ get_or-set_same groups i (k, places) (0, []) at.in_range))
-          (all_whole place)
-      | inr other ↦
-          subst (λ (g : ℕ × Places). IfSome (at_place g.1 place) IsWhole)
-          (sym (get_or-set_other groups i m (k, places) (0, []) other))
-          (are.whole m place (omega (arith, within, length-set groups i (k, places))))
-      ]
-  }
+  in_order = λ m n lt within. grind (arith, common_steps, are.in_order m n, are.in_order m i, are.in_order i n, at.in_range, at.has_number);
+  full = λ m within. grind (arith, common_steps, are.full m, at.in_range, size);
+  whole = λ m place within. elim (cases_eq m i) [
+    | inl same ↦
+        subst (λ (g : ℕ × Places). IfSome (page_at_place g.1 place) HasAllBytes)
+        (sym (ap (group_at (set groups i (k, places))) same ∙ get_or-set_same groups i (k, places) (0, []) at.in_range))
+        (all_whole place)
+    | inr other ↦
+        subst (λ (g : ℕ × Places). IfSome (page_at_place g.1 place) HasAllBytes)
+        (sym (get_or-set_other groups i m (k, places) (0, []) other))
+        (are.whole m place (omega (arith, within, length-set groups i (k, places))))
+  ];
+}
 
 -- a group that is put in is found by its number, and all other numbers find what they found
 pub find-put_in : (groups : Groups) (k i : ℕ) (places : Places) (q : ℕ) → i ≤ length groups → ((j : ℕ) → j < i → (group_at groups j).0 < k) → find nat_cmp q (insert groups i (k, places)) ≡ cond (q == k) (Some places) (find nat_cmp q groups)

@@ -1,8 +1,8 @@
 -- The memory that an image begins with, as its pages are put in one after the other.
-use Rattle.std.proofs.Common.{◌≡◌, ℕ, ◌<◌, ◌≢◌, Bool, true, false, cond, ◌&&◌, T, List, [], ◌∷◌, Some, None, refl, sym, ap, ◌∙◌, arith}
+use Rattle.std.proofs.Common.{◌≡◌, ℕ, ◌<◌, Bool, true, false, cond, ◌&&◌, T, List, [], ◌∷◌, Some, None, refl, sym, ap, ◌∙◌, arith}
 use Rattle.std.proofs.Common.{inl, inr}
 use Rattle.std.specs.Prelude.{◌==◌, Option}
-use Rattle.std.specs.FinMap.{FinMap, find, get, insert, entries, entries_sorted, get-entries, get-insert, get-empty}
+use Rattle.std.specs.FinMap.{FinMap, find, get, insert, entries, get-entries, get-insert, get-empty}
 use Rattle.std.specs.FinMap.Entries.{below_all, is_sorted}
 use Rattle.std.specs.Option.{option_map, option_or}
 use Rattle.std.specs.Ordering.{nat_cmp, is_lt}
@@ -16,10 +16,10 @@ use Rattle.cow_pages.specs.SymbolicMemory.{SymbolicPage, SymbolicMemory, as_symb
 use Rattle.cow_pages.specs.Groups.{AreGroups, memory_in}
 use Rattle.cow_pages.proofs.GroupLookups.{find_first, find_past, test_of_same, test_of_other}
 
-is_below : (o : Ordering) → T (is_lt o) → o ≡ Less
-is_below Less p = refl
-is_below Equal p = absurd p
-is_below Greater p = absurd p
+less_from_test : (o : Ordering) → T (is_lt o) → o ≡ Less
+less_from_test Less p = refl
+less_from_test Equal p = absurd p
+less_from_test Greater p = absurd p
 
 of_both : (a b : Bool) → T (a && b) → T a × T b
 of_both true b p = (tt, p)
@@ -30,7 +30,7 @@ find_below_all : (n : ℕ) (rest : List (ℕ × Page)) → T (below_all nat_cmp 
 find_below_all n [] below = refl
 find_below_all n (e ∷ rest) below =
     let both : T (is_lt (nat_cmp n e.0)) × T (below_all nat_cmp n rest) = of_both _ _ below in
-    let less : n < e.0 = ranked n e.0 Less (sym (is_below _ both.0)) in
+    let less : n < e.0 = ranked n e.0 Less (sym (less_from_test _ both.0)) in
     find_past n e rest (omega arith) ∙ find_below_all n rest both.1
 
 nothing_more : (o : Option SymbolicPage) → option_or o None ≡ o
@@ -56,16 +56,16 @@ module _ (memory : SymbolicMemory) (number : ℕ) (page : Page) (rest : List (�
   pub rest_sorted : T (is_sorted nat_cmp rest)
   rest_sorted = (of_both _ _ sorted).1
 
-  put_in : (q : ℕ) → get (insert memory number (as_symbolic page)) q ≡ cond (q == number) (Some (as_symbolic page)) (get memory q)
-  put_in q = get-insert nat_cmp_total memory number (as_symbolic page) q ∙ ap (λ b. cond b (Some (as_symbolic page)) (get memory q)) (unsigned_tied q number)
+  get_after_insert : (q : ℕ) → get (insert memory number (as_symbolic page)) q ≡ cond (q == number) (Some (as_symbolic page)) (get memory q)
+  get_after_insert q = get-insert nat_cmp_total memory number (as_symbolic page) q ∙ ap (λ b. cond b (Some (as_symbolic page)) (get memory q)) (unsigned_tied q number)
 
   pub one_put_in : (q : ℕ) → option_or (option_map as_symbolic (find nat_cmp q ((number, page) ∷ rest))) (get memory q) ≡ option_or (option_map as_symbolic (find nat_cmp q rest)) (get (insert memory number (as_symbolic page)) q)
   one_put_in q = elim (cases_eq q number) [
-      inl same ↦
+    | inl same ↦
         ap (λ o. option_or (option_map as_symbolic o) (get memory q)) (find_first q (number, page) rest same)
-        ∙ sym (ap (option_or (option_map as_symbolic (find nat_cmp q rest))) (put_in q ∙ ap (λ b. cond b (Some (as_symbolic page)) (get memory q)) (test_of_same q number same))
-          ∙ ap (λ o. option_or (option_map as_symbolic o) (Some (as_symbolic page))) (ap (λ n. find nat_cmp n rest) same ∙ find_below_all number rest (of_both _ _ sorted).0))
+        ∙ sym (ap (option_or (option_map as_symbolic (find nat_cmp q rest))) (get_after_insert q ∙ ap (λ b. cond b (Some (as_symbolic page)) (get memory q)) (test_of_same q number same))
+        ∙ ap (λ o. option_or (option_map as_symbolic o) (Some (as_symbolic page))) (ap (λ n. find nat_cmp n rest) same ∙ find_below_all number rest (of_both _ _ sorted).0))
     | inr other ↦
         ap (λ o. option_or (option_map as_symbolic o) (get memory q)) (find_past q (number, page) rest other)
-        ∙ sym (ap (option_or (option_map as_symbolic (find nat_cmp q rest))) (put_in q ∙ ap (λ b. cond b (Some (as_symbolic page)) (get memory q)) (test_of_other q number other)))
-    ]
+        ∙ sym (ap (option_or (option_map as_symbolic (find nat_cmp q rest))) (get_after_insert q ∙ ap (λ b. cond b (Some (as_symbolic page)) (get memory q)) (test_of_other q number other)))
+  ]

@@ -1,5 +1,5 @@
 -- What a binary search for a group's number finds.
-use Rattle.std.proofs.Common.{◌≡◌, ℕ, ◌<◌, ◌≤◌, List, [], ◌∷◌, length, map, get_or, Ok, Err, refl, sym, ap, ◌∙◌, arith}
+use Rattle.std.proofs.Common.{◌≡◌, ℕ, ◌<◌, ◌≤◌, List, [], ◌∷◌, length, get_or, Ok, Err, sym, ap, ◌∙◌, arith}
 use Rattle.std.specs.Arc.{arc_value}
 use Rattle.std.specs.Prelude.{Result, IfOk, IfErr}
 use Rattle.std.specs.List.Sorted.{IsBinarySearchResult, IsNonDecreasingBy, IsSearchInRange}
@@ -21,12 +21,12 @@ pub at-shared_groups : (groups : List (ℕ × Arc Places Global)) (i : ℕ) (d :
 at-shared_groups groups i d within = get_or-map (λ (g : ℕ × Arc Places Global). (g.0, arc_value g.1)) groups i d (0, []) within
 
 module _ (groups : List (ℕ × Arc Places Global)) (d : ℕ × Arc Places Global) (are : AreGroups (shared_groups groups)) (k : ℕ) where
-  number_there : (i : ℕ) → i < length groups → (group_at (shared_groups groups) i).0 ≡ (get_or groups i d).0
-  number_there i within = ap (λ (g : ℕ × Places). g.0) (at-shared_groups groups i d within)
+  number_at_place : (i : ℕ) → i < length groups → (group_at (shared_groups groups) i).0 ≡ (get_or groups i d).0
+  number_at_place i within = ap (λ (g : ℕ × Places). g.0) (at-shared_groups groups i d within)
 
   rise : (i j : ℕ) → i < j → j < length groups → (get_or groups i d).0 < (get_or groups j d).0
   rise i j lt within =
-      omega (arith, number_there i (omega arith), number_there j within, are.in_order i j lt (omega (arith, length-shared_groups groups)))
+      omega (arith, number_at_place i (omega arith), number_at_place j within, are.in_order i j lt (omega (arith, length-shared_groups groups)))
 
   comparisons_never_fall : IsNonDecreasingBy (λ g. ordering_index (nat_cmp g.0 k)) groups
   comparisons_never_fall = IsNonDecreasingBy-from_default (λ g. ordering_index (nat_cmp g.0 k)) groups d (λ i j le within.
@@ -35,17 +35,17 @@ module _ (groups : List (ℕ × Arc Places Global)) (d : ℕ × Arc Places Globa
 
   found_there : (i : ℕ) → i < length groups → IsBinarySearchResult (λ g. nat_cmp g.0 k) groups (Ok i) → IsGroupAt (shared_groups groups) k i
   found_there i within equal = record {
-      in_range = omega (arith, length-shared_groups groups);
-      has_number = number_there i within ∙ ranked _ k _ (sym (equal d))
-    }
+    in_range = omega (arith, length-shared_groups groups);
+    has_number = number_at_place i within ∙ ranked _ k _ (sym (equal d));
+  }
 
   gap_there : (i : ℕ) → i ≤ length groups → IsBinarySearchResult (λ g. nat_cmp g.0 k) groups (Err i) → IsGapFor (shared_groups groups) k i
   gap_there i within parted = record {
-      in_range = omega (arith, length-shared_groups groups);
-      below = λ j lt. omega (arith, number_there j (omega arith), ranked _ k _ (sym ((parted comparisons_never_fall).0 j d (omega arith) lt)));
-      above = λ j le small. let inside : j < length groups = omega (arith, length-shared_groups groups) in
-        omega (arith, number_there j inside, ranked _ k _ (sym ((parted comparisons_never_fall).1 j d le inside)))
-    }
+    in_range = omega (arith, length-shared_groups groups);
+    below = λ j lt. omega (arith, number_at_place j (omega arith), ranked _ k _ (sym ((parted comparisons_never_fall).0 j d (omega arith) lt)));
+    above = λ j le small. let inside : j < length groups = omega (arith, length-shared_groups groups) in
+        omega (arith, number_at_place j inside, ranked _ k _ (sym ((parted comparisons_never_fall).1 j d le inside)));
+  }
 
 -- the group of the number, or the gap where it would stand
 group_found : (groups : List (ℕ × Arc Places Global)) (k i : ℕ) → AreGroups (shared_groups groups) → i < length groups → IsBinarySearchResult (λ g. nat_cmp g.0 k) groups (Ok i) → IsGroupAt (shared_groups groups) k i

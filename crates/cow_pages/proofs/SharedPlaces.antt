@@ -1,12 +1,11 @@
 -- The places of a group whose pages stand behind counted references.
-use Rattle.std.proofs.Common.{◌≡◌, ℕ, zero, suc, ◌+◌, ◌<◌, List, [], ◌∷◌, ◌++◌, length, map, get_or, take, set, Some, None, refl, ap, sym, ◌∙◌, arith}
+use Rattle.std.proofs.Common.{◌≡◌, ℕ, zero, suc, ◌+◌, ◌<◌, List, [], ◌∷◌, ◌++◌, length, get_or, take, set, None, refl, ap, sym, ◌∙◌, arith}
 use Rattle.std.specs.Prelude.{Option}
-use Rattle.std.specs.Arc.{arc_value}
 use Rattle.std.specs.declared.alloc.Global.{Global}
 use Rattle.std.specs.declared.sync.Arc.{Arc}
 use Rattle.std.proofs.lemmas.List.{length-map, map-append, map-set, take_more, get_or-map}
 use Rattle.cow_pages.specs.SymbolicMemory.{SymbolicPage}
-use Rattle.cow_pages.specs.Groups.{Places, at_place, shared_page, shared_places}
+use Rattle.cow_pages.specs.Groups.{Places, page_at_place, shared_page, shared_places}
 
 -- a page is put to a place
 pub shared_places-set : (pages : List (Option (Arc SymbolicPage Global))) (i : ℕ) (p : Option (Arc SymbolicPage Global)) → shared_places (set pages i p) ≡ set (shared_places pages) i (shared_page p)
@@ -19,7 +18,7 @@ set_there (x ∷ xs) zero d = refl
 set_there (x ∷ xs) (suc i) d = ap (λ zs. x ∷ zs) (set_there xs i d)
 
 -- what is read at a place
-pub at_shared_place : (pages : List (Option (Arc SymbolicPage Global))) (i : ℕ) (p : Option (Arc SymbolicPage Global)) → i < length pages → p ≡ get_or pages i p → at_place (shared_places pages) i ≡ shared_page p
+pub at_shared_place : (pages : List (Option (Arc SymbolicPage Global))) (i : ℕ) (p : Option (Arc SymbolicPage Global)) → i < length pages → p ≡ get_or pages i p → page_at_place (shared_places pages) i ≡ shared_page p
 at_shared_place pages i p h read =
     get_or-map (λ (q : Option (Arc SymbolicPage Global)). shared_page q) pages i p None h
     ∙ ap (λ (q : Option (Arc SymbolicPage Global)). shared_page q) (sym read)
@@ -33,11 +32,11 @@ shared_places_more done all i p copy kept h same read =
     ∙ sym (take_more (shared_places all) i None (omega (arith, h, length-map all (λ (q : Option (Arc SymbolicPage Global)). shared_page q))))
 
 -- a page is put to a place that depends on the one there
-pub place_changed : (pages : List (Option (Arc SymbolicPage Global))) (old : Places) (i : ℕ) (p new : Option (Arc SymbolicPage Global)) (change : Option SymbolicPage → Option SymbolicPage) → shared_places pages ≡ old → i < length pages → p ≡ get_or pages i p → shared_page new ≡ change (shared_page p) → shared_places (set pages i new) ≡ set old i (change (at_place old i))
+pub place_changed : (pages : List (Option (Arc SymbolicPage Global))) (old : Places) (i : ℕ) (p new : Option (Arc SymbolicPage Global)) (change : Option SymbolicPage → Option SymbolicPage) → shared_places pages ≡ old → i < length pages → p ≡ get_or pages i p → shared_page new ≡ change (shared_page p) → shared_places (set pages i new) ≡ set old i (change (page_at_place old i))
 place_changed pages old i p new change view h read is =
     shared_places-set pages i new
     ∙ ap (λ (q : Option SymbolicPage). set (shared_places pages) i q) (is ∙ ap change (sym (at_shared_place pages i p h read)))
-    ∙ ap (λ (ps : Places). set ps i (change (at_place ps i))) view
+    ∙ ap (λ (ps : Places). set ps i (change (page_at_place ps i))) view
 
 -- one that shows the same there changes nothing
 pub place_kept : (pages : List (Option (Arc SymbolicPage Global))) (old : Places) (i : ℕ) (p new : Option (Arc SymbolicPage Global)) → shared_places pages ≡ old → i < length pages → p ≡ get_or pages i p → shared_page new ≡ shared_page p → shared_places (set pages i new) ≡ old

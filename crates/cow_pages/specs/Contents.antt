@@ -1,5 +1,5 @@
 -- The bytes that a page holds in either form.
-use Rattle.std.specs.Prelude.{ℕ, List, Vec}
+use Rattle.std.specs.Prelude.{List}
 use Rattle.cow_pages.specs.SymbolicMemory.{number_bytes}
 use Rattle.cow_pages.specs.declared.byte.Byte.{Byte}
 use Rattle.cow_pages.specs.declared.page.Content.{Content}

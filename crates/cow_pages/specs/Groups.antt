@@ -1,12 +1,13 @@
 -- The groups of 64 pages that a memory stands in, by their numbers.
-use Rattle.std.specs.Prelude.{◌≡◌, ℕ, ◌+◌, ◌*◌, ◌/◌, ◌%◌, ◌<◌, ◌≤◌, List, [], ◌∷◌, ◌++◌, map, length, slice_index_or, Option, Some, None, IfSome}
+use Rattle.std.specs.Prelude.{◌≡◌, ℕ, ◌+◌, ◌*◌, ◌/◌, ◌%◌, ◌<◌, ◌≤◌, List, [], ◌∷◌, ◌++◌, map, length, slice_index_or, slice_set, Option, Some, None, IfSome}
 use Rattle.std.specs.Arc.{arc_value}
 use Rattle.std.specs.FinMap.{find, from_entries}
 use Rattle.std.specs.Option.{option_map}
 use Rattle.std.specs.Ordering.{nat_cmp}
 use Rattle.std.specs.declared.alloc.Global.{Global}
 use Rattle.std.specs.declared.sync.Arc.{Arc}
-use Rattle.cow_pages.specs.SymbolicMemory.{SymbolicPage, SymbolicMemory, IsWhole}
+use Rattle.cow_pages.specs.SymbolicMemory.{SymbolicPage, SymbolicMemory, HasAllBytes, with_byte_at}
+use Rattle.cow_pages.specs.declared.byte.Byte.{Byte}
 
 -- what stands at the places of a group: a page, or none
 abbrev pub Places : Type 0
@@ -21,8 +22,12 @@ abbrev pub shared_places : List (Option (Arc SymbolicPage Global)) → Places
 shared_places pages = map (λ (p : Option (Arc SymbolicPage Global)). shared_page p) pages
 
 -- what stands at a place
-abbrev pub at_place : Places → ℕ → Option SymbolicPage
-at_place places place = slice_index_or places place None
+abbrev pub page_at_place : Places → ℕ → Option SymbolicPage
+page_at_place places place = slice_index_or places place None
+
+-- a group with another byte at an offset of the page at a place, if there is one
+abbrev pub with_byte_in : Places → ℕ → ℕ → Byte → Places
+with_byte_in places place offset byte = slice_set places place (with_byte_at (page_at_place places place) offset byte)
 
 -- the groups of a memory, each with its number
 abbrev pub Groups : Type 0
@@ -40,7 +45,7 @@ group_at groups i = slice_index_or groups i (0, [])
 pub record AreGroups (groups : Groups) : Type 0 where
   pub in_order : (i j : ℕ) → i < j → j < length groups → (group_at groups i).0 < (group_at groups j).0
   pub full : (i : ℕ) → i < length groups → length (group_at groups i).1 ≡ 64
-  pub whole : (i place : ℕ) → i < length groups → IfSome (at_place (group_at groups i).1 place) IsWhole
+  pub whole : (i place : ℕ) → i < length groups → IfSome (page_at_place (group_at groups i).1 place) HasAllBytes
 
 -- the group at this place of the list has the number
 pub record IsGroupAt (groups : Groups) (number i : ℕ) : Type 0 where
@@ -56,7 +61,7 @@ pub record IsGapFor (groups : Groups) (number i : ℕ) : Type 0 where
 -- the page at a place of a group that may be there
 abbrev pub page_in_group : Option Places → ℕ → Option SymbolicPage
 page_in_group None place = None
-page_in_group (Some places) place = at_place places place
+page_in_group (Some places) place = page_at_place places place
 
 -- the page of a number, of which 64 stand in a group
 abbrev pub page_in : Groups → ℕ → Option SymbolicPage
@@ -76,3 +81,7 @@ pages_in (g ∷ groups) = numbered_from (64 * g.0) g.1 ++ pages_in groups
 -- the memory that stands in groups
 unfoldable pub memory_in : Groups → SymbolicMemory
 memory_in groups = from_entries (pages_in groups)
+
+-- the memory that stands in groups behind counted references
+abbrev pub shared_memory : List (ℕ × Arc Places Global) → SymbolicMemory
+shared_memory groups = memory_in (shared_groups groups)

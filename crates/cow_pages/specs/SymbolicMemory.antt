@@ -15,8 +15,8 @@ pub record SymbolicPage : Type 0 where
   pub bytes : List Byte
 
 -- it has all of its bytes
-abbrev pub IsWhole : SymbolicPage → Type 0
-IsWhole page = length page.bytes ≡ 256
+abbrev pub HasAllBytes : SymbolicPage → Type 0
+HasAllBytes page = length page.bytes ≡ 256
 
 -- numbers as bytes
 abbrev pub number_bytes : List ℕ → List Byte
@@ -25,6 +25,10 @@ number_bytes numbers = map (λ n. Number n) numbers
 -- a page with another byte at an offset
 abbrev pub page_with : SymbolicPage → ℕ → Byte → SymbolicPage
 page_with page offset byte = record { flags = page.flags; bytes = slice_set page.bytes offset byte }
+
+-- the page, if there is one, with another byte at an offset
+abbrev pub with_byte_at : Option SymbolicPage → ℕ → Byte → Option SymbolicPage
+with_byte_at page offset byte = option_map (λ p. page_with p offset byte) page
 
 -- the page of an image, its bytes as numbers
 abbrev pub as_symbolic : Page → SymbolicPage
@@ -55,7 +59,7 @@ with_page memory number (Some page) = insert memory number page
 -- memory with another byte at an address. Where no page is mapped it stays as it is
 abbrev pub memory_with : SymbolicMemory → ℕ → Byte → SymbolicMemory
 memory_with memory address byte =
-    with_page memory (address / 256) (option_map (λ page. page_with page (address % 256) byte) (get memory (address / 256)))
+    with_page memory (address / 256) (with_byte_at (get memory (address / 256)) (address % 256) byte)
 
 -- The codes of bytes and pages, by which they are told apart.
 abbrev pub byte_to_sum : Byte → ℕ ⊎ ℕ
@@ -73,8 +77,8 @@ byte_again (Term t) = refl
 abbrev pub byte_code : Coded Byte
 byte_code = code_by (ℕ ⊎ ℕ) (coded⊎ coded_ℕ coded_ℕ) byte_to_sum byte_of_sum byte_again
 
-abbrev pub page_code : Coded SymbolicPage
-page_code = code_by (ℕ × List Byte) (coded× coded_ℕ (coded_list byte_code)) (λ p. (p.flags, p.bytes)) (λ c. record { flags = c.0; bytes = c.1 }) (λ _. refl)
+abbrev pub symbolic_page_code : Coded SymbolicPage
+symbolic_page_code = code_by (ℕ × List Byte) (coded× coded_ℕ (coded_list byte_code)) (λ p. (p.flags, p.bytes)) (λ c. record { flags = c.0; bytes = c.1 }) (λ _. refl)
 
 abbrev pub memory_code : Coded SymbolicMemory
-memory_code = code coded_ℕ page_code
+memory_code = code coded_ℕ symbolic_page_code

@@ -2,9 +2,9 @@
 
 ghost use Rattle.std.specs.Prelude.{◌≡◌, ◌<◌, ℕ, length, slice_set, Some, None, IfOk, OnOk, OnErr};
 ghost use Rattle.std.specs.Arc.{arc_value};
-ghost use Rattle.std.specs.Option.{option_copied, option_map};
-ghost use Rattle.cow_pages.specs.SymbolicMemory.{page_with};
-ghost use Rattle.cow_pages.specs.Groups.{at_place, shared_page, shared_places};
+ghost use Rattle.std.specs.Option.{option_copied};
+ghost use Rattle.cow_pages.specs.SymbolicMemory.{with_byte_at};
+ghost use Rattle.cow_pages.specs.Groups.{page_at_place, shared_page, shared_places, with_byte_in};
 
 use crate::byte::Byte;
 use crate::page::Page;
@@ -16,7 +16,7 @@ use std::sync::Arc;
 pub(crate) const GROUP_SIZE: u32 = 64;
 
 /// The places of 64 pages. A place is empty where no page is mapped.
-#[derive(Drop)]
+#[derive(Debug, Drop)]
 pub(crate) struct Group {
     pages: Vec<Option<Arc<Page>>>,
 }
@@ -24,12 +24,12 @@ pub(crate) struct Group {
 impl Model for Group {
     ghost use Rattle.std.specs.Prelude.{◌≡◌, length};
     ghost use Rattle.std.specs.Coded.{coded_list, coded_option};
-    ghost use Rattle.cow_pages.specs.SymbolicMemory.{page_code};
+    ghost use Rattle.cow_pages.specs.SymbolicMemory.{symbolic_page_code};
     ghost use Rattle.cow_pages.specs.Groups.{Places, shared_places};
 
     ghost Value = { Places };
 
-    ghost coded = { coded_list (coded_option page_code) };
+    ghost coded = { coded_list (coded_option symbolic_page_code) };
 
     ghost view = { λ g. shared_places g.pages.items };
 
@@ -46,9 +46,10 @@ fn share_page(page: &Option<Arc<Page>>) -> Result<Option<Arc<Page>>, NoMemory>
     }
 }
 
-/// Puts a byte to this offset of a page, if there is one. Where the page is shared, this is done to a copy of its own.
+/// Puts a byte to this offset of a page, if there is one. Where others share the page, a copy of
+/// its own gets it.
 fn write_page(page: &mut Option<Arc<Page>>, offset: u8, byte: Byte) -> Result<(), NoMemory>
-    ensures ok { OnOk result (shared_page page.new ≡ option_map (λ p. page_with p offset byte) (shared_page page.old)) }
+    ensures ok { OnOk result (shared_page page.new ≡ with_byte_at (shared_page page.old) offset byte) }
     ensures err { OnErr result (shared_page page.new ≡ shared_page page.old) }
 {
     match page {
@@ -61,7 +62,7 @@ impl Group {
     /// A group without pages.
     pub(crate) fn new(alloc: Global) -> Result<Group, NoMemory>
         ensures places { IfOk result (λ group. length group ≡ 64) }
-        ensures empty { IfOk result (λ group. (place : ℕ) → at_place group place ≡ None) }
+        ensures empty { IfOk result (λ group. (place : ℕ) → page_at_place group place ≡ None) }
     {
         let mut pages = Vec::with_capacity(alloc, GROUP_SIZE as usize)?;
         for _place in 0..GROUP_SIZE {
@@ -73,7 +74,7 @@ impl Group {
     /// The page at a place.
     pub(crate) fn page(&self, place: usize) -> Option<&Page>
         requires { place < 64 }
-        ensures { option_copied result ≡ at_place self.now place }
+        ensures { option_copied result ≡ page_at_place self.now place }
     {
         match &self.pages[place] {
             Some(page) => Some(&**page),
@@ -89,10 +90,10 @@ impl Group {
         self.pages[place] = Some(page);
     }
 
-    /// Puts a byte to this offset of the page at a place.
+    /// Puts a byte to this offset of the page at a place, if there is one.
     pub(crate) fn write(&mut self, place: usize, offset: u8, byte: Byte) -> Result<(), NoMemory>
         requires { place < 64 }
-        ensures ok { OnOk result (self.new ≡ slice_set self.old place (option_map (λ page. page_with page offset byte) (at_place self.old place))) }
+        ensures ok { OnOk result (self.new ≡ with_byte_in self.old place offset byte) }
         ensures err { OnErr result (self.new ≡ self.old) }
     {
         write_page(&mut self.pages[place], offset, byte)

@@ -3,13 +3,13 @@
 ghost use Rattle.std.specs.Prelude.{◌≡◌, ◌<◌, ◌/◌, ◌%◌, slice_set, Some, IfOk, IfErr, OnOk, OnErr};
 ghost use Rattle.std.specs.Arc.{arc_value};
 ghost use Rattle.std.specs.FinMap as map;
-ghost use Rattle.std.specs.Option.{option_copied, option_map};
-ghost use Rattle.cow_pages.specs.Groups.{AreGroups, IsGapFor, IsGroupAt, at_place, memory_in, page_in, shared_groups};
-ghost use Rattle.cow_pages.specs.SymbolicMemory.{IsWhole, page_with, with_page};
+ghost use Rattle.std.specs.Option.{option_copied};
+ghost use Rattle.cow_pages.specs.Groups.{AreGroups, IsGapFor, IsGroupAt, page_in, shared_groups, shared_memory, with_byte_in};
+ghost use Rattle.cow_pages.specs.SymbolicMemory.{HasAllBytes, memory_with};
 
 use crate::byte::Byte;
 use crate::group::{GROUP_SIZE, Group};
-use crate::page::Page;
+use crate::page::{PAGE_SIZE, Page};
 use std::alloc::{AllocError as NoMemory, Global};
 use std::sync::Arc;
 
@@ -28,7 +28,7 @@ pub(crate) fn page_of(groups: &[(u32, Arc<Group>)], number: u32) -> Option<&Page
     ensures { option_copied result ≡ page_in (shared_groups groups.now) number }
 {
     match search(groups, number / GROUP_SIZE) {
-        Ok(place) => groups[place].1.page((number % GROUP_SIZE) as usize),
+        Ok(group) => groups[group].1.page((number % GROUP_SIZE) as usize),
         Err(_) => None,
     }
 }
@@ -37,7 +37,7 @@ pub(crate) fn page_of(groups: &[(u32, Arc<Group>)], number: u32) -> Option<&Page
 fn group_place(groups: &mut Vec<(u32, Arc<Group>)>, number: u32) -> Result<usize, NoMemory>
     requires { AreGroups (shared_groups groups.old.items) }
     ensures groups { AreGroups (shared_groups groups.new.items) }
-    ensures same { memory_in (shared_groups groups.new.items) ≡ memory_in (shared_groups groups.old.items) }
+    ensures same { shared_memory groups.new.items ≡ shared_memory groups.old.items }
     ensures place { IfOk result (IsGroupAt (shared_groups groups.new.items) number) }
 {
     match search(groups, number) {
@@ -51,7 +51,7 @@ fn group_place(groups: &mut Vec<(u32, Arc<Group>)>, number: u32) -> Result<usize
     }
 }
 
-/// Puts a page to a place of a group. Where the group is shared, this is done to a copy of its own.
+/// Puts a page to a place of a group. Where others share the group, a copy of its own gets it.
 fn put_page(group: &mut Arc<Group>, place: usize, page: Arc<Page>) -> Result<(), NoMemory>
     requires { place < 64 }
     ensures ok { OnOk result (arc_value group.new ≡ slice_set (arc_value group.old) place (Some (arc_value page))) }
@@ -61,43 +61,60 @@ fn put_page(group: &mut Arc<Group>, place: usize, page: Arc<Page>) -> Result<(),
     Ok(())
 }
 
-/// Puts a byte to this offset of the page at a place of a group. Where the group is shared, this is done to a copy of its own.
+/// Puts a byte to this offset of the page at a place of a group, if there is one. Where others
+/// share the group, a copy of its own gets it.
 fn write_byte(group: &mut Arc<Group>, place: usize, offset: u8, byte: Byte) -> Result<(), NoMemory>
     requires { place < 64 }
-    ensures ok { OnOk result (arc_value group.new ≡ slice_set (arc_value group.old) place (option_map (λ page. page_with page offset byte) (at_place (arc_value group.old) place))) }
+    ensures ok { OnOk result (arc_value group.new ≡ with_byte_in (arc_value group.old) place offset byte) }
     ensures err { OnErr result (arc_value group.new ≡ arc_value group.old) }
 {
     Arc::make_mut(group)?.write(place, offset, byte)
 }
 
 /// Puts a page to its place.
-pub(crate) fn add_page(groups: &mut Vec<(u32, Arc<Group>)>, number: u32, page: Page) -> Result<(), NoMemory>
+pub(crate) fn add_page(
+    groups: &mut Vec<(u32, Arc<Group>)>,
+    number: u32,
+    page: Page,
+) -> Result<(), NoMemory>
     requires groups { AreGroups (shared_groups groups.old.items) }
-    requires whole { IsWhole page }
+    requires whole { HasAllBytes page }
     ensures groups { AreGroups (shared_groups groups.new.items) }
-    ensures ok { OnOk result (memory_in (shared_groups groups.new.items) ≡ map.insert (memory_in (shared_groups groups.old.items)) number page) }
-    ensures err { OnErr result (memory_in (shared_groups groups.new.items) ≡ memory_in (shared_groups groups.old.items)) }
+    ensures ok { OnOk result (shared_memory groups.new.items ≡ map.insert (shared_memory groups.old.items) number page) }
+    ensures err { OnErr result (shared_memory groups.new.items ≡ shared_memory groups.old.items) }
 {
     let page = Arc::new(*groups.allocator(), page)?;
-    let place = group_place(groups, number / GROUP_SIZE)?;
-    put_page(&mut groups[place].1, (number % GROUP_SIZE) as usize, page)
+    let group = group_place(groups, number / GROUP_SIZE)?;
+    put_page(&mut groups[group].1, (number % GROUP_SIZE) as usize, page)
 }
 
-/// Puts a byte to this offset of the page of this number, if it is mapped.
-pub(crate) fn write(groups: &mut Vec<(u32, Arc<Group>)>, number: u32, offset: u8, byte: Byte) -> Result<(), NoMemory>
+/// Puts a byte to this address, if its page is mapped.
+pub(crate) fn write(
+    groups: &mut Vec<(u32, Arc<Group>)>,
+    address: u32,
+    byte: Byte,
+) -> Result<(), NoMemory>
     requires { AreGroups (shared_groups groups.old.items) }
     ensures groups { AreGroups (shared_groups groups.new.items) }
-    ensures ok { OnOk result (memory_in (shared_groups groups.new.items) ≡ with_page (memory_in (shared_groups groups.old.items)) number (option_map (λ page. page_with page offset byte) (map.get (memory_in (shared_groups groups.old.items)) number))) }
-    ensures err { OnErr result (memory_in (shared_groups groups.new.items) ≡ memory_in (shared_groups groups.old.items)) }
+    ensures ok { OnOk result (shared_memory groups.new.items ≡ memory_with (shared_memory groups.old.items) address byte) }
+    ensures err { OnErr result (shared_memory groups.new.items ≡ shared_memory groups.old.items) }
 {
+    let number = address / PAGE_SIZE;
     match search(groups, number / GROUP_SIZE) {
-        Ok(place) => write_byte(&mut groups[place].1, (number % GROUP_SIZE) as usize, offset, byte),
+        Ok(group) => {
+            let place = (number % GROUP_SIZE) as usize;
+            let offset = (address % PAGE_SIZE) as u8;
+            write_byte(&mut groups[group].1, place, offset, byte)
+        }
         Err(_) => Ok(()),
     }
 }
 
 /// The same groups, shared.
-pub(crate) fn share(alloc: Global, groups: &[(u32, Arc<Group>)]) -> Result<Vec<(u32, Arc<Group>)>, NoMemory>
+pub(crate) fn share(
+    alloc: Global,
+    groups: &[(u32, Arc<Group>)],
+) -> Result<Vec<(u32, Arc<Group>)>, NoMemory>
     ensures { IfOk result (λ copy. shared_groups copy.items ≡ shared_groups groups.now) }
 {
     let mut copy = Vec::with_capacity(alloc, groups.len())?;

@@ -11,14 +11,14 @@ use std::marker::Model;
 pub(crate) const PAGE_SIZE: u32 = 256;
 
 /// A page of 256 bytes, and what may be done on it.
-#[derive(Drop)]
+#[derive(Debug, Drop)]
 pub struct Page {
     flags: u8,
     content: Content,
 }
 
 /// The bytes of a page. They are bare numbers until a term is written among them.
-#[derive(Drop)]
+#[derive(Debug, Drop)]
 enum Content {
     Numbers(Vec<u8>),
     Mixed(Vec<Byte>),
@@ -30,7 +30,7 @@ impl Model for Page {
 
     ghost Value = { memory.SymbolicPage };
 
-    ghost coded = { memory.page_code };
+    ghost coded = { memory.symbolic_page_code };
 
     ghost use Rattle.cow_pages.specs.Contents.{content_bytes};
 
@@ -43,7 +43,10 @@ impl Model for Page {
 fn mixed(alloc: Global, numbers: &[u8]) -> Result<Vec<Byte>, NoMemory>
     ensures { IfOk result (λ bytes. bytes.items ≡ number_bytes numbers.now) }
 {
-    numbers.iter().map(|number| Byte::Number(*number)).collect(alloc)
+    numbers
+        .iter()
+        .map(|number| Byte::Number(*number))
+        .collect(alloc)
 }
 
 impl Content {
@@ -65,8 +68,14 @@ impl Content {
         ensures { IfOk result (λ copy. content_bytes copy ≡ content_bytes self.now) }
     {
         match self {
-            Content::Numbers(numbers) => Ok(Content::Numbers(Vec::from_slice(*numbers.allocator(), numbers)?)),
-            Content::Mixed(bytes) => Ok(Content::Mixed(Vec::from_slice(*bytes.allocator(), bytes)?)),
+            Content::Numbers(numbers) => Ok(Content::Numbers(Vec::from_slice(
+                *numbers.allocator(),
+                numbers,
+            )?)),
+            Content::Mixed(bytes) => Ok(Content::Mixed(Vec::from_slice(
+                *bytes.allocator(),
+                bytes,
+            )?)),
         }
     }
 

@@ -3,7 +3,7 @@
 ghost use Rattle.std.specs.Prelude.{◌≡◌, ◌/◌, ◌==◌, ℕ, if◌then◌else◌, is_some, IsSome, IfSome, IfOk, OnOk, OnErr};
 ghost use Rattle.std.specs.FinMap as map;
 ghost use Rattle.std.specs.Option.{option_copied, option_map};
-ghost use Rattle.cow_pages.specs.SymbolicMemory.{IsWhole, as_symbolic, memory_byte, memory_flags, memory_with};
+ghost use Rattle.cow_pages.specs.SymbolicMemory.{HasAllBytes, as_symbolic, memory_byte, memory_flags, memory_with};
 
 use crate::byte::Byte;
 use crate::group::Group;
@@ -14,11 +14,11 @@ use std::alloc::{AllocError as NoMemory, Global};
 use std::marker::Model;
 use std::sync::Arc;
 
-/// The memory of a symbolic run: mapped pages by their numbers. Which pages are mapped, and what may be done on them, never
-/// changes.
+/// The memory of a symbolic run: the mapped pages by their numbers. Which pages are mapped, and
+/// what may be done on them, never changes.
 ///
-/// Its copies share their pages until one of them writes there.
-#[derive(Drop)]
+/// Copies share their pages until one of them writes there.
+#[derive(Debug, Drop)]
 pub struct Pages {
     /// The groups of pages with their numbers, which rise.
     groups: Vec<(u32, Arc<Group>)>,
@@ -26,13 +26,13 @@ pub struct Pages {
 
 impl Model for Pages {
     ghost use Rattle.cow_pages.specs.SymbolicMemory as memory;
-    ghost use Rattle.cow_pages.specs.Groups.{AreGroups, memory_in, shared_groups};
+    ghost use Rattle.cow_pages.specs.Groups.{AreGroups, shared_groups, shared_memory};
 
     ghost Value = { memory.SymbolicMemory };
 
     ghost coded = { memory.memory_code };
 
-    ghost view = { λ p. memory_in (shared_groups p.groups.items) };
+    ghost view = { λ p. shared_memory p.groups.items };
 
     ghost invariant = { λ p. AreGroups (shared_groups p.groups.items) };
 }
@@ -54,7 +54,7 @@ impl Pages {
     pub fn page(&self, number: u32) -> Option<&Page>
         ensures value { option_copied result ≡ map.get self.now number }
         ensures mapped { is_some result ≡ is_some (memory_flags self.now number) }
-        ensures whole { IfSome (map.get self.now number) IsWhole }
+        ensures whole { IfSome (map.get self.now number) HasAllBytes }
     {
         page_of(&self.groups, number)
     }
@@ -76,7 +76,8 @@ impl Pages {
         page.byte((address % PAGE_SIZE) as u8)
     }
 
-    /// Puts a byte to this address of a mapped page. Where the page is shared, this is done to a copy of its own.
+    /// Puts a byte to this address of a mapped page. Where others share the page, a copy of its own
+    /// gets it.
     pub fn write(&mut self, address: u32, byte: Byte) -> Result<(), NoMemory>
         requires { IsSome (memory_flags self.old (address / 256)) }
         ensures ok { OnOk result (self.new ≡ memory_with self.old address byte) }
@@ -84,11 +85,10 @@ impl Pages {
         ensures flags { OnOk result ((number : ℕ) → memory_flags self.new number ≡ memory_flags self.old number) }
         ensures err { OnErr result (self.new ≡ self.old) }
     {
-        let offset = (address % PAGE_SIZE) as u8;
-        write(&mut self.groups, address / PAGE_SIZE, offset, byte)
+        write(&mut self.groups, address, byte)
     }
 
-    /// The same memory, with the same pages. What is written to one of the two isn't seen in the other.
+    /// The same memory, on the same pages. What is written to one of the two isn't seen in the other.
     pub fn share(&self) -> Result<Pages, NoMemory>
         ensures { IfOk result (λ copy. copy ≡ self.now) }
     {

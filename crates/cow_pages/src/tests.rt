@@ -70,7 +70,10 @@ fn a_write_is_seen_in_one_copy(rt: HostRuntime) -> Result<(), Fail> {
     for (address, bytes) in [
         (DATA, [Byte::Number(0), Byte::Number(0), Byte::Term(5)]),
         (DATA + 1, [Byte::Number(0); 3]),
-        (DATA + 255, [Byte::Number(0), Byte::Number(7), Byte::Term(6)]),
+        (
+            DATA + 255,
+            [Byte::Number(0), Byte::Number(7), Byte::Term(6)],
+        ),
         (DATA + 256, [Byte::Number(0); 3]),
     ] {
         let seen = [
@@ -81,7 +84,10 @@ fn a_write_is_seen_in_one_copy(rt: HostRuntime) -> Result<(), Fail> {
         assert_eq!(rt; seen, bytes, "at {address:x}");
     }
     let page = pages.page(DATA / 256).ok_or("no page")?;
-    assert_eq!(rt; (page.flags(), page.byte(0), page.byte(1)), (6, Byte::Term(5), Byte::Number(0)));
+    assert_eq!(rt;
+        (page.flags(), page.byte(0), page.byte(1)),
+        (6, Byte::Term(5), Byte::Number(0))
+    );
     Ok(())
 }
 

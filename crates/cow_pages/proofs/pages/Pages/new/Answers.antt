@@ -19,9 +19,9 @@ loop-number-preserved c =
       groups = c.in_ok-add_page.ensures.groups;
       sorted = rest_sorted (memory_in (shared_groups c.loop-number.groups.items)) c.in-Some.number.now c.in-Some.page.now c.next.new.self sorted;
       pages = λ q.
-        c.loop-number.invariant.pages q
-        ∙ ap (λ rest. option_or (option_map as_symbolic (find nat_cmp q rest)) (get (memory_in (shared_groups c.loop-number.groups.items)) q)) c.in-Some.ensures.steps
-        ∙ one_put_in (memory_in (shared_groups c.loop-number.groups.items)) c.in-Some.number.now c.in-Some.page.now c.next.new.self sorted q
-        ∙ sym (ap (λ (m : SymbolicMemory). option_or (option_map as_symbolic (find nat_cmp q c.next.new.self)) (get m q))
-            (c.in_ok-add_page.ensures.ok ∙ ap (λ (p : SymbolicPage). insert (memory_in (shared_groups c.loop-number.groups.items)) c.in-Some.number.now p) c.in_ok-page.ensures))
+          c.loop-number.invariant.pages q
+          ∙ ap (λ rest. option_or (option_map as_symbolic (find nat_cmp q rest)) (get (memory_in (shared_groups c.loop-number.groups.items)) q)) c.in-Some.ensures.steps
+          ∙ one_put_in (memory_in (shared_groups c.loop-number.groups.items)) c.in-Some.number.now c.in-Some.page.now c.next.new.self sorted q
+          ∙ sym (ap (λ (m : SymbolicMemory). option_or (option_map as_symbolic (find nat_cmp q c.next.new.self)) (get m q))
+          (c.in_ok-add_page.ensures.ok ∙ ap (λ (p : SymbolicPage). insert (memory_in (shared_groups c.loop-number.groups.items)) c.in-Some.number.now p) c.in_ok-page.ensures));
     }

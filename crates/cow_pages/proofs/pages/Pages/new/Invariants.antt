@@ -10,7 +10,7 @@ use Rattle.cow_pages.proofs.pages.Pages.new.Given as goal
 -- the pages so far are there, and those that are left come behind them
 abbrev pub invariant-loop-number : goal.invariant-loop-number
 invariant-loop-number l = record {
-    groups : AreGroups (shared_groups l.groups.items);
-    sorted : T (is_sorted nat_cmp l.number-iterator);
-    pages : (q : ℕ) → option_map as_symbolic (get l.image.pages q) ≡ option_or (option_map as_symbolic (find nat_cmp q l.number-iterator)) (get (memory_in (shared_groups l.groups.items)) q)
-  }
+  groups : AreGroups (shared_groups l.groups.items);
+  sorted : T (is_sorted nat_cmp l.number-iterator);
+  pages : (q : ℕ) → option_map as_symbolic (get l.image.pages q) ≡ option_or (option_map as_symbolic (find nat_cmp q l.number-iterator)) (get (memory_in (shared_groups l.groups.items)) q);
+}

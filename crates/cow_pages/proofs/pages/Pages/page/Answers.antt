@@ -2,7 +2,7 @@ use Rattle.std.proofs.Common.{◌≡◌, sym, ap, subst, ◌∙◌}
 use Rattle.std.specs.Prelude.{IfSome, is_some}
 use Rattle.std.specs.Option.{option_copied}
 use Rattle.std.specs.FinMap.{get}
-use Rattle.cow_pages.specs.SymbolicMemory.{SymbolicMemory, IsWhole}
+use Rattle.cow_pages.specs.SymbolicMemory.{SymbolicMemory, HasAllBytes}
 use Rattle.cow_pages.specs.Groups.{shared_groups}
 use Rattle.cow_pages.proofs.PageLookups.{get_in_groups, pages_whole}
 use Rattle.cow_pages.proofs.ByteWrites.{is_some-copied, is_some-memory_flags}
@@ -19,7 +19,7 @@ returns-clause-value c = value c
 
 pub returns-clause-whole : goal.returns-clause-whole
 returns-clause-whole c =
-    subst (λ (m : SymbolicMemory). IfSome (get m c.args.number) IsWhole) c.self.view_is
+    subst (λ (m : SymbolicMemory). IfSome (get m c.args.number) HasAllBytes) c.self.view_is
     (pages_whole (shared_groups c.self.inside.groups.items) c.args.number c.self.invariant)
 
 pub returns-clause-mapped : goal.returns-clause-mapped
