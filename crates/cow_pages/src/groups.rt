@@ -54,7 +54,8 @@ fn group_place(groups: &mut Vec<(u32, Arc<Group>)>, number: u32) -> Result<usize
 /// Puts a page to a place of a group. Where others share the group, a copy of its own gets it.
 fn put_page(group: &mut Arc<Group>, place: usize, page: Arc<Page>) -> Result<(), NoMemory>
     requires { place < 64 }
-    ensures ok { OnOk result (arc_value group.new ≡ slice_set (arc_value group.old) place (Some (arc_value page))) }
+    ensures ok { OnOk result
+        (arc_value group.new ≡ slice_set (arc_value group.old) place (Some (arc_value page))) }
     ensures err { OnErr result (arc_value group.new ≡ arc_value group.old) }
 {
     Arc::make_mut(group)?.put(place, page);
@@ -65,7 +66,8 @@ fn put_page(group: &mut Arc<Group>, place: usize, page: Arc<Page>) -> Result<(),
 /// share the group, a copy of its own gets it.
 fn write_byte(group: &mut Arc<Group>, place: usize, offset: u8, byte: Byte) -> Result<(), NoMemory>
     requires { place < 64 }
-    ensures ok { OnOk result (arc_value group.new ≡ with_byte_in (arc_value group.old) place offset byte) }
+    ensures ok { OnOk result
+        (arc_value group.new ≡ with_byte_in (arc_value group.old) place offset byte) }
     ensures err { OnErr result (arc_value group.new ≡ arc_value group.old) }
 {
     Arc::make_mut(group)?.write(place, offset, byte)
@@ -80,7 +82,8 @@ pub(crate) fn add_page(
     requires groups { AreGroups (shared_groups groups.old.items) }
     requires whole { HasAllBytes page }
     ensures groups { AreGroups (shared_groups groups.new.items) }
-    ensures ok { OnOk result (shared_memory groups.new.items ≡ map.insert (shared_memory groups.old.items) number page) }
+    ensures ok { OnOk result
+        (shared_memory groups.new.items ≡ map.insert (shared_memory groups.old.items) number page) }
     ensures err { OnErr result (shared_memory groups.new.items ≡ shared_memory groups.old.items) }
 {
     let page = Arc::new(*groups.allocator(), page)?;
@@ -96,7 +99,8 @@ pub(crate) fn write(
 ) -> Result<(), NoMemory>
     requires { AreGroups (shared_groups groups.old.items) }
     ensures groups { AreGroups (shared_groups groups.new.items) }
-    ensures ok { OnOk result (shared_memory groups.new.items ≡ memory_with (shared_memory groups.old.items) address byte) }
+    ensures ok { OnOk result
+        (shared_memory groups.new.items ≡ memory_with (shared_memory groups.old.items) address byte) }
     ensures err { OnErr result (shared_memory groups.new.items ≡ shared_memory groups.old.items) }
 {
     let number = address / PAGE_SIZE;

@@ -40,7 +40,8 @@ impl Model for Pages {
 impl Pages {
     /// The memory that an image begins with.
     pub fn new(alloc: Global, image: &Image) -> Result<Pages, NoMemory>
-        ensures { IfOk result (λ pages. (number : ℕ) → map.get pages number ≡ option_map as_symbolic (map.get image.now.pages number)) }
+        ensures { IfOk result (λ pages. (number : ℕ) →
+            map.get pages number ≡ option_map as_symbolic (map.get image.now.pages number)) }
     {
         let mut groups = Vec::new(alloc);
         for (number, page) in image.pages() {
@@ -81,8 +82,10 @@ impl Pages {
     pub fn write(&mut self, address: u32, byte: Byte) -> Result<(), NoMemory>
         requires { IsSome (memory_flags self.old (address / 256)) }
         ensures ok { OnOk result (self.new ≡ memory_with self.old address byte) }
-        ensures bytes { OnOk result ((x : ℕ) → memory_byte self.new x ≡ (if x == address then byte else memory_byte self.old x)) }
-        ensures flags { OnOk result ((number : ℕ) → memory_flags self.new number ≡ memory_flags self.old number) }
+        ensures bytes { OnOk result ((x : ℕ) →
+            memory_byte self.new x ≡ (if x == address then byte else memory_byte self.old x)) }
+        ensures flags { OnOk result ((number : ℕ) →
+            memory_flags self.new number ≡ memory_flags self.old number) }
         ensures err { OnErr result (self.new ≡ self.old) }
     {
         write(&mut self.groups, address, byte)
