@@ -1,7 +1,7 @@
 //! Pages of symbolic memory.
 
 ghost use Rattle.std.specs.Prelude.{◌≡◌, ◌<◌, length, map as mapped, slice_get, slice_set, Some, IfOk, OnOk, OnErr};
-ghost use Rattle.cow_pages.specs.SymbolicMemory.{number_bytes, page_with};
+ghost use Rattle.cow_pages.specs.SymbolicMemory.{number_bytes, page_byte, page_with};
 
 use crate::byte::Byte;
 use std::alloc::{AllocError as NoMemory, Global};
@@ -121,7 +121,8 @@ impl Page {
 
     /// The byte at this offset.
     pub fn byte(&self, offset: u8) -> Byte
-        ensures { slice_get self.now.bytes offset ≡ Some result }
+        ensures item { slice_get self.now.bytes offset ≡ Some result }
+        ensures value { result ≡ page_byte (Some self.now) offset }
     {
         self.content.byte(offset as usize)
     }
