@@ -1,0 +1,5 @@
+pub mod Simplified
+pub mod Builds
+pub mod Plans
+pub mod Machine
+pub mod Steps

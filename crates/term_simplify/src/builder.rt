@@ -1,0 +1,168 @@
+//! Terms, each simplified before it is put behind the others.
+
+ghost use Rattle.std.specs.Prelude.{◌≡◌, ◌↔◌, ◌<◌, ℕ, IsTrue, IfOk, IfSome, OnOk, OnErr, length, take, slice_get};
+ghost use Rattle.bv_dag.specs.Graphs.{Graph};
+ghost use Rattle.bv_dag.specs.Nodes.{Fits, widths_of};
+ghost use Rattle.term_trees.specs.Trees.{tree_of, node_tree, IsTerm};
+ghost use Rattle.term_simplify.specs.Plans.{Makes, PlanFits};
+ghost use Rattle.term_simplify.specs.Simplified.{simplified};
+
+use crate::binaries::binary;
+use crate::choices::choice;
+use crate::comparisons::comparison;
+use crate::extensions::{extension, joined};
+use crate::parts::part;
+use crate::plan::{Plan, complement, negative};
+use bv_dag::{BinaryOp, Comparison, Node};
+use std::alloc::AllocError as NoMemory;
+use std::marker::Model;
+use term_table::Terms;
+
+/// How many of the last terms are looked at before one is pushed.
+const LOOKED_AT: usize = 8;
+
+/// Whether two nodes are one.
+fn is_same(left: &Node, right: &Node) -> bool
+    ensures { IsTrue result ↔ (left.now ≡ right.now) }
+{
+    *left == *right
+}
+
+/// The place of an equal node among the last few.
+fn recent(terms: &Terms, node: &Node) -> Option<usize>
+    ensures { IfSome result (λ id. Makes terms.now (Plan.Term id) (node_tree (tree_of terms.now) node.now)) }
+{
+    let len = terms.len();
+    for id in len.saturating_sub(LOOKED_AT)..len {
+        if is_same(&terms.node(id), node) {
+            return Some(id);
+        }
+    }
+    None
+}
+
+/// What the node is simplified to.
+fn plan(terms: &Terms, node: Node) -> Plan
+    requires { Fits terms.now.inputs (widths_of terms.now.nodes) node }
+    ensures makes { Makes terms.now result (simplified (tree_of terms.now) node) }
+    ensures term { IsTerm terms.now.inputs (node_tree (tree_of terms.now) node) }
+{
+    match node {
+        Node::Num { .. } | Node::Input(_) => Plan::Push(node),
+        Node::Not(a) => complement(terms, a),
+        Node::Neg(a) => negative(terms, a),
+        Node::Binary(op, a, b) => binary(terms, op, a, b),
+        Node::Compare(op, a, b) => comparison(terms, op, a, b),
+        Node::Ite { condition, yes, no } => choice(terms, condition, yes, no),
+        Node::Extract { high, low, operand } => part(terms, high, low, operand),
+        Node::Extend {
+            by,
+            signed,
+            operand,
+        } => extension(terms, by, signed, operand),
+        Node::Concat { high, low } => joined(terms, high, low),
+    }
+}
+
+/// A table of terms over input bytes, to which simplified terms are added.
+#[derive(Drop)]
+pub struct Builder {
+    terms: Terms,
+}
+
+impl Model for Builder {
+    ghost use Rattle.bv_dag.specs.Graphs.{Graph};
+
+    ghost Value = { Graph };
+
+    ghost view = { λ b. b.terms };
+}
+
+impl Builder {
+    ghost use Rattle.bv_dag.specs.Graphs.{IsDag};
+    ghost use Rattle.term_simplify.specs.Builds.{BuildsNode};
+    ghost use Rattle.term_simplify.specs.Plans.{plan_tree};
+    ghost use Rattle.term_trees.specs.Growth.{Continues};
+
+    /// Builds on these terms, which stay as they are.
+    pub fn new(terms: Terms) -> Builder
+        ensures { result ≡ terms }
+    {
+        Builder { terms }
+    }
+
+    /// The terms so far.
+    pub fn terms(&self) -> &Terms
+        ensures { result.now ≡ self.now }
+    {
+        &self.terms
+    }
+
+    pub fn into_terms(self) -> Terms
+        ensures { result ≡ self }
+    {
+        self.terms
+    }
+
+    /// How many terms there are.
+    pub fn len(&self) -> usize
+        ensures { result ≡ length self.now.nodes }
+    {
+        self.terms.len()
+    }
+
+    /// An equal one; a change in one changes nothing in the other.
+    pub fn share(&self) -> Result<Builder, NoMemory>
+        ensures { IfOk result (λ other. other ≡ self.now) }
+    {
+        Ok(Builder {
+            terms: self.terms.share()?,
+        })
+    }
+
+    /// Keeps the first `len` terms, or all where there are no more.
+    pub fn truncate(&mut self, len: usize)
+        ensures { self.new ≡ record { inputs = self.old.inputs; nodes = take len self.old.nodes } }
+    {
+        self.terms.truncate(len);
+    }
+
+    /// The place of the node, which is put behind the others where it isn't one of the last.
+    fn put(&mut self, node: Node) -> Result<usize, NoMemory>
+        requires { Fits self.old.inputs (widths_of self.old.nodes) node }
+        ensures there { IfOk result (λ id. id < length self.new.nodes) }
+        ensures tree { IfOk result (λ id. tree_of self.new id ≡ node_tree (tree_of self.old) node) }
+        ensures ok { OnOk result (Continues self.old self.new) }
+        ensures err { OnErr result (self.new ≡ self.old) }
+    {
+        match recent(&self.terms, &node) {
+            Some(id) => Ok(id),
+            None => self.terms.push(node),
+        }
+    }
+
+    /// The answer of a plan.
+    fn carry_out(&mut self, plan: Plan) -> Result<usize, NoMemory>
+        requires { PlanFits self.old plan }
+        ensures there { IfOk result (λ id. id < length self.new.nodes) }
+        ensures tree { IfOk result (λ id. tree_of self.new id ≡ plan_tree self.old plan) }
+        ensures ok { OnOk result (Continues self.old self.new) }
+        ensures err { OnErr result (self.new ≡ self.old) }
+    {
+        match plan {
+            Plan::Term(id) => Ok(id),
+            Plan::Push(node) => self.put(node),
+        }
+    }
+
+    /// The term that the node is simplified to, which is worth what the node is worth. The node's own tree is well formed.
+    pub fn build(&mut self, node: Node) -> Result<usize, NoMemory>
+        requires { Fits self.old.inputs (widths_of self.old.nodes) node }
+        ensures ok { IfOk result (BuildsNode self.old self.new node) }
+        ensures err { OnErr result (self.new ≡ self.old) }
+        ensures term { IsTerm self.old.inputs (node_tree (tree_of self.old) node) }
+    {
+        let plan = plan(&self.terms, node);
+        self.carry_out(plan)
+    }
+}

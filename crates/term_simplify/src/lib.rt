@@ -1,0 +1,22 @@
+//! Terms that are simplified as they are built.
+//!
+//! Each call finds its answer first, without a change: a term that stands already, or one node to be pushed. Only then is
+//! the table written.
+#![tactic(auto)]
+
+mod binaries;
+mod builder;
+mod calls;
+mod choices;
+mod comparisons;
+mod extensions;
+mod machine;
+mod parts;
+mod plan;
+
+pub use builder::Builder;
+
+#[cfg(test)]
+mod operation_rows;
+#[cfg(test)]
+mod tests;
