@@ -1,0 +1,5 @@
+pub mod Sets
+pub mod Lists
+pub mod Naming
+pub mod Searching
+pub mod Copying

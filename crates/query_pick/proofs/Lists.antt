@@ -1,0 +1,103 @@
+-- What lists of places hold.
+use Rattle.std.proofs.Common.{◌≡◌, ℕ, zero, suc, ◌+◌, ◌<◌, ◌≤◌, ◌⊎◌, ◌↔◌, List, [], ◌∷◌, ◌++◌, length, get_or, refl, sym, ap, ◌∙◌, arith, inl, inr, subst}
+use Rattle.std.specs.Prelude.{All, Contains}
+use Rattle.std.specs.List.Sorted.{IsStrictlyIncreasing}
+use Rattle.std.specs.List.{slice_get}
+use Rattle.std.specs.List.Sorted.{IsBinarySearchResult}
+use Rattle.std.specs.Ordering.{nat_cmp}
+use Rattle.std.specs.Prelude.{Result, Ok, Err, Option, Some, None, IfNone, IsSome}
+use Rattle.std.specs.Result.{MatchResult}
+use Rattle.std.proofs.lemmas.Bool.{cases_lt}
+use Rattle.std.proofs.lemmas.List.{get_or_default}
+use Rattle.std.proofs.lemmas.List.Sorted.{searched}
+use Rattle.std.proofs.lemmas.Option.{slice_get-get_or}
+use Rattle.std.proofs.lemmas.List.Elements.{Contains-get_or, Contains-append_left, Contains-append_right, Contains-append_cases}
+use Rattle.query_pick.specs.Operands.{Adds}
+use Rattle.std.proofs.lemmas.Map.Keys.{sorted_from_strictly_increasing, below_from_sorted}
+
+module _ {X : Type 0} where
+  found_at : (x : X) (xs : List X) (a : X) (k : ℕ) → k < length (x ∷ xs) → get_or (x ∷ xs) k a ≡ a → (a ≡ x) ⊎ Contains xs a
+  found_at x xs a zero l e = inl (sym e)
+  found_at x xs a (suc k) l e = inr (k, omega (arith, l), e)
+
+  -- an item of a longer list
+  pub Contains-uncons : (x : X) (xs : List X) (a : X) → Contains (x ∷ xs) a → (a ≡ x) ⊎ Contains xs a
+  Contains-uncons x xs a h = found_at x xs a h.0 h.1 h.2
+
+  pub Contains-here : (x : X) (xs : List X) (a : X) → a ≡ x → Contains (x ∷ xs) a
+  Contains-here x xs a e = (0, omega arith, sym e)
+
+  pub Contains-later : (x : X) (xs : List X) (a : X) → Contains xs a → Contains (x ∷ xs) a
+  Contains-later x xs a h = (suc h.0, omega (arith, h.1), h.2)
+
+  pub Contains-none : (a : X) → Contains {X = X} [] a → (P : Type 0) → P
+  Contains-none a h P = absurd (omega (arith, h.1))
+
+  -- what holds of whatever a list contains holds of each of its items
+  pub All-from_contains : (P : X → Type 0) (xs : List X) → ((x : X) → Contains xs x → P x) → All P xs
+  All-from_contains P xs each k d l = each (get_or xs k d) (Contains-get_or xs k d l)
+
+-- numbers that increase, by their places
+pub below : (xs : List ℕ) (i j : ℕ) → IsStrictlyIncreasing xs → i < j → j < length xs → get_or xs i 0 < get_or xs j 0
+below xs i j up before there = below_from_sorted xs i j 0 (sorted_from_strictly_increasing xs up) before there
+
+pub no_more : (xs : List ℕ) → IsStrictlyIncreasing xs → (i j : ℕ) → i ≤ j → j < length xs → get_or xs i 0 ≤ get_or xs j 0
+no_more xs up i j before there =
+    elim (cases_lt i j) [ inl l ↦ omega (arith, below xs i j up l there) | inr l ↦ (let same : i ≡ j = omega arith in rw same (omega arith)) ]
+
+-- the smaller stands before
+pub earlier : (xs : List ℕ) (i j : ℕ) → IsStrictlyIncreasing xs → i < length xs → get_or xs i 0 < get_or xs j 0 → i < j
+earlier xs i j up there less =
+    elim (cases_lt i j) [ inl l ↦ l | inr l ↦ absurd (omega (arith, no_more xs up j i l there, less)) ]
+
+-- what a binary search finds among numbers that increase, of which one is sought that is there
+pub number_found : (xs : List ℕ) (x i : ℕ) → IsStrictlyIncreasing xs → IsBinarySearchResult (λ y. nat_cmp y x) xs (Ok i) → slice_get xs i ≡ Some x
+number_found xs x i up search =
+    let at_i = searched xs x (Ok i) search (no_more xs up) in slice_get-get_or xs i 0 at_i.0 ∙ ap Some at_i.1
+
+pub number_missing : (xs : List ℕ) (x i : ℕ) → IsStrictlyIncreasing xs → Contains xs x → IsBinarySearchResult (λ y. nat_cmp y x) xs (Err i) → ⊥
+number_missing xs x i up there search =
+    let apart = searched xs x (Err i) search (no_more xs up) in
+    let at_k : get_or xs there.0 0 ≡ x = get_or_default xs there.0 0 x there.1 ∙ there.2 in
+    elim (cases_lt there.0 i) [
+      | inl l ↦ omega (arith, apart.1 there.0 l, at_k)
+      | inr l ↦ omega (arith, apart.2 there.0 l there.1, at_k)
+    ]
+
+-- more are added, one after the other
+pub added_in_turn : (before between after xs ys : List ℕ) → Adds before between xs → Adds between after ys → Adds before after (xs ++ ys)
+added_in_turn before between after xs ys first second id = (
+  λ h. elim ((second id).0 h) [
+    | inl among ↦ inl (Contains-append_right xs ys id among)
+    | inr was ↦ elim ((first id).0 was) [ inl among ↦ inl (Contains-append_left xs ys id among) | inr old ↦ inr old ]
+  ],
+  λ either. elim either [
+    | inl h ↦ elim (Contains-append_cases xs ys id h) [ inl among ↦ (second id).1 (inr ((first id).1 (inl among))) | inr among ↦ (second id).1 (inl among) ]
+    | inr old ↦ (second id).1 (inr ((first id).1 (inr old)))
+  ],
+)
+
+-- one is added
+pub added_one : (before after : List ℕ) (a : ℕ) → ((id : ℕ) → Contains after id ↔ ((id ≡ a) ⊎ Contains before id)) → Adds before after (a ∷ [])
+added_one before after a only id = (
+  λ h. elim ((only id).0 h) [ inl e ↦ inl (Contains-here a [] id e) | inr old ↦ inr old ],
+  λ either. elim either [
+    | inl h ↦ elim (Contains-uncons a [] id h) [ inl e ↦ (only id).1 (inl e) | inr none ↦ Contains-none id none _ ]
+    | inr old ↦ (only id).1 (inr old)
+  ],
+)
+
+pub one_added : (before after : List ℕ) (a id : ℕ) → Adds before after (a ∷ []) → Contains after id ↔ ((id ≡ a) ⊎ Contains before id)
+one_added before after a id adds = (
+  λ h. elim ((adds id).0 h) [
+    | inl among ↦ elim (Contains-uncons a [] id among) [ inl e ↦ inl e | inr none ↦ Contains-none id none _ ]
+    | inr old ↦ inr old
+  ],
+  λ either. elim either [ inl e ↦ (adds id).1 (inl (Contains-here a [] id e)) | inr old ↦ (adds id).1 (inr old) ],
+)
+
+-- where the last of a set is not there, it is empty, and stays so
+pub none_left : (old new : List ℕ) (r : Option ℕ) → ((id : ℕ) → r ≡ Some id → ⊥) → (IsSome r ↔ (0 < length old)) → IfNone r (new ≡ old) → (new ≡ old) × (new ≡ [])
+none_left [] new None none some same = (same, same)
+none_left (id ∷ ids) new None none some same = let there : IsSome {T = ℕ} None = some.1 (omega arith) in cc
+none_left old new (Some last) none some same = absurd (none last refl)
