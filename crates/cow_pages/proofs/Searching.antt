@@ -10,17 +10,17 @@ use Rattle.std.proofs.lemmas.Bool.Decides.{nat_tests}
 use Rattle.std.proofs.lemmas.Cmp.{ranked}
 use Rattle.std.proofs.lemmas.List.{length-map, get_or-map}
 use Rattle.std.proofs.lemmas.List.Sorted.{IsNonDecreasingBy-from_default}
-use Rattle.cow_pages.specs.Groups.{Places, group_at, shared_groups, AreGroups, IsGroupAt, IsGapFor}
+use Rattle.cow_pages.specs.Groups.{Places, group_at, shared_groups, AreGroups, IsGroupAt, IsGapFor, GroupRef, shared_group}
 
 -- how many there are
-pub length-shared_groups : (groups : List (ℕ × Arc Places Global)) → length (shared_groups groups) ≡ length groups
-length-shared_groups groups = length-map groups (λ (g : ℕ × Arc Places Global). (g.0, arc_value g.1))
+pub length-shared_groups : (groups : List GroupRef) → length (shared_groups groups) ≡ length groups
+length-shared_groups groups = length-map groups shared_group
 
 -- the group at a place
-pub at-shared_groups : (groups : List (ℕ × Arc Places Global)) (i : ℕ) (d : ℕ × Arc Places Global) → i < length groups → let g = get_or groups i d in group_at (shared_groups groups) i ≡ (g.0, arc_value g.1)
-at-shared_groups groups i d within = get_or-map (λ (g : ℕ × Arc Places Global). (g.0, arc_value g.1)) groups i d (0, []) within
+pub at-shared_groups : (groups : List GroupRef) (i : ℕ) (d : GroupRef) → i < length groups → let g = get_or groups i d in group_at (shared_groups groups) i ≡ (g.0, arc_value g.1)
+at-shared_groups groups i d within = get_or-map shared_group groups i d (0, []) within
 
-module _ (groups : List (ℕ × Arc Places Global)) (d : ℕ × Arc Places Global) (are : AreGroups (shared_groups groups)) (k : ℕ) where
+module _ (groups : List GroupRef) (d : GroupRef) (are : AreGroups (shared_groups groups)) (k : ℕ) where
   number_at_place : (i : ℕ) → i < length groups → (group_at (shared_groups groups) i).0 ≡ (get_or groups i d).0
   number_at_place i within = ap (λ (g : ℕ × Places). g.0) (at-shared_groups groups i d within)
 
@@ -48,19 +48,19 @@ module _ (groups : List (ℕ × Arc Places Global)) (d : ℕ × Arc Places Globa
   }
 
 -- the group of the number, or the gap where it would stand
-group_found : (groups : List (ℕ × Arc Places Global)) (k i : ℕ) → AreGroups (shared_groups groups) → i < length groups → IsBinarySearchResult (λ g. nat_cmp g.0 k) groups (Ok i) → IsGroupAt (shared_groups groups) k i
+group_found : (groups : List GroupRef) (k i : ℕ) → AreGroups (shared_groups groups) → i < length groups → IsBinarySearchResult (λ g. nat_cmp g.0 k) groups (Ok i) → IsGroupAt (shared_groups groups) k i
 group_found [] k i are within equal = absurd (omega (arith, within))
 group_found (g ∷ groups) k i are within equal = found_there (g ∷ groups) g are k i within equal
 
-gap_found : (groups : List (ℕ × Arc Places Global)) (k i : ℕ) → AreGroups (shared_groups groups) → i ≤ length groups → IsBinarySearchResult (λ g. nat_cmp g.0 k) groups (Err i) → IsGapFor (shared_groups groups) k i
+gap_found : (groups : List GroupRef) (k i : ℕ) → AreGroups (shared_groups groups) → i ≤ length groups → IsBinarySearchResult (λ g. nat_cmp g.0 k) groups (Err i) → IsGapFor (shared_groups groups) k i
 gap_found [] k i are within parted = record { in_range = within; below = λ j lt. absurd (omega (arith, within)); above = λ j le small. absurd (omega (arith, small)) }
 gap_found (g ∷ groups) k i are within parted = gap_there (g ∷ groups) g are k i within parted
 
 -- what the search says in either case
-pub search_found : (groups : List (ℕ × Arc Places Global)) (k : ℕ) (r : Result ℕ ℕ) → AreGroups (shared_groups groups) → IsSearchInRange r (length groups) → IsBinarySearchResult (λ g. nat_cmp g.0 k) groups r → IfOk r (IsGroupAt (shared_groups groups) k)
+pub search_found : (groups : List GroupRef) (k : ℕ) (r : Result ℕ ℕ) → AreGroups (shared_groups groups) → IsSearchInRange r (length groups) → IsBinarySearchResult (λ g. nat_cmp g.0 k) groups r → IfOk r (IsGroupAt (shared_groups groups) k)
 search_found groups k (Ok i) are within answer = group_found groups k i are within answer
 search_found groups k (Err i) are within answer = tt
 
-pub search_gap : (groups : List (ℕ × Arc Places Global)) (k : ℕ) (r : Result ℕ ℕ) → AreGroups (shared_groups groups) → IsSearchInRange r (length groups) → IsBinarySearchResult (λ g. nat_cmp g.0 k) groups r → IfErr r (IsGapFor (shared_groups groups) k)
+pub search_gap : (groups : List GroupRef) (k : ℕ) (r : Result ℕ ℕ) → AreGroups (shared_groups groups) → IsSearchInRange r (length groups) → IsBinarySearchResult (λ g. nat_cmp g.0 k) groups r → IfErr r (IsGapFor (shared_groups groups) k)
 search_gap groups k (Ok i) are within answer = tt
 search_gap groups k (Err i) are within answer = gap_found groups k i are within answer

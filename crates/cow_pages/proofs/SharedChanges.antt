@@ -9,7 +9,7 @@ use Rattle.std.specs.declared.sync.Arc.{Arc}
 use Rattle.std.proofs.lemmas.List.{map-append, map-set, take-map, drop-map, take_more}
 use Rattle.cow_pages.specs.SymbolicMemory.{SymbolicPage, HasAllBytes, with_byte_at, with_page}
 use Rattle.cow_pages.specs.declared.byte.Byte.{Byte}
-use Rattle.cow_pages.specs.Groups.{Places, page_at_place, group_at, shared_groups, AreGroups, IsGroupAt, IsGapFor, page_in, memory_in}
+use Rattle.cow_pages.specs.Groups.{Places, page_at_place, group_at, shared_groups, AreGroups, IsGroupAt, IsGapFor, page_in, memory_in, GroupRef, shared_group}
 use Rattle.cow_pages.proofs.SharedPlaces.{set_there}
 use Rattle.cow_pages.proofs.Searching.{length-shared_groups, at-shared_groups}
 use Rattle.cow_pages.proofs.PageLookups.{get_in_groups}
@@ -17,23 +17,23 @@ use Rattle.cow_pages.proofs.GroupChanges.{changed_groups, are_groups-changed, me
 use Rattle.cow_pages.proofs.SharedGroups.{group_read, page_read, page_missing}
 
 -- one more group is shared
-pub shared_groups_more : (done all : List (ℕ × Arc Places Global)) (i : ℕ) (g copy : ℕ × Arc Places Global) → shared_groups done ≡ take i (shared_groups all) → i < length all → copy.0 ≡ g.0 → arc_value copy.1 ≡ arc_value g.1 → g ≡ get_or all i g → shared_groups (done ++ copy ∷ []) ≡ take (i + 1) (shared_groups all)
+pub shared_groups_more : (done all : List GroupRef) (i : ℕ) (g copy : GroupRef) → shared_groups done ≡ take i (shared_groups all) → i < length all → copy.0 ≡ g.0 → arc_value copy.1 ≡ arc_value g.1 → g ≡ get_or all i g → shared_groups (done ++ copy ∷ []) ≡ take (i + 1) (shared_groups all)
 shared_groups_more done all i g copy kept h number same read =
-    map-append (λ (e : ℕ × Arc Places Global). (e.0, arc_value e.1)) done (copy ∷ [])
+    map-append shared_group done (copy ∷ [])
     ∙ ap (λ gs. gs ++ (copy.0, arc_value copy.1) ∷ []) kept
     ∙ ap (λ n. take i (shared_groups all) ++ (n, arc_value copy.1) ∷ []) number
     ∙ ap (λ ps. take i (shared_groups all) ++ (g.0, ps) ∷ []) same
-    ∙ ap (λ (e : ℕ × Places). take i (shared_groups all) ++ e ∷ []) (sym (at-shared_groups all i g h ∙ ap (λ (e : ℕ × Arc Places Global). (e.0, arc_value e.1)) (sym read)))
+    ∙ ap (λ (e : ℕ × Places). take i (shared_groups all) ++ e ∷ []) (sym (at-shared_groups all i g h ∙ ap shared_group (sym read)))
     ∙ sym (take_more (shared_groups all) i (0, []) (omega (arith, h, length-shared_groups all)))
 
 -- A new group is put into a gap.
-shared_groups-insert : (groups : List (ℕ × Arc Places Global)) (i : ℕ) (g : ℕ × Arc Places Global) → shared_groups (insert groups i g) ≡ insert (shared_groups groups) i (g.0, arc_value g.1)
+shared_groups-insert : (groups : List GroupRef) (i : ℕ) (g : GroupRef) → shared_groups (insert groups i g) ≡ insert (shared_groups groups) i (g.0, arc_value g.1)
 shared_groups-insert groups i g =
-    map-append (λ (e : ℕ × Arc Places Global). (e.0, arc_value e.1)) (take i groups) (g ∷ drop i groups)
-    ∙ ap (λ gs. gs ++ (g.0, arc_value g.1) ∷ shared_groups (drop i groups)) (sym (take-map (λ (e : ℕ × Arc Places Global). (e.0, arc_value e.1)) i groups))
-    ∙ ap (λ gs. take i (shared_groups groups) ++ (g.0, arc_value g.1) ∷ gs) (sym (drop-map (λ (e : ℕ × Arc Places Global). (e.0, arc_value e.1)) i groups))
+    map-append shared_group (take i groups) (g ∷ drop i groups)
+    ∙ ap (λ gs. gs ++ (g.0, arc_value g.1) ∷ shared_groups (drop i groups)) (sym (take-map shared_group i groups))
+    ∙ ap (λ gs. take i (shared_groups groups) ++ (g.0, arc_value g.1) ∷ gs) (sym (drop-map shared_group i groups))
 
-module _ (groups : List (ℕ × Arc Places Global)) (k i : ℕ) (g : Arc Places Global) (are : AreGroups (shared_groups groups)) (gap : IsGapFor (shared_groups groups) k i) (size : length (arc_value g) ≡ 64) (empty : (place : ℕ) → page_at_place (arc_value g) place ≡ None) where
+module _ (groups : List GroupRef) (k i : ℕ) (g : Arc Places Global) (are : AreGroups (shared_groups groups)) (gap : IsGapFor (shared_groups groups) k i) (size : length (arc_value g) ≡ 64) (empty : (place : ℕ) → page_at_place (arc_value g) place ≡ None) where
   pub are_groups_with_new : AreGroups (shared_groups (insert groups i (k, g)))
   are_groups_with_new = rw shared_groups-insert (are_groups-more (shared_groups groups) k i are gap (arc_value g) size empty)
 
@@ -53,7 +53,7 @@ none_before None offset byte none = refl
 none_before (Some page) offset byte none = cc none
 
 -- A group is changed at its place.
-module _ (groups : List (ℕ × Arc Places Global)) (number i : ℕ) (g : ℕ × Arc Places Global) (new : Arc Places Global) (are : AreGroups (shared_groups groups)) (at : IsGroupAt (shared_groups groups) (number / 64) i) (read : g ≡ get_or groups i g) where
+module _ (groups : List GroupRef) (number i : ℕ) (g : GroupRef) (new : Arc Places Global) (are : AreGroups (shared_groups groups)) (at : IsGroupAt (shared_groups groups) (number / 64) i) (read : g ≡ get_or groups i g) where
   group_there : group_at (shared_groups groups) i ≡ (g.0, arc_value g.1)
   group_there = group_read groups (number / 64) i g at read
 
@@ -62,7 +62,7 @@ module _ (groups : List (ℕ × Arc Places Global)) (number i : ℕ) (g : ℕ ×
 
   shared_groups-changed : shared_groups (set groups i (g.0, new)) ≡ set (shared_groups groups) i (number / 64, arc_value new)
   shared_groups-changed =
-      map-set (λ (e : ℕ × Arc Places Global). (e.0, arc_value e.1)) groups i (g.0, new)
+      map-set shared_group groups i (g.0, new)
       ∙ ap (λ n. set (shared_groups groups) i (n, arc_value new)) its_number
 
   changed_to : (page : Option SymbolicPage) → arc_value new ≡ set (arc_value g.1) (number % 64) page → shared_groups (set groups i (g.0, new)) ≡ changed_groups (shared_groups groups) number i page
@@ -72,7 +72,7 @@ module _ (groups : List (ℕ × Arc Places Global)) (number i : ℕ) (g : ℕ ×
 
   kept_as : arc_value new ≡ arc_value g.1 → shared_groups (set groups i (g.0, new)) ≡ shared_groups groups
   kept_as same =
-      map-set (λ (e : ℕ × Arc Places Global). (e.0, arc_value e.1)) groups i (g.0, new)
+      map-set shared_group groups i (g.0, new)
       ∙ ap (λ ps. set (shared_groups groups) i (g.0, ps)) same
       ∙ ap (set (shared_groups groups) i) (sym group_there)
       ∙ set_there (shared_groups groups) i (0, [])
@@ -89,7 +89,7 @@ module _ (groups : List (ℕ × Arc Places Global)) (number i : ℕ) (g : ℕ ×
   memory_kept same = ap memory_in (kept_as same)
 
   page_here : page_at_place (arc_value g.1) (number % 64) ≡ page_in (shared_groups groups) number
-  page_here = page_read groups number i g (arc_value g.1) are at (ap (λ (e : ℕ × Arc Places Global). arc_value e.1) read)
+  page_here = page_read groups number i g (arc_value g.1) are at (ap (λ (e : GroupRef). arc_value e.1) read)
 
   page_whole : IfSome (page_at_place (arc_value g.1) (number % 64)) HasAllBytes
   page_whole = subst (λ (e : ℕ × Places). IfSome (page_at_place e.1 (number % 64)) HasAllBytes) group_there (are.whole i (number % 64) at.in_range)
@@ -108,6 +108,6 @@ module _ (groups : List (ℕ × Arc Places Global)) (number i : ℕ) (g : ℕ ×
         ∙ ap (λ o. with_page (memory_in (shared_groups groups)) number (with_byte_at o offset byte)) (page_here ∙ sym (get_in_groups (shared_groups groups) number are))
 
 -- where the page isn't mapped nothing changes
-pub memory_without : (groups : List (ℕ × Arc Places Global)) (number i offset : ℕ) (byte : Byte) → AreGroups (shared_groups groups) → IsGapFor (shared_groups groups) (number / 64) i → memory_in (shared_groups groups) ≡ with_page (memory_in (shared_groups groups)) number (with_byte_at (finite.get (memory_in (shared_groups groups)) number) offset byte)
+pub memory_without : (groups : List GroupRef) (number i offset : ℕ) (byte : Byte) → AreGroups (shared_groups groups) → IsGapFor (shared_groups groups) (number / 64) i → memory_in (shared_groups groups) ≡ with_page (memory_in (shared_groups groups)) number (with_byte_at (finite.get (memory_in (shared_groups groups)) number) offset byte)
 memory_without groups number i offset byte are gap =
     sym (ap (λ o. with_page (memory_in (shared_groups groups)) number (with_byte_at o offset byte)) (get_in_groups (shared_groups groups) number are ∙ sym (page_missing groups number i gap)))

@@ -14,12 +14,15 @@ abbrev pub Places : Type 0
 Places = List (Option SymbolicPage)
 
 -- a page behind a counted reference, if there is one
-abbrev pub shared_page : Option (Arc SymbolicPage Global) → Option SymbolicPage
+abbrev pub PageRef : Type 0
+PageRef = Option (Arc SymbolicPage Global)
+
+abbrev pub shared_page : PageRef → Option SymbolicPage
 shared_page page = option_map (λ (p : Arc SymbolicPage Global). arc_value p) page
 
--- the pages behind counted references
-abbrev pub shared_places : List (Option (Arc SymbolicPage Global)) → Places
-shared_places pages = map (λ (p : Option (Arc SymbolicPage Global)). shared_page p) pages
+-- what stands at places whose pages are behind counted references
+abbrev pub shared_places : List PageRef → Places
+shared_places pages = map shared_page pages
 
 -- what stands at a place
 abbrev pub page_at_place : Places → ℕ → Option SymbolicPage
@@ -33,9 +36,16 @@ with_byte_in places place offset byte = slice_set places place (with_byte_at (pa
 abbrev pub Groups : Type 0
 Groups = List (ℕ × Places)
 
--- those behind counted references
-abbrev pub shared_groups : List (ℕ × Arc Places Global) → Groups
-shared_groups groups = map (λ (g : ℕ × Arc Places Global). (g.0, arc_value g.1)) groups
+-- a group behind a counted reference, with its number
+abbrev pub GroupRef : Type 0
+GroupRef = ℕ × Arc Places Global
+
+abbrev pub shared_group : GroupRef → ℕ × Places
+shared_group group = (group.0, arc_value group.1)
+
+-- groups behind counted references
+abbrev pub shared_groups : List GroupRef → Groups
+shared_groups groups = map shared_group groups
 
 -- the group at a place of the list
 abbrev pub group_at : Groups → ℕ → ℕ × Places
@@ -83,5 +93,5 @@ unfoldable pub memory_in : Groups → SymbolicMemory
 memory_in groups = from_entries (pages_in groups)
 
 -- the memory that stands in groups behind counted references
-abbrev pub shared_memory : List (ℕ × Arc Places Global) → SymbolicMemory
+abbrev pub shared_memory : List GroupRef → SymbolicMemory
 shared_memory groups = memory_in (shared_groups groups)
