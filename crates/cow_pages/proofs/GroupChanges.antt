@@ -40,7 +40,8 @@ module _ (groups : Groups) (number i : ℕ) (are : AreGroups groups) (at : IsGro
   in_group q same =
       ap (λ o. page_in_group o (q % 64)) (sym (ap (λ k. find nat_cmp k groups) same ∙ find_group groups (number / 64) i are at))
 
-  place_test : (q : ℕ) → q / 64 ≡ number / 64 → page_at_place changed_places (q % 64) ≡ cond (q == number) page (page_in groups q)
+  place_test : (q : ℕ) → q / 64 ≡ number / 64
+      → page_at_place changed_places (q % 64) ≡ cond (q == number) page (page_in groups q)
   place_test q same = elim (cases_eq q number) [
     | inl is ↦
         ap (λ n. page_at_place changed_places (n % 64)) is
@@ -52,7 +53,8 @@ module _ (groups : Groups) (number i : ℕ) (are : AreGroups groups) (at : IsGro
         ∙ ap (λ b. cond b page (page_in groups q)) (sym (test_of_other q number other))
   ]
 
-  pub page_in-changed : (q : ℕ) → page_in (changed_groups groups number i page) q ≡ cond (q == number) page (page_in groups q)
+  pub page_in-changed : (q : ℕ)
+      → page_in (changed_groups groups number i page) q ≡ cond (q == number) page (page_in groups q)
   page_in-changed q =
       ap (λ o. page_in_group o (q % 64)) (find-replaced groups (number / 64) i are at changed_places (q / 64))
       ∙ elim (cases_eq (q / 64) (number / 64)) [
@@ -65,14 +67,17 @@ module _ (groups : Groups) (number i : ℕ) (are : AreGroups groups) (at : IsGro
       ]
 
 -- where no page is put and none was there, all stays
-none_for_none : (q number : ℕ) (groups : Groups) → page_in groups number ≡ None → cond (q == number) None (page_in groups q) ≡ page_in groups q
+none_for_none : (q number : ℕ) (groups : Groups) → page_in groups number ≡ None
+    → cond (q == number) None (page_in groups q) ≡ page_in groups q
 none_for_none q number groups none = elim (cases_eq q number) [
   | inl same ↦ ap (λ b. cond b None (page_in groups q)) (test_of_same q number same) ∙ sym none ∙ ap (page_in groups) (sym same)
   | inr other ↦ ap (λ b. cond b None (page_in groups q)) (test_of_other q number other)
 ]
 
 -- memory has the page
-pub memory-changed : (groups : Groups) (number i : ℕ) → AreGroups groups → IsGroupAt groups (number / 64) i → (page : Option SymbolicPage) → IfSome page HasAllBytes → (page ≡ None → page_in groups number ≡ None) → memory_in (changed_groups groups number i page) ≡ with_page (memory_in groups) number page
+pub memory-changed : (groups : Groups) (number i : ℕ) → AreGroups groups → IsGroupAt groups (number / 64) i
+    → (page : Option SymbolicPage) → IfSome page HasAllBytes → (page ≡ None → page_in groups number ≡ None)
+    → memory_in (changed_groups groups number i page) ≡ with_page (memory_in groups) number page
 memory-changed groups number i are at None whole still_none =
     same_memory _ groups (are_groups-changed groups number i are at None whole) are (λ q.
     page_in-changed groups number i are at None q ∙ none_for_none q number groups (still_none refl))
@@ -114,7 +119,8 @@ module _ (groups : Groups) (k i : ℕ) (are : AreGroups groups) (gap : IsGapFor 
   number_behind : (j : ℕ) → i < j → (group_at more_groups j).0 ≡ (group_at groups (j - 1)).0
   number_behind j lt = ap (λ (g : ℕ × Places). g.0) (behind_gap j lt)
 
-  rise_from_before : (m n : ℕ) → m < i → m < n → n < length groups + 1 → (group_at more_groups m).0 < (group_at more_groups n).0
+  rise_from_before : (m n : ℕ) → m < i → m < n → n < length groups + 1
+      → (group_at more_groups m).0 < (group_at more_groups n).0
   rise_from_before m n before less within = elim (cases_order n i) [
     | inl same ↦ omega (arith, number_before m before, number_in n same, gap.below m before)
     | inr other ↦ elim other [
@@ -123,7 +129,8 @@ module _ (groups : Groups) (k i : ℕ) (are : AreGroups groups) (gap : IsGapFor 
     ]
   ]
 
-  rise_from_gap : (m n : ℕ) → i ≤ m → m < n → n < length groups + 1 → (group_at more_groups m).0 < (group_at more_groups n).0
+  rise_from_gap : (m n : ℕ) → i ≤ m → m < n → n < length groups + 1
+      → (group_at more_groups m).0 < (group_at more_groups n).0
   rise_from_gap m n behind less within = elim (cases_eq m i) [
     | inl same ↦ omega (arith, number_in m same, number_behind n (omega arith), gap.above (n - 1) (omega arith) (omega arith))
     | inr other ↦
@@ -140,7 +147,8 @@ module _ (groups : Groups) (k i : ℕ) (are : AreGroups groups) (gap : IsGapFor 
     ]
   ]
 
-  whole_there : ((place : ℕ) → page_at_place places place ≡ None) → (j place : ℕ) → j < length groups + 1 → IfSome (page_at_place (group_at more_groups j).1 place) HasAllBytes
+  whole_there : ((place : ℕ) → page_at_place places place ≡ None) → (j place : ℕ) → j < length groups + 1
+      → IfSome (page_at_place (group_at more_groups j).1 place) HasAllBytes
   whole_there empty j place within = elim (cases_order j i) [
     | inl same ↦ subst (λ (o : Option SymbolicPage). IfSome o HasAllBytes) (sym (ap (λ (g : ℕ × Places). page_at_place g.1 place) (in_gap j same) ∙ empty place)) tt
     | inr other ↦ elim other [
@@ -149,7 +157,8 @@ module _ (groups : Groups) (k i : ℕ) (are : AreGroups groups) (gap : IsGapFor 
     ]
   ]
 
-  pub are_groups-more : length places ≡ 64 → ((place : ℕ) → page_at_place places place ≡ None) → AreGroups (insert groups i (k, places))
+  pub are_groups-more : length places ≡ 64 → ((place : ℕ) → page_at_place places place ≡ None)
+      → AreGroups (insert groups i (k, places))
   are_groups-more size empty = record {
     in_order = λ m n less within. elim (cases_lt m i) [
       | inl before ↦ rise_from_before m n before less (omega (arith, one_group_more))
@@ -159,7 +168,8 @@ module _ (groups : Groups) (k i : ℕ) (are : AreGroups groups) (gap : IsGapFor 
     whole = λ j place within. whole_there empty j place (omega (arith, one_group_more));
   }
 
-  pub page_in-more : ((place : ℕ) → page_at_place places place ≡ None) → (q : ℕ) → page_in (insert groups i (k, places)) q ≡ page_in groups q
+  pub page_in-more : ((place : ℕ) → page_at_place places place ≡ None) → (q : ℕ)
+      → page_in (insert groups i (k, places)) q ≡ page_in groups q
   page_in-more empty q =
       ap (λ o. page_in_group o (q % 64)) (find-put_in groups k i places (q / 64) gap.in_range gap.below)
       ∙ elim (cases_eq (q / 64) k) [
@@ -171,7 +181,8 @@ module _ (groups : Groups) (k i : ℕ) (are : AreGroups groups) (gap : IsGapFor 
             ap (λ b. page_in_group (cond b (Some places) (find nat_cmp (q / 64) groups)) (q % 64)) (test_of_other (q / 64) k other)
       ]
 
-  pub memory-more : length places ≡ 64 → ((place : ℕ) → page_at_place places place ≡ None) → memory_in (insert groups i (k, places)) ≡ memory_in groups
+  pub memory-more : length places ≡ 64 → ((place : ℕ) → page_at_place places place ≡ None)
+      → memory_in (insert groups i (k, places)) ≡ memory_in groups
   memory-more size empty = same_memory _ groups (are_groups-more size empty) are (page_in-more empty)
 
   pub group_put_in : IsGroupAt (insert groups i (k, places)) k i

@@ -45,7 +45,8 @@ unfolding memory_in
 none_in_no_groups q = get-empty nat_cmp q
 
 -- at first all pages are left
-pub all_left : (m : FinMap nat_cmp Page) (q : ℕ) → option_map as_symbolic (get m q) ≡ option_or (option_map as_symbolic (find nat_cmp q (entries m))) (get (memory_in []) q)
+pub all_left : (m : FinMap nat_cmp Page) (q : ℕ)
+    → option_map as_symbolic (get m q) ≡ option_or (option_map as_symbolic (find nat_cmp q (entries m))) (get (memory_in []) q)
 all_left m q =
     ap (option_map as_symbolic) (get-entries m q)
     ∙ sym (nothing_more (option_map as_symbolic (find nat_cmp q (entries m))))
@@ -56,10 +57,12 @@ module _ (memory : SymbolicMemory) (number : ℕ) (page : Page) (rest : List (�
   pub rest_sorted : T (is_sorted nat_cmp rest)
   rest_sorted = (of_both _ _ sorted).1
 
-  get_after_insert : (q : ℕ) → get (insert memory number (as_symbolic page)) q ≡ cond (q == number) (Some (as_symbolic page)) (get memory q)
+  get_after_insert : (q : ℕ)
+      → get (insert memory number (as_symbolic page)) q ≡ cond (q == number) (Some (as_symbolic page)) (get memory q)
   get_after_insert q = get-insert nat_cmp_total memory number (as_symbolic page) q ∙ ap (λ b. cond b (Some (as_symbolic page)) (get memory q)) (unsigned_tied q number)
 
-  pub one_put_in : (q : ℕ) → option_or (option_map as_symbolic (find nat_cmp q ((number, page) ∷ rest))) (get memory q) ≡ option_or (option_map as_symbolic (find nat_cmp q rest)) (get (insert memory number (as_symbolic page)) q)
+  pub one_put_in : (q : ℕ)
+      → option_or (option_map as_symbolic (find nat_cmp q ((number, page) ∷ rest))) (get memory q) ≡ option_or (option_map as_symbolic (find nat_cmp q rest)) (get (insert memory number (as_symbolic page)) q)
   one_put_in q = elim (cases_eq q number) [
     | inl same ↦
         ap (λ o. option_or (option_map as_symbolic o) (get memory q)) (find_first q (number, page) rest same)

@@ -4,8 +4,6 @@ use Rattle.std.specs.Arc.{arc_value}
 use Rattle.std.specs.Prelude.{Result, IfOk, IfErr}
 use Rattle.std.specs.List.Sorted.{IsBinarySearchResult, IsNonDecreasingBy, IsSearchInRange}
 use Rattle.std.specs.Ordering.{nat_cmp, ordering_index}
-use Rattle.std.specs.declared.alloc.Global.{Global}
-use Rattle.std.specs.declared.sync.Arc.{Arc}
 use Rattle.std.proofs.lemmas.Bool.Decides.{nat_tests}
 use Rattle.std.proofs.lemmas.Cmp.{ranked}
 use Rattle.std.proofs.lemmas.List.{length-map, get_or-map}
@@ -17,11 +15,13 @@ pub length-shared_groups : (groups : List GroupRef) → length (shared_groups gr
 length-shared_groups groups = length-map groups shared_group
 
 -- the group at a place
-pub at-shared_groups : (groups : List GroupRef) (i : ℕ) (d : GroupRef) → i < length groups → let g = get_or groups i d in group_at (shared_groups groups) i ≡ (g.0, arc_value g.1)
+pub at-shared_groups : (groups : List GroupRef) (i : ℕ) (d : GroupRef) → i < length groups
+    → let g = get_or groups i d in group_at (shared_groups groups) i ≡ (g.0, arc_value g.1)
 at-shared_groups groups i d within = get_or-map shared_group groups i d (0, []) within
 
 module _ (groups : List GroupRef) (d : GroupRef) (are : AreGroups (shared_groups groups)) (k : ℕ) where
-  number_at_place : (i : ℕ) → i < length groups → (group_at (shared_groups groups) i).0 ≡ (get_or groups i d).0
+  number_at_place : (i : ℕ) → i < length groups
+      → (group_at (shared_groups groups) i).0 ≡ (get_or groups i d).0
   number_at_place i within = ap (λ (g : ℕ × Places). g.0) (at-shared_groups groups i d within)
 
   rise : (i j : ℕ) → i < j → j < length groups → (get_or groups i d).0 < (get_or groups j d).0
@@ -33,13 +33,15 @@ module _ (groups : List GroupRef) (d : GroupRef) (are : AreGroups (shared_groups
       let never_fall : (get_or groups i d).0 ≤ (get_or groups j d).0 = grind (arith, rise i j, λ (same : i ≡ j). ap (λ n. (get_or groups n d).0) same) in
       grind (arith, nat_tests))
 
-  found_there : (i : ℕ) → i < length groups → IsBinarySearchResult (λ g. nat_cmp g.0 k) groups (Ok i) → IsGroupAt (shared_groups groups) k i
+  found_there : (i : ℕ) → i < length groups → IsBinarySearchResult (λ g. nat_cmp g.0 k) groups (Ok i)
+      → IsGroupAt (shared_groups groups) k i
   found_there i within equal = record {
     in_range = omega (arith, length-shared_groups groups);
     has_number = number_at_place i within ∙ ranked _ k _ (sym (equal d));
   }
 
-  gap_there : (i : ℕ) → i ≤ length groups → IsBinarySearchResult (λ g. nat_cmp g.0 k) groups (Err i) → IsGapFor (shared_groups groups) k i
+  gap_there : (i : ℕ) → i ≤ length groups → IsBinarySearchResult (λ g. nat_cmp g.0 k) groups (Err i)
+      → IsGapFor (shared_groups groups) k i
   gap_there i within parted = record {
     in_range = omega (arith, length-shared_groups groups);
     below = λ j lt. omega (arith, number_at_place j (omega arith), ranked _ k _ (sym ((parted comparisons_never_fall).0 j d (omega arith) lt)));
@@ -48,19 +50,25 @@ module _ (groups : List GroupRef) (d : GroupRef) (are : AreGroups (shared_groups
   }
 
 -- the group of the number, or the gap where it would stand
-group_found : (groups : List GroupRef) (k i : ℕ) → AreGroups (shared_groups groups) → i < length groups → IsBinarySearchResult (λ g. nat_cmp g.0 k) groups (Ok i) → IsGroupAt (shared_groups groups) k i
+group_found : (groups : List GroupRef) (k i : ℕ) → AreGroups (shared_groups groups) → i < length groups
+    → IsBinarySearchResult (λ g. nat_cmp g.0 k) groups (Ok i) → IsGroupAt (shared_groups groups) k i
 group_found [] k i are within equal = absurd (omega (arith, within))
 group_found (g ∷ groups) k i are within equal = found_there (g ∷ groups) g are k i within equal
 
-gap_found : (groups : List GroupRef) (k i : ℕ) → AreGroups (shared_groups groups) → i ≤ length groups → IsBinarySearchResult (λ g. nat_cmp g.0 k) groups (Err i) → IsGapFor (shared_groups groups) k i
+gap_found : (groups : List GroupRef) (k i : ℕ) → AreGroups (shared_groups groups) → i ≤ length groups
+    → IsBinarySearchResult (λ g. nat_cmp g.0 k) groups (Err i) → IsGapFor (shared_groups groups) k i
 gap_found [] k i are within parted = record { in_range = within; below = λ j lt. absurd (omega (arith, within)); above = λ j le small. absurd (omega (arith, small)) }
 gap_found (g ∷ groups) k i are within parted = gap_there (g ∷ groups) g are k i within parted
 
 -- what the search says in either case
-pub search_found : (groups : List GroupRef) (k : ℕ) (r : Result ℕ ℕ) → AreGroups (shared_groups groups) → IsSearchInRange r (length groups) → IsBinarySearchResult (λ g. nat_cmp g.0 k) groups r → IfOk r (IsGroupAt (shared_groups groups) k)
+pub search_found : (groups : List GroupRef) (k : ℕ) (r : Result ℕ ℕ) → AreGroups (shared_groups groups)
+    → IsSearchInRange r (length groups) → IsBinarySearchResult (λ g. nat_cmp g.0 k) groups r
+    → IfOk r (IsGroupAt (shared_groups groups) k)
 search_found groups k (Ok i) are within answer = group_found groups k i are within answer
 search_found groups k (Err i) are within answer = tt
 
-pub search_gap : (groups : List GroupRef) (k : ℕ) (r : Result ℕ ℕ) → AreGroups (shared_groups groups) → IsSearchInRange r (length groups) → IsBinarySearchResult (λ g. nat_cmp g.0 k) groups r → IfErr r (IsGapFor (shared_groups groups) k)
+pub search_gap : (groups : List GroupRef) (k : ℕ) (r : Result ℕ ℕ) → AreGroups (shared_groups groups)
+    → IsSearchInRange r (length groups) → IsBinarySearchResult (λ g. nat_cmp g.0 k) groups r
+    → IfErr r (IsGapFor (shared_groups groups) k)
 search_gap groups k (Ok i) are within answer = tt
 search_gap groups k (Err i) are within answer = gap_found groups k i are within answer

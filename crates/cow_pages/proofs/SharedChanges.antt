@@ -17,7 +17,10 @@ use Rattle.cow_pages.proofs.GroupChanges.{changed_groups, are_groups-changed, me
 use Rattle.cow_pages.proofs.SharedGroups.{group_read, page_read, page_missing}
 
 -- one more group is shared
-pub shared_groups_more : (done all : List GroupRef) (i : ℕ) (g copy : GroupRef) → shared_groups done ≡ take i (shared_groups all) → i < length all → copy.0 ≡ g.0 → arc_value copy.1 ≡ arc_value g.1 → g ≡ get_or all i g → shared_groups (done ++ copy ∷ []) ≡ take (i + 1) (shared_groups all)
+pub shared_groups_more : (done all : List GroupRef) (i : ℕ) (g copy : GroupRef)
+    → shared_groups done ≡ take i (shared_groups all) → i < length all → copy.0 ≡ g.0
+    → arc_value copy.1 ≡ arc_value g.1 → g ≡ get_or all i g
+    → shared_groups (done ++ copy ∷ []) ≡ take (i + 1) (shared_groups all)
 shared_groups_more done all i g copy kept h number same read =
     map-append shared_group done (copy ∷ [])
     ∙ ap (λ gs. gs ++ (copy.0, arc_value copy.1) ∷ []) kept
@@ -27,7 +30,8 @@ shared_groups_more done all i g copy kept h number same read =
     ∙ sym (take_more (shared_groups all) i (0, []) (omega (arith, h, length-shared_groups all)))
 
 -- A new group is put into a gap.
-shared_groups-insert : (groups : List GroupRef) (i : ℕ) (g : GroupRef) → shared_groups (insert groups i g) ≡ insert (shared_groups groups) i (g.0, arc_value g.1)
+shared_groups-insert : (groups : List GroupRef) (i : ℕ) (g : GroupRef)
+    → shared_groups (insert groups i g) ≡ insert (shared_groups groups) i (g.0, arc_value g.1)
 shared_groups-insert groups i g =
     map-append shared_group (take i groups) (g ∷ drop i groups)
     ∙ ap (λ gs. gs ++ (g.0, arc_value g.1) ∷ shared_groups (drop i groups)) (sym (take-map shared_group i groups))
@@ -44,11 +48,13 @@ module _ (groups : List GroupRef) (k i : ℕ) (g : Arc Places Global) (are : Are
   new_group_at = rw shared_groups-insert (group_put_in (shared_groups groups) k i are gap (arc_value g))
 
 -- A page stays whole, and mapped, when a byte is written to it.
-whole_with : (o : Option SymbolicPage) (offset : ℕ) (byte : Byte) → IfSome o HasAllBytes → IfSome (with_byte_at o offset byte) HasAllBytes
+whole_with : (o : Option SymbolicPage) (offset : ℕ) (byte : Byte) → IfSome o HasAllBytes
+    → IfSome (with_byte_at o offset byte) HasAllBytes
 whole_with None offset byte whole = tt
 whole_with (Some page) offset byte whole = length-set page.bytes offset byte ∙ whole
 
-none_before : (o : Option SymbolicPage) (offset : ℕ) (byte : Byte) → with_byte_at o offset byte ≡ None → o ≡ None
+none_before : (o : Option SymbolicPage) (offset : ℕ) (byte : Byte) → with_byte_at o offset byte ≡ None
+    → o ≡ None
 none_before None offset byte none = refl
 none_before (Some page) offset byte none = cc none
 
@@ -65,7 +71,8 @@ module _ (groups : List GroupRef) (number i : ℕ) (g : GroupRef) (new : Arc Pla
       map-set shared_group groups i (g.0, new)
       ∙ ap (λ n. set (shared_groups groups) i (n, arc_value new)) its_number
 
-  changed_to : (page : Option SymbolicPage) → arc_value new ≡ set (arc_value g.1) (number % 64) page → shared_groups (set groups i (g.0, new)) ≡ changed_groups (shared_groups groups) number i page
+  changed_to : (page : Option SymbolicPage) → arc_value new ≡ set (arc_value g.1) (number % 64) page
+      → shared_groups (set groups i (g.0, new)) ≡ changed_groups (shared_groups groups) number i page
   changed_to page is =
       shared_groups-changed
       ∙ ap (λ ps. set (shared_groups groups) i (number / 64, ps)) (is ∙ ap (λ (e : ℕ × Places). set e.1 (number % 64) page) (sym group_there))
@@ -77,15 +84,21 @@ module _ (groups : List GroupRef) (number i : ℕ) (g : GroupRef) (new : Arc Pla
       ∙ ap (set (shared_groups groups) i) (sym group_there)
       ∙ set_there (shared_groups groups) i (0, [])
 
-  pub are_groups_then : (r : Result (Unit {0}) AllocError) (page : Option SymbolicPage) → IfSome page HasAllBytes → OnOk r (arc_value new ≡ set (arc_value g.1) (number % 64) page) → OnErr r (arc_value new ≡ arc_value g.1) → AreGroups (shared_groups (set groups i (g.0, new)))
+  pub are_groups_then : (r : Result (Unit {0}) AllocError) (page : Option SymbolicPage)
+      → IfSome page HasAllBytes → OnOk r (arc_value new ≡ set (arc_value g.1) (number % 64) page)
+      → OnErr r (arc_value new ≡ arc_value g.1) → AreGroups (shared_groups (set groups i (g.0, new)))
   are_groups_then (Ok done) page whole is same = subst AreGroups (sym (changed_to page is)) (are_groups-changed (shared_groups groups) number i are at page whole)
   are_groups_then (Err refused) page whole is same = subst AreGroups (sym (kept_as same)) are
 
-  pub memory_then : (page : Option SymbolicPage) → IfSome page HasAllBytes → (page ≡ None → page_in (shared_groups groups) number ≡ None) → arc_value new ≡ set (arc_value g.1) (number % 64) page → memory_in (shared_groups (set groups i (g.0, new))) ≡ with_page (memory_in (shared_groups groups)) number page
+  pub memory_then : (page : Option SymbolicPage) → IfSome page HasAllBytes
+      → (page ≡ None → page_in (shared_groups groups) number ≡ None)
+      → arc_value new ≡ set (arc_value g.1) (number % 64) page
+      → memory_in (shared_groups (set groups i (g.0, new))) ≡ with_page (memory_in (shared_groups groups)) number page
   memory_then page whole still_none is =
       ap memory_in (changed_to page is) ∙ memory-changed (shared_groups groups) number i are at page whole still_none
 
-  pub memory_kept : arc_value new ≡ arc_value g.1 → memory_in (shared_groups (set groups i (g.0, new))) ≡ memory_in (shared_groups groups)
+  pub memory_kept : arc_value new ≡ arc_value g.1
+      → memory_in (shared_groups (set groups i (g.0, new))) ≡ memory_in (shared_groups groups)
   memory_kept same = ap memory_in (kept_as same)
 
   page_here : page_at_place (arc_value g.1) (number % 64) ≡ page_in (shared_groups groups) number
@@ -99,15 +112,20 @@ module _ (groups : List GroupRef) (number i : ℕ) (g : GroupRef) (new : Arc Pla
     abbrev page_after : Option SymbolicPage
     page_after = with_byte_at (page_at_place (arc_value g.1) (number % 64)) offset byte
 
-    pub are_groups_written : (r : Result (Unit {0}) AllocError) → OnOk r (arc_value new ≡ set (arc_value g.1) (number % 64) page_after) → OnErr r (arc_value new ≡ arc_value g.1) → AreGroups (shared_groups (set groups i (g.0, new)))
+    pub are_groups_written : (r : Result (Unit {0}) AllocError)
+        → OnOk r (arc_value new ≡ set (arc_value g.1) (number % 64) page_after)
+        → OnErr r (arc_value new ≡ arc_value g.1) → AreGroups (shared_groups (set groups i (g.0, new)))
     are_groups_written r = are_groups_then r page_after (whole_with _ offset byte page_whole)
 
-    pub memory_written : arc_value new ≡ set (arc_value g.1) (number % 64) page_after → memory_in (shared_groups (set groups i (g.0, new))) ≡ with_page (memory_in (shared_groups groups)) number (with_byte_at (finite.get (memory_in (shared_groups groups)) number) offset byte)
+    pub memory_written : arc_value new ≡ set (arc_value g.1) (number % 64) page_after
+        → memory_in (shared_groups (set groups i (g.0, new))) ≡ with_page (memory_in (shared_groups groups)) number (with_byte_at (finite.get (memory_in (shared_groups groups)) number) offset byte)
     memory_written is =
         memory_then page_after (whole_with _ offset byte page_whole) (λ none. sym page_here ∙ none_before _ offset byte none) is
         ∙ ap (λ o. with_page (memory_in (shared_groups groups)) number (with_byte_at o offset byte)) (page_here ∙ sym (get_in_groups (shared_groups groups) number are))
 
 -- where the page isn't mapped nothing changes
-pub memory_without : (groups : List GroupRef) (number i offset : ℕ) (byte : Byte) → AreGroups (shared_groups groups) → IsGapFor (shared_groups groups) (number / 64) i → memory_in (shared_groups groups) ≡ with_page (memory_in (shared_groups groups)) number (with_byte_at (finite.get (memory_in (shared_groups groups)) number) offset byte)
+pub memory_without : (groups : List GroupRef) (number i offset : ℕ) (byte : Byte)
+    → AreGroups (shared_groups groups) → IsGapFor (shared_groups groups) (number / 64) i
+    → memory_in (shared_groups groups) ≡ with_page (memory_in (shared_groups groups)) number (with_byte_at (finite.get (memory_in (shared_groups groups)) number) offset byte)
 memory_without groups number i offset byte are gap =
     sym (ap (λ o. with_page (memory_in (shared_groups groups)) number (with_byte_at o offset byte)) (get_in_groups (shared_groups groups) number are ∙ sym (page_missing groups number i gap)))

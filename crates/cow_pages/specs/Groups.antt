@@ -55,7 +55,8 @@ group_at groups i = slice_index_or groups i (0, [])
 pub record AreGroups (groups : Groups) : Type 0 where
   pub in_order : (i j : ℕ) → i < j → j < length groups → (group_at groups i).0 < (group_at groups j).0
   pub full : (i : ℕ) → i < length groups → length (group_at groups i).1 ≡ 64
-  pub whole : (i place : ℕ) → i < length groups → IfSome (page_at_place (group_at groups i).1 place) HasAllBytes
+  pub whole : (i place : ℕ) → i < length groups
+      → IfSome (page_at_place (group_at groups i).1 place) HasAllBytes
 
 -- the group at this place of the list has the number
 pub record IsGroupAt (groups : Groups) (number i : ℕ) : Type 0 where

@@ -9,14 +9,16 @@ use Rattle.cow_pages.proofs.groups.add_page.Goals as goal
 
 pub returns-clause-groups : goal.returns-clause-groups
 returns-clause-groups c =
-    are_groups_then c.group_place.new.groups.items c.args.number c.in_ok-group.group c.index_mut.result.now c.put_page.new.group c.in_ok-group.ensures.groups c.in_ok-group.ensures.place c.index_mut.ensures.value
+    are_groups_then c.group_place.new.groups.items c.args.number c.in_ok-group.group c.index_mut.result.now
+    c.put_page.new.group c.in_ok-group.ensures.groups c.in_ok-group.ensures.place c.index_mut.ensures.value
     c.put_page.result (Some (arc_value c.in_ok-page.page)) (rw c.in_ok-page.ensures.ok c.requires.whole) c.put_page.ensures.ok c.put_page.ensures.err
 
 pub returns-clause-ok : goal.returns-clause-ok
 returns-clause-ok c =
     on_ok_weaker _
     (λ is.
-    memory_then c.group_place.new.groups.items c.args.number c.in_ok-group.group c.index_mut.result.now c.put_page.new.group c.in_ok-group.ensures.groups c.in_ok-group.ensures.place c.index_mut.ensures.value
+    memory_then c.group_place.new.groups.items c.args.number c.in_ok-group.group c.index_mut.result.now
+    c.put_page.new.group c.in_ok-group.ensures.groups c.in_ok-group.ensures.place c.index_mut.ensures.value
     (Some (arc_value c.in_ok-page.page)) (rw c.in_ok-page.ensures.ok c.requires.whole) (λ none. cc none) is
     ∙ ap (λ (m : SymbolicMemory). insert m c.args.number (arc_value c.in_ok-page.page)) c.in_ok-group.ensures.same
     ∙ ap (λ (p : SymbolicPage). insert (memory_in (shared_groups c.args.groups.now.items)) c.args.number p) c.in_ok-page.ensures.ok)
@@ -26,6 +28,7 @@ pub returns-clause-err : goal.returns-clause-err
 returns-clause-err c =
     on_err_weaker _
     (λ same.
-    memory_kept c.group_place.new.groups.items c.args.number c.in_ok-group.group c.index_mut.result.now c.put_page.new.group c.in_ok-group.ensures.groups c.in_ok-group.ensures.place c.index_mut.ensures.value same
+    memory_kept c.group_place.new.groups.items c.args.number c.in_ok-group.group c.index_mut.result.now
+    c.put_page.new.group c.in_ok-group.ensures.groups c.in_ok-group.ensures.place c.index_mut.ensures.value same
     ∙ c.in_ok-group.ensures.same)
     c.put_page.ensures.err

@@ -4,23 +4,29 @@ use Rattle.cow_pages.specs.Groups.{Places, page_at_place}
 use Rattle.cow_pages.proofs.SharedChanges.{are_groups_with_new, memory_with_new, new_group_at}
 use Rattle.cow_pages.proofs.groups.group_place.Goals as goal
 
+-- the new group has its places, and no page
+size : (c : goal.In_ok-insert-in-Err) → length (arc_value c.in_ok-group-in-Err.group) ≡ 64
+size c = ap length c.in_ok-group-in-Err.ensures.ok ∙ c.in_ok-new-in-Err.ensures.places
+
+empty : (c : goal.In_ok-insert-in-Err) (place : ℕ) → page_at_place (arc_value c.in_ok-group-in-Err.group) place ≡ None
+empty c place =
+    ap (λ (ps : Places). page_at_place ps place) c.in_ok-group-in-Err.ensures.ok
+    ∙ c.in_ok-new-in-Err.ensures.empty place
+
 pub returns-in_ok-insert-in-Err-clause-groups : goal.returns-in_ok-insert-in-Err-clause-groups
 returns-in_ok-insert-in-Err-clause-groups c =
-    let size : length (arc_value c.in_ok-group-in-Err.group) ≡ 64 = ap length c.in_ok-group-in-Err.ensures.ok ∙ c.in_ok-new-in-Err.ensures.places in
-    let empty : (place : ℕ) → page_at_place (arc_value c.in_ok-group-in-Err.group) place ≡ None = λ place. ap (λ (ps : Places). page_at_place ps place) c.in_ok-group-in-Err.ensures.ok ∙ c.in_ok-new-in-Err.ensures.empty place in
     rw c.in_ok-insert-in-Err.ensures.items
-    (are_groups_with_new c.args.groups.now.items c.args.number c.in-Err.place c.in_ok-group-in-Err.group c.requires (rw c.deref.ensures.value at c.in-Err.ensures.gap) size empty)
+    (are_groups_with_new c.args.groups.now.items c.args.number c.in-Err.place c.in_ok-group-in-Err.group
+    c.requires (rw c.deref.ensures.value at c.in-Err.ensures.gap) (size c) (empty c))
 
 pub returns-in_ok-insert-in-Err-clause-same : goal.returns-in_ok-insert-in-Err-clause-same
 returns-in_ok-insert-in-Err-clause-same c =
-    let size : length (arc_value c.in_ok-group-in-Err.group) ≡ 64 = ap length c.in_ok-group-in-Err.ensures.ok ∙ c.in_ok-new-in-Err.ensures.places in
-    let empty : (place : ℕ) → page_at_place (arc_value c.in_ok-group-in-Err.group) place ≡ None = λ place. ap (λ (ps : Places). page_at_place ps place) c.in_ok-group-in-Err.ensures.ok ∙ c.in_ok-new-in-Err.ensures.empty place in
     rw c.in_ok-insert-in-Err.ensures.items
-    (memory_with_new c.args.groups.now.items c.args.number c.in-Err.place c.in_ok-group-in-Err.group c.requires (rw c.deref.ensures.value at c.in-Err.ensures.gap) size empty)
+    (memory_with_new c.args.groups.now.items c.args.number c.in-Err.place c.in_ok-group-in-Err.group
+    c.requires (rw c.deref.ensures.value at c.in-Err.ensures.gap) (size c) (empty c))
 
 pub returns-in_ok-insert-in-Err-clause-place : goal.returns-in_ok-insert-in-Err-clause-place
 returns-in_ok-insert-in-Err-clause-place c =
-    let size : length (arc_value c.in_ok-group-in-Err.group) ≡ 64 = ap length c.in_ok-group-in-Err.ensures.ok ∙ c.in_ok-new-in-Err.ensures.places in
-    let empty : (place : ℕ) → page_at_place (arc_value c.in_ok-group-in-Err.group) place ≡ None = λ place. ap (λ (ps : Places). page_at_place ps place) c.in_ok-group-in-Err.ensures.ok ∙ c.in_ok-new-in-Err.ensures.empty place in
     rw c.in_ok-insert-in-Err.ensures.items
-    (new_group_at c.args.groups.now.items c.args.number c.in-Err.place c.in_ok-group-in-Err.group c.requires (rw c.deref.ensures.value at c.in-Err.ensures.gap) size empty)
+    (new_group_at c.args.groups.now.items c.args.number c.in-Err.place c.in_ok-group-in-Err.group
+    c.requires (rw c.deref.ensures.value at c.in-Err.ensures.gap) (size c) (empty c))
