@@ -4,17 +4,19 @@ use Rattle.std.specs.Prelude.{Option}
 use Rattle.bv_dag.specs.BitVectors.{BitVector}
 use Rattle.term_trees.specs.Trees.{Tree}
 use Rattle.term_simplify.specs.Simplified.{tree_number, choice_between, choice_of}
-use Rattle.term_simplify.proofs.Words.{is_same_number, unequal}
+use Rattle.term_simplify.proofs.Words.{tests_equal, tests_unequal}
 
 module _ (c s t : Tree) (r : Option BitVector) (e : r ≡ tree_number c) where
   pub chosen_yes : (x : BitVector) (n : ℕ) → r ≡ Some x → n ≡ x.number → n ≡ 1 → choice_of c s t ≡ s
   unfolding choice_of
-  chosen_yes x n is value one = rw (← e, is, is_same_number x.number 1 (sym value ∙ one)) refl
+  chosen_yes x n is value one = rw (← e, is, tests_equal x.number 1 (sym value ∙ one)) refl
 
-  pub chosen_no : (x : BitVector) (n : ℕ) → r ≡ Some x → n ≡ x.number → (n ≡ 1 → ⊥) → choice_of c s t ≡ t
+  pub chosen_no : (x : BitVector) (n : ℕ) → r ≡ Some x → n ≡ x.number → (n ≡ 1 → ⊥) →
+      choice_of c s t ≡ t
   unfolding choice_of
-  chosen_no x n is value other = rw (← e, is, unequal x.number 1 (λ same. other (value ∙ same))) refl
+  chosen_no x n is value other = rw (← e, is, tests_unequal x.number 1 (λ same. other (value ∙ same))) refl
 
-  pub choice_open : (x y : Option BitVector) → r ≡ None → x ≡ tree_number s → y ≡ tree_number t → choice_of c s t ≡ choice_between x y c s t
+  pub choice_open : (x y : Option BitVector) → r ≡ None → x ≡ tree_number s → y ≡ tree_number t →
+      choice_of c s t ≡ choice_between x y c s t
   unfolding choice_of
   choice_open x y is f g = rw (← e, is, ← f, ← g) refl

@@ -11,9 +11,12 @@ use Rattle.term_trees.specs.Trees.{Tree, Widened, Joined, tree_of, node_tree}
 use Rattle.term_trees.proofs.TreeLaws.{tree_by_cases, width-tree_of}
 use Rattle.term_simplify.specs.Simplified.{tree_number, number_tree, extension_by, joined_of}
 use Rattle.term_simplify.proofs.Reading.{IsOperand, operand, width_at}
-use Rattle.term_simplify.proofs.Words.{is_same_number, unequal}
+use Rattle.term_simplify.proofs.Words.{tests_equal, tests_unequal}
 
-extension_read : (f : ℕ → Tree) (n : Node) (by : ℕ) (signed : Bool) → ((w v : ℕ) → n ≡ Num w v → ⊥) → ((inner : ℕ) (fill : Bool) (a : ℕ) → n ≡ Extend inner fill a → ⊥) → extension_by by signed (node_tree f n) ≡ Widened by signed (node_tree f n)
+extension_read : (f : ℕ → Tree) (n : Node) (by : ℕ) (signed : Bool) →
+    ((w v : ℕ) → n ≡ Num w v → ⊥) →
+    ((inner : ℕ) (fill : Bool) (a : ℕ) → n ≡ Extend inner fill a → ⊥) →
+    extension_by by signed (node_tree f n) ≡ Widened by signed (node_tree f n)
 unfolding extension_by
 extension_read f (Num w v) by signed x y = absurd (x w v refl)
 extension_read f (Extend inner fill a) by signed x y = absurd (y inner fill a refl)
@@ -27,14 +30,21 @@ extension_read f (Extract high low a) by signed x y = refl
 extension_read f (Concat a b) by signed x y = refl
 
 module _ (g : Graph) (id by : ℕ) (signed : Bool) (dag : IsDag g) where
-  pub extension_plain : (n : Node) → slice_get g.nodes id ≡ Some n → ((w v : ℕ) → n ≡ Num w v → ⊥) → ((inner : ℕ) (fill : Bool) (a : ℕ) → n ≡ Extend inner fill a → ⊥) → Widened by signed (tree_of g id) ≡ extension_by by signed (tree_of g id)
+  pub extension_plain : (n : Node) → slice_get g.nodes id ≡ Some n →
+      ((w v : ℕ) → n ≡ Num w v → ⊥) →
+      ((inner : ℕ) (fill : Bool) (a : ℕ) → n ≡ Extend inner fill a → ⊥) →
+      Widened by signed (tree_of g id) ≡ extension_by by signed (tree_of g id)
   extension_plain n is x y = rw (tree_by_cases g id n dag is) (sym (extension_read (tree_of g) n by signed x y))
 
-  pub extension_number : (w v : ℕ) (x y : BitVector) → slice_get g.nodes id ≡ Some (Num w v) → x ≡ record { width = w; number = v } → y ≡ extend signed by x → extension_by by signed (tree_of g id) ≡ number_tree y
+  pub extension_number : (w v : ℕ) (x y : BitVector) → slice_get g.nodes id ≡ Some (Num w v) →
+      x ≡ record { width = w; number = v } → y ≡ extend signed by x →
+      extension_by by signed (tree_of g id) ≡ number_tree y
   unfolding extension_by
-  extension_number w v x y is e f = ap (extension_by by signed) (tree_by_cases g id (Num w v) dag is) ∙ ap number_tree (sym (f ∙ ap (extend signed by) e))
+  extension_number w v x y is e f = ap (extension_by by signed)
+      (tree_by_cases g id (Num w v) dag is) ∙ ap number_tree (sym (f ∙ ap (extend signed by) e))
 
-  module _ (inner : ℕ) (fill : Bool) (a : ℕ) (is : slice_get g.nodes id ≡ Some (Extend inner fill a)) (fits : Fits g.inputs (widths_of g.nodes) (Extend by signed id)) where
+  module _ (inner : ℕ) (fill : Bool) (a : ℕ) (is : slice_get g.nodes id ≡ Some
+      (Extend inner fill a)) (fits : Fits g.inputs (widths_of g.nodes) (Extend by signed id)) where
     inner_operand : IsOperand g id a
     inner_operand = operand g id a _ dag is (dag.all_fit id (Extend inner fill a) is).0
 
@@ -47,40 +57,54 @@ module _ (g : Graph) (id by : ℕ) (signed : Bool) (dag : IsDag g) where
     pub inner_fits : Fits g.inputs (widths_of g.nodes) (Extend (inner + by) fill a)
     inner_fits = (inner_operand.wide, omega (arith, fits.1), omega (arith, inner_width, fits.2))
 
-  zeros_over_signs : (inner : ℕ) (fill : Bool) (t : Tree) → fill ≡ true → signed ≡ false → Widened by signed (Widened inner fill t) ≡ extension_by by signed (Widened inner fill t)
+  zeros_over_signs : (inner : ℕ) (fill : Bool) (t : Tree) → fill ≡ true → signed ≡ false →
+      Widened by signed (Widened inner fill t) ≡ extension_by by signed (Widened inner fill t)
   unfolding extension_by
   zeros_over_signs inner fill t e f = rw (e, f) refl
 
-  pub extension_stays : (inner : ℕ) (fill : Bool) (a : ℕ) → slice_get g.nodes id ≡ Some (Extend inner fill a) → fill ≡ true → signed ≡ false → Widened by signed (tree_of g id) ≡ extension_by by signed (tree_of g id)
+  pub extension_stays : (inner : ℕ) (fill : Bool) (a : ℕ) →
+      slice_get g.nodes id ≡ Some (Extend inner fill a) → fill ≡ true → signed ≡ false →
+      Widened by signed (tree_of g id) ≡ extension_by by signed (tree_of g id)
   extension_stays inner fill a is e f = rw (tree_by_cases g id _ dag is) (zeros_over_signs inner fill (tree_of g a) e f)
 
-  zeros_under : (inner : ℕ) (fill : Bool) (t : Tree) → fill ≡ false → Widened (inner + by) fill t ≡ extension_by by signed (Widened inner fill t)
+  zeros_under : (inner : ℕ) (fill : Bool) (t : Tree) → fill ≡ false →
+      Widened (inner + by) fill t ≡ extension_by by signed (Widened inner fill t)
   unfolding extension_by
   zeros_under inner fill t e = rw e refl
 
-  pub extension_of_zeros : (inner : ℕ) (fill : Bool) (a : ℕ) → slice_get g.nodes id ≡ Some (Extend inner fill a) → fill ≡ false → Widened (inner + by) fill (tree_of g a) ≡ extension_by by signed (tree_of g id)
-  extension_of_zeros inner fill a is e = zeros_under inner fill (tree_of g a) e ∙ ap (extension_by by signed) (sym (tree_by_cases g id _ dag is))
+  pub extension_of_zeros : (inner : ℕ) (fill : Bool) (a : ℕ) →
+      slice_get g.nodes id ≡ Some (Extend inner fill a) → fill ≡ false →
+      Widened (inner + by) fill (tree_of g a) ≡ extension_by by signed (tree_of g id)
+  extension_of_zeros inner fill a is e = zeros_under inner fill (tree_of g a) e ∙ ap
+      (extension_by by signed) (sym (tree_by_cases g id _ dag is))
 
-  signs_under : (inner : ℕ) (fill : Bool) (t : Tree) → fill ≡ true → signed ≡ true → Widened (inner + by) fill t ≡ extension_by by signed (Widened inner fill t)
+  signs_under : (inner : ℕ) (fill : Bool) (t : Tree) → fill ≡ true → signed ≡ true →
+      Widened (inner + by) fill t ≡ extension_by by signed (Widened inner fill t)
   unfolding extension_by
   signs_under inner fill t e f = rw (e, f) refl
 
-  pub extension_of_signs : (inner : ℕ) (fill : Bool) (a : ℕ) → slice_get g.nodes id ≡ Some (Extend inner fill a) → fill ≡ true → signed ≡ true → Widened (inner + by) fill (tree_of g a) ≡ extension_by by signed (tree_of g id)
-  extension_of_signs inner fill a is e f = signs_under inner fill (tree_of g a) e f ∙ ap (extension_by by signed) (sym (tree_by_cases g id _ dag is))
+  pub extension_of_signs : (inner : ℕ) (fill : Bool) (a : ℕ) →
+      slice_get g.nodes id ≡ Some (Extend inner fill a) → fill ≡ true → signed ≡ true →
+      Widened (inner + by) fill (tree_of g a) ≡ extension_by by signed (tree_of g id)
+  extension_of_signs inner fill a is e f = signs_under inner fill (tree_of g a) e f ∙ ap
+      (extension_by by signed) (sym (tree_by_cases g id _ dag is))
 
 -- ---- joins
 module _ (s t : Tree) (p q : Option BitVector) (e : p ≡ tree_number s) (f : q ≡ tree_number t) where
-  pub join_numbers : (x y z : BitVector) → p ≡ Some x → q ≡ Some y → z ≡ concat x y → joined_of s t ≡ number_tree z
+  pub join_numbers : (x y z : BitVector) → p ≡ Some x → q ≡ Some y → z ≡ concat x y →
+      joined_of s t ≡ number_tree z
   unfolding joined_of
   join_numbers x y z is is' g = rw (← e, ← f, is, is', g) refl
 
-  pub join_zero : (x : BitVector) (n w : ℕ) → p ≡ Some x → q ≡ None → n ≡ x.number → n ≡ 0 → w ≡ x.width → joined_of s t ≡ extension_by w false t
+  pub join_zero : (x : BitVector) (n w : ℕ) → p ≡ Some x → q ≡ None → n ≡ x.number → n ≡ 0 →
+      w ≡ x.width → joined_of s t ≡ extension_by w false t
   unfolding joined_of
-  join_zero x n w is is' value zero wide = rw (← e, ← f, is, is', wide, is_same_number x.number 0 (sym value ∙ zero)) refl
+  join_zero x n w is is' value zero wide = rw (← e, ← f, is, is', wide, tests_equal x.number 0 (sym value ∙ zero)) refl
 
-  pub join_other : (x : BitVector) (n : ℕ) → p ≡ Some x → q ≡ None → n ≡ x.number → (n ≡ 0 → ⊥) → joined_of s t ≡ Joined s t
+  pub join_other : (x : BitVector) (n : ℕ) → p ≡ Some x → q ≡ None → n ≡ x.number → (n ≡ 0 → ⊥) →
+      joined_of s t ≡ Joined s t
   unfolding joined_of
-  join_other x n is is' value other = rw (← e, ← f, is, is', unequal x.number 0 (λ same. other (value ∙ same))) refl
+  join_other x n is is' value other = rw (← e, ← f, is, is', tests_unequal x.number 0 (λ same. other (value ∙ same))) refl
 
   pub join_none : p ≡ None → joined_of s t ≡ Joined s t
   unfolding joined_of

@@ -8,7 +8,7 @@ use Rattle.bv_dag.proofs.Numbers.{wider}
 use Rattle.term_trees.specs.Trees.{Tree, Constant, Widened, Joined, tree_width, tree_value, IsTerm, IsOfWidth}
 use Rattle.term_trees.proofs.Ranges.{in_range}
 use Rattle.term_simplify.specs.Simplified.{tree_number, extension_by, joined_by, joined_of}
-use Rattle.term_simplify.proofs.Words.{by_parts, by_test, number_value, number_width, is_number, at_most, above}
+use Rattle.term_simplify.proofs.Words.{by_parts, value_by_test, number_value, number_width, is_number, is_at_most, not_at_most}
 use Rattle.term_simplify.proofs.TestRules.{not_negative}
 
 -- the top bit is 1 from the half on
@@ -16,23 +16,26 @@ negative : (v : BitVector) (n : ℕ) → n ≡ v.width → 2 ^ (n - 1) ≤ v.num
 negative v n e h =
     elim (is_negative v) as (λ b. (is_negative v ≡ b → b ≡ true)) [
       | true ↦ λ f. refl
-      | false ↦ λ f. let half : 2 ^ (n - 1) ≡ 2 ^ (v.width - 1) = ap (λ k. 2 ^ (k - 1)) e in absurd (omega (arith, above _ _ f, half, h))
+      | false ↦ λ f. let half : 2 ^ (n - 1) ≡ 2 ^ (v.width - 1) = ap (λ k. 2 ^ (k - 1)) e in absurd
+          (omega (arith, not_at_most _ _ f, half, h))
     ] refl
 
-further : (w i b : ℕ) → w + (i + b) ≡ w + i + b
-further w i b = omega arith
+sum_further : (w i b : ℕ) → w + (i + b) ≡ w + i + b
+sum_further w i b = omega arith
 
 -- ---- by zeros, and then either way
-zeros_again : (w i b : ℕ) (v : BitVector) → record { width = v.width + (i + b); number = v.number } ≡ zero_extend b (zero_extend i v)
+zeros_again : (w i b : ℕ) (v : BitVector) →
+    record { width = v.width + (i + b); number = v.number } ≡ zero_extend b (zero_extend i v)
 unfolding zero_extend
-zeros_again w i b v = by_parts (v.width + i + b) v.number _ (further v.width i b) refl
+zeros_again w i b v = by_parts (v.width + i + b) v.number _ (sum_further v.width i b) refl
 
-zeros_signed : (w i b : ℕ) (v : BitVector) → IsOfWidth w v → 1 ≤ i → record { width = v.width + (i + b); number = v.number } ≡ sign_extend b (zero_extend i v)
+zeros_signed : (w i b : ℕ) (v : BitVector) → IsOfWidth w v → 1 ≤ i →
+    record { width = v.width + (i + b); number = v.number } ≡ sign_extend b (zero_extend i v)
 unfolding zero_extend sign_extend
 zeros_signed w i b v p some =
     let small : v.number < 2 ^ (w + i - 1) = omega (arith, p.in_range, wider w (w + i - 1) (omega (arith, some))) in
     let plain : is_negative (record { width = v.width + i; number = v.number }) ≡ false = not_negative (w + i) (record { width = v.width + i; number = v.number }) (ap (λ k. k + i) p.width) small in
-    rw plain (by_parts (v.width + i + b) v.number _ (further v.width i b) refl)
+    rw plain (by_parts (v.width + i + b) v.number _ (sum_further v.width i b) refl)
 
 -- ---- by the sign, and again
 filled_half : (w i n : ℕ) → 0 < w → 2 ^ (w - 1) ≤ n → 2 ^ (w + i - 1) ≤ n + (2 ^ (w + i) - 2 ^ w)
@@ -42,31 +45,53 @@ filled_half w i n some h =
     let c : 2 ^ (w - 1) ≤ 2 ^ (w + i - 1) = wider (w - 1) (w + i - 1) (omega arith) in
     omega (arith, a, b, c, h)
 
-filled_twice : (w i b n : ℕ) → n + (2 ^ (w + (i + b)) - 2 ^ w) ≡ n + (2 ^ (w + i) - 2 ^ w) + (2 ^ (w + i + b) - 2 ^ (w + i))
+filled_twice : (w i b n : ℕ) →
+    n + (2 ^ (w + (i + b)) - 2 ^ w) ≡ n + (2 ^ (w + i) - 2 ^ w) + (2 ^ (w + i + b) - 2 ^ (w + i))
 filled_twice w i b n =
-    let e : 2 ^ (w + (i + b)) ≡ 2 ^ (w + i + b) = ap (λ k. 2 ^ k) (further w i b) in
+    let e : 2 ^ (w + (i + b)) ≡ 2 ^ (w + i + b) = ap (λ k. 2 ^ k) (sum_further w i b) in
     omega (arith, e, wider w (w + i) (omega arith), wider (w + i) (w + i + b) (omega arith))
 
-signs_again : (w i b : ℕ) (v : BitVector) → IsOfWidth w v → sign_extend (i + b) v ≡ sign_extend b (sign_extend i v)
+signs_again : (w i b : ℕ) (v : BitVector) → IsOfWidth w v →
+    sign_extend (i + b) v ≡ sign_extend b (sign_extend i v)
 unfolding sign_extend
 signs_again w i b v p =
     elim (is_negative v) as (λ k. (is_negative v ≡ k →
-    record { width = v.width + (i + b); number = cond k (v.number + (2 ^ (v.width + (i + b)) - 2 ^ v.width)) v.number } ≡ sign_extend b (record { width = v.width + i; number = cond k (v.number + (2 ^ (v.width + i) - 2 ^ v.width)) v.number }))) [
+    record {
+      width = v.width + (i + b);
+      number = cond k
+          (v.number + (2 ^ (v.width + (i + b)) - 2 ^ v.width)) v.number;
+    } ≡ sign_extend b
+    (record {
+      width = v.width + i;
+      number = cond k (v.number +
+          (2 ^ (v.width + i) - 2 ^ v.width)) v.number;
+    }))) [
       | true ↦ λ e.
-          let half : 2 ^ (v.width - 1) ≤ v.number = at_most _ _ e in
-          rw (negative (record { width = v.width + i; number = v.number + (2 ^ (v.width + i) - 2 ^ v.width) }) (v.width + i) refl (filled_half v.width i v.number (omega (arith, p.width, p.not_empty)) half))
-          (by_parts (v.width + i + b) _ _ (further v.width i b) (filled_twice v.width i b v.number))
+          let half : 2 ^ (v.width - 1) ≤ v.number = is_at_most _ _ e in
+          rw (negative (record {
+            width = v.width + i;
+            number = v.number +
+                (2 ^ (v.width + i) - 2 ^ v.width);
+          }) (v.width + i) refl
+          (filled_half v.width i v.number (omega (arith, p.width, p.not_empty)) half))
+          (by_parts (v.width + i + b) _ _ (sum_further v.width i b) (filled_twice v.width i b v.number))
       | false ↦ λ e.
-          let small : v.number < 2 ^ (v.width + i - 1) = omega (arith, above _ _ e, wider (v.width - 1) (v.width + i - 1) (omega arith)) in
-          rw (not_negative (v.width + i) (record { width = v.width + i; number = v.number }) refl small) (by_parts (v.width + i + b) v.number _ (further v.width i b) refl)
+          let small : v.number < 2 ^ (v.width + i - 1) = omega (arith, not_at_most _ _ e, wider (v.width - 1) (v.width + i - 1) (omega arith)) in
+          rw (not_negative (v.width + i) (record { width = v.width + i; number = v.number }) refl
+          small) (by_parts (v.width + i + b) v.number _ (sum_further v.width i b) refl)
     ] refl
 
-pub value-extension_by : (inputs : ℕ) (input : List ℕ) (by : ℕ) (signed : Bool) (t : Tree) → All (λ b. b < 256) input → IsTerm inputs (Widened by signed t) → tree_value input (extension_by by signed t) ≡ tree_value input (Widened by signed t)
+pub value-extension_by : (inputs : ℕ) (input : List ℕ) (by : ℕ) (signed : Bool) (t : Tree) →
+    All (λ b. b < 256) input → IsTerm inputs (Widened by signed t) →
+    tree_value input (extension_by by signed t) ≡ tree_value input (Widened by signed t)
 unfolding extension_by zero_extend
 value-extension_by inputs input by signed (Constant w v) bytes term = refl
-value-extension_by inputs input by false (Widened inner false t) bytes term = zeros_again (tree_width t) inner by (tree_value input t)
-value-extension_by inputs input by true (Widened inner false t) bytes term = zeros_signed (tree_width t) inner by (tree_value input t) (in_range inputs input bytes t term.0.0) term.0.1
-value-extension_by inputs input by true (Widened inner true t) bytes term = signs_again (tree_width t) inner by (tree_value input t) (in_range inputs input bytes t term.0.0)
+value-extension_by inputs input by false (Widened inner false t) bytes term = zeros_again
+    (tree_width t) inner by (tree_value input t)
+value-extension_by inputs input by true (Widened inner false t) bytes term = zeros_signed
+    (tree_width t) inner by (tree_value input t) (in_range inputs input bytes t term.0.0) term.0.1
+value-extension_by inputs input by true (Widened inner true t) bytes term = signs_again
+    (tree_width t) inner by (tree_value input t) (in_range inputs input bytes t term.0.0)
 value-extension_by inputs input by false (Widened inner true t) bytes term = refl
 value-extension_by inputs input by signed t bytes term = refl
 
@@ -74,22 +99,28 @@ value-extension_by inputs input by signed t bytes term = refl
 nothing_above : (k m : ℕ) → 0 * k + m ≡ m
 nothing_above k m = omega arith
 
-zero_above : (x y : BitVector) → x.number ≡ 0 → record { width = y.width + x.width; number = y.number } ≡ concat x y
+zero_joined : (x y : BitVector) → x.number ≡ 0 →
+    record { width = y.width + x.width; number = y.number } ≡ concat x y
 unfolding concat
-zero_above x y e = by_parts (x.width + y.width) _ _ (omega arith) (sym (ap (λ k. k * 2 ^ y.width + y.number) e ∙ nothing_above (2 ^ y.width) y.number))
+zero_joined x y e = by_parts (x.width + y.width) _ _ (omega arith)
+    (sym (ap (λ k. k * 2 ^ y.width + y.number) e ∙ nothing_above (2 ^ y.width) y.number))
 
-value-joined_by : (inputs : ℕ) (input : List ℕ) (x y : Option BitVector) (s t : Tree) → All (λ b. b < 256) input → IsTerm inputs (Joined s t) → tree_number s ≡ x → tree_number t ≡ y → tree_value input (joined_by x y s t) ≡ tree_value input (Joined s t)
+value-joined_by : (inputs : ℕ) (input : List ℕ) (x y : Option BitVector) (s t : Tree) →
+    All (λ b. b < 256) input → IsTerm inputs (Joined s t) → tree_number s ≡ x →
+    tree_number t ≡ y → tree_value input (joined_by x y s t) ≡ tree_value input (Joined s t)
 unfolding zero_extend
 value-joined_by inputs input (Some x) (Some y) s t bytes term e f = sym (cc (number_value input s x e, number_value input t y f))
 value-joined_by inputs input (Some x) None s t bytes term e f =
     let wide : x.width ≡ tree_width s = number_width s x e in
     let some : 0 < tree_width s = (in_range inputs input bytes s term.0).not_empty in
-    by_test input (x.number == 0) (extension_by x.width false t) (Joined s t) _
+    value_by_test input (x.number == 0) (extension_by x.width false t) (Joined s t) _
     (λ h. value-extension_by inputs input x.width false t bytes (term.1, omega (arith, wide, some), omega (arith, wide, term.2))
-    ∙ zero_above x (tree_value input t) (is_number _ _ h) ∙ ap (λ (v : BitVector). concat v (tree_value input t)) (sym (number_value input s x e)))
+    ∙ zero_joined x (tree_value input t) (is_number _ _ h) ∙ ap
+    (λ (v : BitVector). concat v (tree_value input t)) (sym (number_value input s x e)))
     (λ _. refl)
 value-joined_by inputs input None y s t bytes term e f = refl
 
-pub value-joined_of : (inputs : ℕ) (input : List ℕ) (s t : Tree) → All (λ b. b < 256) input → IsTerm inputs (Joined s t) → tree_value input (joined_of s t) ≡ tree_value input (Joined s t)
+pub value-joined_of : (inputs : ℕ) (input : List ℕ) (s t : Tree) → All (λ b. b < 256) input →
+    IsTerm inputs (Joined s t) → tree_value input (joined_of s t) ≡ tree_value input (Joined s t)
 unfolding joined_of
 value-joined_of inputs input s t bytes term = value-joined_by inputs input _ _ s t bytes term refl refl

@@ -11,7 +11,9 @@ use Rattle.term_simplify.proofs.ChoiceRules.{value-choice_of}
 use Rattle.term_simplify.proofs.PartRules.{value-part_of}
 use Rattle.term_simplify.proofs.ExtensionRules.{value-extension_by, value-joined_of}
 
-pub value-simplified : (inputs : ℕ) (input : List ℕ) → All (λ b. b < 256) input → (f : ℕ → Tree) (n : Node) → IsTerm inputs (node_tree f n) → tree_value input (simplified f n) ≡ tree_value input (node_tree f n)
+pub value-simplified : (inputs : ℕ) (input : List ℕ) → All (λ b. b < 256) input →
+    (f : ℕ → Tree) (n : Node) → IsTerm inputs (node_tree f n) →
+    tree_value input (simplified f n) ≡ tree_value input (node_tree f n)
 value-simplified inputs input bytes f (Num w v) term = refl
 value-simplified inputs input bytes f (Input i) term = refl
 value-simplified inputs input bytes f (Not a) term = value-complement_of inputs input (f a) bytes term
@@ -19,6 +21,7 @@ value-simplified inputs input bytes f (Neg a) term = value-negative_of inputs in
 value-simplified inputs input bytes f (Binary op a b) term = value-binary_of inputs input op (f a) (f b) bytes term
 value-simplified inputs input bytes f (Compare op a b) term = value-comparison_of inputs input op (f a) (f b) bytes term
 value-simplified inputs input bytes f (Ite c a b) term = value-choice_of inputs input (f c) (f a) (f b) bytes term
-value-simplified inputs input bytes f (Extract high low a) term = value-part_of inputs input bytes (f a) high low term.0 term.1 term.2
+value-simplified inputs input bytes f (Extract high low a) term = value-part_of inputs input bytes
+    (f a) high low term.0 term.1 term.2
 value-simplified inputs input bytes f (Extend by signed a) term = value-extension_by inputs input by signed (f a) bytes term
 value-simplified inputs input bytes f (Concat a b) term = value-joined_of inputs input (f a) (f b) bytes term

@@ -14,10 +14,11 @@ use Rattle.bv_dag.proofs.Numbers.{wider}
 use Rattle.term_trees.specs.Trees.{Tree, Constant, Part, Widened, Joined, tree_width, tree_value, IsTerm, IsOfWidth}
 use Rattle.term_trees.proofs.Ranges.{in_range}
 use Rattle.term_simplify.specs.Simplified.{tree_number, span_by, span_of, part_of}
-use Rattle.term_simplify.proofs.Words.{by_parts, by_test, number_value, lt_tells, le_tells, at_most}
+use Rattle.term_simplify.proofs.Words.{by_parts, value_by_test, number_value, lt_tells, le_tells, is_at_most}
 
 -- bits up to a place rest on the number cut behind that place
-field_same : (high low n m : ℕ) → low ≤ high → n % 2 ^ (high + 1) ≡ m % 2 ^ (high + 1) → n / 2 ^ low % 2 ^ (high - low + 1) ≡ m / 2 ^ low % 2 ^ (high - low + 1)
+field_same : (high low n m : ℕ) → low ≤ high → n % 2 ^ (high + 1) ≡ m % 2 ^ (high + 1) →
+    n / 2 ^ low % 2 ^ (high - low + 1) ≡ m / 2 ^ low % 2 ^ (high - low + 1)
 field_same high low n m h e =
     let k : high + 1 ≡ (high - low + 1) + low = omega arith in
     let f : n % 2 ^ ((high - low + 1) + low) ≡ m % 2 ^ ((high - low + 1) + low) = ap (λ j. n % 2 ^ j) (sym k) ∙ e ∙ ap (λ j. m % 2 ^ j) k in
@@ -31,29 +32,36 @@ above_it high w n k h =
     ∙ ap (λ j. (n + j) % 2 ^ (high + 1)) (sym (mul_assoc k (2 ^ (w - (high + 1))) (2 ^ (high + 1))))
     ∙ add-mul-mod_self_right n (k * 2 ^ (w - (high + 1))) (2 ^ (high + 1))
 
-whole_number : (high low w n : ℕ) → low ≡ 0 → high + 1 ≡ w → n < 2 ^ w → n / 2 ^ low % 2 ^ (high - low + 1) ≡ n
+whole_number : (high low w n : ℕ) → low ≡ 0 → high + 1 ≡ w → n < 2 ^ w →
+    n / 2 ^ low % 2 ^ (high - low + 1) ≡ n
 whole_number high low w n z e h =
     let k : high - low + 1 ≡ w = omega arith in
     rw (k, z, div-one n) (mod-eq_of_lt h)
 
-all_bits : (high low w : ℕ) (v : BitVector) → (low == 0 && high + 1 == w) ≡ true → IsOfWidth w v → v ≡ extract high low v
+all_bits : (high low w : ℕ) (v : BitVector) → (low == 0 && high + 1 == w) ≡ true → IsOfWidth w v →
+    v ≡ extract high low v
 unfolding extract
 all_bits high low w v whole p =
     elim (eqb_tells low 0) [
       | inl z ↦
           elim (eqb_tells (high + 1) w) [
-            | inl e ↦ by_parts (high - low + 1) _ v (omega (arith, p.width, z.1, e.1)) (sym (whole_number high low w v.number z.1 e.1 p.in_range))
+            | inl e ↦ by_parts (high - low + 1) _ v (omega (arith, p.width, z.1, e.1))
+                (sym (whole_number high low w v.number z.1 e.1 p.in_range))
             | inr e ↦ absurd (true≢false (sym whole ∙ ap (λ b. low == 0 && b) e.0 ∙ and-false (low == 0)))
           ]
       | inr z ↦ absurd (true≢false (sym whole ∙ ap (λ b. b && high + 1 == w) z.0))
     ]
 
-span_value : (input : List ℕ) (x : Option BitVector) (high low : ℕ) (t : Tree) → tree_number t ≡ x → low ≤ high → high < tree_width t → IsOfWidth (tree_width t) (tree_value input t) →
+span_value : (input : List ℕ) (x : Option BitVector) (high low : ℕ) (t : Tree) →
+    tree_number t ≡ x → low ≤ high → high < tree_width t →
+    IsOfWidth (tree_width t) (tree_value input t) →
     tree_value input (span_by x high low t) ≡ extract high low (tree_value input t)
 unfolding extract
 span_value input (Some x) high low t e order within p = sym (ap (extract high low) (number_value input t x e))
 span_value input None high low t e order within p =
-    elim (low == 0 && high + 1 == tree_width t) as (λ b. ((low == 0 && high + 1 == tree_width t) ≡ b → tree_value input (cond b t (Part high low t)) ≡ extract high low (tree_value input t))) [
+    elim (low == 0 && high + 1 == tree_width t) as (λ b.
+    ((low == 0 && high + 1 == tree_width t) ≡ b → tree_value input (cond b t (Part high low t))
+    ≡ extract high low (tree_value input t))) [
       | true ↦ λ whole. all_bits high low (tree_width t) (tree_value input t) whole p
       | false ↦ λ whole. refl
     ] refl
@@ -66,44 +74,65 @@ less_one a b h =
     let e : b ≡ (b - 1) + 1 = omega arith in
     ap (λ k. k - a) (mul_comm a b) ∙ ap (λ k. k * a - a) e ∙ take_one (b - 1) a
 
-ones_above : (w by : ℕ) → 2 ^ (w + by) - 2 ^ w ≡ (2 ^ by - 1) * 2 ^ w
-ones_above w by = ap (λ k. k - 2 ^ w) (pow-add 2 w by) ∙ less_one (2 ^ w) (2 ^ by) (pow_pos by)
+ones_over : (w by : ℕ) → 2 ^ (w + by) - 2 ^ w ≡ (2 ^ by - 1) * 2 ^ w
+ones_over w by = ap (λ k. k - 2 ^ w) (pow-add 2 w by) ∙ less_one (2 ^ w) (2 ^ by) (pow_pos by)
 
-turned : (a b : ℕ) → a + b ≡ b + a
-turned a b = omega arith
+sum_turned : (a b : ℕ) → a + b ≡ b + a
+sum_turned a b = omega arith
 
 -- the bits above a lower number
 field_above : (w low m n : ℕ) → n < 2 ^ w → w ≤ low → m / 2 ^ (low - w) ≡ (m * 2 ^ w + n) / 2 ^ low
 field_above w low m n h l =
     let e : low ≡ w + (low - w) = omega arith in
-    sym (ap (λ k. (m * 2 ^ w + n) / 2 ^ k) e ∙ sym (shr-shr (m * 2 ^ w + n) w (low - w)) ∙ ap (λ k. k / 2 ^ (low - w)) (shr_high m w n h))
+    sym (ap (λ k. (m * 2 ^ w + n) / 2 ^ k) e ∙ sym (shr-shr (m * 2 ^ w + n) w (low - w)) ∙ ap
+    (λ k. k / 2 ^ (low - w)) (shr_high m w n h))
 
 -- where bits of one value are bits of another
-same_bits : (high low : ℕ) (v w : BitVector) → low ≤ high → v.number % 2 ^ (high + 1) ≡ w.number % 2 ^ (high + 1) → extract high low v ≡ extract high low w
+same_bits : (high low : ℕ) (v w : BitVector) → low ≤ high →
+    v.number % 2 ^ (high + 1) ≡ w.number % 2 ^ (high + 1) →
+    extract high low v ≡ extract high low w
 unfolding extract
-same_bits high low v w order e = by_parts (high - low + 1) _ (extract high low v) refl (field_same high low v.number w.number order e)
+same_bits high low v w order e = by_parts (high - low + 1) _ (extract high low v) refl
+    (field_same high low v.number w.number order e)
 
-of_widened : (signed : Bool) (by w high low : ℕ) (v : BitVector) → IsOfWidth w v → low ≤ high → high < w → extract high low v ≡ extract high low (extend signed by v)
+of_widened : (signed : Bool) (by w high low : ℕ) (v : BitVector) → IsOfWidth w v → low ≤ high →
+    high < w → extract high low v ≡ extract high low (extend signed by v)
 unfolding zero_extend sign_extend
 of_widened false by w high low v p order h = same_bits high low v _ order refl
 of_widened true by w high low v p order h =
-    elim (is_negative v) as (λ b. extract high low v ≡ extract high low (record { width = v.width + by; number = cond b (v.number + (2 ^ (v.width + by) - 2 ^ v.width)) v.number })) [
-      | true ↦ same_bits high low v _ order (sym (ap (λ k. (v.number + k) % 2 ^ (high + 1)) (ones_above v.width by) ∙ above_it high v.width v.number (2 ^ by - 1) (omega (arith, p.width))))
+    elim (is_negative v) as (λ b. extract high low v ≡ extract high low
+    (record {
+      width = v.width + by;
+      number = cond b
+          (v.number + (2 ^ (v.width + by) - 2 ^ v.width)) v.number;
+    })) [
+      | true ↦ same_bits high low v _ order (sym (ap (λ k. (v.number + k) % 2 ^ (high + 1))
+          (ones_over v.width by) ∙ above_it high v.width v.number (2 ^ by - 1)
+          (omega (arith, p.width))))
       | false ↦ same_bits high low v _ order refl
     ]
 
-of_low : (v w : ℕ) (high low : ℕ) (s t : BitVector) → IsOfWidth w t → low ≤ high → high < w → extract high low t ≡ extract high low (concat s t)
+of_low : (v w : ℕ) (high low : ℕ) (s t : BitVector) → IsOfWidth w t → low ≤ high → high < w →
+    extract high low t ≡ extract high low (concat s t)
 unfolding concat
 of_low v w high low s t q order h =
-    same_bits high low t _ order (sym (ap (λ k. k % 2 ^ (high + 1)) (turned (s.number * 2 ^ t.width) t.number) ∙ above_it high t.width t.number s.number (omega (arith, q.width))))
+    same_bits high low t _ order (sym (ap (λ k. k % 2 ^ (high + 1))
+    (sum_turned (s.number * 2 ^ t.width) t.number) ∙ above_it high t.width t.number s.number
+    (omega (arith, q.width))))
 
-of_high : (w : ℕ) (high low : ℕ) (s t : BitVector) → IsOfWidth w t → low ≤ high → w ≤ low → extract (high - w) (low - w) s ≡ extract high low (concat s t)
+of_high : (w : ℕ) (high low : ℕ) (s t : BitVector) → IsOfWidth w t → low ≤ high → w ≤ low →
+    extract (high - w) (low - w) s ≡ extract high low (concat s t)
 unfolding extract concat
 of_high w high low s t q order h =
     let k : (high - w) - (low - w) ≡ high - low = omega arith in
-    rw (q.width, k) (ap {B = BitVector} (λ n. record { width = high - low + 1; number = n % 2 ^ (high - low + 1) }) (field_above w low s.number t.number q.in_range h))
+    rw (q.width, k) (ap {B = BitVector} (λ n. record {
+      width = high - low + 1;
+      number = n % 2 ^
+          (high - low + 1);
+    }) (field_above w low s.number t.number q.in_range h))
 
-of_part : (h l high low : ℕ) (v : BitVector) → low ≤ high → high < h - l + 1 → extract (high + l) (low + l) v ≡ extract high low (extract h l v)
+of_part : (h l high low : ℕ) (v : BitVector) → low ≤ high → high < h - l + 1 →
+    extract (high + l) (low + l) v ≡ extract high low (extract h l v)
 unfolding extract
 of_part h l high low v order within =
     let k : (high + l) - (low + l) ≡ high - low = omega arith in
@@ -111,7 +140,8 @@ of_part h l high low v order within =
     rw k (ap {B = BitVector} (λ n. record { width = high - low + 1; number = n }) (
     ap (λ n. n % 2 ^ (high - low + 1)) (ap (λ j. v.number / 2 ^ j) (omega arith) ∙ sym (shr-shr v.number l low))
     ∙ field_same high low (v.number / 2 ^ l) (v.number / 2 ^ l % 2 ^ (h - l + 1)) order
-    (sym (ap (λ j. v.number / 2 ^ l % 2 ^ j % 2 ^ (high + 1)) e ∙ mod-mod-pow (v.number / 2 ^ l) ((h - l + 1) - (high + 1)) (high + 1)))
+    (sym (ap (λ j. v.number / 2 ^ l % 2 ^ j % 2 ^ (high + 1)) e ∙ mod-mod-pow (v.number / 2 ^ l)
+    ((h - l + 1) - (high + 1)) (high + 1)))
     ))
 
 no_bits : (w high low n : ℕ) → n < 2 ^ w → w ≤ low → 0 ≡ n / 2 ^ low % 2 ^ (high - low + 1)
@@ -120,18 +150,26 @@ no_bits w high low n h l =
     sym (ap (λ k. k % 2 ^ (high - low + 1)) (div-eq_of_lt small) ∙ zero-mod (2 ^ (high - low + 1)))
 
 -- bits above a term that is widened by zeros
-over_zeros : (inputs : ℕ) (input : List ℕ) → All (λ b. b < 256) input → (by : ℕ) (signed : Bool) (t : Tree) (high low : ℕ) → IsTerm inputs (Widened by signed t) → low ≤ high → high < tree_width t + by →
-    tree_value input (cond (not signed && nat_le (tree_width t) low) (Constant (high - low + 1) 0) (span_of high low (Widened by signed t))) ≡ extract high low (extend signed by (tree_value input t))
+over_zeros : (inputs : ℕ) (input : List ℕ) → All (λ b. b < 256) input →
+    (by : ℕ) (signed : Bool) (t : Tree) (high low : ℕ) → IsTerm inputs (Widened by signed t) →
+    low ≤ high → high < tree_width t + by →
+    tree_value input (cond (not signed && nat_le (tree_width t) low) (Constant (high - low + 1) 0)
+    (span_of high low (Widened by signed t))) ≡ extract high low
+    (extend signed by (tree_value input t))
 unfolding extract zero_extend
-over_zeros inputs input bytes by true t high low term order within = span_value input _ high low (Widened by true t) refl order within (in_range inputs input bytes (Widened by true t) term)
+over_zeros inputs input bytes by true t high low term order within = span_value input _ high low
+    (Widened by true t) refl order within (in_range inputs input bytes (Widened by true t) term)
 over_zeros inputs input bytes by false t high low term order within =
-    by_test input (nat_le (tree_width t) low) (Constant (high - low + 1) 0) (span_of high low (Widened by false t)) _
+    value_by_test input (nat_le (tree_width t) low) (Constant (high - low + 1) 0) (span_of high low (Widened by false t)) _
     (λ h. ap {B = BitVector} (λ n. record { width = high - low + 1; number = n })
-    (no_bits (tree_width t) high low (tree_value input t).number (in_range inputs input bytes t term.0).in_range (at_most _ _ h)))
-    (λ _. span_value input _ high low (Widened by false t) refl order within (in_range inputs input bytes (Widened by false t) term))
+    (no_bits (tree_width t) high low (tree_value input t).number
+    (in_range inputs input bytes t term.0).in_range (is_at_most _ _ h)))
+    (λ _. span_value input _ high low (Widened by false t) refl order within
+    (in_range inputs input bytes (Widened by false t) term))
 
 -- bits of a term are worth those bits of its value
-pub value-part_of : (inputs : ℕ) (input : List ℕ) → All (λ b. b < 256) input → (t : Tree) (high low : ℕ) → IsTerm inputs t → low ≤ high → high < tree_width t →
+pub value-part_of : (inputs : ℕ) (input : List ℕ) → All (λ b. b < 256) input →
+    (t : Tree) (high low : ℕ) → IsTerm inputs t → low ≤ high → high < tree_width t →
     tree_value input (part_of high low t) ≡ extract high low (tree_value input t)
 unfolding part_of
 value-part_of inputs input bytes (Part h l t) high low term order within =
@@ -148,13 +186,19 @@ value-part_of inputs input bytes (Joined s t) high low term order within =
     elim (lt_tells high (tree_width t)) [
       | inl below ↦
           rw below.0 (value-part_of inputs input bytes t high low term.1 order below.1
-          ∙ of_low (tree_width s) (tree_width t) high low (tree_value input s) (tree_value input t) (in_range inputs input bytes t term.1) order below.1)
+          ∙ of_low (tree_width s) (tree_width t) high low (tree_value input s) (tree_value input t)
+          (in_range inputs input bytes t term.1) order below.1)
       | inr above ↦
           rw above.0 (elim (le_tells (tree_width t) low) [
             | inl over ↦
-                rw over.0 (value-part_of inputs input bytes s (high - tree_width t) (low - tree_width t) term.0 (omega (arith, order)) (omega (arith, within, above.1, over.1))
-                ∙ of_high (tree_width t) high low (tree_value input s) (tree_value input t) (in_range inputs input bytes t term.1) order over.1)
-            | inr across ↦ rw across.0 (span_value input _ high low (Joined s t) refl order within (in_range inputs input bytes (Joined s t) term))
+                rw over.0 (value-part_of inputs input bytes s (high - tree_width t)
+                (low - tree_width t) term.0 (omega (arith, order))
+                (omega (arith, within, above.1, over.1))
+                ∙ of_high (tree_width t) high low (tree_value input s) (tree_value input t)
+                (in_range inputs input bytes t term.1) order over.1)
+            | inr across ↦ rw across.0 (span_value input _ high low (Joined s t) refl order within
+                (in_range inputs input bytes (Joined s t) term))
           ])
     ]
-value-part_of inputs input bytes t high low term order within = span_value input _ high low t refl order within (in_range inputs input bytes t term)
+value-part_of inputs input bytes t high low term order within = span_value input _ high low t refl
+    order within (in_range inputs input bytes t term)

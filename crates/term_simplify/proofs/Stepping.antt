@@ -1,4 +1,5 @@
--- Terms on the way to an answer of several nodes: they stay as the graph goes on, and each step is by its operands.
+-- Terms on the way to an answer of several nodes: they stay as the graph goes on, and each step is
+-- by its operands.
 use Rattle.std.proofs.Common.{◌≡◌, ℕ, ◌+◌, ◌-◌, ◌<◌, Bool, List, length, refl, ap, sym, subst, ◌∙◌, arith}
 use Rattle.std.proofs.lemmas.List.{length-take}
 use Rattle.std.specs.Prelude.{Result, Ok, Err}
@@ -20,25 +21,29 @@ use Rattle.term_simplify.specs.Machine.{sign_tree, signed_tree, magnitude_tree, 
 use Rattle.term_simplify.specs.Steps.{Stands, sign_word, signed_word, magnitude_word, or_ones_word}
 
 -- a term is itself
-pub itself : (g : Graph) (a w : ℕ) → width_of g a ≡ w → 0 < w → Stands g a (tree_of g a) w (λ input. val g a input)
-itself g a w e some = record { there = there g a w e some; tree = refl; width = e; value = λ input bytes. refl }
+pub Stands-itself : (g : Graph) (a w : ℕ) → width_of g a ≡ w → 0 < w →
+    Stands g a (tree_of g a) w (λ input. val g a input)
+Stands-itself g a w e some = record { there = there g a w e some; tree = refl; width = e; value = λ input bytes. refl }
 
-longer : (g h : Graph) (a : ℕ) → Continues g h → a < length g.nodes → a < length h.nodes
-longer g h a grown at = omega (arith, ap length grown.front, at, length-take (length g.nodes) h.nodes)
+there_still : (g h : Graph) (a : ℕ) → Continues g h → a < length g.nodes → a < length h.nodes
+there_still g h a grown at = omega (arith, ap length grown.front, at, length-take (length g.nodes) h.nodes)
 
-pub kept : {g h : Graph} {a : ℕ} {t : Tree} {w : ℕ} {F : List ℕ → BitVector} → Continues g h → Stands g a t w F → Stands h a t w F
-kept {g = g} {h = h} {a = a} grown s = record {
-  there = longer g h a grown s.there;
+pub Stands-kept : {g h : Graph} {a : ℕ} {t : Tree} {w : ℕ} {F : List ℕ → BitVector} → Continues g h →
+    Stands g a t w F → Stands h a t w F
+Stands-kept {g = g} {h = h} {a = a} grown s = record {
+  there = there_still g h a grown s.there;
   tree = tree-grown g h a grown s.there ∙ s.tree;
   width = width-grown g h a grown s.there ∙ s.width;
   value = λ input bytes. value-grown g h a input grown s.there ∙ s.value input bytes;
 }
 
 -- a term of 32 bits after a step
-pub stays : {g h : Graph} (a w : ℕ) → Continues g h → width_of g a ≡ w → 0 < w → Stands h a (tree_of g a) w (λ input. val g a input)
-stays {g = g} a w grown e some = kept grown (itself g a w e some)
+pub Stands-grown : {g h : Graph} (a w : ℕ) → Continues g h → width_of g a ≡ w → 0 < w →
+    Stands h a (tree_of g a) w (λ input. val g a input)
+Stands-grown {g = g} a w grown e some = Stands-kept grown (Stands-itself g a w e some)
 
-pub if_ok : {A E : Type 0} (r : Result A E) (P Q : A → Type 0) → IfOk r P → ((x : A) → P x → Q x) → IfOk r Q
+pub if_ok : {A E : Type 0} (r : Result A E) (P Q : A → Type 0) → IfOk r P →
+    ((x : A) → P x → Q x) → IfOk r Q
 if_ok (Ok x) P Q p f = f x p
 if_ok (Err e) P Q p f = tt
 
@@ -47,8 +52,10 @@ on_ok (Ok x) p = p
 on_ok (Err e) p = tt
 
 -- ---- a step, by what its operands are
-pub neg_step : {g h : Graph} {a id : ℕ} {s : Tree} {w : ℕ} {F : List ℕ → BitVector} → Stands g a s w F →
-    Stands h id (negative_of (tree_of g a)) (width_of g a) (λ input. bvneg (val g a input)) → Stands h id (negative_of s) w (λ input. bvneg (F input))
+pub neg_step : {g h : Graph} {a id : ℕ} {s : Tree} {w : ℕ} {F : List ℕ → BitVector} →
+    Stands g a s w F →
+    Stands h id (negative_of (tree_of g a)) (width_of g a) (λ input. bvneg (val g a input)) →
+    Stands h id (negative_of s) w (λ input. bvneg (F input))
 neg_step first n = record {
   there = n.there;
   tree = n.tree ∙ ap negative_of first.tree;
@@ -56,8 +63,10 @@ neg_step first n = record {
   value = λ input bytes. n.value input bytes ∙ ap bvneg (first.value input bytes);
 }
 
-pub extract_step : {g h : Graph} {a id : ℕ} {s : Tree} {w : ℕ} {F : List ℕ → BitVector} (high low k : ℕ) → k ≡ high - low + 1 → Stands g a s w F →
-    Stands h id (part_of high low (tree_of g a)) (high - low + 1) (λ input. extract high low (val g a input)) → Stands h id (part_of high low s) k (λ input. extract high low (F input))
+pub extract_step : {g h : Graph} {a id : ℕ} {s : Tree} {w : ℕ} {F : List ℕ → BitVector} (high low k : ℕ) →
+    k ≡ high - low + 1 → Stands g a s w F →
+    Stands h id (part_of high low (tree_of g a)) (high - low + 1) (λ input. extract high low (val g a input)) →
+    Stands h id (part_of high low s) k (λ input. extract high low (F input))
 extract_step high low k e first n = record {
   there = n.there;
   tree = n.tree ∙ ap (part_of high low) first.tree;
@@ -65,8 +74,10 @@ extract_step high low k e first n = record {
   value = λ input bytes. n.value input bytes ∙ ap (extract high low) (first.value input bytes);
 }
 
-pub extend_step : {g h : Graph} {a id : ℕ} {s : Tree} {w : ℕ} {F : List ℕ → BitVector} (by : ℕ) (signed : Bool) → Stands g a s w F →
-    Stands h id (extension_by by signed (tree_of g a)) (width_of g a + by) (λ input. extend signed by (val g a input)) → Stands h id (extension_by by signed s) (w + by) (λ input. extend signed by (F input))
+pub extend_step : {g h : Graph} {a id : ℕ} {s : Tree} {w : ℕ} {F : List ℕ → BitVector} (by : ℕ) (signed : Bool) →
+    Stands g a s w F →
+    Stands h id (extension_by by signed (tree_of g a)) (width_of g a + by) (λ input. extend signed by (val g a input)) →
+    Stands h id (extension_by by signed s) (w + by) (λ input. extend signed by (F input))
 extend_step by signed first n = record {
   there = n.there;
   tree = n.tree ∙ ap (extension_by by signed) first.tree;
@@ -74,56 +85,75 @@ extend_step by signed first n = record {
   value = λ input bytes. n.value input bytes ∙ ap (extend signed by) (first.value input bytes);
 }
 
-pub binary_step : {g h : Graph} {a b id : ℕ} {s t : Tree} {w v : ℕ} {F G : List ℕ → BitVector} (op : BinaryOp) → Stands g a s w F → Stands g b t v G →
-    Stands h id (binary_of op (tree_of g a) (tree_of g b)) (width_of g a) (λ input. binary op (val g a input) (val g b input)) → Stands h id (binary_of op s t) w (λ input. binary op (F input) (G input))
+pub binary_step : {g h : Graph} {a b id : ℕ} {s t : Tree} {w v : ℕ} {F G : List ℕ → BitVector} (op : BinaryOp) →
+    Stands g a s w F → Stands g b t v G →
+    Stands h id (binary_of op (tree_of g a) (tree_of g b)) (width_of g a) (λ input. binary op (val g a input) (val g b input)) →
+    Stands h id (binary_of op s t) w (λ input. binary op (F input) (G input))
 binary_step {g = g} {b = b} {s = s} {F = F} op first second n = record {
   there = n.there;
   tree = n.tree ∙ ap (λ k. binary_of op k (tree_of g b)) first.tree ∙ ap (binary_of op s) second.tree;
   width = n.width ∙ first.width;
-  value = λ input bytes. n.value input bytes ∙ ap (λ k. binary op k (val g b input)) (first.value input bytes) ∙ ap (binary op (F input)) (second.value input bytes);
+  value = λ input bytes. n.value input bytes ∙ ap (λ k. binary op k (val g b input))
+      (first.value input bytes) ∙ ap (binary op (F input)) (second.value input bytes);
 }
 
-pub compare_step : {g h : Graph} {a b id : ℕ} {s t : Tree} {w v : ℕ} {F G : List ℕ → BitVector} (op : Comparison) → Stands g a s w F → Stands g b t v G →
-    Stands h id (comparison_of op (tree_of g a) (tree_of g b)) 1 (λ input. compare op (val g a input) (val g b input)) → Stands h id (comparison_of op s t) 1 (λ input. compare op (F input) (G input))
+pub compare_step : {g h : Graph} {a b id : ℕ} {s t : Tree} {w v : ℕ} {F G : List ℕ → BitVector} (op : Comparison) →
+    Stands g a s w F → Stands g b t v G →
+    Stands h id (comparison_of op (tree_of g a) (tree_of g b)) 1 (λ input. compare op (val g a input) (val g b input)) →
+    Stands h id (comparison_of op s t) 1 (λ input. compare op (F input) (G input))
 compare_step {g = g} {b = b} {s = s} {F = F} op first second n = record {
   there = n.there;
   tree = n.tree ∙ ap (λ k. comparison_of op k (tree_of g b)) first.tree ∙ ap (comparison_of op s) second.tree;
   width = n.width;
-  value = λ input bytes. n.value input bytes ∙ ap (λ k. compare op k (val g b input)) (first.value input bytes) ∙ ap (compare op (F input)) (second.value input bytes);
+  value = λ input bytes. n.value input bytes ∙ ap (λ k. compare op k (val g b input))
+      (first.value input bytes) ∙ ap (compare op (F input)) (second.value input bytes);
 }
 
-pub ite_step : {g h : Graph} {c a b id : ℕ} {r s t : Tree} {u w v : ℕ} {C F G : List ℕ → BitVector} → Stands g c r u C → Stands g a s w F → Stands g b t v G →
-    Stands h id (choice_of (tree_of g c) (tree_of g a) (tree_of g b)) (width_of g a) (λ input. ite (val g c input) (val g a input) (val g b input)) → Stands h id (choice_of r s t) w (λ input. ite (C input) (F input) (G input))
+pub ite_step : {g h : Graph} {c a b id : ℕ} {r s t : Tree} {u w v : ℕ} {C F G : List ℕ → BitVector} →
+    Stands g c r u C → Stands g a s w F → Stands g b t v G →
+    Stands h id (choice_of (tree_of g c) (tree_of g a) (tree_of g b)) (width_of g a)
+    (λ input. ite (val g c input) (val g a input) (val g b input)) →
+    Stands h id (choice_of r s t) w (λ input. ite (C input) (F input) (G input))
 ite_step {g = g} {a = a} {b = b} {r = r} {s = s} {C = C} {F = F} condition first second n = record {
   there = n.there;
-  tree = n.tree ∙ ap (λ k. choice_of k (tree_of g a) (tree_of g b)) condition.tree ∙ ap (λ k. choice_of r k (tree_of g b)) first.tree ∙ ap (choice_of r s) second.tree;
+  tree = n.tree ∙ ap (λ k. choice_of k (tree_of g a) (tree_of g b)) condition.tree ∙ ap
+      (λ k. choice_of r k (tree_of g b)) first.tree ∙ ap (choice_of r s) second.tree;
   width = n.width ∙ first.width;
   value = λ input bytes.
       n.value input bytes ∙ ap (λ k. ite k (val g a input) (val g b input)) (condition.value input bytes)
-      ∙ ap (λ k. ite (C input) k (val g b input)) (first.value input bytes) ∙ ap (ite (C input) (F input)) (second.value input bytes);
+      ∙ ap (λ k. ite (C input) k (val g b input)) (first.value input bytes) ∙ ap
+      (ite (C input) (F input)) (second.value input bytes);
 }
 
 -- ---- calls of several steps, by what their operands are
-pub signed_step : {g h : Graph} {c a id : ℕ} {r s : Tree} {u w : ℕ} {C F : List ℕ → BitVector} → Stands g c r u C → Stands g a s w F →
-    Stands h id (signed_tree (tree_of g c) (tree_of g a)) 32 (λ input. signed_word (val g c input) (val g a input)) → Stands h id (signed_tree r s) 32 (λ input. signed_word (C input) (F input))
+pub signed_step : {g h : Graph} {c a id : ℕ} {r s : Tree} {u w : ℕ} {C F : List ℕ → BitVector} →
+    Stands g c r u C → Stands g a s w F →
+    Stands h id (signed_tree (tree_of g c) (tree_of g a)) 32 (λ input. signed_word (val g c input) (val g a input)) →
+    Stands h id (signed_tree r s) 32 (λ input. signed_word (C input) (F input))
 signed_step {g = g} {a = a} {r = r} {C = C} bit first n = record {
   there = n.there;
   tree = n.tree ∙ ap (λ k. signed_tree k (tree_of g a)) bit.tree ∙ ap (signed_tree r) first.tree;
   width = n.width;
-  value = λ input bytes. n.value input bytes ∙ ap (λ k. signed_word k (val g a input)) (bit.value input bytes) ∙ ap (signed_word (C input)) (first.value input bytes);
+  value = λ input bytes. n.value input bytes ∙ ap (λ k. signed_word k (val g a input))
+      (bit.value input bytes) ∙ ap (signed_word (C input)) (first.value input bytes);
 }
 
-pub or_ones_step : {g h : Graph} {a b id : ℕ} {s t : Tree} {w v : ℕ} {F G : List ℕ → BitVector} → Stands g a s w F → Stands g b t v G →
-    Stands h id (or_ones_tree (tree_of g a) (tree_of g b)) 32 (λ input. or_ones_word (val g a input) (val g b input)) → Stands h id (or_ones_tree s t) 32 (λ input. or_ones_word (F input) (G input))
+pub or_ones_step : {g h : Graph} {a b id : ℕ} {s t : Tree} {w v : ℕ} {F G : List ℕ → BitVector} →
+    Stands g a s w F → Stands g b t v G →
+    Stands h id (or_ones_tree (tree_of g a) (tree_of g b)) 32 (λ input. or_ones_word (val g a input) (val g b input)) →
+    Stands h id (or_ones_tree s t) 32 (λ input. or_ones_word (F input) (G input))
 or_ones_step {g = g} {b = b} {s = s} {F = F} first second n = record {
   there = n.there;
   tree = n.tree ∙ ap (λ k. or_ones_tree k (tree_of g b)) first.tree ∙ ap (or_ones_tree s) second.tree;
   width = n.width;
-  value = λ input bytes. n.value input bytes ∙ ap (λ k. or_ones_word k (val g b input)) (first.value input bytes) ∙ ap (or_ones_word (F input)) (second.value input bytes);
+  value = λ input bytes. n.value input bytes ∙ ap (λ k. or_ones_word k (val g b input))
+      (first.value input bytes) ∙ ap (or_ones_word (F input)) (second.value input bytes);
 }
 
-pub sign_step : {g h : Graph} {a id : ℕ} {s : Tree} {w : ℕ} {F : List ℕ → BitVector} → Stands g a s w F →
-    Stands h id (sign_tree (tree_of g a)) 1 (λ input. sign_word (val g a input)) → Stands h id (sign_tree s) 1 (λ input. sign_word (F input))
+pub sign_step : {g h : Graph} {a id : ℕ} {s : Tree} {w : ℕ} {F : List ℕ → BitVector} →
+    Stands g a s w F →
+    Stands h id (sign_tree (tree_of g a)) 1 (λ input. sign_word (val g a input)) →
+    Stands h id (sign_tree s) 1 (λ input. sign_word (F input))
 sign_step first n = record {
   there = n.there;
   tree = n.tree ∙ ap sign_tree first.tree;
@@ -131,8 +161,10 @@ sign_step first n = record {
   value = λ input bytes. n.value input bytes ∙ ap sign_word (first.value input bytes);
 }
 
-pub magnitude_step : {g h : Graph} {a id : ℕ} {s : Tree} {w : ℕ} {F : List ℕ → BitVector} → Stands g a s w F →
-    Stands h id (magnitude_tree (tree_of g a)) 32 (λ input. magnitude_word (val g a input)) → Stands h id (magnitude_tree s) 32 (λ input. magnitude_word (F input))
+pub magnitude_step : {g h : Graph} {a id : ℕ} {s : Tree} {w : ℕ} {F : List ℕ → BitVector} →
+    Stands g a s w F →
+    Stands h id (magnitude_tree (tree_of g a)) 32 (λ input. magnitude_word (val g a input)) →
+    Stands h id (magnitude_tree s) 32 (λ input. magnitude_word (F input))
 magnitude_step first n = record {
   there = n.there;
   tree = n.tree ∙ ap magnitude_tree first.tree;
@@ -141,29 +173,46 @@ magnitude_step first n = record {
 }
 
 -- ---- the machine's trees
-pub as_quotient : {g : Graph} {id : ℕ} {F : List ℕ → BitVector} (s t : Tree) → Stands g id (or_ones_tree t (signed_quotient_tree s t)) 32 F → Stands g id (quotient_tree s t) 32 F
+pub as_quotient : {g : Graph} {id : ℕ} {F : List ℕ → BitVector} (s t : Tree) →
+    Stands g id (or_ones_tree t (signed_quotient_tree s t)) 32 F →
+    Stands g id (quotient_tree s t) 32 F
 unfolding quotient_tree
 as_quotient s t n = n
 
-pub as_remainder : {g : Graph} {id : ℕ} {F : List ℕ → BitVector} (s t : Tree) → Stands g id (signed_tree (sign_tree s) (binary_of Urem (magnitude_tree s) (magnitude_tree t))) 32 F → Stands g id (remainder_tree s t) 32 F
+pub as_remainder : {g : Graph} {id : ℕ} {F : List ℕ → BitVector} (s t : Tree) →
+    Stands g id (signed_tree (sign_tree s) (binary_of Urem (magnitude_tree s) (magnitude_tree t))) 32 F →
+    Stands g id (remainder_tree s t) 32 F
 unfolding remainder_tree
 as_remainder s t n = n
 
-pub as_upper : {g : Graph} {id : ℕ} {F : List ℕ → BitVector} (first second : Bool) (s t : Tree) → Stands g id (part_of 63 32 (binary_of Mul (extension_by 32 first s) (extension_by 32 second t))) 32 F → Stands g id (upper_tree first second s t) 32 F
+pub as_upper : {g : Graph} {id : ℕ} {F : List ℕ → BitVector} (first second : Bool) (s t : Tree) →
+    Stands g id (part_of 63 32 (binary_of Mul (extension_by 32 first s) (extension_by 32 second t))) 32 F →
+    Stands g id (upper_tree first second s t) 32 F
 unfolding upper_tree
 as_upper first second s t n = n
 
 -- the same value in other words
-pub worth : {g : Graph} {id : ℕ} {t : Tree} {w : ℕ} {F G : List ℕ → BitVector} → ((input : List ℕ) → All (λ b. b < 256) input → F input ≡ G input) → Stands g id t w F → Stands g id t w G
-worth same s = record { there = s.there; tree = s.tree; width = s.width; value = λ input bytes. s.value input bytes ∙ same input bytes }
+pub Stands-worth : {g : Graph} {id : ℕ} {t : Tree} {w : ℕ} {F G : List ℕ → BitVector} →
+    ((input : List ℕ) → All (λ b. b < 256) input → F input ≡ G input) → Stands g id t w F →
+    Stands g id t w G
+Stands-worth same s = record {
+  there = s.there;
+  tree = s.tree;
+  width = s.width;
+  value = λ input
+      bytes. s.value input bytes ∙ same input bytes;
+}
 
 -- a tree that stays is a term
-pub term_before : {g h : Graph} (a w : ℕ) → Continues g h → width_of g a ≡ w → 0 < w → IsTerm h.inputs (tree_of h a) → IsTerm g.inputs (tree_of g a)
+pub term_before : {g h : Graph} (a w : ℕ) → Continues g h → width_of g a ≡ w → 0 < w →
+    IsTerm h.inputs (tree_of h a) → IsTerm g.inputs (tree_of g a)
 term_before {g = g} {h = h} a w grown e some term =
     subst (λ k. IsTerm k (tree_of g a)) grown.inputs (subst (IsTerm h.inputs) (tree-grown g h a grown (there g a w e some)) term)
 
 -- and its value is of 32 bits
-pub of_32 : (g : Graph) (a : ℕ) (input : List ℕ) → All (λ b. b < 256) input → IsTerm g.inputs (tree_of g a) → width_of g a ≡ 32 → IsOfWidth 32 (val g a input)
+pub of_32 : (g : Graph) (a : ℕ) (input : List ℕ) → All (λ b. b < 256) input →
+    IsTerm g.inputs (tree_of g a) → width_of g a ≡ 32 → IsOfWidth 32 (val g a input)
 of_32 g a input bytes term e =
     let p : IsOfWidth (tree_width (tree_of g a)) (tree_value input (tree_of g a)) = in_range g.inputs input bytes (tree_of g a) term in
-    subst (IsOfWidth 32) (value-tree_of g a input) (subst (λ w. IsOfWidth w (tree_value input (tree_of g a))) (width-tree_of g a ∙ e) p)
+    subst (IsOfWidth 32) (value-tree_of g a input) (subst
+    (λ w. IsOfWidth w (tree_value input (tree_of g a))) (width-tree_of g a ∙ e) p)

@@ -6,18 +6,21 @@ use Rattle.bv_dag.specs.BitVectors.{BitVector, bvnot, bvneg, bvadd, bvsub}
 use Rattle.term_trees.specs.Trees.{IsOfWidth}
 use Rattle.term_simplify.proofs.Words.{by_number, by_cut, own_cut}
 
-pub zero_plus : (w : ℕ) (x y : BitVector) → IsOfWidth w x → IsOfWidth w y → x.number ≡ 0 → y ≡ bvadd x y
+pub zero_plus : (w : ℕ) (x y : BitVector) → IsOfWidth w x → IsOfWidth w y → x.number ≡ 0 →
+    y ≡ bvadd x y
 unfolding bvadd
 zero_plus w x y p q z = rw p.width (by_cut w y (x.number + y.number) q (omega (arith, z)))
 
-pub plus_zero : (w : ℕ) (x y : BitVector) → IsOfWidth w x → IsOfWidth w y → y.number ≡ 0 → x ≡ bvadd x y
+pub plus_zero : (w : ℕ) (x y : BitVector) → IsOfWidth w x → IsOfWidth w y → y.number ≡ 0 →
+    x ≡ bvadd x y
 unfolding bvadd
 plus_zero w x y p q z = own_cut w x (x.number + y.number) p (omega (arith, z))
 
 one_whole : (a b : ℕ) → a + (b - 0) ≡ a + 1 * b
 one_whole a b = omega arith
 
-pub less_zero : (w : ℕ) (x y : BitVector) → IsOfWidth w x → IsOfWidth w y → y.number ≡ 0 → x ≡ bvsub x y
+pub less_zero : (w : ℕ) (x y : BitVector) → IsOfWidth w x → IsOfWidth w y → y.number ≡ 0 →
+    x ≡ bvsub x y
 unfolding bvsub
 less_zero w x y p q z =
     by_number x _ (sym (

@@ -8,8 +8,10 @@ use Rattle.term_trees.specs.Growth.{Continues}
 use Rattle.term_trees.specs.Trees.{Tree, tree_of}
 use Rattle.term_simplify.specs.Simplified.{simplified}
 
--- the answer of a call: the graph goes on, the term is there, is this tree, has so many bits, and is worth this
-pub record Builds (old new : Graph) (id : ℕ) (made : Tree) (bits : ℕ) (word : List ℕ → BitVector) : Type 0 where
+-- the answer of a call: the graph goes on, the term is there, is this tree, has so many bits, and
+-- is worth this
+pub record Builds (old new : Graph) (id : ℕ) (made : Tree) (bits : ℕ) (word : List ℕ → BitVector) :
+    Type 0 where
   pub continues : Continues old new
   pub there : id < length new.nodes
   pub tree : tree_of new id ≡ made
@@ -19,4 +21,5 @@ pub record Builds (old new : Graph) (id : ℕ) (made : Tree) (bits : ℕ) (word 
 -- the answer for a node: its simplified tree, as wide as the node, and worth what the node is worth
 abbrev pub BuildsNode : (old new : Graph) → Node → (id : ℕ) → Type 0
 BuildsNode old new node id =
-    Builds old new id (simplified (tree_of old) node) (node_width (widths_of old.nodes) node) (λ input. node_value input (λ k. val old k input) node)
+    Builds old new id (simplified (tree_of old) node) (node_width (widths_of old.nodes) node)
+    (λ input. node_value input (λ k. val old k input) node)

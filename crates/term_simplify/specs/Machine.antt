@@ -1,5 +1,5 @@
--- What the machine's products, quotients and remainders are made of: RISC-V unprivileged manual, "M Extension for Integer
--- Multiplication and Division". The operands are terms of 32 bits.
+-- What the machine's products, quotients and remainders are made of: RISC-V unprivileged manual, "M
+-- Extension for Integer Multiplication and Division". The operands are terms of 32 bits.
 use Rattle.std.specs.Prelude.{ℕ, ◌-◌, ◌^◌, Bool}
 use Rattle.bv_dag.specs.Graphs.{Graph, number_of}
 use Rattle.bv_dag.specs.declared.nodes.BinaryOp.TheVariants.{Mul, Udiv, Urem, Xor}
@@ -24,11 +24,14 @@ magnitude_tree t = signed_tree (sign_tree t) t
 
 -- the quotient of the magnitudes, negative where the signs differ
 abbrev pub signed_quotient_tree : Tree → Tree → Tree
-signed_quotient_tree s t = signed_tree (binary_of Xor (sign_tree s) (sign_tree t)) (binary_of Udiv (magnitude_tree s) (magnitude_tree t))
+signed_quotient_tree s t =
+    signed_tree (binary_of Xor (sign_tree s) (sign_tree t))
+    (binary_of Udiv (magnitude_tree s) (magnitude_tree t))
 
 -- all ones where the divisor is 0, else the quotient
 abbrev pub or_ones_tree : (divisor quotient : Tree) → Tree
-or_ones_tree divisor quotient = choice_of (comparison_of Eq divisor (Constant 32 0)) (Constant 32 (2 ^ 32 - 1)) quotient
+or_ones_tree divisor quotient =
+    choice_of (comparison_of Eq divisor (Constant 32 0)) (Constant 32 (2 ^ 32 - 1)) quotient
 
 -- DIV
 unfoldable pub quotient_tree : Tree → Tree → Tree
@@ -36,13 +39,17 @@ quotient_tree s t = or_ones_tree t (signed_quotient_tree s t)
 
 -- REM: the remainder of the magnitudes with the sign of the dividend, and so the dividend by zero
 unfoldable pub remainder_tree : Tree → Tree → Tree
-remainder_tree s t = signed_tree (sign_tree s) (binary_of Urem (magnitude_tree s) (magnitude_tree t))
+remainder_tree s t =
+    signed_tree (sign_tree s) (binary_of Urem (magnitude_tree s) (magnitude_tree t))
 
 -- MULH, MULHSU, MULHU: the upper 32 bits of the product of 64, by whether each operand is signed
 unfoldable pub upper_tree : (first second : Bool) → Tree → Tree → Tree
-upper_tree first second s t = part_of 63 32 (binary_of Mul (extension_by 32 first s) (extension_by 32 second t))
+upper_tree first second s t =
+    part_of 63 32 (binary_of Mul (extension_by 32 first s) (extension_by 32 second t))
 
 -- the answer for an instruction: this tree, of 32 bits, worth what the machine computes
-abbrev pub BuildsCombined : (old new : Graph) → RegisterOp → (a b : ℕ) → (made : Tree) → (id : ℕ) → Type 0
+abbrev pub BuildsCombined : (old new : Graph) → RegisterOp → (a b : ℕ) → (made : Tree) →
+    (id : ℕ) → Type 0
 BuildsCombined old new op a b made id =
-    Builds old new id made 32 (λ input. record { width = 32; number = combined op (number_of old a input) (number_of old b input) })
+    Builds old new id made 32
+    (λ input. record { width = 32; number = combined op (number_of old a input) (number_of old b input) })

@@ -52,9 +52,12 @@ pub record IsSpan (graph : Graph) (span : Span) : Type 0 where
 pub record IsInner (graph : Graph) (span inner : Span) : Type 0 where
   pub is_span : IsSpan graph inner
   pub earlier : inner.operand < span.operand
-  pub same : part_of span.high span.low (tree_of graph span.operand) ≡ part_of inner.high inner.low (tree_of graph inner.operand)
+  pub same : part_of span.high span.low (tree_of graph span.operand) ≡
+      part_of inner.high inner.low (tree_of graph inner.operand)
 
 -- bits that lie in no smaller term: zeros where they are above one widened by zeros
 abbrev pub rest_of : (high low : ℕ) → Tree → Tree
-rest_of high low (Widened by false t) = if nat_le (tree_width t) low then Constant (high - low + 1) 0 else span_of high low (Widened by false t)
+rest_of high low (Widened by false t) =
+    if nat_le (tree_width t) low then Constant (high - low + 1) 0
+    else span_of high low (Widened by false t)
 rest_of high low t = span_of high low t

@@ -1,5 +1,6 @@
--- What a term is simplified to: a tree, from the trees of its operands. Each rule is decided by the numbers that operands
--- are and by their top nodes. None compares two subtrees, and none decides a relation between two input bytes.
+-- What a term is simplified to: a tree, from the trees of its operands. Each rule is decided by the
+-- numbers that operands are and by their top nodes. None compares two subtrees, and none decides a
+-- relation between two input bytes.
 use Rattle.std.specs.Prelude.{ℕ, ◌+◌, ◌-◌, ◌^◌, ◌==◌, ◌&&◌, Bool, true, false, not, nat_lt, nat_le, Option, Some, None, if◌then◌else◌}
 use Rattle.bv_dag.specs.BitVectors.{BitVector, bit, is_negative, bvnot, bvneg, extract, concat}
 use Rattle.bv_dag.specs.Nodes.{binary, compare, extend}
@@ -37,8 +38,9 @@ negative_of (Negated t) = t
 negative_of t = Negated t
 
 -- ---- Two operands of one width.
--- Of a number and a term: 0 + t, 0 | t and 0 ^ t are t, 0 * t and 0 & t are 0, 1 * t is t; all ones & t is t, all ones | t is
--- all ones; and 0 shifted is 0.
+-- Of a number and a term:
+--   0 + t, 0 | t and 0 ^ t are t;  0 * t and 0 & t are 0, and so is 0 shifted by t;  1 * t is t;
+--   with all ones, & is t and | is all ones.
 abbrev pub number_first : BinaryOp → BitVector → (s t : Tree) → Tree
 number_first Add x s t = if x.number == 0 then t else Two Add s t
 number_first Mul x s t = if x.number == 0 then s else (if x.number == 1 then t else Two Mul s t)
@@ -52,20 +54,30 @@ number_first Sub x s t = Two Sub s t
 number_first Udiv x s t = Two Udiv s t
 number_first Urem x s t = Two Urem s t
 
--- Of a term and a number: s + 0, s - 0, s | 0, s ^ 0 and s shifted by 0 are s, s * 0 and s & 0 are 0, s * 1 and s / 1 are s,
--- s % 1 is 0; s / 0 is all ones, and s % 0 is s; s & all ones is s, s | all ones is all ones; and s shifted by its width or
--- more is 0, but for a shift that copies the sign.
+-- Of a term and a number:
+--   s + 0, s - 0, s | 0, s ^ 0 and s shifted by 0 are s;  s * 0 and s & 0 are 0;
+--   s * 1 and s / 1 are s, and s % 1 is 0;  s / 0 is all ones, and s % 0 is s;
+--   with all ones, & is s and | is all ones;
+--   s shifted by its width or more is 0, but for a shift that copies the sign.
 abbrev pub number_second : BinaryOp → BitVector → (s t : Tree) → Tree
 number_second Add y s t = if y.number == 0 then s else Two Add s t
 number_second Sub y s t = if y.number == 0 then s else Two Sub s t
 number_second Mul y s t = if y.number == 0 then t else (if y.number == 1 then s else Two Mul s t)
-number_second Udiv y s t = if y.number == 0 then Constant y.width (2 ^ y.width - 1) else (if y.number == 1 then s else Two Udiv s t)
-number_second Urem y s t = if y.number == 0 then s else (if y.number == 1 then Constant y.width 0 else Two Urem s t)
+number_second Udiv y s t =
+    if y.number == 0 then Constant y.width (2 ^ y.width - 1)
+    else (if y.number == 1 then s else Two Udiv s t)
+number_second Urem y s t =
+    if y.number == 0 then s
+    else (if y.number == 1 then Constant y.width 0 else Two Urem s t)
 number_second And y s t = if y.number == 0 then t else (if is_ones y then s else Two And s t)
 number_second Or y s t = if y.number == 0 then s else (if is_ones y then t else Two Or s t)
 number_second Xor y s t = if y.number == 0 then s else Two Xor s t
-number_second Shl y s t = if y.number == 0 then s else (if nat_le y.width y.number then Constant y.width 0 else Two Shl s t)
-number_second Lshr y s t = if y.number == 0 then s else (if nat_le y.width y.number then Constant y.width 0 else Two Lshr s t)
+number_second Shl y s t =
+    if y.number == 0 then s
+    else (if nat_le y.width y.number then Constant y.width 0 else Two Shl s t)
+number_second Lshr y s t =
+    if y.number == 0 then s
+    else (if nat_le y.width y.number then Constant y.width 0 else Two Lshr s t)
 number_second Ashr y s t = if y.number == 0 then s else Two Ashr s t
 
 abbrev pub binary_by : BinaryOp → Option BitVector → Option BitVector → (s t : Tree) → Tree
@@ -78,7 +90,8 @@ unfoldable pub binary_of : BinaryOp → Tree → Tree → Tree
 binary_of op s t = binary_by op (tree_number s) (tree_number t) s t
 
 -- ---- Tests.
--- a term of which no number from this one on is a value, since it is a narrower one widened by zeros
+-- a term of which no number from this one on is a value, since it is a narrower one widened by
+-- zeros
 abbrev pub excludes : Tree → ℕ → Bool
 excludes (Widened by false t) n = nat_le (2 ^ tree_width t) n
 excludes t n = false
@@ -93,21 +106,26 @@ abbrev pub bit_is : Option Tree → ℕ → (otherwise : Tree) → Tree
 bit_is (Some t) n otherwise = if n == 1 then t else complement_of t
 bit_is None n otherwise = otherwise
 
--- whether a term is a number: not where that is beyond its range, and the bit or its complement where it has but one bit
+-- whether a term is a number: not where that is beyond its range, and the bit or its complement
+-- where it has but one bit
 abbrev pub equality_of : Tree → ℕ → (otherwise : Tree) → Tree
 equality_of t n otherwise = if excludes t n then Constant 1 0 else bit_is (bit_under t) n otherwise
 
--- Of a number and a term. A term widened by zeros is below each number beyond its range, and above each negative one, which
--- is also beyond it.
+-- Of a number and a term. A term widened by zeros is below each number beyond its range, and above
+-- each negative one, which is also beyond it.
 abbrev pub test_first : Comparison → BitVector → (s t : Tree) → Tree
 test_first Ult x s t = if excludes t x.number then Constant 1 0 else Test Ult s t
-test_first Slt x s t = if excludes t x.number then number_tree (bit (is_negative x)) else Test Slt s t
+test_first Slt x s t =
+    if excludes t x.number then number_tree (bit (is_negative x)) else Test Slt s t
 test_first Eq x s t = equality_of t x.number (Test Eq s t)
 
 -- Of a term and a number. Nothing is below 0 without sign.
 abbrev pub test_second : Comparison → BitVector → (s t : Tree) → Tree
-test_second Ult y s t = if y.number == 0 then Constant 1 0 else (if excludes s y.number then Constant 1 1 else Test Ult s t)
-test_second Slt y s t = if excludes s y.number then number_tree (bit (not (is_negative y))) else Test Slt s t
+test_second Ult y s t =
+    if y.number == 0 then Constant 1 0
+    else (if excludes s y.number then Constant 1 1 else Test Ult s t)
+test_second Slt y s t =
+    if excludes s y.number then number_tree (bit (not (is_negative y))) else Test Slt s t
 test_second Eq y s t = equality_of s y.number (Test Eq s t)
 
 abbrev pub comparison_by : Comparison → Option BitVector → Option BitVector → (s t : Tree) → Tree
@@ -119,7 +137,8 @@ comparison_by op None None s t = Test op s t
 unfoldable pub comparison_of : Comparison → Tree → Tree → Tree
 comparison_of op s t = comparison_by op (tree_number s) (tree_number t) s t
 
--- ---- A choice by a number is the term that it chooses, and one of the bits 1 and 0 is its condition, or the complement.
+-- ---- A choice by a number is the term that it chooses, and one of the bits 1 and 0 is its
+-- condition, or the complement.
 abbrev pub bit_choice : (x y : BitVector) → (c s t : Tree) → Tree
 bit_choice x y c s t =
     if x.width == 1 && x.number == 1 && y.number == 0 then c
@@ -137,7 +156,8 @@ choice_on None c s t = choice_between (tree_number s) (tree_number t) c s t
 unfoldable pub choice_of : Tree → Tree → Tree → Tree
 choice_of c s t = choice_on (tree_number c) c s t
 
--- ---- Bits from one place down to another. Of a number they are a number, and all bits are the term.
+-- ---- Bits from one place down to another. Of a number they are a number, and all bits are the
+-- term.
 abbrev pub span_by : Option BitVector → (high low : ℕ) → Tree → Tree
 span_by (Some x) high low t = number_tree (extract high low x)
 span_by None high low t = if low == 0 && high + 1 == tree_width t then t else Part high low t
@@ -145,21 +165,29 @@ span_by None high low t = if low == 0 && high + 1 == tree_width t then t else Pa
 abbrev pub span_of : (high low : ℕ) → Tree → Tree
 span_of high low t = span_by (tree_number t) high low t
 
--- Where they are bits of a smaller term, they are taken of that, and zeros where they lie above one widened by zeros.
+-- Where they are bits of a smaller term, they are taken of that, and zeros where they lie above one
+-- widened by zeros.
 unfoldable pub part_of : (high low : ℕ) → Tree → Tree
 part_of high low (Part h l t) = part_of (high + l) (low + l) t
 part_of high low (Widened by signed t) =
     if nat_lt high (tree_width t) then part_of high low t
-    else (if not signed && nat_le (tree_width t) low then Constant (high - low + 1) 0 else span_of high low (Widened by signed t))
+    else (
+    if not signed && nat_le (tree_width t) low then Constant (high - low + 1) 0
+    else span_of high low (Widened by signed t)
+    )
 part_of high low (Joined s t) =
     if nat_lt high (tree_width t) then part_of high low t
-    else (if nat_le (tree_width t) low then part_of (high - tree_width t) (low - tree_width t) s else span_of high low (Joined s t))
+    else (
+    if nat_le (tree_width t) low then part_of (high - tree_width t) (low - tree_width t) s
+    else span_of high low (Joined s t)
+    )
 part_of high low t = span_of high low t
 
--- ---- A term widened twice by zeros is widened once, and so is one widened twice by its sign. One widened by zeros and then
--- by its sign, which is 0, is widened by zeros.
+-- ---- A term widened twice by zeros is widened once, and so is one widened twice by its sign. One
+-- widened by zeros and then by its sign, which is 0, is widened by zeros.
 unfoldable pub extension_by : (by : ℕ) → (signed : Bool) → Tree → Tree
-extension_by by signed (Constant w v) = number_tree (extend signed by (record { width = w; number = v }))
+extension_by by signed (Constant w v) =
+    number_tree (extend signed by (record { width = w; number = v }))
 extension_by by signed (Widened inner false t) = Widened (inner + by) false t
 extension_by by true (Widened inner true t) = Widened (inner + by) true t
 extension_by by signed t = Widened by signed t

@@ -8,7 +8,8 @@ use Rattle.rv_spec.specs.Arithmetic.{combined}
 use Rattle.term_trees.specs.Trees.{Tree, tree_of}
 
 -- the term is there, is this tree, has so many bits, and is worth this
-pub record Stands (graph : Graph) (id : ℕ) (made : Tree) (bits : ℕ) (word : List ℕ → BitVector) : Type 0 where
+pub record Stands (graph : Graph) (id : ℕ) (made : Tree) (bits : ℕ) (word : List ℕ → BitVector) :
+    Type 0 where
   pub there : id < length graph.nodes
   pub tree : tree_of graph id ≡ made
   pub width : width_of graph id ≡ bits
@@ -25,10 +26,13 @@ abbrev pub magnitude_word : BitVector → BitVector
 magnitude_word s = signed_word (sign_word s) s
 
 abbrev pub signed_quotient_word : BitVector → BitVector → BitVector
-signed_quotient_word s t = signed_word (bvxor (sign_word s) (sign_word t)) (bvudiv (magnitude_word s) (magnitude_word t))
+signed_quotient_word s t =
+    signed_word (bvxor (sign_word s) (sign_word t)) (bvudiv (magnitude_word s) (magnitude_word t))
 
 abbrev pub or_ones_word : (divisor quotient : BitVector) → BitVector
-or_ones_word divisor quotient = ite (equal divisor (record { width = 32; number = 0 })) (record { width = 32; number = 2 ^ 32 - 1 }) quotient
+or_ones_word divisor quotient =
+    ite (equal divisor (record { width = 32; number = 0 }))
+    (record { width = 32; number = 2 ^ 32 - 1 }) quotient
 
 abbrev pub remainder_word : BitVector → BitVector → BitVector
 remainder_word s t = signed_word (sign_word s) (bvurem (magnitude_word s) (magnitude_word t))
@@ -37,5 +41,8 @@ abbrev pub upper_word : (first second : Bool) → BitVector → BitVector → Bi
 upper_word first second s t = extract 63 32 (bvmul (extend first 32 s) (extend second 32 t))
 
 -- a term of 32 bits that is worth what the machine computes of two others
-abbrev pub StandsCombined : (old new : Graph) → RegisterOp → (a b : ℕ) → (made : Tree) → (id : ℕ) → Type 0
-StandsCombined old new op a b made id = Stands new id made 32 (λ input. record { width = 32; number = combined op (number_of old a input) (number_of old b input) })
+abbrev pub StandsCombined : (old new : Graph) → RegisterOp → (a b : ℕ) → (made : Tree) →
+    (id : ℕ) → Type 0
+StandsCombined old new op a b made id =
+    Stands new id made 32
+    (λ input. record { width = 32; number = combined op (number_of old a input) (number_of old b input) })

@@ -1,12 +1,12 @@
 use Rattle.term_simplify.proofs.Building.{is_term_of}
-use Rattle.term_simplify.proofs.Reading.{placed}
+use Rattle.term_simplify.proofs.Reading.{has_term}
 use Rattle.term_simplify.proofs.builder.plan.Goals as goal
 
 pub complement-requires : goal.complement-requires
-complement-requires c = placed c.args.terms.now c.in-Not.a (rw c.in-Not.is at c.requires)
+complement-requires c = has_term c.args.terms.now c.in-Not.a (rw c.in-Not.is at c.requires)
 
 pub negative-requires : goal.negative-requires
-negative-requires c = placed c.args.terms.now c.in-Neg.a (rw c.in-Neg.is at c.requires)
+negative-requires c = has_term c.args.terms.now c.in-Neg.a (rw c.in-Neg.is at c.requires)
 
 pub returns-in-Not-clause-term : goal.returns-in-Not-clause-term
 returns-in-Not-clause-term c = is_term_of c.args.terms.now c.args.node c.complement.ensures.fit c.requires

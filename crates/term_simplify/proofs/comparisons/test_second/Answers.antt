@@ -1,19 +1,29 @@
 use Rattle.term_trees.specs.Trees.{tree_of}
-use Rattle.term_simplify.proofs.ComparisonPlans.{plain_test, second_eq, second_slt, second_ult}
-use Rattle.term_simplify.proofs.Reading.{made}
+use Rattle.term_simplify.proofs.ComparisonPlans.{Makes-plain_test, test_second-eq, test_second-slt, test_second-ult}
+use Rattle.term_simplify.proofs.Reading.{Makes-same}
 use Rattle.term_simplify.proofs.comparisons.test_second.Goals as goal
 
 pub returns-in-Ult : goal.returns-in-Ult
 returns-in-Ult c =
-    made c.args.terms.now _ _ _ (c.number_if.ensures c.args.terms.now _ (c.number_if-below.ensures c.args.terms.now _ (plain_test c.args.terms.now c.args.op c.args.a c.args.b c.requires.fits)))
-    (second_ult c.args.op c.args.y c.number-value.result (tree_of c.args.terms.now c.args.a) (tree_of c.args.terms.now c.args.b) c.number-value.ensures.value c.excludes.result c.zero.result c.new.result c.excludes.ensures c.zero.ensures c.new.ensures c.in-Ult.is)
+    Makes-same c.args.terms.now _ _ _ (c.number_if.ensures c.args.terms.now _
+    (c.number_if-below.ensures c.args.terms.now _ (Makes-plain_test c.args.terms.now c.args.op
+    c.args.a c.args.b c.requires.fits)))
+    (test_second-ult c.args.op c.args.y c.number-value.result (tree_of c.args.terms.now c.args.a)
+    (tree_of c.args.terms.now c.args.b) c.number-value.ensures.value c.excludes.result
+    c.zero.result c.new.result c.excludes.ensures c.zero.ensures c.new.ensures c.in-Ult.is)
 
 pub returns-in-Slt : goal.returns-in-Slt
 returns-in-Slt c =
-    made c.args.terms.now _ _ _ (c.number_if-in-Slt.ensures c.args.terms.now _ (plain_test c.args.terms.now c.args.op c.args.a c.args.b c.requires.fits))
-    (second_slt c.args.op c.args.y c.number-value.result (tree_of c.args.terms.now c.args.a) (tree_of c.args.terms.now c.args.b) c.number-value.ensures.value c.excludes-in-Slt.result c.is_negative.result c.from_bool-is_below.result c.excludes-in-Slt.ensures c.is_negative.ensures c.from_bool-is_below.ensures c.in-Slt.is)
+    Makes-same c.args.terms.now _ _ _ (c.number_if-in-Slt.ensures c.args.terms.now _
+    (Makes-plain_test c.args.terms.now c.args.op c.args.a c.args.b c.requires.fits))
+    (test_second-slt c.args.op c.args.y c.number-value.result (tree_of c.args.terms.now c.args.a)
+    (tree_of c.args.terms.now c.args.b) c.number-value.ensures.value c.excludes-in-Slt.result
+    c.is_negative.result c.from_bool-is_below.result c.excludes-in-Slt.ensures
+    c.is_negative.ensures c.from_bool-is_below.ensures c.in-Slt.is)
 
 pub returns-in-Eq : goal.returns-in-Eq
 returns-in-Eq c =
-    made c.args.terms.now _ _ _ (c.equality.ensures _ (plain_test c.args.terms.now c.args.op c.args.a c.args.b c.requires.fits))
-    (second_eq c.args.op c.args.y c.number-value.result (tree_of c.args.terms.now c.args.a) (tree_of c.args.terms.now c.args.b) c.number-value.ensures.value c.in-Eq.is)
+    Makes-same c.args.terms.now _ _ _ (c.equality.ensures _
+    (Makes-plain_test c.args.terms.now c.args.op c.args.a c.args.b c.requires.fits))
+    (test_second-eq c.args.op c.args.y c.number-value.result (tree_of c.args.terms.now c.args.a)
+    (tree_of c.args.terms.now c.args.b) c.number-value.ensures.value c.in-Eq.is)

@@ -1,4 +1,4 @@
-use Rattle.term_simplify.proofs.Reading.{made, operand, has_bits, complement_number, complement_twice, complement_at}
+use Rattle.term_simplify.proofs.Reading.{Makes-same, operand, has_bits, complement_number, complement_twice, complement_at}
 use Rattle.term_simplify.proofs.plan.complement.Goals as goal
 
 pub new-requires : goal.new-requires
@@ -6,17 +6,20 @@ new-requires c = c.node.ensures.fit.all_fit c.args.id _ c.in-Num.ensures.is
 
 pub returns-in-Num-clause-makes : goal.returns-in-Num-clause-makes
 returns-in-Num-clause-makes c =
-    made c.args.terms.now _ _ _ (c.number.ensures c.args.terms.now)
-    (complement_number c.args.terms.now c.args.id c.node.ensures.fit _ _ c.new.result _ c.in-Num.ensures.is c.new.ensures c.complement.ensures)
+    Makes-same c.args.terms.now _ _ _ (c.number.ensures c.args.terms.now)
+    (complement_number c.args.terms.now c.args.id c.node.ensures.fit _ _ c.new.result _
+    c.in-Num.ensures.is c.new.ensures c.complement.ensures)
 
 pub returns-in-Not-clause-makes : goal.returns-in-Not-clause-makes
 returns-in-Not-clause-makes c = record {
   is = let twice = complement_twice c.args.terms.now c.args.id c.node.ensures.fit _ c.in-Not.ensures.is in cc;
-  fits = (operand c.args.terms.now c.args.id _ _ c.node.ensures.fit c.in-Not.ensures.is (c.node.ensures.fit.all_fit c.args.id _ c.in-Not.ensures.is)).there;
+  fits = (operand c.args.terms.now c.args.id _ _ c.node.ensures.fit c.in-Not.ensures.is
+      (c.node.ensures.fit.all_fit c.args.id _ c.in-Not.ensures.is)).there;
 }
 
 pub returns-in_default-clause-makes : goal.returns-in_default-clause-makes
 returns-in_default-clause-makes c = record {
-  is = let plain = complement_at c.args.terms.now c.args.id c.node.ensures.fit c.node.result c.node.ensures.is c.in_default.not-Num c.in_default.not-Not in cc;
+  is = let plain = complement_at c.args.terms.now c.args.id c.node.ensures.fit c.node.result
+      c.node.ensures.is c.in_default.not-Num c.in_default.not-Not in cc;
   fits = (has_bits c.args.terms.now c.args.id c.node.ensures.fit c.requires).0;
 }

@@ -6,5 +6,9 @@ use Rattle.term_simplify.proofs.builder.Builder.mulhsu.Goals as goal
 
 pub returns-clause-ok : goal.returns-clause-ok
 returns-clause-ok c =
-    settled_builds c.args.self.now c.upper-answer.new.self c.settled.new.self c.upper-answer.result c.settled.result Mulhsu c.args.a c.args.b _ c.upper-answer.ensures.continues c.settled.ensures.same c.settled.ensures.ok
-    (upper_combined c.args.self.now c.upper-answer.new.self c.args.a c.args.b c.upper-answer.result Mulhsu true false _ first_signed_number c.requires.first c.requires.second c.upper-answer.ensures.first c.upper-answer.ensures.second c.upper-answer.ensures.ok)
+    settled_builds c.args.self.now c.upper-answer.new.self c.settled.new.self c.upper-answer.result
+    c.settled.result Mulhsu c.args.a c.args.b _ c.upper-answer.ensures.continues
+    c.settled.ensures.same c.settled.ensures.ok
+    (upper_combined c.args.self.now c.upper-answer.new.self c.args.a c.args.b c.upper-answer.result
+    Mulhsu true false _ first_signed_number c.requires.first c.requires.second
+    c.upper-answer.ensures.first c.upper-answer.ensures.second c.upper-answer.ensures.ok)

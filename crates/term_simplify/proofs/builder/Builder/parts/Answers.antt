@@ -1,18 +1,18 @@
 use Rattle.std.proofs.Common.{arith, refl}
-use Rattle.term_simplify.proofs.Stepping.{itself, kept, stays, extract_step, signed_step}
+use Rattle.term_simplify.proofs.Stepping.{Stands-itself, Stands-kept, Stands-grown, extract_step, signed_step}
 use Rattle.term_simplify.proofs.builder.Builder.parts.Goals as goal
 
 pub with_sign-requires-clause-whole : goal.with_sign-requires-clause-whole
 with_sign-requires-clause-whole c =
-    let whole = stays c.args.a 32 c.step.ensures.continues c.requires (omega arith) in whole.width
+    let whole = Stands-grown c.args.a 32 c.step.ensures.continues c.requires (omega arith) in whole.width
 
 pub returns-clause-negative : goal.returns-clause-negative
 returns-clause-negative c =
-    let negative = extract_step 31 31 1 refl (itself c.args.self.now c.args.a 32 c.requires (omega arith)) c.in_ok-negative.ensures.ok in
-    kept c.with_sign.ensures.continues negative
+    let negative = extract_step 31 31 1 refl (Stands-itself c.args.self.now c.args.a 32 c.requires (omega arith)) c.in_ok-negative.ensures.ok in
+    Stands-kept c.with_sign.ensures.continues negative
 
 pub returns-clause-magnitude : goal.returns-clause-magnitude
 returns-clause-magnitude c =
-    let negative = extract_step 31 31 1 refl (itself c.args.self.now c.args.a 32 c.requires (omega arith)) c.in_ok-negative.ensures.ok in
-    let whole = stays c.args.a 32 c.step.ensures.continues c.requires (omega arith) in
+    let negative = extract_step 31 31 1 refl (Stands-itself c.args.self.now c.args.a 32 c.requires (omega arith)) c.in_ok-negative.ensures.ok in
+    let whole = Stands-grown c.args.a 32 c.step.ensures.continues c.requires (omega arith) in
     signed_step negative whole c.in_ok-magnitude.ensures.ok
