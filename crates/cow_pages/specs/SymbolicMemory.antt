@@ -1,11 +1,10 @@
 -- The memory of a symbolic run: pages by their numbers, and the bytes at addresses.
-use Rattle.std.specs.Prelude.{◌≡◌, ℕ, ◌⊎◌, ◌/◌, ◌%◌, List, map, length, Option, Some, None, slice_set, slice_index, slice_index_or, refl}
+use Rattle.std.specs.Prelude.{◌≡◌, ℕ, ◌⊎◌, ◌/◌, ◌%◌, List, map, length, Option, Some, None, slice_set, slice_index_or, refl}
 use Rattle.std.specs.Coded.{Coded, code_by, coded×, coded⊎, coded_ℕ, coded_list}
 use Rattle.std.specs.FinMap.{FinMap, get, insert, code}
 use Rattle.std.specs.Ordering.{nat_cmp}
 use Rattle.std.proofs.Common.{inl, inr}
-use Rattle.std.specs.Option.{option_map, option_map_or}
-use Rattle.elf_load.specs.Images.{Image}
+use Rattle.std.specs.Option.{option_map}
 use Rattle.elf_load.specs.declared.page.Page.{Page}
 use Rattle.cow_pages.specs.declared.byte.Byte.{Byte}
 use Rattle.cow_pages.specs.declared.byte.Byte.TheVariants.{Number, Term}
@@ -51,11 +50,6 @@ page_byte (Some page) offset = slice_index_or page.bytes offset (Number 0)
 -- the byte at an address, 0 where no page is mapped
 abbrev pub memory_byte : SymbolicMemory → ℕ → Byte
 memory_byte memory address = page_byte (get memory (address / 256)) (address % 256)
-
--- the byte of an image at an address, 0 where no page is mapped
-abbrev pub loaded_byte : Image → ℕ → ℕ
-loaded_byte image address =
-    option_map_or (λ page. slice_index page.bytes (address % 256)) (get image.pages (address / 256)) 0
 
 -- memory with another page in the place of one, if there was one
 abbrev pub with_page : SymbolicMemory → ℕ → Option SymbolicPage → SymbolicMemory

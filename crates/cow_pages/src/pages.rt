@@ -3,7 +3,8 @@
 ghost use Rattle.std.specs.Prelude.{◌≡◌, ◌/◌, ◌==◌, ℕ, if◌then◌else◌, is_some, IsSome, IfSome, IfOk, OnOk, OnErr};
 ghost use Rattle.std.specs.FinMap as map;
 ghost use Rattle.std.specs.Option.{option_copied, option_map};
-ghost use Rattle.cow_pages.specs.SymbolicMemory.{HasAllBytes, as_symbolic, loaded_byte, memory_byte, memory_flags, memory_with};
+ghost use Rattle.rv_spec.specs.Memory.{byte_of, flags_of};
+ghost use Rattle.cow_pages.specs.SymbolicMemory.{HasAllBytes, as_symbolic, memory_byte, memory_flags, memory_with};
 
 use crate::byte::Byte;
 use crate::group::Group;
@@ -39,13 +40,14 @@ impl Model for Pages {
 
 impl Pages {
     /// The memory that an image begins with.
+    #[tactic(auto, unfolding(rv_spec::specs::Memory::byte_of))]
     pub fn new(alloc: Global, image: &Image) -> Result<Pages, NoMemory>
         ensures pages { IfOk result (λ pages. (number : ℕ) →
             map.get pages number ≡ option_map as_symbolic (map.get image.now.pages number)) }
         ensures bytes { IfOk result (λ pages. (address : ℕ) →
-            memory_byte pages address ≡ Byte.Number (loaded_byte image.now address)) }
+            memory_byte pages address ≡ Byte.Number (byte_of image.now address)) }
         ensures flags { IfOk result (λ pages. (number : ℕ) →
-            memory_flags pages number ≡ option_map (λ p. p.flags) (map.get image.now.pages number)) }
+            memory_flags pages number ≡ flags_of image.now number) }
     {
         let mut groups = Vec::new(alloc);
         for (number, page) in image.pages() {
