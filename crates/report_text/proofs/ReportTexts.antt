@@ -7,7 +7,7 @@ use Rattle.serde_json.proofs.OnLiterals.{serde_json_on_literals}
 use Rattle.elf_load.specs.declared.region.Region.{Region}
 use Rattle.smt_text.specs.Names.{choices_text, end_name, kind_name}
 use Rattle.test_files.specs.Tests.{quoted_all, region_text}
-use Rattle.tool_words.specs.declared.limit.Budgets.{Budgets}
+use Rattle.tree_core.specs.declared.budgets.Budgets.{Budgets}
 use Rattle.report_text.specs.declared.summary.Summary.{Summary}
 use Rattle.report_text.specs.ReportData.{budgets_data, entry_data, report_data, totals_data}
 use Rattle.report_text.specs.Reports.{Entry, budgets_text, entry_text, leaves_of, report_text, totals_text, with_commas}

@@ -5,7 +5,7 @@ use Rattle.serde_json.specs.View.{items_of}
 use Rattle.elf_load.specs.declared.region.Region.{Region}
 use Rattle.smt_text.specs.Names.{choices_text, end_name, kind_name}
 use Rattle.test_files.specs.TestData.{regions_data}
-use Rattle.tool_words.specs.declared.limit.Budgets.{Budgets}
+use Rattle.tree_core.specs.declared.budgets.Budgets.{Budgets}
 use Rattle.report_text.specs.Reports.{Entry, leaves_of}
 use Rattle.report_text.specs.Summaries.{count}
 use Rattle.report_text.specs.declared.summary.Summary.{Summary}

@@ -5,7 +5,7 @@ use Rattle.elf_load.specs.declared.region.Region.{Region}
 use Rattle.smt_text.specs.Leaves.{LeafText}
 use Rattle.smt_text.specs.Names.{choices_text, end_name, kind_name}
 use Rattle.test_files.specs.Tests.{quoted_all, region_text}
-use Rattle.tool_words.specs.declared.limit.Budgets.{Budgets}
+use Rattle.tree_core.specs.declared.budgets.Budgets.{Budgets}
 use Rattle.report_text.specs.Summaries.{count}
 use Rattle.report_text.specs.declared.summary.Summary.{Summary}
 

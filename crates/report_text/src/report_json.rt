@@ -14,7 +14,7 @@ use smt_text::{LeafText, write_choices};
 use std::alloc::{AllocError as NoMemory, Global};
 use test_files::region_list;
 use tool_io::Bytes;
-use tool_words::Budgets;
+use tree_core::Budgets;
 use tree_core::Choice;
 
 /// The choices, with nothing between.

@@ -16,7 +16,7 @@ use Rattle.smt_text.specs.Leaves.{LeafText, covers}
 use Rattle.smt_text.specs.declared.leaf.LeafEnd.{LeafEnd}
 use Rattle.smt_text.specs.declared.leaf.LeafEnd.TheVariants.{Exits, Traps, Cut}
 use Rattle.sym_state.specs.Programs.{Program, regions_of}
-use Rattle.tool_words.specs.declared.limit.Budgets.{Budgets}
+use Rattle.tree_core.specs.declared.budgets.Budgets.{Budgets}
 use Rattle.tree_core.specs.declared.cause.Cause.TheVariants.{Steps, Targets, Conflicts}
 use Rattle.tree_core.specs.declared.choice.Choice.{Choice}
 use Rattle.tool_io.specs.Told.{Put}

@@ -11,7 +11,7 @@ use Rattle.elf_load.specs.declared.region.Region.{Region}
 use Rattle.elf_load.specs.declared.unfit.Unfit.{Unfit as WhyUnfit}
 use Rattle.tool_words.specs.Job.{Job}
 use Rattle.elf_load.proofs.OneImage.{one_image}
-use Rattle.tool_words.specs.declared.limit.Budgets.{Budgets}
+use Rattle.tree_core.specs.declared.budgets.Budgets.{Budgets}
 use Rattle.tool_top.specs.Later.{IsTaken, IsInput, IsDataByte, HasLaterWord}
 use Rattle.sym_state.specs.Programs.{IsRunnable, Program}
 use Rattle.tool_top.specs.Reports.{IsReportOf}

@@ -8,7 +8,7 @@ use Rattle.elf_load.specs.declared.region.Region.{Region}
 use Rattle.tool_words.specs.Job.{Job, Explore, Replay}
 use Rattle.tool_top.specs.Lines.{no_memory}
 use Rattle.tool_top.specs.Plan.{Plan, IsPlan, names_of, most_bytes}
-use Rattle.tool_words.specs.declared.limit.Budgets.{Budgets}
+use Rattle.tree_core.specs.declared.budgets.Budgets.{Budgets}
 use Rattle.elf_load.specs.Images.{Image}
 use Rattle.sym_state.specs.Programs.{Program, regions_of}
 use Rattle.tool_top.specs.Later.{IsTaken, IsInput}

@@ -7,7 +7,7 @@ use Rattle.elf_load.specs.Images.{Image}
 use Rattle.elf_load.specs.Refusals.{refusal}
 use Rattle.elf_load.specs.declared.region.Region.{Region}
 use Rattle.tool_words.specs.Job.{Job, Explore, Replay}
-use Rattle.tool_words.specs.declared.limit.Budgets.{Budgets}
+use Rattle.tree_core.specs.declared.budgets.Budgets.{Budgets}
 use Rattle.sym_state.specs.Programs.{Program}
 use Rattle.tool_top.specs.Later.{IsTaken, IsInput}
 use Rattle.tool_top.specs.Lines.{read_fault, refused_line, unfit_line, usage}

@@ -26,7 +26,7 @@ use Rattle.smt_text.specs.declared.leaf.LeafEnd.TheVariants.{Exits, Traps, Cut}
 use Rattle.sym_state.specs.Programs.{Program, regions_of}
 use Rattle.test_files.specs.Tests.{Test, test_text}
 use Rattle.tool_io.specs.Told.{Put}
-use Rattle.tool_words.specs.declared.limit.Budgets.{Budgets}
+use Rattle.tree_core.specs.declared.budgets.Budgets.{Budgets}
 use Rattle.tree_core.specs.declared.cause.Cause.TheVariants.{Steps, Targets}
 use Rattle.tree_core.specs.declared.choice.Choice.{Choice}
 

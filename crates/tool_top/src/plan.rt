@@ -20,7 +20,7 @@ use explorer::explore;
 use std::alloc::{AllocError as NoMemory, Global};
 use sym_state::Program;
 use tool_io::{Bytes, Fault, Files, NamedFile};
-use tool_words::{Budgets, Job, WordsError, read_words};
+use tool_words::{Job, WordsError, read_words};
 
 // The most bytes of a program's file that are read.
 pub(crate) const MOST_BYTES: usize = 1_048_577;

@@ -15,7 +15,7 @@ use smt_text::print_leaf;
 use std::alloc::{AllocError as NoMemory, Global};
 use test_files::write_test;
 use tool_io::{Bytes, NamedFile};
-use tool_words::Budgets;
+use tree_core::Budgets;
 
 /// What is put and said of the leaves of a program.
 #[derive(Drop)]

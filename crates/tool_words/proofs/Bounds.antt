@@ -13,7 +13,7 @@ use Rattle.tool_words.specs.Region.{regions_of}
 use Rattle.tool_words.specs.Seen.{IsRead, job_seen}
 use Rattle.tool_words.specs.declared.job.Job.{Job}
 use Rattle.tool_words.specs.declared.job.WordsError.{WordsError}
-use Rattle.tool_words.specs.declared.limit.Budgets.{Budgets}
+use Rattle.tree_core.specs.declared.budgets.Budgets.{Budgets}
 use Rattle.tool_words.specs.declared.limit.Limit.{Limit}
 
 -- ---- numbers

@@ -8,7 +8,7 @@ use Rattle.elf_load.specs.declared.region.Region.{Region}
 use Rattle.tool_words.specs.Job.{explore_job, explore_with, replay_job, replay_with}
 use Rattle.tool_words.specs.Limits.{budgets_found, workers_found}
 use Rattle.tool_words.specs.Region.{regions_of}
-use Rattle.tool_words.specs.declared.limit.Budgets.{Budgets}
+use Rattle.tree_core.specs.declared.budgets.Budgets.{Budgets}
 use Rattle.tool_words.specs.Seen.{IsRead}
 use Rattle.tool_words.specs.declared.job.WordsError.{WordsError}
 use Rattle.tool_words.specs.declared.job.WordsError.TheVariants.{Usage, NoMemory}

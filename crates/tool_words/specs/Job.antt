@@ -6,7 +6,7 @@ use Rattle.elf_load.specs.declared.region.Region.{Region}
 use Rattle.tool_words.specs.Command.{rvklee_command}
 use Rattle.tool_words.specs.Limits.{IsBudgets, IsWithin, budgets_found, workers_found, workers_limit}
 use Rattle.tool_words.specs.Region.{regions_of}
-use Rattle.tool_words.specs.declared.limit.Budgets.{Budgets}
+use Rattle.tree_core.specs.declared.budgets.Budgets.{Budgets}
 
 pub data Job : Type 0 where
   -- the leaves of a program's file, whose regions hold the input bytes, and their tests, are put into

@@ -2,7 +2,7 @@
 use Rattle.std.specs.Prelude.{ℕ, Bool, false, List, [], ◌∷◌, ◌==◌, ◌&&◌, ◌≤◌, nat_le, Option, None, Some, if◌then◌else◌, codes, option_and_then}
 use Rattle.clap.specs.Words.{Row, first_of}
 use Rattle.tool_words.specs.Region.{number_of}
-use Rattle.tool_words.specs.declared.limit.Budgets.{Budgets}
+use Rattle.tree_core.specs.declared.budgets.Budgets.{Budgets}
 use Rattle.tool_words.specs.declared.limit.Limit.{Limit}
 
 abbrev pub steps_limit : Limit

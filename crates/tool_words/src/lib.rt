@@ -9,7 +9,7 @@ mod region;
 mod words;
 
 pub use job::{Job, WordsError};
-pub use limit::{Budgets, CONFLICTS, Limit, STEPS, TARGETS, WORKERS};
+pub use limit::{CONFLICTS, Limit, STEPS, TARGETS, WORKERS};
 pub use words::read_words;
 
 #[cfg(test)]

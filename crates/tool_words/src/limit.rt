@@ -5,18 +5,7 @@ ghost use Rattle.clap.specs.Words.{found_of, rows_of};
 ghost use Rattle.tool_words.specs.Limits.{budgets_found, number_found, number_within, workers_found};
 
 use clap::ArgMatches;
-
-/// What the exploration of a program may spend: in a job of words, each from 1 to the most of its
-/// limit.
-#[derive(Clone, Copy, Debug, PartialEq, Eq)]
-pub struct Budgets {
-    /// The most steps of a run; one that hasn't ended by then is cut.
-    pub steps: u32,
-    /// The most values that are found for a term that has to be a number; the rest is cut.
-    pub targets: u32,
-    /// The most clauses that are derived in the search for an answer; the question is then left open.
-    pub conflicts: u32,
-}
+use tree_core::Budgets;
 
 /// The numbers that an option takes, from 1 to `most`, and the number where it isn't given.
 #[derive(Clone, Copy, Debug, PartialEq, Eq)]

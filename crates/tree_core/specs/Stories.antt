@@ -24,7 +24,7 @@ last_on m [] = None
 last_on m (e ∷ es) = or_later m e (last_on m es)
 
 -- how a deed leaves the node
-abbrev pub left_by : {R : Type 0} → ℕ → Deed R ℕ → Status
+abbrev pub left_by : {R K : Type 0} → ℕ → Deed R K → Status
 left_by by Claim = Held by
 left_by by (Split kids) = Parted
 left_by by (Finish leaf) = Leaf

@@ -1,7 +1,8 @@
 //! The fork tree's claim protocol: nodes that workers claim and part, finish, cut or release, as a list of events that only grows.
-//! The sides of a fork, and why a leaf is cut.
+//! The sides of a fork, what an exploration may spend, and why a leaf is cut.
 #![tactic(auto)]
 
+mod budgets;
 mod cause;
 mod choice;
 mod cover;
@@ -14,6 +15,7 @@ mod refusal;
 mod tests;
 mod tree;
 
+pub use budgets::Budgets;
 pub use cause::Cause;
 pub use choice::Choice;
 pub use cover::Cover;

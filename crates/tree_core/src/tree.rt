@@ -4,7 +4,7 @@ ghost use Rattle.std.specs.Prelude.{◌≡◌, ◌≢◌, ◌<◌, ◌≤◌, �
 ghost use Rattle.tree_core.specs.Stories.{status, content, origin};
 ghost use Rattle.tree_core.specs.Covers.{Partition};
 ghost use Rattle.tree_core.specs.Replays.{IsFit, Replays, is_allowed, noted, after, opening};
-ghost use Rattle.tree_core.specs.Cores.{LacksRoom, IsLast};
+ghost use Rattle.tree_core.specs.Cores.{LacksRoom, IsLast, held_count};
 
 use crate::choice::Choice;
 use crate::cover::Cover;
@@ -155,6 +155,13 @@ impl<R: Cover> Core<R> {
         ensures root { 0 < result }
     {
         self.nodes.len()
+    }
+
+    /// How many nodes are held.
+    pub fn held(&self) -> usize
+        ensures { result ≡ held_count self.now.story }
+    {
+        self.held
     }
 
     /// The nodes as they were born, each at its number.

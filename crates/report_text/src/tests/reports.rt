@@ -7,7 +7,7 @@ use rv_decode::Trap;
 use smt_text::{LeafEnd, LeafText};
 use std::alloc::{AllocError as NoMemory, Global};
 use std::test::Fail;
-use tool_words::Budgets;
+use tree_core::Budgets;
 use tree_core::{Cause, Choice};
 
 const ONE_LEAF: &str =

@@ -1,0 +1,79 @@
+use Rattle.std.proofs.Common.{◌≡◌, ◌∙◌, ◌≤◌, ℕ, Bool, true, false, ◌&&◌, ◌||◌, ◌+◌, IsTrue, List, [], ◌∷◌, ◌++◌, Option, Some, None, ap, sym, refl, subst, arith, drop, length, map, nat_le, option_and_then}
+use Rattle.std.proofs.lemmas.Bool.Decides.{nat_tests}
+use Rattle.std.proofs.lemmas.List.{append-nil, length-append, length-map}
+use Rattle.tree_core.specs.declared.cause.Cause.{Cause}
+use Rattle.fork_spec.specs.Walks.{Line, Side, Standing, are_branch_sides, are_sides, are_values, is_increasing, is_rest, is_rest_cut, rest_side, step, value_side, values_first, walk_from}
+
+-- a walk that goes on, from where the first line leads if it leads anywhere
+after_step : (workers targets : ℕ) (more : List Line) (first : List Line) →
+    ((nodes : List Standing) → walk_from workers targets nodes (first ++ more) ≡ option_and_then (λ reached. walk_from workers targets reached more) (walk_from workers targets nodes first)) →
+    (next : Option (List Standing)) →
+    option_and_then (λ nodes. walk_from workers targets nodes (first ++ more)) next
+    ≡ option_and_then (λ reached. walk_from workers targets reached more) (option_and_then (λ nodes. walk_from workers targets nodes first) next)
+after_step workers targets more first goes_on None = refl
+after_step workers targets more first goes_on (Some nodes) = goes_on nodes
+
+pub walk_goes_on : (workers targets : ℕ) (nodes : List Standing) (first more : List Line) →
+    walk_from workers targets nodes (first ++ more) ≡ option_and_then (λ reached. walk_from workers targets reached more) (walk_from workers targets nodes first)
+unfolding walk_from
+walk_goes_on workers targets nodes [] more = refl
+walk_goes_on workers targets nodes (event ∷ first) more =
+    after_step workers targets more first (λ next. walk_goes_on workers targets next first more) (step workers targets nodes event)
+
+-- the values come first, whatever else comes behind them
+values_then : (values : List ℕ) (behind : List Side) → values_first behind ≡ [] → values_first (map value_side values ++ behind) ≡ values
+unfolding values_first
+values_then [] behind none = none
+values_then (v ∷ vs) behind none = ap (λ ws. v ∷ ws) (values_then vs behind none)
+
+behind_values : (values : List ℕ) (behind : List Side) → drop (length values) (map value_side values ++ behind) ≡ behind
+behind_values [] behind = refl
+behind_values (v ∷ vs) behind = behind_values vs behind
+
+either : (a b : Bool) → IsTrue b → IsTrue (a || b)
+either true b h = refl
+either false b h = h
+
+all_five : (a b c d e : Bool) → IsTrue a → IsTrue b → IsTrue c → IsTrue d → IsTrue e → IsTrue (a && b && c && d && e)
+all_five true true true true true ha hb hc hd he = refl
+all_five false b c d e ha hb hc hd he = ha
+all_five true false c d e ha hb hc hd he = hb
+all_five true true false d e ha hb hc hd he = hc
+all_five true true true false e ha hb hc hd he = hd
+all_five true true true true false ha hb hc hd he = he
+
+-- values and what may come behind them
+values_part : (targets : ℕ) (values : List ℕ) (behind : List Side) → values_first behind ≡ [] →
+    IsTrue (is_increasing values) → 1 ≤ length values → length values ≤ targets → IsTrue (is_rest targets (length values) behind) →
+    2 ≤ length (map value_side values ++ behind) → IsTrue (are_values targets (map value_side values ++ behind))
+unfolding are_values
+values_part targets values behind none increasing some few rest two =
+    let kids = map value_side values ++ behind in
+    let first : values_first kids ≡ values = values_then values behind none in
+    all_five _ _ _ _ _
+    (subst (λ vs. IsTrue (is_increasing vs)) (sym first) increasing)
+    (subst (λ (vs : List ℕ). IsTrue (nat_le 1 (length vs))) (sym first) (grind (arith, nat_tests)))
+    (subst (λ (vs : List ℕ). IsTrue (nat_le (length vs) targets)) (sym first) (grind (arith, nat_tests)))
+    (subst (λ (vs : List ℕ). IsTrue (is_rest targets (length vs) (drop (length vs) kids))) (sym first)
+    (subst (λ ks. IsTrue (is_rest targets (length values) ks)) (sym (behind_values values behind)) rest))
+    (grind (arith, nat_tests))
+
+pub part_into_values : (targets : ℕ) (values : List ℕ) → IsTrue (is_increasing values) → 2 ≤ length values → length values ≤ targets →
+    IsTrue (are_sides targets (map value_side values))
+unfolding values_first
+part_into_values targets values increasing two few =
+    let some : 1 ≤ length values = omega (arith, two) in
+    let count : length (map value_side values ++ []) ≡ length values = ap length (append-nil (map value_side values)) ∙ length-map values value_side in
+    let kids : 2 ≤ length (map value_side values ++ []) = omega (arith, two, count) in
+    either (are_branch_sides (map value_side values)) _
+    (subst (λ ks. IsTrue (are_values targets ks)) (append-nil (map value_side values)) (values_part targets values [] refl increasing some few refl kids))
+
+pub part_into_values_and_rest : (targets : ℕ) (values : List ℕ) (cut : Option Cause) → IsTrue (is_increasing values) → 1 ≤ length values → length values ≤ targets →
+    IsTrue (is_rest_cut targets (length values) cut) → IsTrue (are_sides targets (map value_side values ++ rest_side cut ∷ []))
+unfolding values_first
+part_into_values_and_rest targets values cut increasing some few allowed =
+    let count : length (map value_side values ++ rest_side cut ∷ []) ≡ length values + 1 =
+    length-append (map value_side values) (rest_side cut ∷ []) ∙ ap (λ n. n + 1) (length-map values value_side) in
+    let two : 2 ≤ length (map value_side values ++ rest_side cut ∷ []) = omega (arith, some, count) in
+    either (are_branch_sides (map value_side values ++ rest_side cut ∷ [])) _
+    (values_part targets values (rest_side cut ∷ []) refl increasing some few allowed two)

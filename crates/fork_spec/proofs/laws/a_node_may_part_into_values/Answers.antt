@@ -1,0 +1,5 @@
+use Rattle.fork_spec.proofs.Walking.{part_into_values}
+use Rattle.fork_spec.proofs.laws.a_node_may_part_into_values.Goals as goal
+
+pub returns : goal.returns
+returns c = part_into_values

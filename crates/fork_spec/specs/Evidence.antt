@@ -1,0 +1,57 @@
+-- What shows a leaf: an assignment that it covers, and for one that is cut the budget that was spent.
+use Rattle.std.specs.Prelude.{◌≡◌, ℕ, ◌-◌, ◌<◌, Bool, not, ◌&&◌, ◌==◌, List, [], ◌∷◌, ◌++◌, All, IsTrue, length, map, take, true}
+use Rattle.std.specs.List.{list_any}
+use Rattle.bv_dag.specs.Graphs.{width_of}
+use Rattle.bv_dag.specs.Queries.{Condition, holds}
+use Rattle.elf_load.specs.declared.region.Region.{Region}
+use Rattle.rv_spec.specs.Memory.{IsAssignment}
+use Rattle.tree_core.specs.declared.choice.Choice.{Choice}
+use Rattle.tree_core.specs.declared.choice.Choice.TheVariants.{Value, Rest}
+use Rattle.fork_spec.specs.Leaves.{Leaf, covers, worth}
+
+-- a value, and an assignment on which the term has it
+pub record Found : Type 0 where
+  pub value : ℕ
+  pub input : List ℕ
+
+-- a term of a leaf, and the values that it takes
+pub record Spent : Type 0 where
+  pub term : ℕ
+  pub found : List Found
+
+abbrev pub values_of : List Found → List ℕ
+values_of found = map (λ (f : Found). f.value) found
+
+-- each below those behind it
+abbrev pub AreIncreasing : List ℕ → Type 0
+AreIncreasing [] = Unit {0}
+AreIncreasing (v ∷ vs) = All (λ w. v < w) vs × AreIncreasing vs
+
+-- the number is one of these
+abbrev pub is_among : List ℕ → ℕ → Bool
+is_among vs n = list_any (λ v. n == v) vs
+
+-- the leaf's condition without its last so many assertions
+abbrev pub all_but_last : ℕ → Leaf → Condition
+all_but_last count leaf = record { graph = leaf.condition.graph; asserted = take (length leaf.condition.asserted - count) leaf.condition.asserted }
+
+-- on its assignment the other assertions hold, and the term has the value
+pub record IsReached (regions : List Region) (leaf : Leaf) (count term : ℕ) (f : Found) : Type 0 where
+  pub assignment : IsAssignment regions f.input
+  pub holds_others : holds (all_but_last count leaf) f.input ≡ true
+  pub has_value : worth leaf f.input term ≡ f.value
+
+-- The budget of targets is spent: the term takes so many values, the leaf is what is left, and something is. The other sides of its fork are just these values.
+pub record SpendsTargets (regions : List Region) (targets : ℕ) (sides : List Choice) (leaf : Leaf) (spent : Spent) : Type 0 where
+  pub wide : width_of leaf.condition.graph spent.term ≡ 32
+  pub each : length spent.found ≡ targets
+  pub increasing : AreIncreasing (values_of spent.found)
+  pub reached : All (IsReached regions leaf targets spent.term) spent.found
+  pub rest : (input : List ℕ) → IsAssignment regions input →
+      covers leaf input ≡ (holds (all_but_last targets leaf) input && not (is_among (values_of spent.found) (worth leaf input spent.term)))
+  pub some : (input : List ℕ) × IsAssignment regions input × IsTrue (covers leaf input)
+  pub others : sides ≡ map Value (values_of spent.found) ++ Rest ∷ []
+
+-- the assignment is one that the leaf covers
+abbrev pub IsSample : List Region → Leaf → List ℕ → Type 0
+IsSample regions leaf input = IsAssignment regions input × IsTrue (covers leaf input)

@@ -1,0 +1,66 @@
+-- The history of the leaves of a program: events that make a tree of which they are the leaves, and the split of which a leaf is a side.
+use Rattle.std.specs.Prelude.{◌≡◌, ℕ, ◌+◌, ◌<◌, ◌≤◌, Bool, true, false, List, [], ◌∷◌, All, length, map, Option, None, Some, count_by, slice_get}
+use Rattle.tree_core.specs.declared.cause.Cause.{Cause}
+use Rattle.tree_core.specs.declared.choice.Choice.{Choice}
+use Rattle.tree_core.specs.declared.event.Deed.{Deed}
+use Rattle.tree_core.specs.declared.event.Deed.TheVariants.{Claim, Split, Finish, Cut as IsCut, Release}
+use Rattle.tree_core.specs.declared.node.Status.{Status}
+use Rattle.tree_core.specs.declared.node.Status.TheVariants.{Free, Held, Parted, Leaf as IsLeaf}
+use Rattle.fork_spec.specs.Leaves.{Leaf}
+use Rattle.fork_spec.specs.Walks.{Line, Side, Sides, Standing, is_quiet, walk}
+use Rattle.fork_spec.specs.declared.end.LeafEnd.{LeafEnd}
+use Rattle.fork_spec.specs.declared.end.LeafEnd.TheVariants.{Exits, Traps, Cut}
+
+-- a leaf, and the number of its node in the events
+pub record Entry : Type 0 where
+  pub leaf : Leaf
+  pub node : ℕ
+
+-- why a leaf was cut, if it was
+abbrev pub cause_of : LeafEnd → Option Cause
+cause_of (Exits status) = None
+cause_of (Traps trap) = None
+cause_of (Cut cause) = Some cause
+
+abbrev pub is_leaf_status : Status → Bool
+is_leaf_status IsLeaf = true
+is_leaf_status _ = false
+
+abbrev pub is_leaf : Standing → Bool
+is_leaf node = is_leaf_status node.status
+
+-- the node of a leaf, by the walk: the leaf's choices lead to it, and it was cut as the leaf was
+abbrev pub leaf_node : Entry → Standing
+leaf_node entry = record { choices = entry.leaf.choices; status = IsLeaf; cut = cause_of entry.leaf.end }
+
+-- The events are a walk that leaves nothing to be done. Each leaf is one of its leaves, with its choices and its cause, and there are no others.
+pub record IsHistory (workers targets : ℕ) (lines : List Line) (entries : List Entry) : Type 0 where
+  pub nodes : List Standing
+  pub walked : walk workers targets lines ≡ Some nodes
+  pub quiet : is_quiet nodes ≡ true
+  pub each : All (λ (entry : Entry). slice_get nodes entry.node ≡ Some (leaf_node entry)) entries
+  pub as_many : count_by is_leaf nodes ≡ length entries
+
+-- a node is parted into kids with these choices, which are numbered from this node on
+abbrev pub IsSplitInto : (first : ℕ) → (choices : List Choice) → Deed (Option Cause) Sides → Type 0
+IsSplitInto first choices (Split sides) = (sides.first ≡ first) × (map (λ (side : Side). side.choice) sides.sides ≡ choices)
+IsSplitInto first choices _ = ⊥
+
+-- one of the events does so
+pub record IsParted (lines : List Line) (first : ℕ) (choices : List Choice) : Type 0 where
+  pub place : ℕ
+  pub line : Line
+  pub there : slice_get lines place ≡ Some line
+  pub splits : IsSplitInto first choices line.deed
+
+-- the node is a kid of a split into these choices: that of its own split, since the kids of each split get the next numbers
+pub record IsSideOf (lines : List Line) (node : ℕ) (choices : List Choice) : Type 0 where
+  pub first : ℕ
+  pub parted : IsParted lines first choices
+  pub not_before : first ≤ node
+  pub not_behind : node < first + length choices
+
+-- these are the choices of its own split, and none where it is a side of none
+abbrev pub IsOwnSplit : List Line → ℕ → List Choice → Type 0
+IsOwnSplit lines node [] = Unit {0}
+IsOwnSplit lines node (c ∷ cs) = IsSideOf lines node (c ∷ cs)

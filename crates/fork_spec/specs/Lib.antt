@@ -1,0 +1,9 @@
+pub mod Leaves
+pub mod Runs
+pub mod Evidence
+pub mod Partings
+pub mod Ranks
+pub mod Walks
+pub mod WorkedWalks
+pub mod Written
+pub mod Histories

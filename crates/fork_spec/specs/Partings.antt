@@ -1,0 +1,101 @@
+-- How two places of the fork tree part: their choices first differ at one fork, and there the runs of what they cover decide as the
+-- choices say. No fork is made at no instruction's need.
+use Rattle.std.specs.Prelude.{◌≡◌, ◌≢◌, ℕ, ◌<◌, Bool, true, false, List, ◌∷◌, ◌++◌, All, IsTrue, Some, length, slice_get}
+use Rattle.std.specs.Global.{Vec}
+use Rattle.elf_load.specs.Images.{Image}
+use Rattle.elf_load.specs.declared.region.Region.{Region}
+use Rattle.rv_spec.specs.Decisions.{Decision, Side, Number, decisions}
+use Rattle.rv_spec.specs.Memory.{IsAssignment}
+use Rattle.tree_core.specs.declared.choice.Choice.{Choice}
+use Rattle.tree_core.specs.declared.choice.Choice.TheVariants.{No, Yes, Value, Rest}
+use Rattle.tree_core.specs.Covers.{is_live}
+use Rattle.tree_core.specs.Stories.{Story, content, status}
+use Rattle.tree_core.specs.declared.event.Deed.{Deed}
+use Rattle.tree_core.specs.declared.event.Deed.TheVariants.{Claim, Split, Finish, Cut, Release}
+use Rattle.tree_core.specs.declared.event.Kid.{Kid}
+use Rattle.fork_spec.specs.Leaves.{Leaf, covers}
+
+-- a place of the fork tree: the sides that lead to it, and the assignments that it stands for
+pub record Place : Type 0 where
+  pub choices : List Choice
+  pub covers : List ℕ → Bool
+
+-- the side that a decision takes
+abbrev pub side_of : Decision → Choice
+side_of (Side false) = No
+side_of (Side true) = Yes
+side_of (Number n) = Value n
+
+-- a run with this decision is on this side; the rest may be on any
+abbrev pub IsOnSide : Choice → Decision → Type 0
+IsOnSide No d = side_of d ≡ No
+IsOnSide Yes d = side_of d ≡ Yes
+IsOnSide (Value v) d = side_of d ≡ Value v
+IsOnSide Rest d = Unit {0}
+
+-- the choices first differ in these two
+pub record FirstDiffer (cs ds : List Choice) (c d : Choice) : Type 0 where
+  pub front : List Choice
+  pub one_back : List Choice
+  pub other_back : List Choice
+  pub one : cs ≡ front ++ c ∷ one_back
+  pub other : ds ≡ front ++ d ∷ other_back
+  pub differ : c ≢ d
+
+-- two runs' decisions first differ in one place, where the one is on this side, and the other on that
+pub record PartAt (c d : Choice) (ones others : List Decision) : Type 0 where
+  pub front : List Decision
+  pub one_decision : Decision
+  pub other_decision : Decision
+  pub one_back : List Decision
+  pub other_back : List Decision
+  pub one : ones ≡ front ++ one_decision ∷ one_back
+  pub other : others ≡ front ++ other_decision ∷ other_back
+  pub differ : one_decision ≢ other_decision
+  pub one_side : IsOnSide c one_decision
+  pub other_side : IsOnSide d other_decision
+
+-- where their choices first differ, the runs of any two assignments that they cover part
+pub record ArePlacesApart (decides : List ℕ → List Decision) (p q : Place) : Type 0 where
+  pub c : Choice
+  pub d : Choice
+  pub first : FirstDiffer p.choices q.choices c d
+  pub part : (a b : List ℕ) → IsTrue (p.covers a) → IsTrue (q.covers b) → PartAt c d (decides a) (decides b)
+
+-- the one is somewhere under the other: it has the other's choices and maybe more, and stands for none but its assignments
+pub record IsUnder (p q : Place) : Type 0 where
+  pub more : List Choice
+  pub choices : p.choices ≡ q.choices ++ more
+  pub within : (input : List ℕ) → IsTrue (p.covers input) → IsTrue (q.covers input)
+
+-- any two of these kids are apart
+abbrev pub AreKidsApart : {R : Type 0} → (place : R → Place) → (List ℕ → List Decision) → List (Kid R) → Type 0
+AreKidsApart {R} place decides kids = (i j : ℕ) (a b : Kid R) → i ≢ j → slice_get kids i ≡ Some a → slice_get kids j ≡ Some b →
+    ArePlacesApart decides (place a.content) (place b.content)
+
+-- any two nodes of a story that have no kids are apart
+abbrev pub AreNodesApart : {R : Type 0} → (place : R → Place) → (List ℕ → List Decision) → Story R → Type 0
+AreNodesApart {R} place decides s = (m k : ℕ) (a b : R) → m ≢ k → m < length s.nodes → k < length s.nodes →
+    is_live (status s m) ≡ true → is_live (status s k) ≡ true → content s m ≡ Some a → content s k ≡ Some b →
+    ArePlacesApart decides (place a) (place b)
+
+-- what a deed makes of a node with this content is under it, and kids are apart
+abbrev pub KeepsApart : {R : Type 0} → (place : R → Place) → (List ℕ → List Decision) → R → Deed R (Vec (Kid R)) → Type 0
+KeepsApart place decides r Claim = Unit {0}
+KeepsApart {R} place decides r (Split kids) = All (λ (kid : Kid R). IsUnder (place kid.content) (place r)) kids.items × AreKidsApart place decides kids.items
+KeepsApart place decides r (Finish leaf) = IsUnder (place leaf) (place r)
+KeepsApart place decides r (Cut leaf) = IsUnder (place leaf) (place r)
+KeepsApart place decides r Release = Unit {0}
+
+-- two leaves part, by the decisions of at most so many steps
+pub record ArePartedLeaves (image : Image) (regions : List Region) (most : ℕ) (leaf other : Leaf) : Type 0 where
+  pub c : Choice
+  pub d : Choice
+  pub first : FirstDiffer leaf.choices other.choices c d
+  pub part : (a b : List ℕ) → IsAssignment regions a → IsTrue (covers leaf a) → IsAssignment regions b → IsTrue (covers other b) →
+      PartAt c d (decisions image regions a most) (decisions image regions b most)
+
+-- all assignments that a leaf covers make the same decisions in its steps
+abbrev pub DecidesAlike : Image → List Region → Leaf → Type 0
+DecidesAlike image regions leaf = (a b : List ℕ) → IsAssignment regions a → IsTrue (covers leaf a) → IsAssignment regions b → IsTrue (covers leaf b) →
+    decisions image regions a leaf.steps ≡ decisions image regions b leaf.steps

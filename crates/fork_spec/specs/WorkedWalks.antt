@@ -1,0 +1,55 @@
+-- Events whose walk can be followed by hand.
+use Rattle.std.specs.Prelude.{ℕ, List, [], ◌∷◌, Option, Some, None}
+use Rattle.tree_core.specs.declared.cause.Cause.{Cause}
+use Rattle.tree_core.specs.declared.cause.Cause.TheVariants.{Steps, Targets, Conflicts}
+use Rattle.tree_core.specs.declared.choice.Choice.TheVariants.{No, Yes, Value, Rest}
+use Rattle.tree_core.specs.declared.event.Deed.{Deed}
+use Rattle.tree_core.specs.declared.event.Deed.TheVariants.{Claim, Split, Finish, Cut, Release}
+use Rattle.tree_core.specs.declared.node.Status.TheVariants.{Held, Parted, Leaf}
+use Rattle.fork_spec.specs.Walks.{Line, Side, Sides, Standing, rest_side, value_side}
+
+abbrev pub line : (by node : ℕ) → Deed (Option Cause) Sides → Line
+line by node deed = record { by = by; node = node; deed = deed }
+
+abbrev pub parts : (first : ℕ) → List Side → Deed (Option Cause) Sides
+parts first sides = Split (record { first = first; sides = sides })
+
+-- a branch of whose sides the second is cut by conflicts; the first is released, claimed again and finished
+abbrev pub branch_lines : List Line
+branch_lines =
+    line 0 0 Claim
+    ∷ line 0 0 (parts 1 (record { choice = No; cut = None } ∷ record { choice = Yes; cut = Some Conflicts } ∷ []))
+    ∷ line 1 1 Claim
+    ∷ line 1 1 Release
+    ∷ line 0 1 Claim
+    ∷ line 0 1 (Finish None)
+    ∷ []
+
+abbrev pub branch_nodes : List Standing
+branch_nodes =
+    record { choices = []; status = Parted; cut = None }
+    ∷ record { choices = No ∷ []; status = Leaf; cut = None }
+    ∷ record { choices = Yes ∷ []; status = Leaf; cut = Some Conflicts }
+    ∷ []
+
+-- two values and the rest; the first is cut by steps, the second is claimed
+abbrev pub value_lines : List Line
+value_lines =
+    line 0 0 Claim
+    ∷ line 0 0 (parts 1 (value_side 7 ∷ value_side 9 ∷ rest_side (Some Targets) ∷ []))
+    ∷ line 0 1 Claim
+    ∷ line 0 1 (Cut (Some Steps))
+    ∷ line 0 2 Claim
+    ∷ []
+
+abbrev pub value_nodes : List Standing
+value_nodes =
+    record { choices = []; status = Parted; cut = None }
+    ∷ record { choices = Value 7 ∷ []; status = Leaf; cut = Some Steps }
+    ∷ record { choices = Value 9 ∷ []; status = Held 0; cut = None }
+    ∷ record { choices = Rest ∷ []; status = Leaf; cut = Some Targets }
+    ∷ []
+
+-- the root is claimed, and then this is done
+abbrev pub claimed_and : (by : ℕ) → Deed (Option Cause) Sides → List Line
+claimed_and by deed = line 0 0 Claim ∷ line by 0 deed ∷ []

@@ -1,0 +1,80 @@
+-- What is written of the story of a fork tree: its events, with of each content no more than why it was cut.
+use Rattle.std.specs.Prelude.{◌≡◌, ℕ, ◌+◌, ◌<◌, IsTrue, List, [], ◌∷◌, ◌++◌, Option, Some, None, All, drop, if◌then◌else◌, length, map, slice_get, take}
+use Rattle.tree_core.specs.declared.cause.Cause.{Cause}
+use Rattle.tree_core.specs.declared.cause.Cause.TheVariants.{Steps}
+use Rattle.tree_core.specs.declared.choice.Choice.{Choice}
+use Rattle.tree_core.specs.declared.choice.Choice.TheVariants.{Rest}
+use Rattle.tree_core.specs.declared.event.Event.{Event}
+use Rattle.tree_core.specs.declared.event.Kid.{Kid}
+use Rattle.tree_core.specs.declared.event.Deed.{Deed}
+use Rattle.tree_core.specs.declared.event.Deed.TheVariants.{Claim, Split, Finish, Cut, Release}
+use Rattle.tree_core.specs.declared.node.Node.{Node}
+use Rattle.tree_core.specs.declared.node.Origin.{Origin}
+use Rattle.tree_core.specs.declared.node.Status.{Status}
+use Rattle.tree_core.specs.declared.node.Status.TheVariants.{Free, Held, Parted, Leaf}
+use Rattle.tree_core.specs.Stories.{Story, content, status}
+use Rattle.std.specs.Global.{Vec}
+use Rattle.fork_spec.specs.Walks.{Line, Side, Sides, Standing, are_sides, walk}
+
+-- on which side of its parent's fork a node is; the root is on none
+abbrev pub choice_in : Option Origin → Choice
+choice_in None = Rest
+choice_in (Some o) = o.choice
+
+-- the side that a node was born as; `cut` tells of a content why it was cut
+abbrev pub side_born : {R : Type 0} → (cut : R → Option Cause) → Node R → Side
+side_born cut n = record { choice = choice_in n.origin; cut = if n.is_leaf then cut n.content else None }
+
+-- the side that a kid is
+abbrev pub side_of_kid : {R : Type 0} → (cut : R → Option Cause) → Kid R → Side
+side_of_kid cut kid = record { choice = kid.choice; cut = if kid.is_leaf then cut kid.content else None }
+
+-- how many nodes a deed makes
+abbrev pub born_by : {R : Type 0} → Deed R ℕ → ℕ
+born_by (Split count) = count
+born_by _ = 0
+
+-- a deed as it is written: the kids of a split are the next nodes, of which the first has this number
+abbrev pub written : {R : Type 0} → (cut : R → Option Cause) → List (Node R) → (first : ℕ) → Deed R ℕ → Deed (Option Cause) Sides
+written cut nodes first Claim = Claim
+written cut nodes first (Split count) = Split (record { first = first; sides = map (side_born cut) (take count (drop first nodes)) })
+written cut nodes first (Finish leaf) = Finish (cut leaf)
+written cut nodes first (Cut leaf) = Cut (cut leaf)
+written cut nodes first Release = Release
+
+-- the events as they are written, where those before them have made so many nodes
+unfoldable pub lines_from : {R : Type 0} → (cut : R → Option Cause) → List (Node R) → (first : ℕ) → List (Event R ℕ) → List Line
+lines_from cut nodes first [] = []
+lines_from cut nodes first (e ∷ es) = record { by = e.by; node = e.node; deed = written cut nodes first e.deed } ∷ lines_from cut nodes (first + born_by e.deed) es
+
+-- all of them; the root was there before any event
+abbrev pub lines_of : {R : Type 0} → (cut : R → Option Cause) → Story R → List Line
+lines_of cut s = lines_from cut s.nodes 1 s.events
+
+-- why a node that stands so was cut, if it is a leaf that was
+abbrev pub cut_where : {R : Type 0} → (cut : R → Option Cause) → Status → R → Option Cause
+cut_where cut Leaf r = cut r
+cut_where cut _ r = None
+
+-- a node stands as the story says, at the place that its content has
+abbrev pub StandsAs : {R : Type 0} → (choices : R → List Choice) → (cut : R → Option Cause) → Story R → ℕ → R → Standing → Type 0
+StandsAs choices cut s m r standing = standing ≡ record { choices = choices r; status = status s m; cut = cut_where cut (status s m) r }
+
+-- the nodes of a walk are those of the story
+pub record AreNodesOf {R : Type 0} (choices : R → List Choice) (cut : R → Option Cause) (s : Story R) (nodes : List Standing) : Type 0 where
+  pub as_many : length nodes ≡ length s.nodes
+  pub each : (m : ℕ) (r : R) → content s m ≡ Some r → (standing : Standing) × (slice_get nodes m ≡ Some standing) × StandsAs choices cut s m r standing
+
+-- What is written of the story is a walk that leads to its nodes, for any number of workers that all of its workers are among.
+abbrev pub IsWalked : {R : Type 0} → (choices : R → List Choice) → (cut : R → Option Cause) → (targets : ℕ) → Story R → Type 0
+IsWalked {R} choices cut targets s = (workers : ℕ) → All (λ (e : Event R ℕ). e.by < workers) s.events →
+    (nodes : List Standing) × (walk workers targets (lines_of cut s) ≡ Some nodes) × AreNodesOf choices cut s nodes
+
+-- a deed on a node with this content is in form: kids are sides of its fork and have its choices and then their own, and a leaf
+-- has its choices, and was cut by steps or not at all
+abbrev pub IsInForm : {R : Type 0} → (choices : R → List Choice) → (cut : R → Option Cause) → (targets : ℕ) → R → Deed R (Vec (Kid R)) → Type 0
+IsInForm choices cut targets r Claim = Unit {0}
+IsInForm {R} choices cut targets r (Split kids) = IsTrue (are_sides targets (map (side_of_kid cut) kids.items)) × All (λ (kid : Kid R). choices kid.content ≡ choices r ++ kid.choice ∷ []) kids.items
+IsInForm choices cut targets r (Finish leaf) = (choices leaf ≡ choices r) × (cut leaf ≡ None)
+IsInForm choices cut targets r (Cut leaf) = (choices leaf ≡ choices r) × (cut leaf ≡ Some Steps)
+IsInForm choices cut targets r Release = Unit {0}

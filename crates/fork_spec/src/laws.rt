@@ -1,0 +1,54 @@
+//! What holds of every walk, and walks that can be followed by hand.
+
+ghost use Rattle.std.specs.Prelude.{◌≡◌, ◌≤◌, ◌++◌, ℕ, List, [], ◌∷◌, Option, Some, None, IsFalse, IsTrue, length, map, option_and_then};
+ghost use Rattle.tree_core.specs.declared.cause.Cause.{Cause};
+ghost use Rattle.tree_core.specs.declared.cause.Cause.TheVariants.{Conflicts, Targets};
+ghost use Rattle.tree_core.specs.declared.event.Deed.TheVariants.{Claim, Cut, Finish};
+ghost use Rattle.fork_spec.specs.Walks.{Line, Standing, are_sides, is_increasing, is_quiet, is_rest_cut, rest_side, value_side, walk, walk_from};
+ghost use Rattle.fork_spec.specs.WorkedWalks.{branch_lines, branch_nodes, claimed_and, line, parts, value_lines, value_nodes};
+
+/// A walk goes on from where its first events lead.
+pub fn a_walk_goes_on_from_its_first_events()
+    ensures { (workers targets : ℕ) (nodes : List Standing) (first more : List Line)
+        → walk_from workers targets nodes (first ++ more)
+        ≡ option_and_then (λ reached. walk_from workers targets reached more) (walk_from workers targets nodes first) }
+{}
+
+/// A node may part into the values of a term, two at least and no more than there may be, by increasing value.
+pub fn a_node_may_part_into_values()
+    ensures { (targets : ℕ) (values : List ℕ) → IsTrue (is_increasing values) → 2 ≤ length values → length values ≤ targets
+        → IsTrue (are_sides targets (map value_side values)) }
+{}
+
+/// It may also part into one value or more and the rest, for each cause that may cut the rest.
+pub fn a_node_may_part_into_values_and_the_rest()
+    ensures { (targets : ℕ) (values : List ℕ) (cut : Option Cause) → IsTrue (is_increasing values) → 1 ≤ length values → length values ≤ targets
+        → IsTrue (is_rest_cut targets (length values) cut) → IsTrue (are_sides targets (map value_side values ++ rest_side cut ∷ [])) }
+{}
+
+/// Two walks, followed by hand: with two workers and a budget of two values.
+#[tactic(auto, unfolding(crate::specs::Walks::walk_from, crate::specs::Walks::step, crate::specs::Walks::are_values, crate::specs::Walks::values_first))]
+pub fn worked_walks()
+    ensures branch { walk 2 2 branch_lines ≡ Some branch_nodes }
+    ensures branch_is_quiet { IsTrue (is_quiet branch_nodes) }
+    ensures values { walk 2 2 value_lines ≡ Some value_nodes }
+    ensures values_are_not_quiet { IsFalse (is_quiet value_nodes) }
+{}
+
+/// Events that may not come, first of all or once worker 0 has claimed the root.
+#[tactic(auto, unfolding(crate::specs::Walks::walk_from, crate::specs::Walks::step, crate::specs::Walks::are_values, crate::specs::Walks::values_first))]
+pub fn worked_refusals()
+    ensures third_worker { walk 2 2 (line 2 0 Claim ∷ []) ≡ None }
+    ensures no_such_node { walk 2 2 (line 0 1 Claim ∷ []) ≡ None }
+    ensures not_claimed { walk 2 2 (line 0 0 (Finish None) ∷ []) ≡ None }
+    ensures claimed_twice { walk 2 2 (claimed_and 1 Claim) ≡ None }
+    ensures held_by_another { walk 2 2 (claimed_and 1 (Finish None)) ≡ None }
+    ensures cut_by_targets { walk 2 2 (claimed_and 0 (Cut (Some Targets))) ≡ None }
+    ensures wrong_first_kid { walk 2 2 (claimed_and 0 (parts 2 (value_side 7 ∷ value_side 9 ∷ []))) ≡ None }
+    ensures one_kid { walk 2 2 (claimed_and 0 (parts 1 (value_side 7 ∷ []))) ≡ None }
+    ensures rest_alone { walk 2 2 (claimed_and 0 (parts 1 (rest_side (Some Conflicts) ∷ []))) ≡ None }
+    ensures not_increasing { walk 2 2 (claimed_and 0 (parts 1 (value_side 9 ∷ value_side 7 ∷ []))) ≡ None }
+    ensures too_many { walk 2 2 (claimed_and 0 (parts 1 (value_side 7 ∷ value_side 8 ∷ value_side 9 ∷ []))) ≡ None }
+    ensures too_few { walk 2 2 (claimed_and 0 (parts 1 (value_side 7 ∷ rest_side (Some Targets) ∷ []))) ≡ None }
+    ensures open_rest { walk 2 2 (claimed_and 0 (parts 1 (value_side 7 ∷ rest_side None ∷ []))) ≡ None }
+{}

@@ -1,0 +1,8 @@
+//! The fork tree: nodes that hold states or leaves, under the claim protocol of `tree_core`, and the loop of one worker that works it.
+#![tactic(auto)]
+
+mod content;
+mod work;
+
+pub use content::{Content, Placed};
+pub use work::{Parts, Work};

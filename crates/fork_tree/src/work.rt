@@ -1,0 +1,36 @@
+//! Who works a node, and what comes of it.
+
+ghost use Rattle.std.specs.Prelude.{IfOk};
+ghost use Rattle.fork_tree.specs.Works.{IsWorked, Rules};
+
+use crate::content::{Content, Placed};
+use std::alloc::{AllocError as NoMemory, Global};
+use tree_core::Kid;
+
+/// What comes of a state: a leaf whose runs have all ended, one that has spent its steps, or kids that share out what it stands for.
+#[derive(Drop)]
+pub enum Parts<S: Drop, L: Drop> {
+    Finished(L),
+    CutSteps(L),
+    /// By the order of their choices.
+    Kids(Vec<Kid<Content<S, L>>>),
+}
+
+/// A worker of states. Which states are well and which leaves are right may depend on it, as on a program and its budgets.
+pub trait Work: Drop {
+    type State: Placed;
+
+    type Leaf: Placed;
+
+    // What is asked of its states and leaves.
+    ghost rules: { Self → Rules Self.State Self.Leaf };
+
+    /// Works a state, up to the next fork or the end of all its runs.
+    fn work(
+        &self,
+        alloc: Global,
+        state: &Self::State,
+    ) -> Result<Parts<Self::State, Self::Leaf>, NoMemory>
+        requires well { (rules self.now).IsWell state.now }
+        ensures { IfOk result (IsWorked (rules self.now) Self.State.place Self.Leaf.place state.now) };
+}

@@ -1,0 +1,12 @@
+//! What an exploration may spend.
+
+/// What the exploration of a program may spend: in a job of words, each from 1 to the most of its limit.
+#[derive(Clone, Copy, Debug, PartialEq, Eq)]
+pub struct Budgets {
+    /// The most steps of a run; one that hasn't ended by then is cut.
+    pub steps: u32,
+    /// The most values that are found for a term that has to be a number; the rest is cut.
+    pub targets: u32,
+    /// The most clauses that are derived in the search for an answer; the question is then left open.
+    pub conflicts: u32,
+}
