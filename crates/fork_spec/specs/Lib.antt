@@ -2,6 +2,7 @@ pub mod Leaves
 pub mod Runs
 pub mod Evidence
 pub mod Partings
+pub mod Parts
 pub mod Ranks
 pub mod Walks
 pub mod WorkedWalks

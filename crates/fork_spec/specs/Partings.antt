@@ -1,6 +1,6 @@
 -- How two places of the fork tree part: their choices first differ at one fork, and there the runs of what they cover decide as the
 -- choices say. No fork is made at no instruction's need.
-use Rattle.std.specs.Prelude.{◌≡◌, ◌≢◌, ℕ, ◌<◌, Bool, true, false, List, ◌∷◌, ◌++◌, All, IsTrue, Some, length, slice_get}
+use Rattle.std.specs.Prelude.{◌≡◌, ◌≢◌, ℕ, ◌<◌, ◌&&◌, Bool, true, false, List, ◌∷◌, ◌++◌, All, IsTrue, Some, length, slice_get}
 use Rattle.std.specs.Global.{Vec}
 use Rattle.elf_load.specs.Images.{Image}
 use Rattle.elf_load.specs.declared.region.Region.{Region}
@@ -13,12 +13,16 @@ use Rattle.tree_core.specs.Stories.{Story, content, status}
 use Rattle.tree_core.specs.declared.event.Deed.{Deed}
 use Rattle.tree_core.specs.declared.event.Deed.TheVariants.{Claim, Split, Finish, Cut, Release}
 use Rattle.tree_core.specs.declared.event.Kid.{Kid}
-use Rattle.fork_spec.specs.Leaves.{Leaf, covers}
+use Rattle.fork_spec.specs.Leaves.{Leaf, are_bytes, covers}
 
 -- a place of the fork tree: the sides that lead to it, and the assignments that it stands for
 pub record Place : Type 0 where
   pub choices : List Choice
   pub covers : List ℕ → Bool
+
+-- the place of a leaf
+abbrev pub place_of : Leaf → Place
+place_of leaf = record { choices = leaf.choices; covers = λ input. are_bytes input && covers leaf input }
 
 -- the side that a decision takes
 abbrev pub side_of : Decision → Choice
