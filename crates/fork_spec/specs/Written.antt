@@ -1,5 +1,5 @@
 -- What is written of the story of a fork tree: its events, with of each content no more than why it was cut.
-use Rattle.std.specs.Prelude.{◌≡◌, ℕ, ◌+◌, ◌<◌, IsTrue, List, [], ◌∷◌, ◌++◌, Option, Some, None, All, drop, if◌then◌else◌, length, map, slice_get, take}
+use Rattle.std.specs.Prelude.{◌≡◌, ℕ, ◌+◌, ◌<◌, Bool, true, IsTrue, List, [], ◌∷◌, ◌++◌, Option, Some, None, All, drop, if◌then◌else◌, length, map, slice_get, take}
 use Rattle.tree_core.specs.declared.cause.Cause.{Cause}
 use Rattle.tree_core.specs.declared.cause.Cause.TheVariants.{Steps}
 use Rattle.tree_core.specs.declared.choice.Choice.{Choice}
@@ -65,16 +65,45 @@ pub record AreNodesOf {R : Type 0} (choices : R → List Choice) (cut : R → Op
   pub as_many : length nodes ≡ length s.nodes
   pub each : (m : ℕ) (r : R) → content s m ≡ Some r → (standing : Standing) × (slice_get nodes m ≡ Some standing) × StandsAs choices cut s m r standing
 
+-- how many nodes there are after these events, where those before them have made so many
+unfoldable pub nodes_after : {R : Type 0} → (first : ℕ) → List (Event R ℕ) → ℕ
+nodes_after first [] = first
+nodes_after first (e ∷ es) = nodes_after (first + born_by e.deed) es
+
+-- the walk of what is written, for so many workers, leads to the nodes of the story
+pub record LeadsTo {R : Type 0} (choices : R → List Choice) (cut : R → Option Cause) (workers targets : ℕ) (s : Story R) : Type 0 where
+  pub nodes : List Standing
+  pub walked : walk workers targets (lines_of cut s) ≡ Some nodes
+  pub same : AreNodesOf choices cut s nodes
+
 -- What is written of the story is a walk that leads to its nodes, for any number of workers that all of its workers are among.
-abbrev pub IsWalked : {R : Type 0} → (choices : R → List Choice) → (cut : R → Option Cause) → (targets : ℕ) → Story R → Type 0
-IsWalked {R} choices cut targets s = (workers : ℕ) → All (λ (e : Event R ℕ). e.by < workers) s.events →
-    (nodes : List Standing) × (walk workers targets (lines_of cut s) ≡ Some nodes) × AreNodesOf choices cut s nodes
+pub record IsWalked {R : Type 0} (choices : R → List Choice) (cut : R → Option Cause) (targets : ℕ) (s : Story R) : Type 0 where
+  pub counted : nodes_after 1 s.events ≡ length s.nodes
+  pub leads : (workers : ℕ) → All (λ (e : Event R ℕ). e.by < workers) s.events → LeadsTo choices cut workers targets s
+
+-- a deed as it is written where there are so many nodes so far
+abbrev pub written_now : {R : Type 0} → (cut : R → Option Cause) → (first : ℕ) → Deed R (Vec (Kid R)) → Deed (Option Cause) Sides
+written_now cut first Claim = Claim
+written_now cut first (Split kids) = Split (record { first = first; sides = map (side_of_kid cut) kids.items })
+written_now cut first (Finish leaf) = Finish (cut leaf)
+written_now cut first (Cut leaf) = Cut (cut leaf)
+written_now cut first Release = Release
+
+-- a leaf at once was cut
+abbrev pub IsCutOr : Bool → Option Cause → Type 0
+IsCutOr true None = ⊥
+IsCutOr _ _ = Unit {0}
+
+-- a kid is where its choice leads from its parent's, and one that is a leaf at once was cut
+pub record IsKidOf {R : Type 0} (choices : R → List Choice) (cut : R → Option Cause) (r : R) (kid : Kid R) : Type 0 where
+  pub leads : choices kid.content ≡ choices r ++ kid.choice ∷ []
+  pub marked : IsCutOr kid.is_leaf (cut kid.content)
 
 -- a deed on a node with this content is in form: kids are sides of its fork and have its choices and then their own, and a leaf
 -- has its choices, and was cut by steps or not at all
 abbrev pub IsInForm : {R : Type 0} → (choices : R → List Choice) → (cut : R → Option Cause) → (targets : ℕ) → R → Deed R (Vec (Kid R)) → Type 0
 IsInForm choices cut targets r Claim = Unit {0}
-IsInForm {R} choices cut targets r (Split kids) = IsTrue (are_sides targets (map (side_of_kid cut) kids.items)) × All (λ (kid : Kid R). choices kid.content ≡ choices r ++ kid.choice ∷ []) kids.items
+IsInForm {R} choices cut targets r (Split kids) = IsTrue (are_sides targets (map (side_of_kid cut) kids.items)) × All (IsKidOf choices cut r) kids.items
 IsInForm choices cut targets r (Finish leaf) = (choices leaf ≡ choices r) × (cut leaf ≡ None)
 IsInForm choices cut targets r (Cut leaf) = (choices leaf ≡ choices r) × (cut leaf ≡ Some Steps)
 IsInForm choices cut targets r Release = Unit {0}

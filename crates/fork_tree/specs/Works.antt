@@ -9,7 +9,7 @@ use Rattle.tree_core.specs.declared.choice.Choice.{Choice}
 use Rattle.tree_core.specs.declared.event.Kid.{Kid}
 use Rattle.fork_spec.specs.Partings.{Place, AreKidsApart}
 use Rattle.fork_spec.specs.Walks.{are_sides}
-use Rattle.fork_spec.specs.Written.{side_of_kid}
+use Rattle.fork_spec.specs.Written.{IsCutOr, side_of_kid}
 use Rattle.fork_tree.specs.Contents.{choices_in, cut_in, place_in}
 use Rattle.fork_tree.specs.declared.content.Content.{Content}
 use Rattle.fork_tree.specs.declared.content.Content.TheVariants.{Open, Shut}
@@ -38,10 +38,10 @@ module _ {S L : Type 0} where
     pub right : rules.IsRight [] l
     pub cause : rules.cut l ≡ cut
 
-  -- a state that is well with less work left, or a leaf that is right beside these choices
+  -- a state that is well with less work left, or a leaf that is right beside these choices, and was cut
   abbrev pub IsPart : Rules S L → (limit : ℕ) → List Choice → Kid (Content S L) → Content S L → Type 0
   IsPart rules limit choices kid (Open a) = (kid.is_leaf ≡ false) × rules.IsWell (arc_value a) × (rules.left (arc_value a) < limit)
-  IsPart rules limit choices kid (Shut l) = (kid.is_leaf ≡ true) × rules.IsRight choices l
+  IsPart rules limit choices kid (Shut l) = (kid.is_leaf ≡ true) × rules.IsRight choices l × IsCutOr true (rules.cut l)
 
   -- kids that share out what the state stands for, each on its side, and part by a decision
   pub record IsSplit (rules : Rules S L) (state_place : S → Place) (leaf_place : L → Place) (s : S) (kids : List (Kid (Content S L))) : Type 0 where
