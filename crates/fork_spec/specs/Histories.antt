@@ -3,9 +3,9 @@ use Rattle.std.specs.Prelude.{◌≡◌, ℕ, ◌+◌, ◌<◌, ◌≤◌, Bool,
 use Rattle.tree_core.specs.declared.cause.Cause.{Cause}
 use Rattle.tree_core.specs.declared.choice.Choice.{Choice}
 use Rattle.tree_core.specs.declared.event.Deed.{Deed}
-use Rattle.tree_core.specs.declared.event.Deed.TheVariants.{Claim, Split, Finish, Cut as IsCut, Release}
+use Rattle.tree_core.specs.declared.event.Deed.TheVariants.{Split}
 use Rattle.tree_core.specs.declared.node.Status.{Status}
-use Rattle.tree_core.specs.declared.node.Status.TheVariants.{Free, Held, Parted, Leaf as IsLeaf}
+use Rattle.tree_core.specs.declared.node.Status.TheVariants.{Leaf as IsLeaf}
 use Rattle.fork_spec.specs.Leaves.{Leaf}
 use Rattle.fork_spec.specs.Walks.{Line, Side, Sides, Standing, is_quiet, walk}
 use Rattle.fork_spec.specs.declared.end.LeafEnd.{LeafEnd}
