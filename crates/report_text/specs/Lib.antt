@@ -8,3 +8,4 @@ pub mod ReportData
 pub mod WorkedWalks
 pub mod Claims
 pub mod Files
+pub mod Entries
