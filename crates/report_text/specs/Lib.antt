@@ -6,3 +6,5 @@ pub mod Reports
 pub mod FileNames
 pub mod ReportData
 pub mod WorkedWalks
+pub mod Claims
+pub mod Files
