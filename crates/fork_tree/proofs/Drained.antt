@@ -45,7 +45,7 @@ module _ {R : Type 0} where
       turned a b c d x y z = omega arith
 
 module _ {S L : Type 0} (rules : Rules S L) (state_place : S → Place) (leaf_place : L → Place) where
-  covers_in : Content S L → List ℕ → Bool
+  abbrev covers_in : Content S L → List ℕ → Bool
   covers_in c = (place_in state_place leaf_place c).covers
 
   pub drained : (s : Story (Content S L)) → IsQuiet s → Partition (λ (c : Content S L). (place_in state_place leaf_place c).covers) s → FollowsRules rules state_place leaf_place s → IsDrained rules state_place leaf_place s

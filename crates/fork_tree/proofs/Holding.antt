@@ -27,7 +27,7 @@ use Rattle.fork_tree.specs.Nodes.{AllHold, HasLeaf, HasState, HoldsFor, IsRightA
 use Rattle.fork_tree.specs.Works.{Rules}
 use Rattle.fork_tree.specs.declared.content.Content.{Content}
 use Rattle.fork_tree.specs.declared.content.Content.TheVariants.{Open, Shut}
-use Rattle.fork_tree.proofs.Awaited.{lines-noted}
+use Rattle.fork_spec.proofs.Lines.{lines-noted}
 use Rattle.fork_tree.proofs.Free.{get_some}
 
 pub all_get : {X : Type 0} (P : X → Type 0) (xs : List X) (i : ℕ) (x : X) → All P xs → slice_get xs i ≡ Some x → P x

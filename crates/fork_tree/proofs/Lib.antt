@@ -1,4 +1,3 @@
-pub mod Awaited
 pub mod Free
 pub mod Listing
 pub mod Holding
@@ -6,3 +5,4 @@ pub mod Noting
 pub mod Fuel
 pub mod Entering
 pub mod Drained
+pub mod Fitting

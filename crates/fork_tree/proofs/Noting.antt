@@ -1,5 +1,5 @@
 -- What a tree keeps when an event was noted.
-use Rattle.std.proofs.Common.{◌≡◌, ℕ, zero, suc, ◌+◌, ◌^◌, ◌<◌, ◌≤◌, Bool, true, false, cond, IsTrue, Option, Some, None, List, [], ◌∷◌, ◌++◌, length, sym, refl, ap, ◌∙◌, subst, arith, length-append}
+use Rattle.std.proofs.Common.{◌≡◌, ℕ, zero, suc, ◌+◌, ◌^◌, ◌<◌, ◌≤◌, Bool, true, false, cond, IsTrue, Option, Some, None, List, [], ◌∷◌, ◌++◌, length, sym, refl, ap, ◌∙◌, subst, arith, ne_eqb, length-append}
 use Rattle.std.specs.List.{All}
 use Rattle.std.specs.Global.{Vec}
 use Rattle.std.specs.Arc.{arc_value}
@@ -24,7 +24,9 @@ use Rattle.fork_tree.specs.Trees.{FollowsRules, IsListOfFree, born_free, choices
 use Rattle.fork_tree.specs.Works.{Rules}
 use Rattle.fork_tree.specs.declared.content.Content.{Content}
 use Rattle.fork_tree.specs.declared.content.Content.TheVariants.{Open, Shut}
-use Rattle.fork_tree.proofs.Awaited.{apart-noted, apart-opening, walked-noted, walked-opening}
+use Rattle.fork_spec.proofs.Apart.{apart-noted, apart-opening}
+use Rattle.fork_spec.proofs.Walked.{walked-noted, walked-opening}
+use Rattle.fork_tree.proofs.Free.{free-none, listed-push}
 use Rattle.fork_tree.proofs.Holding.{DeedHolds, holds-noted}
 use Rattle.fork_tree.proofs.Listing.{allowed-claim, free-status, free-within, held-allows, listed-claim, listed-end, listed-free, listed-release, listed-split, not_free, some-held}
 
@@ -178,4 +180,4 @@ module _ {S L : Type 0} (rules : Rules S L) (state_place : S → Place) (leaf_pl
     where
       root_listed : IsListOfFree (opening c false) (0 ∷ [])
       root_listed zero = refl
-      root_listed (suc m) = refl
+      root_listed (suc m) = listed-push (suc m) 0 [] ∙ ap (λ b. 0 + one_if b) (ne_eqb 0 (suc m) (λ is. omega arith)) ∙ sym (ap one_if (free-none (opening c false) (suc m) (omega arith)))
