@@ -2,7 +2,11 @@
 #![tactic(auto)]
 
 mod content;
+mod draining;
+mod tree;
 mod work;
 
 pub use content::{Content, Placed};
+pub use draining::drain;
+pub use tree::{Claim, Tree};
 pub use work::{Parts, Work};
