@@ -11,7 +11,7 @@ use Rattle.rv_spec.specs.Memory.{IsAssignment}
 use Rattle.sym_state.specs.Growing.{Grows}
 use Rattle.sym_state.specs.Moves.{moved}
 use Rattle.sym_state.specs.Programs.{Program, regions_of}
-use Rattle.sym_state.specs.Symbolic.{Symbolic, IsOpen, IsSmall, IsWide, concrete, meets, most_steps, set_value, worth_of}
+use Rattle.sym_state.specs.Symbolic.{Symbolic, IsOpen, IsWord, IsWide, concrete, meets, most_steps, set_value, worth_of}
 use Rattle.sym_state.specs.declared.value.Value.{Value}
 use Rattle.sym_state.specs.declared.value.Value.TheVariants.{Number}
 use Rattle.sym_state.proofs.Kept.{map-grown}
@@ -26,14 +26,14 @@ sum_small : (a b : ℕ) → sum32 a b < 2 ^ 32
 sum_small a b = omega arith
 
 -- A register is written with a value over grown terms, and the machine does likewise.
-pub writes_register : (p : Program) (s : Symbolic) (g : Graph) (rd : ℕ) (v : Value) → IsOpen p s → Grows s.terms g → IsWide g v → ((input : List ℕ) → IsAssignment (regions_of p) input → IsSmall g input v) → s.steps < most_steps
+pub writes_register : (p : Program) (s : Symbolic) (g : Graph) (rd : ℕ) (v : Value) → IsOpen p s → Grows s.terms g → IsWide g v → ((input : List ℕ) → IsAssignment (regions_of p) input → IsWord g input v) → s.steps < most_steps
     → ((input : List ℕ) → IsAssignment (regions_of p) input → next (concrete p s input) ≡ Running (onward (concrete p s input) (written (map (worth_of s.terms input) s.registers) rd (worth_of g input v))))
     → Stepped p s (moved s (sum32 s.pc 4) (set_value s.registers rd v) g s.output s.path) GoesOn
 writes_register p s g rd v was grows wide small few does = (
   open_moved p s (sum32 s.pc 4) (set_value s.registers rd v) g s.output s.path was grows
       (length-set_value s.registers rd v ∙ was.all_registers)
       (All-set_value (IsWide g) s.registers rd v wide (wide-grown s.terms g s.registers grows was.wide))
-      (λ input assigned. All-set_value (IsSmall g input) s.registers rd v (small input assigned) (small-grown s.terms g input s.registers grows was.wide (was.small input assigned)))
+      (λ input assigned. All-set_value (IsWord g input) s.registers rd v (small input assigned) (small-grown s.terms g input s.registers grows was.wide (was.small input assigned)))
       (zero-set_value s.registers rd v was.zero)
       (AreBytes-grown s.terms g s.output grows was.bytes)
       (sum_small s.pc 4) few
@@ -71,7 +71,7 @@ links p s rd target was few small aligned does = (
   open_moved p s target (set_value s.registers rd (Number (sum32 s.pc 4))) s.terms s.output s.path was (Grows-none s.terms was.dag)
       (length-set_value s.registers rd (Number (sum32 s.pc 4)) ∙ was.all_registers)
       (All-set_value (IsWide s.terms) s.registers rd (Number (sum32 s.pc 4)) (sum_small s.pc 4) was.wide)
-      (λ input assigned. All-set_value (IsSmall s.terms input) s.registers rd (Number (sum32 s.pc 4)) (sum_small s.pc 4) (was.small input assigned))
+      (λ input assigned. All-set_value (IsWord s.terms input) s.registers rd (Number (sum32 s.pc 4)) (sum_small s.pc 4) (was.small input assigned))
       (zero-set_value s.registers rd (Number (sum32 s.pc 4)) was.zero)
       was.bytes small few
       (λ input assigned meeting. does input assigned

@@ -14,7 +14,7 @@ use Rattle.rv_spec.specs.Memory.{IsAssignment, byte_of, flags_of, is_mapped, pla
 use Rattle.sym_state.specs.Growing.{Grows}
 use Rattle.sym_state.specs.Moves.{moved, with_terms}
 use Rattle.sym_state.specs.Programs.{Program, regions_of}
-use Rattle.sym_state.specs.Symbolic.{Symbolic, IsOpen, IsSmall, IsWide, concrete, is_term, most_steps, numbers_of, set_value, value_at, worth_of}
+use Rattle.sym_state.specs.Symbolic.{Symbolic, IsOpen, IsWord, IsWide, concrete, is_term, most_steps, numbers_of, set_value, value_at, worth_of}
 use Rattle.sym_state.specs.declared.value.Value.TheVariants.{Number, Term}
 use Rattle.sym_state.proofs.Kept.{map-grown}
 use Rattle.sym_state.proofs.Pushes.{Grows-none, Grows-trans}
@@ -94,7 +94,7 @@ at_call_pin p s register term was small is =
     let wide : IsWide s.terms (Term term) = subst (IsWide s.terms) is (wide_at p s register was small) in
     at_pin p s s.terms register 0 term was (Grows-none s.terms was.dag) wide small (omega arith) (ap is_term is) (wide_at p s register was small)
     (λ input assigned.
-    let fits : IsSmall s.terms input (Term term) = subst (IsSmall s.terms input) is (was.small input assigned register (Number 0) (omega (arith, small, was.all_registers))) in
+    let fits : IsWord s.terms input (Term term) = subst (IsWord s.terms input) is (was.small input assigned register (Number 0) (omega (arith, small, was.all_registers))) in
     whole (number_of s.terms term input) fits ∙ ap (λ v. sum32 (worth_of s.terms input v) 0) (sym is))
 
 -- The calls.
@@ -163,7 +163,7 @@ writes p s t file start count least was bytes few is_least is_file is_start is_c
   open_moved p s (sum32 s.pc 4) (set_value s.registers 10 (Number least)) t.terms (s.output ++ bytes.ids) s.path was bytes.grows
       (length-set_value s.registers 10 (Number least) ∙ was.all_registers)
       (All-set_value (IsWide t.terms) s.registers 10 (Number least) (omega (arith, is_least)) (wide-grown s.terms t.terms s.registers bytes.grows was.wide))
-      (λ input assigned. All-set_value (IsSmall t.terms input) s.registers 10 (Number least) (omega (arith, is_least)) (small-grown s.terms t.terms input s.registers bytes.grows was.wide (was.small input assigned)))
+      (λ input assigned. All-set_value (IsWord t.terms input) s.registers 10 (Number least) (omega (arith, is_least)) (small-grown s.terms t.terms input s.registers bytes.grows was.wide (was.small input assigned)))
       (zero-set_value s.registers 10 (Number least) was.zero)
       (All-append (λ i. width_of t.terms i ≡ 8) s.output bytes.ids (AreBytes-grown s.terms t.terms s.output bytes.grows was.bytes) bytes.bytes)
       (omega arith) few

@@ -14,7 +14,7 @@ use Rattle.rv_spec.specs.Memory.{IsAssignment, byte_of, flags_of, is_mapped, pla
 use Rattle.sym_state.specs.Growing.{Grows}
 use Rattle.sym_state.specs.Moves.{moved, with_terms}
 use Rattle.sym_state.specs.Programs.{Program, regions_of}
-use Rattle.sym_state.specs.Symbolic.{Symbolic, IsOpen, IsSmall, IsWide, concrete, is_term, most_steps, set_value, value_at, worth_of}
+use Rattle.sym_state.specs.Symbolic.{Symbolic, IsOpen, IsWord, IsWide, concrete, is_term, most_steps, set_value, value_at, worth_of}
 use Rattle.sym_state.specs.declared.value.Value.{Value}
 use Rattle.sym_state.specs.declared.value.Value.TheVariants.{Number}
 use Rattle.sym_state.proofs.Kept.{worth_of-grown}
@@ -62,7 +62,7 @@ stops_load p s g rd rs1 offset address was grows is unmapped does =
     ∙ loads_nothing (concrete p s input) rd address unmapped ∙ ap (trapped LoadAccess) (sym (concrete-grown p s g input was grows))))
 
 -- a byte, over more terms
-pub loads : (p : Program) (s : Symbolic) (g : Graph) (rd rs1 offset address : ℕ) (v : Value) → IsOpen p s → Grows s.terms g → IsWide g v → ((input : List ℕ) → IsAssignment (regions_of p) input → IsSmall g input v) → s.steps < most_steps
+pub loads : (p : Program) (s : Symbolic) (g : Graph) (rd rs1 offset address : ℕ) (v : Value) → IsOpen p s → Grows s.terms g → IsWide g v → ((input : List ℕ) → IsAssignment (regions_of p) input → IsWord g input v) → s.steps < most_steps
     → ((input : List ℕ) → sum32 (x (concrete p s input) rs1) offset ≡ address) → is_mapped (flags_of p.image) address ≡ true
     → ((input : List ℕ) → worth_of g input v ≡ placed (regions_of p) input (byte_of p.image) address)
     → ((input : List ℕ) → IsAssignment (regions_of p) input → next (concrete p s input) ≡ load (concrete p s input) Lbu rd (sum32 (x (concrete p s input) rs1) offset))

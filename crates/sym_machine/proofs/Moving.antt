@@ -10,10 +10,10 @@ use Rattle.rv_spec.specs.Runs.{IsRunOf, run}
 use Rattle.sym_state.specs.Growing.{Grows}
 use Rattle.sym_state.specs.Moves.{IsSame, IsGrown, moved, with_terms}
 use Rattle.sym_state.specs.Programs.{Program, regions_of}
-use Rattle.sym_state.specs.Symbolic.{Symbolic, IsOpen, IsSmall, IsWide, AreBytes, IsDecided, Goes, concrete, meets, most_steps, numbers_of, value_at}
+use Rattle.sym_state.specs.Symbolic.{Symbolic, IsOpen, IsWord, IsWide, AreBytes, IsDecided, Goes, concrete, meets, most_steps, numbers_of, value_at}
 use Rattle.sym_state.specs.declared.value.Value.{Value}
 use Rattle.sym_state.specs.declared.value.Value.TheVariants.{Number}
-use Rattle.sym_state.proofs.Kept.{map-grown, IsSmall-grown, IsWide-grown, AreBits-grown, holds-grown, bit_width-grown, number_of-grown}
+use Rattle.sym_state.proofs.Kept.{map-grown, IsWord-grown, IsWide-grown, AreBits-grown, holds-grown, bit_width-grown, number_of-grown}
 use Rattle.sym_machine.specs.Steps.{IsEnding, Stepped, end_on}
 use Rattle.sym_machine.specs.declared.outcome.RunEnd.{RunEnd}
 use Rattle.sym_machine.specs.declared.outcome.Step.{Step}
@@ -33,8 +33,8 @@ AreBytes-grown g h ids grows bytes k d below = bit_width-grown g h (get_or ids k
 pub wide-grown : (g h : Graph) (vs : List Value) → Grows g h → All (IsWide g) vs → All (IsWide h) vs
 wide-grown g h vs grows wide k d below = IsWide-grown g h (get_or vs k d) grows (wide k d below)
 
-pub small-grown : (g h : Graph) (input : List ℕ) (vs : List Value) → Grows g h → All (IsWide g) vs → All (IsSmall g input) vs → All (IsSmall h input) vs
-small-grown g h input vs grows wide small k d below = IsSmall-grown g h input (get_or vs k d) grows (wide k d below) (small k d below)
+pub small-grown : (g h : Graph) (input : List ℕ) (vs : List Value) → Grows g h → All (IsWide g) vs → All (IsWord g input) vs → All (IsWord h input) vs
+small-grown g h input vs grows wide small k d below = IsWord-grown g h input (get_or vs k d) grows (wide k d below) (small k d below)
 
 -- the condition is met where it was, so the run stands for the same assignments
 pub same_moved : (p : Program) (s : Symbolic) (pc : ℕ) (rs : List Value) (g : Graph) (output : List ℕ) (path : List PathStep) → IsOpen p s → Grows s.terms g → IsSame p s (moved s pc rs g output path)
@@ -51,7 +51,7 @@ same_grown p s g was grows = record {
 
 -- A step: the machine makes it on each assignment too.
 pub open_moved : (p : Program) (s : Symbolic) (pc : ℕ) (rs : List Value) (g : Graph) (output : List ℕ) (path : List PathStep) → IsOpen p s → Grows s.terms g
-    → length rs ≡ 32 → All (IsWide g) rs → ((input : List ℕ) → IsAssignment (regions_of p) input → All (IsSmall g input) rs) → value_at rs 0 ≡ Number 0 → AreBytes g output → pc < 2 ^ 32 → s.steps < most_steps
+    → length rs ≡ 32 → All (IsWide g) rs → ((input : List ℕ) → IsAssignment (regions_of p) input → All (IsWord g input) rs) → value_at rs 0 ≡ Number 0 → AreBytes g output → pc < 2 ^ 32 → s.steps < most_steps
     → ((input : List ℕ) → IsAssignment (regions_of p) input → meets s input ≡ true → next (concrete p s input) ≡ GoesOn (concrete p (moved s pc rs g output path) input))
     → IsOpen p (moved s pc rs g output path)
 open_moved p s pc rs g output path was grows all wide small zero bytes in_memory few does = record {
