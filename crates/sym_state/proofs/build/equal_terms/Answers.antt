@@ -1,9 +1,9 @@
 use Rattle.std.proofs.Common.{◌∙◌, sym, arith}
 use Rattle.sym_state.proofs.Kept.{IsWide-grown, bit_width-grown, equal-grown}
-use Rattle.sym_state.proofs.state.State.equality.Goals as goal
+use Rattle.sym_state.proofs.build.equal_terms.Goals as goal
 
 pub value_term-requires-2-clause-wide : goal.value_term-requires-2-clause-wide
-value_term-requires-2-clause-wide c = IsWide-grown _ _ c.args.right c.in_ok-left.ensures.grows (rw (← c.self.view_is) at c.requires.right)
+value_term-requires-2-clause-wide c = IsWide-grown _ _ c.args.right c.in_ok-left.ensures.grows c.requires.right
 
 pub equality-requires-clause-some : goal.equality-requires-clause-some
 equality-requires-clause-some c = omega (arith, bit_width-grown _ _ _ 32 c.in_ok-right.ensures.grows c.in_ok-left.ensures.width (omega arith))
@@ -13,7 +13,6 @@ equality-requires-clause-same c = bit_width-grown _ _ _ 32 c.in_ok-right.ensures
 
 pub returns-clause-number : goal.returns-clause-number
 returns-clause-number c =
-    rw (← c.self.view_is)
-    (equal-grown c.self.inside.terms c.value_term.new.terms c.value_term-2.new.terms c.equality.new.terms c.args.left c.args.right _ _ c.equality.result
-    c.in_ok-left.ensures.grows c.in_ok-right.ensures.grows (rw (← c.self.view_is) at c.requires.right) c.in_ok-left.ensures.width
-    c.in_ok-left.ensures.number c.in_ok-right.ensures.number c.equality.ensures.number)
+    equal-grown c.args.terms.now c.value_term.new.terms c.value_term-2.new.terms c.equality.new.terms c.args.left c.args.right _ _ c.equality.result
+    c.in_ok-left.ensures.grows c.in_ok-right.ensures.grows c.requires.right c.in_ok-left.ensures.width
+    c.in_ok-left.ensures.number c.in_ok-right.ensures.number c.equality.ensures.number

@@ -1,6 +1,6 @@
 use Rattle.std.proofs.Common.{arith, ◌∙◌}
 use Rattle.sym_state.proofs.Kept.{bit_width-grown, sum-grown}
-use Rattle.sym_state.proofs.build.sum_with.Goals as goal
+use Rattle.sym_state.proofs.build.sum_terms.Goals as goal
 
 pub sum-requires-clause-left : goal.sum-requires-clause-left
 sum-requires-clause-left c = bit_width-grown _ _ c.args.left 32 c.in_ok-right.ensures.grows c.requires.left (omega arith)
