@@ -1,6 +1,8 @@
 -- A tree that is quiet.
-use Rattle.std.proofs.Common.{◌≡◌, ◌≢◌, ℕ, ◌+◌, ◌<◌, ◌≤◌, ◌&&◌, Bool, true, false, List, [], ◌∷◌, length, sym, refl, ap, ◌∙◌, subst, arith, eqb, cond, eq-eqb}
+use Rattle.std.proofs.Common.{◌≡◌, ◌≢◌, ℕ, ◌+◌, ◌<◌, ◌≤◌, ◌&&◌, Bool, true, false, Option, List, [], ◌∷◌, length, sym, refl, ap, ◌∙◌, subst, arith, eqb, cond, eq-eqb}
 use Rattle.std.proofs.lemmas.List.Sums.{sum_by-cons}
+use Rattle.tree_core.specs.declared.cause.Cause.{Cause}
+use Rattle.tree_core.specs.declared.choice.Choice.{Choice}
 use Rattle.tree_core.specs.declared.node.Status.{Status}
 use Rattle.tree_core.specs.declared.node.Status.TheVariants.{Free, Held, Parted, Leaf}
 use Rattle.tree_core.specs.Stories.{Story, status, content}
@@ -9,6 +11,9 @@ use Rattle.tree_core.specs.Cores.{held_count, is_held}
 use Rattle.tree_core.proofs.Counting.{count_same, count_at}
 use Rattle.fork_spec.specs.Histories.{is_leaf_status}
 use Rattle.fork_spec.specs.Partings.{Place}
+use Rattle.fork_spec.specs.Walks.{Standing, is_quiet, is_settled}
+use Rattle.fork_spec.specs.Written.{AreNodesOf}
+use Rattle.fork_spec.proofs.Quiet.{quiet-walked}
 use Rattle.fork_tree.specs.Calls.{IsQuiet, NoneFree}
 use Rattle.fork_tree.specs.Contents.{place_in}
 use Rattle.fork_tree.specs.Drains.{IsDrained}
@@ -33,7 +38,7 @@ module _ {R : Type 0} where
   not-held s m lt none = off (is_held (status s m)) (subst (λ (k : ℕ). one_if (is_held (status s m)) ≤ k) none (count_at (λ k. is_held (status s k)) (length s.nodes) m lt))
 
   -- nothing is listed where no node is free
-  pub none_listed : (s : Story R) (free : List ℕ) → ((m : ℕ) → m < length s.nodes → status s m ≢ Free) → IsListOfFree s free → free ≡ []
+  pub none_listed : (s : Story R) (free : List ℕ) → NoneFree s → IsListOfFree s free → free ≡ []
   none_listed s [] none listed = refl
   none_listed s (m ∷ ms) none listed =
       let twice : times_listed m (m ∷ ms) ≡ one_if (eqb m m) + times_listed m ms = sum_by-cons (λ (x : ℕ). cond (eqb x m) 1 0) m ms in
@@ -43,6 +48,16 @@ module _ {R : Type 0} where
     where
       turned : (a b c d : ℕ) → a ≡ b + c → b ≡ 1 → a ≡ d → c + 1 ≡ d
       turned a b c d x y z = omega arith
+
+settled : (st : Status) → st ≢ Free → is_held st ≡ false → is_settled st ≡ true
+settled Free not_free not_held = absurd (not_free refl)
+settled (Held w) not_free not_held = cc
+settled Parted not_free not_held = refl
+settled Leaf not_free not_held = refl
+
+module _ {R : Type 0} (choices : R → List Choice) (cut : R → Option Cause) (s : Story R) (nodes : List Standing) (same : AreNodesOf choices cut s nodes) where
+  pub quiet-quiet : IsQuiet s → is_quiet nodes ≡ true
+  quiet-quiet quiet = quiet-walked choices cut s nodes same (λ m lt. settled (status s m) (quiet.0 m lt) (not-held s m lt quiet.1))
 
 module _ {S L : Type 0} (rules : Rules S L) (state_place : S → Place) (leaf_place : L → Place) where
   abbrev covers_in : Content S L → List ℕ → Bool

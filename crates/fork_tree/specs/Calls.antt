@@ -22,6 +22,14 @@ use Rattle.fork_tree.specs.declared.content.Content.TheVariants.{Shut}
 use Rattle.fork_tree.specs.declared.tree.Claim.{Claim}
 use Rattle.fork_tree.specs.declared.tree.Claim.TheVariants.{Claimed, Nothing, Quiet}
 
+module _ {R : Type 0} where
+  abbrev pub NoneFree : Story R → Type 0
+  NoneFree s = (m : ℕ) → m < length s.nodes → status s m ≢ Free
+
+  -- no node is free or held
+  abbrev pub IsQuiet : Story R → Type 0
+  IsQuiet s = NoneFree s × (held_count s ≡ 0)
+
 module _ {S L : Type 0} where
   abbrev pub claim_event : ℕ → ℕ → Event (Content S L) (Vec (Kid (Content S L)))
   claim_event by node = record { by = by; node = node; deed = ClaimIt }
@@ -41,13 +49,6 @@ module _ {S L : Type 0} where
   -- one free node, with this state
   abbrev pub IsOpening : S → Story (Content S L) → Type 0
   IsOpening root s = (c : Content S L) × (s ≡ opening c false) × StateIs (Some c) root
-
-  abbrev pub NoneFree : Story (Content S L) → Type 0
-  NoneFree s = (m : ℕ) → m < length s.nodes → status s m ≢ Free
-
-  -- no node is free or held
-  abbrev pub IsQuiet : Story (Content S L) → Type 0
-  IsQuiet s = NoneFree s × (held_count s ≡ 0)
 
   -- what a claim of this worker answers, and what it makes of the story: a free node with its state, which is well, is now held;
   -- or nothing has changed, where no node is free, and some are held or none

@@ -44,6 +44,10 @@ abbrev pub GrowsBy : {R : Type 0} → ℕ → Story R → Story R → Type 0
 GrowsBy {R} by s t =
     (nodes : List (Node R)) × (events : List (Event R ℕ)) × (t.nodes ≡ s.nodes ++ nodes) × (t.events ≡ s.events ++ events) × All (λ (e : Event R ℕ). e.by ≡ by) events
 
+-- how many nodes are leaves
+abbrev pub leaf_nodes : {R : Type 0} → Story R → ℕ
+leaf_nodes s = count_below (λ m. is_leaf_status (status s m)) (length s.nodes)
+
 -- how many leaves cover the assignment
 abbrev pub leaf_count : {R : Type 0} → (R → List ℕ → Bool) → Story R → List ℕ → ℕ
 leaf_count covers s input = count_below (λ m. is_leaf_status (status s m) && covered covers (content s m) input) (length s.nodes)

@@ -3,6 +3,9 @@
 
 mod content;
 mod draining;
+pub mod laws;
+#[cfg(test)]
+mod tests;
 mod tree;
 mod work;
 
