@@ -1,3 +1,4 @@
+pub mod Standings
 pub mod Free
 pub mod Listing
 pub mod Holding

@@ -28,8 +28,10 @@ module _ {S L : Type 0} where
   abbrev pub StateIs : Option (Content S L) → S → Type 0
   StateIs c s = HasState (λ x. x ≡ s) c
 
-  -- a node that stands so holds what it has to: a state where it is free or held, and a leaf where it is a leaf
-  abbrev pub HoldsFor : (well : S → Type 0) → (right : L → Type 0) → Status → Option (Content S L) → Type 0
+  -- a node that stands so holds what it has to: a state where it is free or held, and a leaf where
+  -- it is a leaf
+  abbrev pub HoldsFor : (well : S → Type 0) → (right : L → Type 0) → Status →
+      Option (Content S L) → Type 0
   HoldsFor well right Free c = HasState well c
   HoldsFor well right (Held by) c = HasState well c
   HoldsFor well right Parted c = Unit {0}
@@ -47,4 +49,5 @@ module _ {S L : Type 0} where
 
   -- each node holds what it has to: a state that is well, or a leaf that is right
   abbrev pub AllHold : Rules S L → Story (Content S L) → Type 0
-  AllHold rules s = (m : ℕ) → m < length s.nodes → HoldsFor rules.IsWell (IsLeafRight rules s m) (status s m) (content s m)
+  AllHold rules s = (m : ℕ) → m < length s.nodes →
+      HoldsFor rules.IsWell (IsLeafRight rules s m) (status s m) (content s m)

@@ -25,9 +25,15 @@ pub record TreeValue (W S L : Type 0) : Type 0 where
 abbrev pub choices_at : {S L : Type 0} → (S → Place) → (L → Place) → Content S L → List Choice
 choices_at state_place leaf_place c = (place_in state_place leaf_place c).choices
 
--- What holds of a tree's story at every moment, by the rules of its worker: nodes hold what they have to; what is written of it is
--- a walk that leads to its nodes; nodes with no kids part by a decision; and there are fewer than 2 ^ 32 nodes.
-pub record FollowsRules {S L : Type 0} (rules : Rules S L) (state_place : S → Place) (leaf_place : L → Place) (s : Story (Content S L)) : Type 0 where
+-- the assignments that it stands for
+abbrev pub covers_at : {S L : Type 0} → (S → Place) → (L → Place) → Content S L → List ℕ → Bool
+covers_at state_place leaf_place c = (place_in state_place leaf_place c).covers
+
+-- What holds of a tree's story at every moment, by the rules of its worker: nodes hold what they
+-- have to; what is written of it is a walk that leads to its nodes; nodes with no kids part by a
+-- decision; and there are fewer than 2 ^ 32 nodes.
+pub record FollowsRules {S L : Type 0} (rules : Rules S L) (state_place : S → Place)
+    (leaf_place : L → Place) (s : Story (Content S L)) : Type 0 where
   pub holds : AllHold rules s
   pub walked : IsWalked (choices_at state_place leaf_place) (cut_in rules.cut) rules.targets s
   pub apart : AreNodesApart (place_in state_place leaf_place) rules.decides s
@@ -45,7 +51,8 @@ module _ {R : Type 0} where
   -- the numbers of the kids that are free, the first of which has this one
   abbrev pub born_free : ℕ → List (Kid R) → List ℕ
   born_free n [] = []
-  born_free n (kid ∷ kids) = if kid.is_leaf then born_free (n + 1) kids else (n ∷ born_free (n + 1) kids)
+  born_free n (kid ∷ kids) =
+      if kid.is_leaf then born_free (n + 1) kids else (n ∷ born_free (n + 1) kids)
 
 -- how often a number is in a list
 abbrev pub times_listed : ℕ → List ℕ → ℕ

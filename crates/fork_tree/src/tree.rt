@@ -78,6 +78,7 @@ impl<W: Work> Tree<W> {
         ensures story { self.new.story ≡ self.old.story }
         ensures nodes { OnOk result (kids ≤ self.new.node_room) }
         ensures events { OnOk result (2 ≤ self.new.event_room) }
+        ensures few { OnOk result (length self.new.story.nodes + kids < 2 ^ 32) }
     {
         if kids > MOST_NODES - self.core.len() {
             return Err(NoMemory);
