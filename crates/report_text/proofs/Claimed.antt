@@ -50,7 +50,7 @@ use Rattle.report_text.specs.Entries.{AreEntries, AskAsClaimed, IsBeside, IsEntr
 use Rattle.report_text.specs.Files.{test_of}
 
 -- Lists by their items.
-all_items : {X : Type 0} (P : X → Type 0) (xs : List X) → ((i : ℕ) (x : X) → slice_get xs i ≡ Some x → P x) → All P xs
+pub all_items : {X : Type 0} (P : X → Type 0) (xs : List X) → ((i : ℕ) (x : X) → slice_get xs i ≡ Some x → P x) → All P xs
 all_items P [] each = All-nil P
 all_items P (x ∷ xs) each = All-cons P x xs (each 0 x refl) (all_items P xs (λ i y at. each (suc i) y at))
 
@@ -62,16 +62,16 @@ count_same f g (x ∷ xs) same =
     ∙ sym (sum_by-cons (λ y. cond (g y) 1 0) x xs)
 
 -- what a Some holds
-none_is_some : {X : Type 0} (x : X) → None ≡ Some x → ⊥
+pub none_is_some : {X : Type 0} (x : X) → None ≡ Some x → ⊥
 none_is_some x e = cc
 
-same_held : {X : Type 0} (x y : X) → Some x ≡ Some y → x ≡ y
+pub same_held : {X : Type 0} (x y : X) → Some x ≡ Some y → x ≡ y
 same_held x y e = cc
 
 same_shut : {S L : Type 0} (x y : L) → ◌≡◌ {A = Content S L} (Shut x) (Shut y) → x ≡ y
 same_shut x y e = cc
 
-mapped_at : {X Y : Type 0} (f : X → Y) (xs : List X) (i : ℕ) (y : Y) → slice_get (map f xs) i ≡ Some y → (x : X) × (slice_get xs i ≡ Some x) × (f x ≡ y)
+pub mapped_at : {X Y : Type 0} (f : X → Y) (xs : List X) (i : ℕ) (y : Y) → slice_get (map f xs) i ≡ Some y → (x : X) × (slice_get xs i ≡ Some x) × (f x ≡ y)
 mapped_at f [] i y at = absurd (none_is_some y at)
 mapped_at f (x ∷ xs) zero y at = (x, refl, same_held (f x) y at)
 mapped_at f (x ∷ xs) (suc i) y at = mapped_at f xs i y at

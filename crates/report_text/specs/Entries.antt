@@ -24,7 +24,7 @@ use Rattle.fork_tree.specs.declared.content.Content.TheVariants.{Shut}
 use Rattle.report_text.specs.Claims.{Beside, Entry, Spending, Tested, leaves_of}
 use Rattle.report_text.specs.Files.{files_of, summary_of, test_of}
 use Rattle.report_text.specs.declared.leaves.LeafAt.{LeafAt}
-use Rattle.report_text.specs.declared.ranks.Ranked.{Ranked}
+use Rattle.report_text.specs.declared.ranking.RankedLeaf.{RankedLeaf}
 
 -- beside a leaf stands the test that its sample makes, or the values on which its targets were spent
 abbrev pub IsBeside : List Region → (rank : ℕ) → Leaf → Option (List ℕ) → Option Evidence → Beside → Type 0
@@ -65,8 +65,12 @@ module _ {S L : Type 0} (part_of : L → Part) where
     pub held : content s node ≡ Some (Shut leaf)
     pub same : part_of leaf ≡ part
 
+  -- the place of a leaf is that of its part
+  abbrev pub IsPlacedByPart : (L → Place) → Type 0
+  IsPlacedByPart leaf_place = (leaf : L) → leaf_place leaf ≡ place_of (part_of leaf).leaf
+
   -- the choices lead to the leaf at this node
-  pub record ChoicesLead (s : Story (Content S L)) (r : Ranked) : Type 0 where
+  pub record ChoicesLead (s : Story (Content S L)) (r : RankedLeaf) : Type 0 where
     pub part : Part
     pub at : IsLeafAt s r.node part
     pub same : r.choices.now ≡ part.leaf.choices
@@ -94,7 +98,7 @@ module _ {S L : Type 0} (part_of : L → Part) where
   pub record AskAsClaimed (rules : Rules S L) (leaf_place : L → Place) (image : Image) (regions : List Region) (budgets : Budgets) : Type 0 where
     pub right : (sides : List Choice) (leaf : L) → rules.IsRight sides leaf → IsRight image regions budgets.steps budgets.targets sides (part_of leaf)
     pub cut : (leaf : L) → rules.cut leaf ≡ cause_of (part_of leaf).leaf.end
-    pub place : (leaf : L) → leaf_place leaf ≡ place_of (part_of leaf).leaf
+    pub place : IsPlacedByPart leaf_place
     pub decides : (input : List ℕ) → rules.decides input ≡ decisions image regions input budgets.steps
     pub targets : rules.targets ≡ budgets.targets
 

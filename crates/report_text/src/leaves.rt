@@ -1,17 +1,18 @@
 //! The leaves of a tree, by rank.
 
-ghost use Rattle.std.specs.Prelude.{◌≡◌, ◌<◌, All, IfOk, map};
-ghost use Rattle.tree_core.specs.Stories.{status};
-ghost use Rattle.tree_core.specs.declared.node.Status.TheVariants.{Leaf};
+ghost use Rattle.std.specs.Prelude.{◌≡◌, All, IfOk, map};
+ghost use Rattle.fork_spec.specs.Histories.{LeafNode};
 ghost use Rattle.fork_spec.specs.Parts.{Part};
 ghost use Rattle.fork_tree.specs.Drains.{IsDrained};
-ghost use Rattle.report_text.specs.Entries.{AreByRank, ChoicesLead, leaf_numbers};
+ghost use Rattle.report_text.specs.Entries.{AreByRank, ChoicesLead, IsPlacedByPart, leaf_numbers};
 
-use crate::ranks::{Ranked, sort_by_rank};
+use crate::ranking::{RankedLeaf, sort_by_rank};
+use crate::reported::Reported;
+use fork_spec::LeafEnd;
 use fork_tree::{Tree, Work};
 use std::alloc::{AllocError as NoMemory, Global};
 use sym_state::LeafPart;
-use tree_core::Status;
+use tree_core::{Choice, Status};
 
 /// What has a leaf, with what shows it.
 pub trait HasPart {
@@ -36,6 +37,26 @@ pub(crate) struct LeafAt<'a> {
     pub node: usize,
 }
 
+impl Reported for LeafAt<'_> {
+    ghost leaf_node = { λ l. record { leaf = l.part.now.leaf; node = l.node } };
+
+    fn choices(&self) -> &[Choice] {
+        self.part.choices()
+    }
+
+    fn steps(&self) -> u32 {
+        self.part.steps()
+    }
+
+    fn end(&self) -> LeafEnd {
+        self.part.end()
+    }
+
+    fn node(&self) -> usize {
+        self.node
+    }
+}
+
 // The numbers of the leaves.
 fn leaf_numbers<W: Work>(alloc: Global, tree: &Tree<W>) -> Result<Vec<usize>, NoMemory>
     ensures { IfOk result (λ numbers. numbers.items ≡ leaf_numbers tree.now.story) }
@@ -54,7 +75,7 @@ fn with_choices<'a, W: Work>(
     alloc: Global,
     tree: &'a Tree<W>,
     numbers: &[usize],
-) -> Result<Vec<Ranked<'a>>, NoMemory>
+) -> Result<Vec<RankedLeaf<'a>>, NoMemory>
 where
     W::Leaf: HasPart,
     requires { numbers.now ≡ leaf_numbers tree.now.story }
@@ -63,7 +84,7 @@ where
 {
     let mut ranked = Vec::with_capacity(alloc, numbers.len())?;
     for node in numbers {
-        ranked.push(Ranked {
+        ranked.push(RankedLeaf {
             choices: tree.leaf(*node).part().choices(),
             node: *node,
         })?;
@@ -78,12 +99,13 @@ pub(crate) fn by_rank<'a, W: Work>(
 ) -> Result<Vec<LeafAt<'a>>, NoMemory>
 where
     W::Leaf: HasPart,
-    requires { IsDrained (W.rules tree.now.worker) W.State.place W.Leaf.place tree.now.story }
+    requires done { IsDrained (W.rules tree.now.worker) W.State.place W.Leaf.place tree.now.story }
+    requires placed { IsPlacedByPart W.Leaf.part W.Leaf.place }
     ensures { IfOk result (λ leaves. AreByRank W.Leaf.part tree.now.story leaves.items) }
 {
     let numbers = leaf_numbers(alloc, tree)?;
     let mut ranked = with_choices(alloc, tree, &numbers)?;
-    sort_by_rank(&mut ranked)?;
+    sort_by_rank(&mut ranked);
     let mut leaves = Vec::with_capacity(alloc, ranked.len())?;
     for at in &ranked {
         leaves.push(LeafAt {

@@ -1,25 +1,26 @@
 //! The report of a tree that is done: its files, and the line that is said.
 
-ghost use Rattle.std.specs.Prelude.{◌≡◌, ◌<◌, ◌++◌, ◌∷◌, [], All, IfOk, OnOk, ℕ, Some};
+ghost use Rattle.std.specs.Prelude.{◌≡◌, ◌<◌, ◌++◌, ◌∷◌, [], All, IfOk, OnOk, ℕ, Some, length};
 ghost use Rattle.tree_core.specs.Stories.{content, status};
 ghost use Rattle.tree_core.specs.declared.node.Status.TheVariants.{Leaf};
 ghost use Rattle.fork_spec.specs.Written.{lines_of};
 ghost use Rattle.fork_tree.specs.Contents.{cut_in};
 ghost use Rattle.fork_tree.specs.Drains.{IsDrained};
 ghost use Rattle.fork_tree.specs.declared.content.Content.TheVariants.{Shut};
-ghost use Rattle.report_text.specs.Entries.{IsReportOfTree, IsReportable, beside_of, entries_of};
+ghost use Rattle.report_text.specs.Entries.{IsPlacedByPart, IsReportOfTree, IsReportable, beside_of, entries_of};
 ghost use Rattle.report_text.specs.Files.{beside_put, events_put, files_from, leaf_put, report_put};
 
 use crate::event_lines::write_events;
 use crate::file_names::{events_name, leaf_name, report_name, spent_name, test_name};
 use crate::leaves::{HasPart, LeafAt, by_rank};
+use crate::marked::Marked;
 use crate::report_json::write_report;
 use crate::sample_test::make_test;
 use crate::spent::write_targets;
 use crate::summary::{summarize, summary_line};
 use elf_load::Regions;
 use fork_tree::{Tree, Work};
-use smt_text::{LeafText, print_leaf};
+use smt_text::print_parts;
 use std::alloc::{AllocError as NoMemory, Global};
 use sym_state::{Evidence, LeafPart};
 use test_files::write_test;
@@ -33,25 +34,19 @@ pub struct Report {
     pub summary: Bytes,
 }
 
-// The leaf, as its text has it.
-fn leaf_text(alloc: Global, part: &LeafPart) -> Result<LeafText, NoMemory>
-    ensures { IfOk result (λ leaf. leaf ≡ part.now.leaf) }
-{
-    Ok(LeafText {
-        choices: Vec::from_slice(alloc, part.choices())?,
-        path: Vec::from_slice(alloc, part.path())?,
-        steps: part.steps(),
-        end: part.end(),
-        condition: part.condition().clone()?,
-        outputs: Vec::from_slice(alloc, part.outputs())?,
-    })
-}
-
 // The file of the leaf.
 fn leaf_file(alloc: Global, out: &str, rank: usize, part: &LeafPart) -> Result<NamedFile, NoMemory>
     ensures { IfOk result (λ file. file ≡ leaf_put out.now rank part.now.leaf) }
 {
-    let text = print_leaf(alloc, &leaf_text(alloc, part)?)?;
+    let text = print_parts(
+        alloc,
+        part.choices(),
+        part.path(),
+        part.steps(),
+        part.end(),
+        part.condition(),
+        part.outputs(),
+    )?;
     Ok(NamedFile::new(leaf_name(alloc, out, rank)?, text))
 }
 
@@ -126,7 +121,9 @@ pub fn make_report<W: Work>(
     tree: &Tree<W>,
 ) -> Result<Report, NoMemory>
 where
-    W::Leaf: HasPart,
+    W::Leaf: HasPart + Marked,
+    requires placed { IsPlacedByPart W.Leaf.part W.Leaf.place }
+    requires marked { (l : W.Leaf) → W.Leaf.cut l ≡ (W.rules tree.now.worker).cut l }
     requires done { IsDrained (W.rules tree.now.worker) W.State.place W.Leaf.place tree.now.story }
     requires reportable { (m : ℕ) (l : W.Leaf) → m < length tree.now.story.nodes → status tree.now.story m ≡ Leaf → content tree.now.story m ≡ Some (Shut l) → IsReportable (W.Leaf.part l) }
     ensures { IfOk result (λ report. IsReportOfTree W.Leaf.part (W.rules tree.now.worker).cut out.now regions.now budgets.now workers tree.now.story report.files.items report.summary) }
