@@ -1,1 +1,6 @@
 pub mod Walking
+pub mod Changing
+pub mod Lines
+pub mod Walked
+pub mod Apart
+pub mod Quiet

@@ -3,16 +3,16 @@ use Rattle.std.specs.Prelude.{◌≡◌, ℕ, ◌+◌, ◌<◌, ◌≤◌, Bool,
 use Rattle.tree_core.specs.declared.cause.Cause.{Cause}
 use Rattle.tree_core.specs.declared.choice.Choice.{Choice}
 use Rattle.tree_core.specs.declared.event.Deed.{Deed}
-use Rattle.tree_core.specs.declared.event.Deed.TheVariants.{Claim, Split, Finish, Cut as IsCut, Release}
+use Rattle.tree_core.specs.declared.event.Deed.TheVariants.{Split}
 use Rattle.tree_core.specs.declared.node.Status.{Status}
-use Rattle.tree_core.specs.declared.node.Status.TheVariants.{Free, Held, Parted, Leaf as IsLeaf}
+use Rattle.tree_core.specs.declared.node.Status.TheVariants.{Leaf as IsLeaf}
 use Rattle.fork_spec.specs.Leaves.{Leaf}
 use Rattle.fork_spec.specs.Walks.{Line, Side, Sides, Standing, is_quiet, walk}
 use Rattle.fork_spec.specs.declared.end.LeafEnd.{LeafEnd}
 use Rattle.fork_spec.specs.declared.end.LeafEnd.TheVariants.{Exits, Traps, Cut}
 
 -- a leaf, and the number of its node in the events
-pub record Entry : Type 0 where
+pub record LeafNode : Type 0 where
   pub leaf : Leaf
   pub node : ℕ
 
@@ -29,17 +29,17 @@ is_leaf_status _ = false
 abbrev pub is_leaf : Standing → Bool
 is_leaf node = is_leaf_status node.status
 
--- the node of a leaf, by the walk: the leaf's choices lead to it, and it was cut as the leaf was
-abbrev pub leaf_node : Entry → Standing
-leaf_node entry = record { choices = entry.leaf.choices; status = IsLeaf; cut = cause_of entry.leaf.end }
+-- how the node of a leaf stands, by the walk: the leaf's choices lead to it, and it was cut as the leaf was
+abbrev pub standing_of : LeafNode → Standing
+standing_of l = record { choices = l.leaf.choices; status = IsLeaf; cut = cause_of l.leaf.end }
 
 -- The events are a walk that leaves nothing to be done. Each leaf is one of its leaves, with its choices and its cause, and there are no others.
-pub record IsHistory (workers targets : ℕ) (lines : List Line) (entries : List Entry) : Type 0 where
+pub record IsHistory (workers targets : ℕ) (lines : List Line) (leaves : List LeafNode) : Type 0 where
   pub nodes : List Standing
   pub walked : walk workers targets lines ≡ Some nodes
   pub quiet : is_quiet nodes ≡ true
-  pub each : All (λ (entry : Entry). slice_get nodes entry.node ≡ Some (leaf_node entry)) entries
-  pub as_many : count_by is_leaf nodes ≡ length entries
+  pub each : All (λ (l : LeafNode). slice_get nodes l.node ≡ Some (standing_of l)) leaves
+  pub as_many : count_by is_leaf nodes ≡ length leaves
 
 -- a node is parted into kids with these choices, which are numbered from this node on
 abbrev pub IsSplitInto : (first : ℕ) → (choices : List Choice) → Deed (Option Cause) Sides → Type 0

@@ -11,7 +11,7 @@ use Rattle.tree_core.specs.declared.event.Deed.TheVariants.{Claim, Split, Finish
 use Rattle.tree_core.specs.declared.node.Node.{Node}
 use Rattle.tree_core.specs.declared.node.Origin.{Origin}
 use Rattle.tree_core.specs.declared.node.Status.{Status}
-use Rattle.tree_core.specs.declared.node.Status.TheVariants.{Free, Held, Parted, Leaf}
+use Rattle.tree_core.specs.declared.node.Status.TheVariants.{Leaf}
 use Rattle.tree_core.specs.Stories.{Story, content, status}
 use Rattle.std.specs.Global.{Vec}
 use Rattle.fork_spec.specs.Walks.{Line, Side, Sides, Standing, are_sides, walk}

@@ -1,2 +1,6 @@
 pub mod Contents
 pub mod Works
+pub mod Nodes
+pub mod Trees
+pub mod Calls
+pub mod Drains

@@ -2,7 +2,14 @@
 #![tactic(auto)]
 
 mod content;
+mod draining;
+pub mod laws;
+#[cfg(test)]
+mod tests;
+mod tree;
 mod work;
 
 pub use content::{Content, Placed};
+pub use draining::drain;
+pub use tree::{Claim, Tree};
 pub use work::{Parts, Work};

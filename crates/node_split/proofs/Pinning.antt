@@ -13,7 +13,7 @@ use Rattle.sym_machine.proofs.Registers.{All-set_value, length-set_value, zero-s
 use Rattle.sym_state.specs.Growing.{Grows}
 use Rattle.sym_state.specs.Moves.{narrowed, with_terms}
 use Rattle.sym_state.specs.Programs.{Program, regions_of}
-use Rattle.sym_state.specs.Symbolic.{Symbolic, Goes, IsDecided, IsOpen, IsSmall, IsWide, concrete, is_term, left_to_do, meets, most_steps, set_value, undecided, value_at, worth_of}
+use Rattle.sym_state.specs.Symbolic.{Symbolic, Goes, IsDecided, IsOpen, IsWord, IsWide, concrete, is_term, left_to_do, meets, most_steps, set_value, undecided, value_at, worth_of}
 use Rattle.sym_state.specs.declared.value.Value.{Value}
 use Rattle.sym_state.specs.declared.value.Value.TheVariants.{Number}
 use Rattle.sym_state.proofs.Kept.{holds-grown, worth_of-grown}
@@ -61,7 +61,7 @@ open_pinned p s r n was kind small is =
       one_input = was.one_input;
       all_registers = length-set_value s.registers r (Number n) ∙ was.all_registers;
       wide = All-set_value (IsWide s.terms) s.registers r (Number n) small was.wide;
-      small = λ input assigned. All-set_value (IsSmall s.terms input) s.registers r (Number n) small (was.small input assigned);
+      small = λ input assigned. All-set_value (IsWord s.terms input) s.registers r (Number n) small (was.small input assigned);
       zero = zero-set_value s.registers r (Number n) was.zero;
       bits = was.bits;
       bytes = was.bytes;

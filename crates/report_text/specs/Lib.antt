@@ -6,3 +6,6 @@ pub mod Reports
 pub mod FileNames
 pub mod ReportData
 pub mod WorkedWalks
+pub mod Claims
+pub mod Files
+pub mod Entries

@@ -1,0 +1,114 @@
+-- Which nodes stand free when an event was noted, and how often a list has them.
+use Rattle.std.proofs.Common.{◌≡◌, ◌≢◌, ℕ, zero, suc, ◌+◌, ◌-◌, ◌<◌, ◌≤◌, eqb, Bool, true, false, cond, not, Option, Some, None, List, [], ◌∷◌, ◌++◌, length, get_or, drop, append_assoc, option_map, sym, refl, ap, ◌∙◌, arith, eq-eqb, ne_eqb}
+use mathlib.Core.Logic.{dite}
+use native.Mathlib.Decide.{dec_le}
+use Rattle.std.specs.List.{All, slice_get}
+use Rattle.std.specs.Global.{Vec}
+use Rattle.std.proofs.lemmas.Option.{slice_get-map, slice_get_past}
+use Rattle.std.proofs.lemmas.List.Sums.{sum_by-cons, sum_by-append}
+use Rattle.tree_core.specs.declared.event.Event.{Event}
+use Rattle.tree_core.specs.declared.event.Kid.{Kid}
+use Rattle.tree_core.specs.declared.node.Node.{Node}
+use Rattle.tree_core.specs.declared.node.Status.{Status}
+use Rattle.tree_core.specs.declared.node.Status.TheVariants.{Free, Leaf}
+use Rattle.tree_core.specs.Stories.{Story, status, left_by}
+use Rattle.tree_core.specs.Covers.{one_if}
+use Rattle.tree_core.specs.Replays.{is_free, births, kids_of, deed_kept, noted, node_of}
+use Rattle.tree_core.proofs.Places.{get_before, get_behind}
+use Rattle.tree_core.proofs.Standing.{status-noted, status-kid}
+use Rattle.fork_tree.specs.Trees.{free_if_there, stands_free, times_listed, born_free}
+
+pub get_some : {X : Type 0} (xs : List X) (k : ℕ) → k < length xs → (x : X) × (slice_get xs k ≡ Some x)
+get_some [] k lt = absurd (omega arith)
+get_some (x ∷ xs) zero lt = (x, refl)
+get_some (x ∷ xs) (suc k) lt = get_some xs k (omega arith)
+
+free-there : {R : Type 0} (nodes : List (Node R)) (m : ℕ) (st : Status) → m < length nodes → free_if_there (slice_get nodes m) st ≡ is_free st
+free-there [] m st lt = absurd (omega arith)
+free-there (x ∷ xs) zero st lt = refl
+free-there (x ∷ xs) (suc m) st lt = free-there xs m st (omega arith)
+
+born : (b : Bool) → is_free (cond b Leaf Free) ≡ not b
+born true = refl
+born false = refl
+
+-- how a kid is born
+abbrev pub kid_free : {R : Type 0} → Option (Kid R) → Bool
+kid_free None = false
+kid_free (Some kid) = not kid.is_leaf
+
+module _ {R : Type 0} where
+  pub free-old : (s : Story R) (e : Event R (Vec (Kid R))) (k : ℕ) → k < length s.nodes → k ≢ e.node → stands_free (noted s e) k ≡ stands_free s k
+  free-old s e k lt ne = let st : status (noted s e) k ≡ status s k = status-noted s e k lt ∙ ap (λ b. cond b (left_by e.by (deed_kept e.deed)) (status s k)) (ne_eqb e.node k (λ is. ne (sym is))) in
+      λ i. free_if_there (get_before s.nodes (births e.node e.deed) k lt i) (st i)
+
+  pub free-here : (s : Story R) (e : Event R (Vec (Kid R))) → e.node < length s.nodes → stands_free (noted s e) e.node ≡ is_free (left_by e.by (deed_kept e.deed))
+  free-here s e there = let m : ℕ = e.node in let st : status (noted s e) m ≡ left_by e.by (deed_kept e.deed) = status-noted s e m there ∙ ap (λ b. cond b (left_by e.by (deed_kept e.deed)) (status s m)) (eq-eqb m m refl) in
+      (λ i. free_if_there (get_before s.nodes (births e.node e.deed) m there i) (st i)) ∙ free-there s.nodes m (left_by e.by (deed_kept e.deed)) there
+
+  pub free-is : (s : Story R) (m : ℕ) → m < length s.nodes → stands_free s m ≡ is_free (status s m)
+  free-is s m lt = free-there s.nodes m (status s m) lt
+
+  pub free-none : (s : Story R) (k : ℕ) → length s.nodes ≤ k → stands_free s k ≡ false
+  free-none s k le = ap (λ (o : Option (Node R)). free_if_there o (status s k)) (slice_get_past s.nodes k le)
+
+  kid_at : (s : Story R) (e : Event R (Vec (Kid R))) (i : ℕ) (kid : Kid R) → slice_get (kids_of e.deed) i ≡ Some kid → slice_get (s.nodes ++ births e.node e.deed) (length s.nodes + i) ≡ Some (node_of e.node kid)
+  kid_at s e i kid at = get_behind s.nodes (births e.node e.deed) i ∙ (slice_get-map (node_of e.node) (kids_of e.deed) i ∙ ap (option_map (node_of e.node)) at)
+
+  pub free-behind : (s : Story R) (e : Event R (Vec (Kid R))) (i : ℕ) → All (λ (x : Event R ℕ). x.node < length s.nodes) s.events → e.node < length s.nodes → stands_free (noted s e) (length s.nodes + i) ≡ kid_free (slice_get (kids_of e.deed) i)
+  free-behind s e i named there = by_kid (slice_get (kids_of e.deed) i) refl
+    where
+      by_kid : (o : Option (Kid R)) → slice_get (kids_of e.deed) i ≡ o → stands_free (noted s e) (length s.nodes + i) ≡ kid_free o
+      by_kid None at = let none : slice_get (s.nodes ++ births e.node e.deed) (length s.nodes + i) ≡ None = get_behind s.nodes (births e.node e.deed) i ∙ (slice_get-map (node_of e.node) (kids_of e.deed) i ∙ ap (option_map (node_of e.node)) at) in
+          ap (λ (o : Option (Node R)). free_if_there o (status (noted s e) (length s.nodes + i))) none
+      by_kid (Some kid) at = (λ k. free_if_there (kid_at s e i kid at k) (status-kid s e i kid named there at k)) ∙ born kid.is_leaf
+
+  -- no kids: what is not named stands as it did
+  pub free-same : (s : Story R) (e : Event R (Vec (Kid R))) (k : ℕ) → All (λ (x : Event R ℕ). x.node < length s.nodes) s.events → e.node < length s.nodes → kids_of e.deed ≡ [] → k ≢ e.node → stands_free (noted s e) k ≡ stands_free s k
+  free-same s e k named there none ne = let n : ℕ = length s.nodes in dite (dec_le n k)
+      (λ le. let split : n + (k - n) ≡ k = omega arith in
+      ap (stands_free (noted s e)) (sym split) ∙ (free-behind s e (k - n) named there ∙ (ap (λ (l : List (Kid R)). kid_free (slice_get l (k - n))) none ∙ sym (free-none s k le))))
+      (λ no. free-old s e k (Rattle.std.proofs.Common.lt_of_not-le no) ne)
+
+-- how often
+pub listed-push : (k m : ℕ) (ms : List ℕ) → times_listed k (ms ++ m ∷ []) ≡ times_listed k ms + one_if (eqb m k)
+listed-push k m ms = sum_by-append (λ (x : ℕ). cond (eqb x k) 1 0) ms (m ∷ []) ∙ ap (λ n. times_listed k ms + n) (sum_by-cons (λ (x : ℕ). cond (eqb x k) 1 0) m [] ∙ zero_right (one_if (eqb m k)))
+  where
+    zero_right : (a : ℕ) → a + 0 ≡ a
+    zero_right a = omega arith
+
+-- kid by kid
+pub born-at : {R : Type 0} (kids : List (Kid R)) (i n : ℕ) (d : Kid R) → i < length kids → born_free n (drop i kids) ≡ cond (get_or kids i d).is_leaf (born_free (n + 1) (drop (i + 1) kids)) (n ∷ born_free (n + 1) (drop (i + 1) kids))
+born-at [] i n d lt = absurd (omega arith)
+born-at (x ∷ xs) zero n d lt = refl
+born-at {R} (x ∷ xs) (suc i) n d lt = let on : i + 1 ≡ suc i = omega arith in let more : suc (i + 1) ≡ suc i + 1 = omega arith in
+    born-at xs i n d (omega arith) ∙ ap (λ (j : ℕ). cond (get_or xs i d).is_leaf (born_free (n + 1) (drop j (x ∷ xs))) (n ∷ born_free (n + 1) (drop j (x ∷ xs)))) more
+
+pub listed-one : (free more others rest : List ℕ) (n : ℕ) → more ≡ free ++ n ∷ [] → rest ≡ n ∷ others → more ++ others ≡ free ++ rest
+listed-one free more others rest n e r = ap (λ l. l ++ others) e ∙ (append_assoc free (n ∷ []) others ∙ ap (λ l. free ++ l) (sym r))
+
+-- kids are numbered from n on
+low_by_leaf : (n k : ℕ) (later : List ℕ) (b : Bool) → k < n → times_listed k later ≡ 0 → times_listed k (cond b later (n ∷ later)) ≡ 0
+low_by_leaf n k later true lt none = none
+low_by_leaf n k later false lt none = sum_by-cons (λ (x : ℕ). cond (eqb x k) 1 0) n later ∙ (λ i. one_if (ne_eqb n k (λ is. omega arith) i) + none i)
+
+pub born-low : {R : Type 0} (kids : List (Kid R)) (n k : ℕ) → k < n → times_listed k (born_free n kids) ≡ 0
+born-low [] n k lt = refl
+born-low {R} (kid ∷ kids) n k lt = low_by_leaf n k (born_free (n + 1) kids) kid.is_leaf lt (born-low kids (n + 1) k (omega arith))
+
+here_by_leaf : (n : ℕ) (later : List ℕ) (b : Bool) → times_listed (n + 0) later ≡ 0 → times_listed (n + 0) (cond b later (n ∷ later)) ≡ one_if (not b)
+here_by_leaf n later true none = none
+here_by_leaf n later false none = let here : n ≡ n + 0 = omega arith in sum_by-cons (λ (x : ℕ). cond (eqb x (n + 0)) 1 0) n later ∙ (λ i. one_if (eq-eqb n (n + 0) here i) + none i)
+
+later_by_leaf : (n k m : ℕ) (later : List ℕ) (b : Bool) → n < k → times_listed k later ≡ m → times_listed k (cond b later (n ∷ later)) ≡ m
+later_by_leaf n k m later true lt is = is
+later_by_leaf n k m later false lt is = sum_by-cons (λ (x : ℕ). cond (eqb x k) 1 0) n later ∙ (ap (λ b. one_if b + times_listed k later) (ne_eqb n k (λ same. omega arith)) ∙ (zero_left (times_listed k later) ∙ is))
+  where
+    zero_left : (a : ℕ) → 0 + a ≡ a
+    zero_left a = omega arith
+
+pub born-listed : {R : Type 0} (kids : List (Kid R)) (n i : ℕ) → times_listed (n + i) (born_free n kids) ≡ one_if (kid_free (slice_get kids i))
+born-listed [] n i = refl
+born-listed {R} (kid ∷ kids) n zero = here_by_leaf n (born_free (n + 1) kids) kid.is_leaf (born-low kids (n + 1) (n + 0) (omega arith))
+born-listed {R} (kid ∷ kids) n (suc i) = let move : n + suc i ≡ (n + 1) + i = omega arith in
+    later_by_leaf n (n + suc i) (one_if (kid_free (slice_get kids i))) (born_free (n + 1) kids) kid.is_leaf (omega arith) (ap (λ k. times_listed k (born_free (n + 1) kids)) move ∙ born-listed kids (n + 1) i)

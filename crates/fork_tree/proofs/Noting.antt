@@ -1,0 +1,183 @@
+-- What a tree keeps when an event was noted.
+use Rattle.std.proofs.Common.{◌≡◌, ℕ, zero, suc, ◌+◌, ◌^◌, ◌<◌, ◌≤◌, Bool, true, false, cond, IsTrue, Option, Some, None, List, [], ◌∷◌, ◌++◌, length, sym, refl, ap, ◌∙◌, subst, arith, ne_eqb, length-append}
+use Rattle.std.specs.List.{All}
+use Rattle.std.specs.Global.{Vec}
+use Rattle.std.specs.Arc.{arc_value}
+use Rattle.std.proofs.lemmas.List.{append-nil, length-map}
+use Rattle.tree_core.specs.declared.cause.Cause.{Cause}
+use Rattle.tree_core.specs.declared.cause.Cause.TheVariants.{Steps}
+use Rattle.tree_core.specs.declared.event.Event.{Event}
+use Rattle.tree_core.specs.declared.event.Kid.{Kid}
+use Rattle.tree_core.specs.declared.node.Status.{Status}
+use Rattle.tree_core.specs.declared.node.Status.TheVariants.{Free, Held, Leaf}
+use Rattle.tree_core.specs.Stories.{Story, status, content, left_by}
+use Rattle.tree_core.specs.Covers.{covered, one_if}
+use Rattle.tree_core.specs.Replays.{IsFit, allows, births, deed_kept, is_allowed, is_free, is_held_by, kids_of, node_of, noted, opening}
+use Rattle.tree_core.specs.Cores.{ends, held_count, takes}
+use Rattle.tree_core.proofs.Sharing.{held_count-noted}
+use Rattle.fork_spec.specs.Partings.{IsUnder, KeepsApart, Place}
+use Rattle.fork_spec.specs.Written.{IsInForm}
+use Rattle.fork_tree.specs.Calls.{IsEndFit, IsSplitFit, claim_event, cut_event, finish_event, release_event, split_event}
+use Rattle.fork_tree.specs.Contents.{cut_in, place_in}
+use Rattle.fork_tree.specs.Nodes.{AllHold, HasState, HoldsFor, IsLeafRight, StateIs}
+use Rattle.fork_tree.specs.Trees.{FollowsRules, IsListOfFree, born_free, choices_at, stands_free}
+use Rattle.fork_tree.specs.Works.{Rules}
+use Rattle.fork_tree.specs.declared.content.Content.{Content}
+use Rattle.fork_tree.specs.declared.content.Content.TheVariants.{Open, Shut}
+use Rattle.fork_spec.proofs.Apart.{apart-noted, apart-opening}
+use Rattle.fork_spec.proofs.Walked.{walked-noted, walked-opening}
+use Rattle.fork_tree.proofs.Free.{free-none, listed-push}
+use Rattle.fork_tree.proofs.Holding.{DeedHolds, holds-noted}
+use Rattle.fork_tree.proofs.Listing.{allowed-claim, free-status, free-within, held-allows, listed-claim, listed-end, listed-free, listed-release, listed-split, not_free, some-held}
+
+module _ {S L : Type 0} where
+  -- there is something where there is a state
+  pub some_content : (such : S → Type 0) (c : Option (Content S L)) → HasState such c → (x : Content S L) × (c ≡ Some x)
+  some_content such (Some x) h = (x, refl)
+  some_content such None h = absurd h
+
+  pub any_state : (such : S → Type 0) (c : Option (Content S L)) → HasState such c → HasState (λ (x : S). Unit {0}) c
+  any_state such (Some (Open a)) h = tt
+  any_state such (Some (Shut l)) h = absurd h
+  any_state such None h = absurd h
+
+  pub such_state : (such : S → Type 0) (c : Option (Content S L)) (x : S) → HasState such c → StateIs c x → such x
+  such_state such (Some (Open a)) x h is = subst such is h
+  such_state such (Some (Shut l)) x h is = absurd h
+  such_state such None x h is = absurd h
+
+module _ {S L : Type 0} (rules : Rules S L) (state_place : S → Place) (leaf_place : L → Place) where
+  follows-noted : (s : Story (Content S L)) (e : Event (Content S L) (Vec (Kid (Content S L)))) (r : Content S L) → FollowsRules rules state_place leaf_place s →
+      All (λ (x : Event (Content S L) ℕ). x.node < length s.nodes) s.events → e.node < length s.nodes → content s e.node ≡ Some r → IsTrue (is_allowed s e) →
+      IsInForm (choices_at state_place leaf_place) (cut_in rules.cut) rules.targets r e.deed → KeepsApart (place_in state_place leaf_place) rules.decides r e.deed → DeedHolds rules e.deed →
+      length s.nodes + length (kids_of e.deed) < 2 ^ 32 → FollowsRules rules state_place leaf_place (noted s e)
+  follows-noted s e r follows named there is may form keeps new few = record {
+    holds = holds-noted rules s e follows.holds follows.walked.counted named there may new;
+    walked = walked-noted (choices_at state_place leaf_place) (cut_in rules.cut) rules.targets s e r named there is may form follows.walked;
+    apart = apart-noted (place_in state_place leaf_place) rules.decides s e r named there is may keeps follows.apart;
+    few = subst (λ (k : ℕ). k < 2 ^ 32) (sym (length-append s.nodes (births e.node e.deed) ∙ ap (λ k. length s.nodes + k) (length-map (kids_of e.deed) (node_of e.node)))) few;
+  }
+
+  -- what the fields of a tree keep
+  abbrev pub IsTended : Story (Content S L) → List ℕ → ℕ → Type 0
+  IsTended s free room = FollowsRules rules state_place leaf_place s × IsListOfFree s free × (length free + held_count s ≤ room)
+
+  -- a free node has a state, which is well
+  pub free-state : (s : Story (Content S L)) (m : ℕ) → FollowsRules rules state_place leaf_place s → stands_free s m ≡ true → HasState rules.IsWell (content s m)
+  free-state s m follows free = subst (λ (st : Status). HoldsFor rules.IsWell (IsLeafRight rules s m) st (content s m)) (free-status s m free) (follows.holds m (free-within s m free))
+
+  held-state : (s : Story (Content S L)) (m by : ℕ) → FollowsRules rules state_place leaf_place s → m < length s.nodes → status s m ≡ Held by → HasState rules.IsWell (content s m)
+  held-state s m by follows there held = subst (λ (st : Status). HoldsFor rules.IsWell (IsLeafRight rules s m) st (content s m)) held (follows.holds m there)
+
+  -- a claim takes its node from the list
+  pub tended-claim : (s t : Story (Content S L)) (by m : ℕ) (free rest : List ℕ) (room : ℕ) → IsTended s free room → t ≡ noted s (claim_event by m) →
+      All (λ (x : Event (Content S L) ℕ). x.node < length s.nodes) s.events → free ≡ rest ++ m ∷ [] → IsTended t rest room
+  tended-claim s t by m free rest room tended is named last =
+      let e : Event (Content S L) (Vec (Kid (Content S L))) = claim_event by m in
+      let stands : stands_free s m ≡ true = listed-free s free rest m last tended.1 in let there : m < length s.nodes = free-within s m stands in
+      let may : IsTrue (is_allowed s e) = allowed-claim s e refl (free-status s m stands) in
+      let old = some_content rules.IsWell (content s m) (free-state s m tended.0 stands) in
+      subst (λ (x : Story (Content S L)). IsTended x rest room) (sym is) (
+        follows-noted s e old.0 tended.0 named there old.1 may tt tt tt (as_few (length s.nodes) tended.0.few),
+        listed-claim s e free rest named there refl last tended.1,
+        balance (length rest) (length free) (held_count (noted s e)) (held_count s) room (ap length last ∙ length-append rest (m ∷ [])) (held_count-noted s e named there may) tended.2,
+      )
+    where
+      as_few : (n : ℕ) → n < 2 ^ 32 → n + 0 < 2 ^ 32
+      as_few n lt = omega arith
+
+      balance : (r f h g room : ℕ) → f ≡ r + 1 → h + 0 ≡ g + 1 → f + g ≤ room → r + h ≤ room
+      balance r f h g room x y z = omega arith
+
+  -- an end of a claim
+  tended-end : (s t : Story (Content S L)) (e : Event (Content S L) (Vec (Kid (Content S L)))) (r : Content S L) (free more : List ℕ) (room : ℕ) → IsTended s free room → t ≡ noted s e →
+      All (λ (x : Event (Content S L) ℕ). x.node < length s.nodes) s.events → e.node < length s.nodes → content s e.node ≡ Some r → status s e.node ≡ Held e.by →
+      ((st : Status) (by : ℕ) → allows st by e.deed ≡ is_held_by by st) → ends e.deed ≡ 1 → takes e.deed ≡ 0 →
+      IsInForm (choices_at state_place leaf_place) (cut_in rules.cut) rules.targets r e.deed → KeepsApart (place_in state_place leaf_place) rules.decides r e.deed → DeedHolds rules e.deed →
+      length s.nodes + length (kids_of e.deed) < 2 ^ 32 → IsListOfFree (noted s e) more → length more + held_count s ≤ room + 1 → IsTended t more room
+  tended-end s t e r free more room tended is named there old held allow one nil form keeps new few listed fits =
+      let may : IsTrue (is_allowed s e) = held-allows s e held allow in
+      subst (λ (x : Story (Content S L)). IsTended x more room) (sym is) (
+        follows-noted s e r tended.0 named there old may form keeps new few,
+        listed,
+        balance (length more) (held_count (noted s e)) (held_count s) (ends e.deed) (takes e.deed) room (held_count-noted s e named there may) one nil fits,
+      )
+    where
+      balance : (m h g d t room : ℕ) → h + d ≡ g + t → d ≡ 1 → t ≡ 0 → m + g ≤ room + 1 → m + h ≤ room
+      balance m h g d t room x y z w = omega arith
+
+  -- a leaf is under what it comes in the place of
+  leaf-under : (cut : Option Cause) (s : Story (Content S L)) (by node : ℕ) (leaf : L) → (fit : IsEndFit rules state_place leaf_place cut s by node leaf) → IsUnder (leaf_place leaf) (place_in state_place leaf_place fit.old)
+  leaf-under cut s by node leaf fit = record {
+    more = [];
+    choices = fit.same_choices ∙ sym (append-nil (choices_at state_place leaf_place fit.old));
+    within = λ input is. sym (fit.same_cover input) ∙ is;
+  }
+
+  -- nothing more in the list, and no kids
+  no_more : (n : ℕ) → n < 2 ^ 32 → n + 0 < 2 ^ 32
+  no_more n lt = omega arith
+
+  one_less : (f h room : ℕ) → f + h ≤ room → f + h ≤ room + 1
+  one_less f h room le = omega arith
+
+  pub tended-finish : (s t : Story (Content S L)) (by node : ℕ) (leaf : L) (free : List ℕ) (room : ℕ) → IsTended s free room → t ≡ noted s (finish_event by node leaf) →
+      All (λ (x : Event (Content S L) ℕ). x.node < length s.nodes) s.events → IsEndFit rules state_place leaf_place None s by node leaf → IsTended t free room
+  tended-finish s t by node leaf free room tended is named fit =
+      let e : Event (Content S L) (Vec (Kid (Content S L))) = finish_event by node leaf in
+      tended-end s t e fit.old free free room tended is named fit.there fit.is_old fit.held (λ st by. refl) refl refl
+          (fit.same_choices, fit.cause) (leaf-under None s by node leaf fit) fit.right (no_more (length s.nodes) tended.0.few)
+          (listed-end s e free named fit.there refl (not_free (status s node) by fit.held) refl tended.1) (one_less (length free) (held_count s) room tended.2)
+
+  pub tended-cut : (s t : Story (Content S L)) (by node : ℕ) (leaf : L) (free : List ℕ) (room : ℕ) → IsTended s free room → t ≡ noted s (cut_event by node leaf) →
+      All (λ (x : Event (Content S L) ℕ). x.node < length s.nodes) s.events → IsEndFit rules state_place leaf_place (Some Steps) s by node leaf → IsTended t free room
+  tended-cut s t by node leaf free room tended is named fit =
+      let e : Event (Content S L) (Vec (Kid (Content S L))) = cut_event by node leaf in
+      tended-end s t e fit.old free free room tended is named fit.there fit.is_old fit.held (λ st by. refl) refl refl
+          (fit.same_choices, fit.cause) (leaf-under (Some Steps) s by node leaf fit) fit.right (no_more (length s.nodes) tended.0.few)
+          (listed-end s e free named fit.there refl (not_free (status s node) by fit.held) refl tended.1) (one_less (length free) (held_count s) room tended.2)
+
+  -- a release puts its node behind the others
+  pub tended-release : (s t : Story (Content S L)) (by node : ℕ) (free : List ℕ) (room : ℕ) → IsTended s free room → t ≡ noted s (release_event by node) →
+      All (λ (x : Event (Content S L) ℕ). x.node < length s.nodes) s.events → node < length s.nodes → status s node ≡ Held by → IsTended t (free ++ node ∷ []) room
+  tended-release s t by node free room tended is named there held =
+      let e : Event (Content S L) (Vec (Kid (Content S L))) = release_event by node in
+      let old = some_content rules.IsWell (content s node) (held-state s node by tended.0 there held) in
+      tended-end s t e old.0 free (free ++ node ∷ []) room tended is named there old.1 held (λ st by. refl) refl refl tt tt tt (no_more (length s.nodes) tended.0.few)
+          (listed-release s e free named there refl (not_free (status s node) by held) tended.1)
+          (one_more (length (free ++ node ∷ [])) (length free) (held_count s) room (length-append free (node ∷ [])) tended.2)
+    where
+      one_more : (m f h room : ℕ) → m ≡ f + 1 → f + h ≤ room → m + h ≤ room + 1
+      one_more m f h room x y = omega arith
+
+  -- a split puts the kids that are free behind the others
+  pub tended-split : (s t : Story (Content S L)) (by node : ℕ) (kids : Vec (Kid (Content S L))) (free more : List ℕ) (room : ℕ) → IsTended s free room → t ≡ noted s (split_event by node kids) →
+      All (λ (x : Event (Content S L) ℕ). x.node < length s.nodes) s.events → IsSplitFit rules state_place leaf_place s by node kids → length s.nodes + length kids.items < 2 ^ 32 →
+      more ≡ free ++ born_free (length s.nodes) kids.items → length more + held_count s ≤ room + 1 → IsTended t more room
+  tended-split s t by node kids free more room tended is named fit few are fits =
+      let e : Event (Content S L) (Vec (Kid (Content S L))) = split_event by node kids in
+      tended-end s t e fit.old free more room tended is named fit.there fit.is_old fit.held (λ st by. refl) refl refl
+          fit.in_form fit.apart fit.parts few
+          (subst (IsListOfFree (noted s e)) (sym are) (listed-split s e free named fit.there refl (not_free (status s node) by fit.held) tended.1)) fits
+
+  -- a tree of one node, which is free
+  follows-opening : (c : Content S L) → HasState rules.IsWell (Some c) → choices_at state_place leaf_place c ≡ [] → FollowsRules rules state_place leaf_place (opening c false)
+  follows-opening c well none = record {
+    holds = at_root;
+    walked = walked-opening (choices_at state_place leaf_place) (cut_in rules.cut) rules.targets c none;
+    apart = apart-opening (place_in state_place leaf_place) rules.decides c;
+    few = omega arith;
+  }
+    where
+      at_root : AllHold rules (opening c false)
+      at_root zero lt = well
+      at_root (suc m) lt = absurd (omega arith)
+
+  pub tended-opening : (c : Content S L) (s : Story (Content S L)) (free : List ℕ) (room : ℕ) → s ≡ opening c false → free ≡ 0 ∷ [] → 1 ≤ room →
+      HasState rules.IsWell (Some c) → choices_at state_place leaf_place c ≡ [] → IsTended s free room
+  tended-opening c s free room is lists fits well none =
+      subst (λ (p : Story (Content S L) × List ℕ). IsTended p.0 p.1 room) (λ i. (sym is i, sym lists i)) (follows-opening c well none, root_listed, fits)
+    where
+      root_listed : IsListOfFree (opening c false) (0 ∷ [])
+      root_listed zero = refl
+      root_listed (suc m) = listed-push (suc m) 0 [] ∙ ap (λ b. 0 + one_if b) (ne_eqb 0 (suc m) (λ is. omega arith)) ∙ sym (ap one_if (free-none (opening c false) (suc m) (omega arith)))

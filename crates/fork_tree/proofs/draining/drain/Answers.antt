@@ -1,0 +1,32 @@
+use Rattle.std.proofs.Common.{Ok, refl, ap, subst, ◌∙◌}
+use Rattle.fork_tree.specs.Calls.{IsQuiet}
+use Rattle.fork_tree.specs.Drains.{IsDrained}
+use Rattle.fork_tree.proofs.Entering.{grows-none, grows-both}
+use Rattle.fork_tree.proofs.Drained.{drained}
+use Rattle.fork_tree.proofs.draining.drain.Goals as goal
+
+pub loop-init : goal.loop-init
+loop-init g c = record {
+  worker = refl;
+  none_held = c.requires.none_held;
+  grows = grows-none c.args.by c.args.tree.now.story c.args.tree.now.story refl;
+}
+
+pub loop-preserved : goal.loop-preserved
+loop-preserved g c = record {
+  worker = c.work_next.ensures.worker ∙ c.loop.invariant.worker;
+  none_held = c.work_next.ensures.none_held;
+  grows = grows-both c.args.by c.args.tree.now.story c.loop.tree.story c.work_next.new.tree.story c.loop.invariant.grows c.work_next.ensures.grows;
+}
+
+pub returns-in_err-work_next-clause-grows : goal.returns-in_err-work_next-clause-grows
+returns-in_err-work_next-clause-grows g c = grows-both c.args.by c.args.tree.now.story c.loop.tree.story c.work_next.new.tree.story c.loop.invariant.grows c.work_next.ensures.grows
+
+pub returns-clause-grows : goal.returns-clause-grows
+returns-clause-grows g c = grows-both c.args.by c.args.tree.now.story c.loop.tree.story c.work_next.new.tree.story c.loop.invariant.grows c.work_next.ensures.grows
+
+pub returns-clause-drained : goal.returns-clause-drained
+returns-clause-drained g c = let w = c.work_next.new.tree.worker in let s = c.work_next.new.tree.story in
+    let quiet : IsQuiet s = c.work_next.ensures.quiet (c.in_ok-work_next.was ∙ ap Ok c.if-branch.false) in
+    subst (λ (x : g.row.W.Denot). IsDrained (g.W.Work.rules x) g.W.State.Placed.place g.W.Leaf.Placed.place s) (c.work_next.ensures.worker ∙ c.loop.invariant.worker)
+    (drained (g.W.Work.rules w) g.W.State.Placed.place g.W.Leaf.Placed.place s quiet c.is_whole.ensures.partition c.is_whole.ensures.follows)

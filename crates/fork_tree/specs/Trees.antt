@@ -1,0 +1,56 @@
+-- A tree as a story with room for more, and what its fields keep.
+use Rattle.std.specs.Prelude.{◌≡◌, ℕ, ◌+◌, ◌<◌, ◌==◌, ◌^◌, Bool, false, if◌then◌else◌, Option, Some, None, List, [], ◌∷◌, length, slice_get, count_by}
+use Rattle.tree_core.specs.Stories.{Story, status}
+use Rattle.tree_core.specs.Covers.{one_if}
+use Rattle.tree_core.specs.Replays.{is_free}
+use Rattle.tree_core.specs.declared.choice.Choice.{Choice}
+use Rattle.tree_core.specs.declared.event.Kid.{Kid}
+use Rattle.tree_core.specs.declared.node.Node.{Node}
+use Rattle.tree_core.specs.declared.node.Status.{Status}
+use Rattle.fork_spec.specs.Partings.{AreNodesApart, Place}
+use Rattle.fork_spec.specs.Written.{IsWalked}
+use Rattle.fork_tree.specs.Contents.{cut_in, place_in}
+use Rattle.fork_tree.specs.Nodes.{AllHold}
+use Rattle.fork_tree.specs.Works.{Rules}
+use Rattle.fork_tree.specs.declared.content.Content.{Content}
+
+-- a worker and a story, the number of nodes that may come with no memory, and that of events
+pub record TreeValue (W S L : Type 0) : Type 0 where
+  pub worker : W
+  pub story : Story (Content S L)
+  pub node_room : ℕ
+  pub event_room : ℕ
+
+-- the choices that lead to a content
+abbrev pub choices_at : {S L : Type 0} → (S → Place) → (L → Place) → Content S L → List Choice
+choices_at state_place leaf_place c = (place_in state_place leaf_place c).choices
+
+-- What holds of a tree's story at every moment, by the rules of its worker: nodes hold what they have to; what is written of it is
+-- a walk that leads to its nodes; nodes with no kids part by a decision; and there are fewer than 2 ^ 32 nodes.
+pub record FollowsRules {S L : Type 0} (rules : Rules S L) (state_place : S → Place) (leaf_place : L → Place) (s : Story (Content S L)) : Type 0 where
+  pub holds : AllHold rules s
+  pub walked : IsWalked (choices_at state_place leaf_place) (cut_in rules.cut) rules.targets s
+  pub apart : AreNodesApart (place_in state_place leaf_place) rules.decides s
+  pub few : length s.nodes < 2 ^ 32
+
+module _ {R : Type 0} where
+  -- the node is there, and stands free
+  abbrev pub free_if_there : Option (Node R) → Status → Bool
+  free_if_there None st = false
+  free_if_there (Some n) st = is_free st
+
+  abbrev pub stands_free : Story R → ℕ → Bool
+  stands_free s m = free_if_there (slice_get s.nodes m) (status s m)
+
+  -- the numbers of the kids that are free, the first of which has this one
+  abbrev pub born_free : ℕ → List (Kid R) → List ℕ
+  born_free n [] = []
+  born_free n (kid ∷ kids) = if kid.is_leaf then born_free (n + 1) kids else (n ∷ born_free (n + 1) kids)
+
+-- how often a number is in a list
+abbrev pub times_listed : ℕ → List ℕ → ℕ
+times_listed m ms = count_by (λ k. k == m) ms
+
+-- each free node is listed once, and any other number not at all
+abbrev pub IsListOfFree : {R : Type 0} → Story R → List ℕ → Type 0
+IsListOfFree s free = (m : ℕ) → times_listed m free ≡ one_if (stands_free s m)

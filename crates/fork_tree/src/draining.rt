@@ -1,0 +1,89 @@
+//! The loop of one worker.
+
+ghost use Rattle.std.specs.Prelude.{◌≡◌, ◌+◌, ◌<◌, ◌^◌, Ok, true, false, OnOk, length};
+ghost use Rattle.tree_core.specs.declared.node.Status.TheVariants.{Held};
+ghost use Rattle.tree_core.specs.Cores.{held_count};
+ghost use Rattle.tree_core.specs.Stories.{content, status};
+ghost use Rattle.fork_tree.specs.Calls.{IsQuiet};
+ghost use Rattle.fork_tree.specs.Drains.{GrowsBy, IsDrained, fuel};
+ghost use Rattle.fork_tree.specs.Nodes.{StateIs};
+
+use crate::tree::{Claim, Tree};
+use crate::work::{Parts, Work};
+use std::alloc::{AllocError as NoMemory, Global};
+
+/// Works the tree until no node is free or held. Where memory is refused no node is held, and what was entered stays.
+pub fn drain<W: Work>(alloc: Global, tree: &mut Tree<W>, by: u32) -> Result<(), NoMemory>
+    requires none_held { held_count tree.old.story ≡ 0 }
+    ensures worker { tree.new.worker ≡ tree.old.worker }
+    ensures drained { OnOk result (IsDrained (W.rules tree.old.worker) W.State.place W.Leaf.place tree.new.story) }
+    ensures grows { GrowsBy by tree.old.story tree.new.story }
+    ensures none_held { held_count tree.new.story ≡ 0 }
+{
+    while work_next(alloc, tree, by)? {}
+    tree.is_whole();
+    Ok(())
+}
+
+// Claims a free node, works it, and enters what came of it. False where no node is free or held.
+fn work_next<W: Work>(alloc: Global, tree: &mut Tree<W>, by: u32) -> Result<bool, NoMemory>
+    requires none_held { held_count tree.old.story ≡ 0 }
+    ensures worker { tree.new.worker ≡ tree.old.worker }
+    ensures none_held { held_count tree.new.story ≡ 0 }
+    ensures grows { GrowsBy by tree.old.story tree.new.story }
+    ensures less { result ≡ Ok true → fuel (W.rules tree.old.worker) tree.new.story < fuel (W.rules tree.old.worker) tree.old.story }
+    ensures quiet { result ≡ Ok false → IsQuiet tree.new.story }
+{
+    tree.reserve(0)?;
+    tree.is_whole();
+    match tree.claim(by)? {
+        Claim::Claimed(node, state) => {
+            enter(alloc, tree, by, node, &state)?;
+            Ok(true)
+        }
+        Claim::Nothing => unreachable!(),
+        Claim::Quiet => Ok(false),
+    }
+}
+
+// Works a node that is held, and enters what came of it. Where memory is refused it is free again.
+fn enter<W: Work>(
+    alloc: Global,
+    tree: &mut Tree<W>,
+    by: u32,
+    node: usize,
+    state: &W::State,
+) -> Result<(), NoMemory>
+    requires there { node < length tree.old.story.nodes }
+    requires held { status tree.old.story node ≡ Held by }
+    requires state { StateIs (content tree.old.story node) state.now }
+    requires well { (W.rules tree.old.worker).IsWell state.now }
+    ensures worker { tree.new.worker ≡ tree.old.worker }
+    ensures held { held_count tree.new.story + 1 ≡ held_count tree.old.story }
+    ensures grows { GrowsBy by tree.old.story tree.new.story }
+    ensures less { OnOk result (fuel (W.rules tree.old.worker) tree.new.story < fuel (W.rules tree.old.worker) tree.old.story + ((W.rules tree.old.worker).targets + 2) ^ (W.rules tree.old.worker).left state.now) }
+{
+    tree.is_whole();
+    match tree.worker().work(alloc, state) {
+        Err(NoMemory) => {
+            tree.release(by, node);
+            Err(NoMemory)
+        }
+        Ok(Parts::Finished(leaf)) => {
+            tree.finish(by, node, leaf);
+            Ok(())
+        }
+        Ok(Parts::CutSteps(leaf)) => {
+            tree.cut(by, node, leaf);
+            Ok(())
+        }
+        Ok(Parts::Kids(kids)) => {
+            if tree.reserve(kids.len()).is_err() {
+                tree.release(by, node);
+                return Err(NoMemory);
+            }
+            tree.split(by, node, kids);
+            Ok(())
+        }
+    }
+}
