@@ -1,7 +1,9 @@
-use Rattle.std.proofs.Common.{◌≡◌, ◌∙◌, ℕ, List, [], ◌∷◌, ◌++◌, append_assoc, codes, decimal, length, sym}
+use Rattle.std.proofs.Common.{◌≡◌, ◌∙◌, ℕ, List, [], ◌∷◌, ◌++◌, append_assoc, codes, decimal, sym}
 use Rattle.std.proofs.lemmas.List.{append-nil}
 use Rattle.std.proofs.lemmas.Grind.{flat_map-append}
-use Rattle.fork_spec.specs.Leaves.{Leaf}
+use Rattle.rv_decode.specs.declared.ends.PathStep.{PathStep}
+use Rattle.tree_core.specs.declared.choice.Choice.{Choice}
+use Rattle.fork_spec.specs.declared.end.LeafEnd.{LeafEnd}
 use Rattle.smt_text.specs.LeafLines.{counts_heading, runs_heading}
 use Rattle.smt_text.specs.Lines.{LeafLine, BaseLine, CheckLine, ExitLine, LogicLine, line_text, lines_text}
 use Rattle.smt_text.specs.Names.{choices_text, end_name, kind_name, path_text}
@@ -29,25 +31,22 @@ two_heads : (l m a b c d : List ℕ) → l ++ (a ++ (m ++ (b ++ (c ++ d)))) ≡ 
 two_heads l m a b c d = simp append_assoc
 
 -- the text of the first six lines, from its parts
-pub runs_text : (leaf : Leaf) (kind choices path steps end : List ℕ) →
-    kind ≡ kind_name leaf.end → choices ≡ choices_text leaf.choices → path ≡ path_text leaf.path → steps ≡ decimal leaf.steps → end ≡ end_name leaf.end →
-    codes "; rvklee leaf 1\n; kind " ++ (kind ++ (codes "\n; choices " ++ (choices ++ (codes ".\n; path " ++ (path ++ (codes ".\n; steps " ++ (steps ++ (codes "\n; end " ++ (end ++ codes "\n")))))))))
-    ≡ lines_text (runs_heading leaf)
+pub runs_text : (choices : List Choice) (path : List PathStep) (steps : ℕ) (end : LeafEnd) (a b c d e : List ℕ) →
+    a ≡ kind_name end → b ≡ choices_text choices → c ≡ path_text path → d ≡ decimal steps → e ≡ end_name end →
+    codes "; rvklee leaf 1\n; kind " ++ (a ++ (codes "\n; choices " ++ (b ++ (codes ".\n; path " ++ (c ++ (codes ".\n; steps " ++ (d ++ (codes "\n; end " ++ (e ++ codes "\n")))))))))
+    ≡ lines_text (runs_heading choices path steps end)
 unfolding lines_text
-runs_text leaf kind choices path steps end k c p s e =
-    rw (k, c, p, s, e)
+runs_text choices path steps end a b c d e ea eb ec ed ee =
+    rw (ea, eb, ec, ed, ee)
     (six_lines (codes "; rvklee leaf 1\n") (codes "\n") (codes ".\n") (codes "; kind ") (codes "; choices ") (codes "; path ") (codes "; steps ") (codes "; end ")
-    (kind_name leaf.end) (choices_text leaf.choices) (path_text leaf.path) (decimal leaf.steps) (end_name leaf.end))
+    (kind_name end) (choices_text choices) (path_text path) (decimal steps) (end_name end))
 
 -- the text of the next three
-pub counts_text : (leaf : Leaf) (inputs nodes outputs : List ℕ) →
-    inputs ≡ decimal leaf.condition.graph.inputs → nodes ≡ decimal (length leaf.condition.graph.nodes) → outputs ≡ decimal (length leaf.outputs) →
-    codes "; inputs " ++ (inputs ++ (codes "\n; nodes " ++ (nodes ++ (codes "\n; outputs " ++ (outputs ++ codes "\n"))))) ≡ lines_text (counts_heading leaf)
+pub counts_text : (inputs nodes outputs : ℕ) (a b c : List ℕ) → a ≡ decimal inputs → b ≡ decimal nodes → c ≡ decimal outputs →
+    codes "; inputs " ++ (a ++ (codes "\n; nodes " ++ (b ++ (codes "\n; outputs " ++ (c ++ codes "\n"))))) ≡ lines_text (counts_heading inputs nodes outputs)
 unfolding lines_text
-counts_text leaf inputs nodes outputs i n o =
-    rw (i, n, o)
-    (three_lines (codes "\n") (codes "; inputs ") (codes "; nodes ") (codes "; outputs ")
-    (decimal leaf.condition.graph.inputs) (decimal (length leaf.condition.graph.nodes)) (decimal (length leaf.outputs)))
+counts_text inputs nodes outputs a b c ea eb ec =
+    rw (ea, eb, ec) (three_lines (codes "\n") (codes "; inputs ") (codes "; nodes ") (codes "; outputs ") (decimal inputs) (decimal nodes) (decimal outputs))
 
 -- the text of what is defined
 pub definitions_text : (inputs nodes status outputs : List LeafLine) (a b c d : List ℕ) →

@@ -4,6 +4,8 @@ use Rattle.std.specs.List.{enumerate_from}
 use Rattle.bv_dag.specs.Graphs.{Graph, width_of}
 use Rattle.fork_spec.specs.Leaves.{Leaf}
 use Rattle.smt_text.specs.Lines.{LeafLine, FormatLine, KindLine, ChoicesLine, PathLine, StepsLine, EndLine, InputsLine, NodesLine, OutputsLine, LogicLine, InputLine, BaseLine, NodeLine, StatusLine, OutputLine, AssertLine, CheckLine, ExitLine, lines_text}
+use Rattle.rv_decode.specs.declared.ends.PathStep.{PathStep}
+use Rattle.tree_core.specs.declared.choice.Choice.{Choice}
 use Rattle.smt_text.specs.Names.{kind_of, word_of}
 use Rattle.fork_spec.specs.declared.end.LeafEnd.{LeafEnd}
 use Rattle.fork_spec.specs.declared.end.LeafEnd.TheVariants.{Exits, Traps, Cut}
@@ -27,35 +29,33 @@ status_lines (Cut cause) = []
 abbrev pub output_lines : List ℕ → List LeafLine
 output_lines outputs = map (λ (i, id). OutputLine i id) (enumerate_from 0 outputs)
 
--- what runs the leaf is about
-abbrev pub runs_heading : Leaf → List LeafLine
-runs_heading leaf =
+-- what runs a leaf is about
+abbrev pub runs_heading : List Choice → List PathStep → (steps : ℕ) → LeafEnd → List LeafLine
+runs_heading choices path steps end =
     FormatLine
-    ∷ KindLine (kind_of leaf.end)
-    ∷ ChoicesLine leaf.choices
-    ∷ PathLine leaf.path
-    ∷ StepsLine leaf.steps
-    ∷ EndLine (word_of leaf.end)
+    ∷ KindLine (kind_of end)
+    ∷ ChoicesLine choices
+    ∷ PathLine path
+    ∷ StepsLine steps
+    ∷ EndLine (word_of end)
     ∷ []
 
--- how much follows
-abbrev pub counts_heading : Leaf → List LeafLine
-counts_heading leaf =
-    InputsLine leaf.condition.graph.inputs
-    ∷ NodesLine (length leaf.condition.graph.nodes)
-    ∷ OutputsLine (length leaf.outputs)
-    ∷ []
+-- how many inputs, terms and bytes of the output follow
+abbrev pub counts_heading : (inputs nodes outputs : ℕ) → List LeafLine
+counts_heading inputs nodes outputs = InputsLine inputs ∷ NodesLine nodes ∷ OutputsLine outputs ∷ []
 
 abbrev pub heading : Leaf → List LeafLine
-heading leaf = runs_heading leaf ++ counts_heading leaf
+heading leaf =
+    runs_heading leaf.choices leaf.path leaf.steps leaf.end
+    ++ counts_heading leaf.condition.graph.inputs (length leaf.condition.graph.nodes) (length leaf.outputs)
 
 -- the inputs, and what is defined over them
-abbrev pub definitions : Leaf → List LeafLine
-definitions leaf =
-    LogicLine ∷ input_lines 0 leaf.condition.graph.inputs
-    ++ (BaseLine ∷ node_lines leaf.condition.graph)
-    ++ status_lines leaf.end
-    ++ output_lines leaf.outputs
+abbrev pub definitions : Graph → LeafEnd → (outputs : List ℕ) → List LeafLine
+definitions graph end outputs =
+    LogicLine ∷ input_lines 0 graph.inputs
+    ++ (BaseLine ∷ node_lines graph)
+    ++ status_lines end
+    ++ output_lines outputs
 
 -- the condition
 abbrev pub assertions : Leaf → List LeafLine
@@ -63,7 +63,7 @@ assertions leaf = map AssertLine leaf.condition.asserted
 
 -- all of them
 unfoldable pub leaf_lines : Leaf → List LeafLine
-leaf_lines leaf = heading leaf ++ definitions leaf ++ assertions leaf ++ (CheckLine ∷ ExitLine ∷ [])
+leaf_lines leaf = heading leaf ++ definitions leaf.condition.graph leaf.end leaf.outputs ++ assertions leaf ++ (CheckLine ∷ ExitLine ∷ [])
 
 -- the text
 unfoldable pub leaf_text : Leaf → List ℕ

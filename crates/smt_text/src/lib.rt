@@ -11,5 +11,5 @@ mod printing;
 mod tests;
 
 pub use leaf::LeafText;
-pub use names::{cause_name, end_name, kind_name, write_choices, write_path};
-pub use printing::print_leaf;
+pub use names::{cause_name, end_name, kind_name, write_choice, write_choices, write_path};
+pub use printing::{print_leaf, print_parts};

@@ -57,7 +57,7 @@ fn write_step(alloc: Global, text: &mut String, step: PathStep) -> Result<(), No
 }
 
 /// Appends a choice. After an error the text is as it was.
-fn write_choice(alloc: Global, text: &mut String, choice: Choice) -> Result<(), NoMemory>
+pub fn write_choice(alloc: Global, text: &mut String, choice: Choice) -> Result<(), NoMemory>
     ensures ok { OnOk result (string_bytes text.new ≡ string_bytes text.old ++ spec.choice_text choice) }
     ensures err { OnErr result (string_bytes text.new ≡ string_bytes text.old) }
 {
