@@ -38,20 +38,20 @@ module _ {R : Type 0} where
       is_held (status s m) ≡ false
   not-held s m lt none =
       off (is_held (status s m))
-          (subst (λ (k : ℕ). one_if (is_held (status s m)) ≤ k) none
-          (count_at (λ k. is_held (status s k)) (length s.nodes) m lt))
+      (subst (λ (k : ℕ). one_if (is_held (status s m)) ≤ k) none
+      (count_at (λ k. is_held (status s k)) (length s.nodes) m lt))
 
   -- nothing is listed where no node is free
   pub none_listed : (s : Story R) (free : List ℕ) → NoneFree s → IsListOfFree s free → free ≡ []
   none_listed s [] none listed = refl
   none_listed s (m ∷ ms) none listed =
       let twice : times_listed m (m ∷ ms) ≡ one_if (eqb m m) + times_listed m ms =
-          sum_by-cons (λ (x : ℕ). cond (eqb x m) 1 0) m ms in
+      sum_by-cons (λ (x : ℕ). cond (eqb x m) 1 0) m ms in
       let one : one_if (eqb m m) ≡ 1 = ap one_if (eq-eqb m m refl) in
       let stands : stands_free s m ≡ true =
-          one_some (times_listed m ms) (stands_free s m)
-              (turned (times_listed m (m ∷ ms)) (one_if (eqb m m)) (times_listed m ms)
-              (one_if (stands_free s m)) twice one (listed m)) in
+      one_some (times_listed m ms) (stands_free s m)
+      (turned (times_listed m (m ∷ ms)) (one_if (eqb m m)) (times_listed m ms)
+      (one_if (stands_free s m)) twice one (listed m)) in
       absurd (none m (free-within s m stands) (free-status s m stands))
     where
       turned : (a b c d : ℕ) → a ≡ b + c → b ≡ 1 → a ≡ d → c + 1 ≡ d
@@ -68,7 +68,7 @@ module _ {R : Type 0} (choices : R → List Choice) (cut : R → Option Cause) (
   pub quiet-quiet : IsQuiet s → is_quiet nodes ≡ true
   quiet-quiet quiet =
       quiet-walked choices cut s nodes same
-          (λ m lt. settled (status s m) (quiet.0 m lt) (not-held s m lt quiet.1))
+      (λ m lt. settled (status s m) (quiet.0 m lt) (not-held s m lt quiet.1))
 
 module _ {S L : Type 0} (rules : Rules S L) (state_place : S → Place) (leaf_place : L → Place) where
   abbrev covers_in : Content S L → List ℕ → Bool
@@ -83,7 +83,7 @@ module _ {S L : Type 0} (rules : Rules S L) (state_place : S → Place) (leaf_pl
         (λ m. is_live (status s m) && covered covers_in (content s m) input)
         (λ m. is_leaf_status (status s m) && covered covers_in (content s m) input) (length s.nodes)
         (λ m lt. ap (λ b. b && covered covers_in (content s m) input)
-            (live_leaf (status s m) (quiet.0 m lt) (not-held s m lt quiet.1)))) ∙ parts input;
+        (live_leaf (status s m) (quiet.0 m lt) (not-held s m lt quiet.1)))) ∙ parts input;
     leaves = λ m lt is. subst
         (λ (st : Status). HoldsFor rules.IsWell (IsLeafRight rules s m) st (content s m)) is
         (follows.holds m lt);

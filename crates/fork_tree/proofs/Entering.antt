@@ -1,7 +1,6 @@
 -- What an end of a claim does to a tree.
-use Rattle.std.proofs.Common.{◌≡◌, ℕ, ◌+◌, ◌^◌, ◌<◌, ◌≤◌, ◌++◌, ◌∷◌, List, [], length, sym, refl, ap, ◌∙◌, subst, arith, append_assoc, cond, Option, option_map, eq-eqb}
-use Rattle.std.specs.List.{All, slice_get, sum_by}
-use Rattle.std.specs.Global.{Vec}
+use Rattle.std.proofs.Common.{◌≡◌, ℕ, ◌+◌, ◌^◌, ◌<◌, ◌≤◌, ◌++◌, ◌∷◌, List, [], length, sym, refl, ap, ◌∙◌, subst, arith, append_assoc, Option}
+use Rattle.std.specs.List.{All, sum_by}
 use Rattle.std.proofs.Math.Nat.{one-le-pow}
 use Rattle.std.proofs.lemmas.List.{append-nil}
 use Rattle.std.proofs.lemmas.List.Elements.{All-append, All-nil}
@@ -12,8 +11,7 @@ use Rattle.tree_core.specs.declared.event.Kid.{Kid}
 use Rattle.tree_core.specs.declared.node.Node.{Node}
 use Rattle.tree_core.specs.declared.node.Status.{Status}
 use Rattle.tree_core.specs.declared.node.Status.TheVariants.{Free, Held}
-use Rattle.tree_core.specs.Stories.{Story, status, content, left_by, content_by, born_as, last_on}
-use Rattle.tree_core.proofs.Standing.{status-noted, content-noted, open_content}
+use Rattle.tree_core.specs.Stories.{Story, status, content, left_by, content_by}
 use Rattle.fork_tree.specs.Calls.{claim_event}
 use Rattle.tree_core.specs.Replays.{allows, is_held_by, births, kids_of, deed_kept, kept, noted}
 use Rattle.tree_core.specs.Cores.{held_count, takes, ends}
@@ -35,7 +33,7 @@ module _ {R : Type 0} where
   held-less s t e is named there held allow one zero =
       subst (λ (x : Story R). held_count x + 1 ≡ held_count s) (sym is)
       (balance (held_count (noted s e)) (held_count s) (ends e.deed) (takes e.deed)
-          (held_count-noted s e named there (held-allows s e held allow)) one zero)
+      (held_count-noted s e named there (held-allows s e held allow)) one zero)
     where
       balance : (a b d t : ℕ) → a + d ≡ b + t → d ≡ 1 → t ≡ 0 → a + 1 ≡ b
       balance a b d t x y z = omega arith
@@ -47,23 +45,33 @@ module _ {R : Type 0} where
   held-more s t e is named there free claims zero one =
       subst (λ (x : Story R). held_count x ≡ held_count s + 1) (sym is)
       (balance (held_count (noted s e)) (held_count s) (ends e.deed) (takes e.deed)
-          (held_count-noted s e named there (allowed-claim s e claims free)) zero one)
+      (held_count-noted s e named there (allowed-claim s e claims free)) zero one)
     where
       balance : (a b d t : ℕ) → a + d ≡ b + t → d ≡ 0 → t ≡ 1 → a ≡ b + 1
       balance a b d t x y z = omega arith
 
   pub grows-none : (by : ℕ) (s t : Story R) → t ≡ s → GrowsBy by s t
-  grows-none by s t is =
-      ([], [], ap (λ (x : Story R). x.nodes) is
-          ∙ sym (append-nil s.nodes), ap (λ (x : Story R). x.events) is
-          ∙ sym (append-nil s.events), All-nil (λ (e : Event R ℕ). e.by ≡ by))
+  grows-none by s t is = (
+    [],
+    [],
+    ap (λ (x : Story R). x.nodes) is
+        ∙ sym (append-nil s.nodes),
+    ap (λ (x : Story R). x.events) is
+        ∙ sym (append-nil s.events),
+    All-nil (λ (e : Event R ℕ). e.by ≡ by),
+  )
 
   pub grows-one : (by : ℕ) (s t : Story R) (e : Coming R) → t ≡ noted s e → e.by ≡ by →
       GrowsBy by s t
-  grows-one by s t e is own =
-      (births e.node e.deed, kept e ∷ [], ap (λ (x : Story R). x.nodes) is, ap
-          (λ (x : Story R). x.events) is, Rattle.std.proofs.lemmas.List.Elements.All-cons
-          (λ (x : Event R ℕ). x.by ≡ by) (kept e) [] own (All-nil (λ (x : Event R ℕ). x.by ≡ by)))
+  grows-one by s t e is own = (
+    births e.node e.deed,
+    kept e ∷ [],
+    ap (λ (x : Story R). x.nodes) is,
+    ap
+        (λ (x : Story R). x.events) is,
+    Rattle.std.proofs.lemmas.List.Elements.All-cons
+        (λ (x : Event R ℕ). x.by ≡ by) (kept e) [] own (All-nil (λ (x : Event R ℕ). x.by ≡ by)),
+  )
 
   pub grows-both : (by : ℕ) (s t u : Story R) → GrowsBy by s t → GrowsBy by t u → GrowsBy by s u
   grows-both by s t u a b = (
@@ -80,16 +88,16 @@ module _ {S L : Type 0} (rules : Rules S L) where
       AreThere s → e.node < length s.nodes → status s e.node ≡ Held e.by →
       ((st : Status) (by : ℕ) → allows st by e.deed ≡ is_held_by by st) →
       heft rules (left_by e.by (deed_kept e.deed))
-          (content_by (content s e.node) (deed_kept e.deed)) ≡ 0 →
+      (content_by (content s e.node) (deed_kept e.deed)) ≡ 0 →
       kids_of e.deed ≡ [] → fuel rules t < fuel rules s + (rules.targets + 2) ^ rules.left x
   leaf-less s t e x is named there held allow now none =
       let all = fuel-end rules s e named there (held-allows s e held allow) held now in
       let kids : sum_by (kid_heft rules) (kids_of e.deed) ≡ 0 = ap (sum_by (kid_heft rules)) none in
       subst (λ (y : Story (Content S L)). fuel rules y < fuel rules s + (rules.targets + 2) ^
-          rules.left x) (sym is)
+      rules.left x) (sym is)
       (below (fuel rules (noted s e)) (fuel rules s) (sum_by (kid_heft rules) (kids_of e.deed))
-          ((rules.targets + 2) ^ rules.left x) all kids
-          (one-le-pow (rules.left x) (rules.targets + 2) (omega arith)))
+      ((rules.targets + 2) ^ rules.left x) all kids
+      (one-le-pow (rules.left x) (rules.targets + 2) (omega arith)))
     where
       below : (f a k p : ℕ) → f ≡ a + k → k ≡ 0 → 1 ≤ p → f < a + p
       below f a k p x y z = omega arith
@@ -100,18 +108,18 @@ module _ {S L : Type 0} (rules : Rules S L) where
       t ≡ noted s e → AreThere s → e.node < length s.nodes → status s e.node ≡ Held e.by →
       ((st : Status) (by : ℕ) → allows st by e.deed ≡ is_held_by by st) →
       heft rules (left_by e.by (deed_kept e.deed))
-          (content_by (content s e.node) (deed_kept e.deed)) ≡ 0 →
+      (content_by (content s e.node) (deed_kept e.deed)) ≡ 0 →
       All (λ (kid : Kid (Content S L)). IsPart rules (rules.left x) choices kid kid.content)
-          (kids_of e.deed) →
+      (kids_of e.deed) →
       length (kids_of e.deed) ≤ rules.targets + 1 →
       fuel rules t < fuel rules s + (rules.targets + 2) ^ rules.left x
   kids-less choices s t e x is named there held allow now parts few =
       let all = fuel-end rules s e named there (held-allows s e held allow) held now in
       subst (λ (y : Story (Content S L)). fuel rules y < fuel rules s + (rules.targets + 2) ^
-          rules.left x) (sym is)
+      rules.left x) (sym is)
       (below (fuel rules (noted s e)) (fuel rules s) (sum_by (kid_heft rules) (kids_of e.deed))
-          ((rules.targets + 2) ^ rules.left x) all
-          (kids_light rules (rules.left x) choices (kids_of e.deed) parts few))
+      ((rules.targets + 2) ^ rules.left x) all
+      (kids_light rules (rules.left x) choices (kids_of e.deed) parts few))
     where
       below : (f a k p : ℕ) → f ≡ a + k → k < p → f < a + p
       below f a k p x y = omega arith
@@ -129,8 +137,8 @@ module _ {S L : Type 0} where
   claimed-state s t by m x is lt free state =
       let e : Coming (Content S L) = claim_event by m in
       let same : content t m ≡ content s m =
-          ap (λ (y : Story (Content S L)). content y m) is
-              ∙ content-here s e lt (allowed-claim s e refl free) in
+      ap (λ (y : Story (Content S L)). content y m) is
+      ∙ content-here s e lt (allowed-claim s e refl free) in
       subst (λ (o : Option (Content S L)). StateIs o x) (sym same) state
 
   -- a claim, and what is entered for it, take weight away
@@ -141,10 +149,10 @@ module _ {S L : Type 0} where
   round-less rules s t u by m x is named lt free state less =
       let e : Coming (Content S L) = claim_event by m in
       let out : fuel rules (noted s e) + (rules.targets + 2) ^ rules.left x ≡ fuel rules s =
-          fuel-claim rules s e x named lt (allowed-claim s e refl free) refl free state in
+      fuel-claim rules s e x named lt (allowed-claim s e refl free) refl free state in
       let same : fuel rules t ≡ fuel rules (noted s e) = ap (fuel rules) is in
       chained (fuel rules u) (fuel rules t) (fuel rules (noted s e)) (fuel rules s)
-          ((rules.targets + 2) ^ rules.left x) less same out
+      ((rules.targets + 2) ^ rules.left x) less same out
     where
       chained : (u t n s p : ℕ) → u < t + p → t ≡ n → n + p ≡ s → u < s
       chained u t n s p x y z = omega arith

@@ -2,7 +2,6 @@
 use Rattle.std.proofs.Common.{◌≡◌, ℕ, zero, suc, ◌+◌, ◌<◌, ◌≤◌, Bool, true, false, cond, IsTrue, Option, Some, None, List, [], ◌∷◌, ◌++◌, length, get_or, sym, refl, ap, ◌∙◌, subst, arith}
 use Rattle.std.specs.List.{All, count_by}
 use Rattle.std.specs.Global.{Vec}
-use Rattle.std.specs.Arc.{arc_value}
 use Rattle.std.proofs.lemmas.List.Sums.{sum_by-cons}
 use Rattle.tree_core.specs.declared.cause.Cause.{Cause}
 use Rattle.tree_core.specs.declared.choice.Choice.{Choice}
@@ -26,13 +25,13 @@ counted_at : {X : Type 0} (f : X → Bool) (xs : List X) (k : ℕ) (d : X) → k
 counted_at f [] k d lt is = absurd (omega arith)
 counted_at f (x ∷ xs) zero d lt is =
     first (one_if (f x)) (count_by f xs) (count_by f (x ∷ xs))
-        (sum_by-cons (λ y. one_if (f y)) x xs) (ap one_if is)
+    (sum_by-cons (λ y. one_if (f y)) x xs) (ap one_if is)
   where
     first : (a b c : ℕ) → c ≡ a + b → a ≡ 1 → 1 ≤ c
     first a b c sum one = omega arith
 counted_at f (x ∷ xs) (suc k) d lt is =
     later (one_if (f x)) (count_by f xs) (count_by f (x ∷ xs))
-        (sum_by-cons (λ y. one_if (f y)) x xs) (counted_at f xs k d (omega arith) is)
+    (sum_by-cons (λ y. one_if (f y)) x xs) (counted_at f xs k d (omega arith) is)
   where
     later : (a b c : ℕ) → c ≡ a + b → 1 ≤ b → 1 ≤ c
     later a b c sum one = omega arith
@@ -48,7 +47,7 @@ pub worked_by : {W S L : Type 0} (rules : W → Rules S L) (state_place : S → 
     IsWorked (rules v) state_place leaf_place x q
 worked_by {W} {S} {L} rules state_place leaf_place x w v p q same is worked =
     subst (λ (y : W × Parts S L). IsWorked (rules y.0) state_place leaf_place x y.1)
-        (λ i. (same i, is i)) worked
+    (λ i. (same i, is i)) worked
 
 module _ {S L : Type 0} (rules : Rules S L) (state_place : S → Place) (leaf_place : L → Place) where
   -- what the node holds has the place of the state
@@ -64,15 +63,15 @@ module _ {S L : Type 0} (rules : Rules S L) (state_place : S → Place) (leaf_pl
       IsEndFit rules state_place leaf_place cut s by node leaf
   end_fits cut s by node x leaf there held state ends =
       let old = state_at (content s node) x state in record {
-    there = there;
-    held = held;
-    old = old.0;
-    is_old = old.1;
-    same_choices = ends.same_choices ∙ sym (ap (λ (p : Place). p.choices) old.2);
-    same_cover = λ input. ends.same_cover input ∙ sym (ap (λ (p : Place). p.covers input) old.2);
-    right = ends.right;
-    cause = ends.cause;
-  }
+        there = there;
+        held = held;
+        old = old.0;
+        is_old = old.1;
+        same_choices = ends.same_choices ∙ sym (ap (λ (p : Place). p.choices) old.2);
+        same_cover = λ input. ends.same_cover input ∙ sym (ap (λ (p : Place). p.covers input) old.2);
+        right = ends.right;
+        cause = ends.cause;
+      }
 
   part_marked : (limit : ℕ) (choices : List Choice) (kid : Kid (Content S L)) (c : Content S L) →
       IsPart rules limit choices kid c → IsCutOr kid.is_leaf (cut_in rules.cut c)
@@ -85,10 +84,10 @@ module _ {S L : Type 0} (rules : Rules S L) (state_place : S → Place) (leaf_pl
       HoldsFor rules.IsWell (rules.IsRight choices) (cond kid.is_leaf Leaf Free) (Some c)
   part_holds limit choices kid (Open a) part =
       subst (λ (b : Bool). HoldsFor rules.IsWell (rules.IsRight choices) (cond b Leaf Free)
-          (Some (Open a))) (sym part.0) part.1
+      (Some (Open a))) (sym part.0) part.1
   part_holds limit choices kid (Shut l) part =
       subst (λ (b : Bool). HoldsFor rules.IsWell (rules.IsRight choices) (cond b Leaf Free)
-          (Some (Shut l))) (sym part.0) part.1
+      (Some (Shut l))) (sym part.0) part.1
 
   pub split_fits : (s : Story (Content S L)) (by node : ℕ) (x : S) (kids : Vec (Kid (Content S L)))
       →
@@ -98,13 +97,13 @@ module _ {S L : Type 0} (rules : Rules S L) (state_place : S → Place) (leaf_pl
   split_fits s by node x kids there held state split =
       let old = state_at (content s node) x state in
       let same_choices : (place_in state_place leaf_place old.0).choices ≡ (state_place x).choices =
-          ap (λ (p : Place). p.choices) old.2 in
+      ap (λ (p : Place). p.choices) old.2 in
       let leads : All (λ (kid : Kid (Content S L)).
-          (place_in state_place leaf_place kid.content).choices ≡
-          (place_in state_place leaf_place old.0).choices ++ kid.choice ∷ []) kids.items =
+      (place_in state_place leaf_place kid.content).choices ≡
+      (place_in state_place leaf_place old.0).choices ++ kid.choice ∷ []) kids.items =
       λ k d lt. split.choices k d lt
-          ∙ ap (λ (cs : List Choice). cs ++ (get_or kids.items k d).choice ∷ []) (sym same_choices)
-          in
+      ∙ ap (λ (cs : List Choice). cs ++ (get_or kids.items k d).choice ∷ []) (sym same_choices)
+      in
       record {
         there = there;
         held = held;
@@ -112,12 +111,15 @@ module _ {S L : Type 0} (rules : Rules S L) (state_place : S → Place) (leaf_pl
         is_old = old.1;
         shared = λ input. split.shared input
             ∙ ap one_if (sym (ap (λ (p : Place). p.covers input) old.2));
-        in_form = (split.sides, λ k d lt. let kid : Kid (Content S L) = get_or kids.items k d in
-        record {
-          leads = leads k d lt;
-          marked = part_marked (rules.left x) (choices_in kids.items) kid kid.content
-              (split.parts k d lt);
-        });
+        in_form = (
+          split.sides,
+          λ k d lt. let kid : Kid (Content S L) = get_or kids.items k d in
+              record {
+                leads = leads k d lt;
+                marked = part_marked (rules.left x) (choices_in kids.items) kid kid.content
+                    (split.parts k d lt);
+              },
+        );
         apart = (
           λ k d lt. let kid : Kid (Content S L) = get_or kids.items k d in record {
             more = kid.choice ∷ [];
@@ -127,16 +129,16 @@ module _ {S L : Type 0} (rules : Rules S L) (state_place : S → Place) (leaf_pl
           split.apart,
         );
         parts = λ k d lt. let kid : Kid (Content S L) = get_or kids.items k d in
-        part_holds (rules.left x) (choices_in kids.items) kid kid.content (split.parts k d lt);
+            part_holds (rules.left x) (choices_in kids.items) kid kid.content (split.parts k d lt);
       }
     where
       within : (input : List ℕ) (k : ℕ) (d : Kid (Content S L)) → k < length kids.items →
           IsTrue ((place_in state_place leaf_place (get_or kids.items k d).content).covers input) →
           IsTrue ((place_in state_place leaf_place (state_at (content s node) x state).0).covers
-              input)
+          input)
       within input k d lt covered =
           ap (λ (p : Place). p.covers input) (state_at (content s node) x state).2
           ∙ on ((state_place x).covers input) (subst (λ n. 1 ≤ n) (split.shared input)
           (counted_at (λ (kid : Kid (Content S L)).
-              (place_in state_place leaf_place kid.content).covers input) kids.items k d lt
-              covered))
+          (place_in state_place leaf_place kid.content).covers input) kids.items k d lt
+          covered))

@@ -2,11 +2,9 @@
 use Rattle.std.proofs.Common.{◌≡◌, ◌≢◌, ℕ, zero, suc, ◌+◌, ◌-◌, ◌<◌, ◌≤◌, eqb, Bool, true, false, cond, not, Option, Some, None, List, [], ◌∷◌, ◌++◌, length, get_or, drop, append_assoc, option_map, sym, refl, ap, ◌∙◌, arith, eq-eqb, ne_eqb}
 use mathlib.Core.Logic.{dite}
 use native.Mathlib.Decide.{dec_le}
-use Rattle.std.specs.List.{All, slice_get}
-use Rattle.std.specs.Global.{Vec}
+use Rattle.std.specs.List.{slice_get}
 use Rattle.std.proofs.lemmas.Option.{slice_get-map, slice_get_past}
 use Rattle.std.proofs.lemmas.List.Sums.{sum_by-cons, sum_by-append}
-use Rattle.tree_core.specs.declared.event.Event.{Event}
 use Rattle.tree_core.specs.declared.event.Kid.{Kid}
 use Rattle.tree_core.specs.declared.node.Node.{Node}
 use Rattle.tree_core.specs.declared.node.Status.{Status}
@@ -15,7 +13,7 @@ use Rattle.tree_core.specs.Stories.{Story, status, left_by}
 use Rattle.tree_core.specs.Covers.{one_if}
 use Rattle.tree_core.specs.Replays.{is_free, births, kids_of, deed_kept, noted, node_of}
 use Rattle.tree_core.proofs.Places.{get_before, get_behind}
-use Rattle.tree_core.proofs.Standing.{status-noted, status-kid}
+use Rattle.tree_core.proofs.Standing.{status-kid}
 use Rattle.fork_tree.specs.Trees.{free_if_there, stands_free, times_listed, born_free}
 use Rattle.fork_tree.proofs.Standings.{AreThere, Coming, status-here, status-other}
 
@@ -45,14 +43,14 @@ module _ {R : Type 0} where
       stands_free (noted s e) k ≡ stands_free s k
   free-old s e k lt ne =
       λ i. free_if_there (get_before s.nodes (births e.node e.deed) k lt i)
-          (status-other s e k lt (λ is. ne (sym is)) i)
+      (status-other s e k lt (λ is. ne (sym is)) i)
 
   pub free-here : (s : Story R) (e : Coming R) → e.node < length s.nodes →
       stands_free (noted s e) e.node ≡ is_free (left_by e.by (deed_kept e.deed))
   free-here s e there =
       (λ i. free_if_there (get_before s.nodes (births e.node e.deed) e.node there i)
-          (status-here s e there i))
-          ∙ free-there s.nodes e.node (left_by e.by (deed_kept e.deed)) there
+      (status-here s e there i))
+      ∙ free-there s.nodes e.node (left_by e.by (deed_kept e.deed)) there
 
   pub free-is : (s : Story R) (m : ℕ) → m < length s.nodes → stands_free s m ≡ is_free (status s m)
   free-is s m lt = free-there s.nodes m (status s m) lt
@@ -66,8 +64,8 @@ module _ {R : Type 0} where
       slice_get (s.nodes ++ births e.node e.deed) (length s.nodes + i) ≡ Some (node_of e.node kid)
   kid_at s e i kid at =
       get_behind s.nodes (births e.node e.deed) i
-          ∙ (slice_get-map (node_of e.node) (kids_of e.deed) i
-          ∙ ap (option_map (node_of e.node)) at)
+      ∙ (slice_get-map (node_of e.node) (kids_of e.deed) i
+      ∙ ap (option_map (node_of e.node)) at)
 
   pub free-behind : (s : Story R) (e : Coming R) (i : ℕ) → AreThere s → e.node < length s.nodes →
       stands_free (noted s e) (length s.nodes + i) ≡ kid_free (slice_get (kids_of e.deed) i)
@@ -77,14 +75,14 @@ module _ {R : Type 0} where
           stands_free (noted s e) (length s.nodes + i) ≡ kid_free o
       by_kid None at =
           let none : slice_get (s.nodes ++ births e.node e.deed) (length s.nodes + i) ≡ None =
-              get_behind s.nodes (births e.node e.deed) i
-                  ∙ (slice_get-map (node_of e.node) (kids_of e.deed) i
-                  ∙ ap (option_map (node_of e.node)) at) in
+          get_behind s.nodes (births e.node e.deed) i
+          ∙ (slice_get-map (node_of e.node) (kids_of e.deed) i
+          ∙ ap (option_map (node_of e.node)) at) in
           ap (λ (o : Option (Node R)). free_if_there o (status (noted s e) (length s.nodes + i)))
-              none
+          none
       by_kid (Some kid) at =
           (λ k. free_if_there (kid_at s e i kid at k) (status-kid s e i kid named there at k))
-              ∙ born kid.is_leaf
+          ∙ born kid.is_leaf
 
   -- no kids: what is not named stands as it did
   pub free-same : (s : Story R) (e : Coming R) (k : ℕ) → AreThere s → e.node < length s.nodes →
@@ -92,9 +90,9 @@ module _ {R : Type 0} where
   free-same s e k named there none ne = let n : ℕ = length s.nodes in dite (dec_le n k)
       (λ le. let split : n + (k - n) ≡ k = omega arith in
       ap (stands_free (noted s e)) (sym split)
-          ∙ (free-behind s e (k - n) named there
-          ∙ (ap (λ (l : List (Kid R)). kid_free (slice_get l (k - n))) none
-          ∙ sym (free-none s k le))))
+      ∙ (free-behind s e (k - n) named there
+      ∙ (ap (λ (l : List (Kid R)). kid_free (slice_get l (k - n))) none
+      ∙ sym (free-none s k le))))
       (λ no. free-old s e k (Rattle.std.proofs.Common.lt_of_not-le no) ne)
 
 -- how often
@@ -102,8 +100,8 @@ pub listed-push : (k m : ℕ) (ms : List ℕ) →
     times_listed k (ms ++ m ∷ []) ≡ times_listed k ms + one_if (eqb m k)
 listed-push k m ms =
     sum_by-append (λ (x : ℕ). cond (eqb x k) 1 0) ms (m ∷ [])
-        ∙ ap (λ n. times_listed k ms + n)
-        (sum_by-cons (λ (x : ℕ). cond (eqb x k) 1 0) m [] ∙ zero_right (one_if (eqb m k)))
+    ∙ ap (λ n. times_listed k ms + n)
+    (sum_by-cons (λ (x : ℕ). cond (eqb x k) 1 0) m [] ∙ zero_right (one_if (eqb m k)))
   where
     zero_right : (a : ℕ) → a + 0 ≡ a
     zero_right a = omega arith
@@ -111,14 +109,14 @@ listed-push k m ms =
 -- kid by kid
 pub born-at : {R : Type 0} (kids : List (Kid R)) (i n : ℕ) (d : Kid R) → i < length kids →
     born_free n (drop i kids) ≡ cond (get_or kids i d).is_leaf
-        (born_free (n + 1) (drop (i + 1) kids)) (n ∷ born_free (n + 1) (drop (i + 1) kids))
+    (born_free (n + 1) (drop (i + 1) kids)) (n ∷ born_free (n + 1) (drop (i + 1) kids))
 born-at [] i n d lt = absurd (omega arith)
 born-at (x ∷ xs) zero n d lt = refl
 born-at {R} (x ∷ xs) (suc i) n d lt =
     let on : i + 1 ≡ suc i = omega arith in let more : suc (i + 1) ≡ suc i + 1 = omega arith in
     born-at xs i n d (omega arith)
-        ∙ ap (λ (j : ℕ). cond (get_or xs i d).is_leaf (born_free (n + 1) (drop j (x ∷ xs)))
-        (n ∷ born_free (n + 1) (drop j (x ∷ xs)))) more
+    ∙ ap (λ (j : ℕ). cond (get_or xs i d).is_leaf (born_free (n + 1) (drop j (x ∷ xs)))
+    (n ∷ born_free (n + 1) (drop j (x ∷ xs)))) more
 
 pub listed-one : (free more others rest : List ℕ) (n : ℕ) → more ≡ free ++ n ∷ [] →
     rest ≡ n ∷ others → more ++ others ≡ free ++ rest
@@ -131,7 +129,7 @@ low_by_leaf : (n k : ℕ) (later : List ℕ) (b : Bool) → k < n → times_list
 low_by_leaf n k later true lt none = none
 low_by_leaf n k later false lt none =
     sum_by-cons (λ (x : ℕ). cond (eqb x k) 1 0) n later
-        ∙ (λ i. one_if (ne_eqb n k (λ is. omega arith) i) + none i)
+    ∙ (λ i. one_if (ne_eqb n k (λ is. omega arith) i) + none i)
 
 pub born-low : {R : Type 0} (kids : List (Kid R)) (n k : ℕ) → k < n →
     times_listed k (born_free n kids) ≡ 0
@@ -145,15 +143,15 @@ here_by_leaf n later true none = none
 here_by_leaf n later false none =
     let here : n ≡ n + 0 = omega arith in
     sum_by-cons (λ (x : ℕ). cond (eqb x (n + 0)) 1 0) n later
-        ∙ (λ i. one_if (eq-eqb n (n + 0) here i) + none i)
+    ∙ (λ i. one_if (eq-eqb n (n + 0) here i) + none i)
 
 later_by_leaf : (n k m : ℕ) (later : List ℕ) (b : Bool) → n < k → times_listed k later ≡ m →
     times_listed k (cond b later (n ∷ later)) ≡ m
 later_by_leaf n k m later true lt is = is
 later_by_leaf n k m later false lt is =
     sum_by-cons (λ (x : ℕ). cond (eqb x k) 1 0) n later
-        ∙ (ap (λ b. one_if b + times_listed k later) (ne_eqb n k (λ same. omega arith))
-        ∙ (zero_left (times_listed k later) ∙ is))
+    ∙ (ap (λ b. one_if b + times_listed k later) (ne_eqb n k (λ same. omega arith))
+    ∙ (zero_left (times_listed k later) ∙ is))
   where
     zero_left : (a : ℕ) → 0 + a ≡ a
     zero_left a = omega arith
@@ -163,8 +161,8 @@ pub born-listed : {R : Type 0} (kids : List (Kid R)) (n i : ℕ) →
 born-listed [] n i = refl
 born-listed {R} (kid ∷ kids) n zero =
     here_by_leaf n (born_free (n + 1) kids) kid.is_leaf
-        (born-low kids (n + 1) (n + 0) (omega arith))
+    (born-low kids (n + 1) (n + 0) (omega arith))
 born-listed {R} (kid ∷ kids) n (suc i) = let move : n + suc i ≡ (n + 1) + i = omega arith in
     later_by_leaf n (n + suc i) (one_if (kid_free (slice_get kids i))) (born_free (n + 1) kids)
-        kid.is_leaf (omega arith)
-        (ap (λ k. times_listed k (born_free (n + 1) kids)) move ∙ born-listed kids (n + 1) i)
+    kid.is_leaf (omega arith)
+    (ap (λ k. times_listed k (born_free (n + 1) kids)) move ∙ born-listed kids (n + 1) i)

@@ -1,25 +1,22 @@
 -- What free nodes weigh when an event was noted, and that what a state is parted into weighs less than it.
-use Rattle.std.proofs.Common.{◌≡◌, ◌≢◌, ℕ, zero, suc, ◌+◌, ◌*◌, ◌^◌, ◌<◌, ◌≤◌, eqb, Bool, true, false, cond, IsTrue, Option, Some, None, List, [], ◌∷◌, length, option_map, sym, refl, ap, ◌∙◌, subst, arith, eq-eqb, ne_eqb, length-append}
+use Rattle.std.proofs.Common.{◌≡◌, ◌≢◌, ℕ, zero, suc, ◌+◌, ◌*◌, ◌^◌, ◌<◌, ◌≤◌, Bool, cond, IsTrue, Option, Some, None, List, [], ◌∷◌, length, sym, refl, ap, ◌∙◌, subst, arith}
 use mathlib.Core.Logic.{dite}
 use native.Mathlib.Decide.{ℕ_discrete}
 use Rattle.std.specs.List.{All, slice_get, sum_by}
 use Rattle.std.specs.Global.{Vec}
 use Rattle.std.specs.Arc.{arc_value}
 use Rattle.std.proofs.Math.Nat.{one-le-pow, pow-le-pow_right, pow-suc}
-use Rattle.std.proofs.lemmas.List.{length-map}
 use Rattle.std.proofs.lemmas.List.Sums.{sum_by-cons, sum_by-le}
 use Rattle.std.proofs.lemmas.List.Elements.{All-weaker}
 use Rattle.tree_core.specs.declared.choice.Choice.{Choice}
-use Rattle.tree_core.specs.declared.event.Event.{Event}
 use Rattle.tree_core.specs.declared.event.Deed.{Deed}
 use Rattle.tree_core.specs.declared.event.Deed.TheVariants.{Claim}
 use Rattle.tree_core.specs.declared.event.Kid.{Kid}
-use Rattle.tree_core.specs.declared.node.Node.{Node}
 use Rattle.tree_core.specs.declared.node.Status.{Status}
 use Rattle.tree_core.specs.declared.node.Status.TheVariants.{Free, Held, Leaf}
-use Rattle.tree_core.specs.Stories.{Story, status, content, left_by, content_by, born_as, last_on}
-use Rattle.tree_core.specs.Replays.{is_allowed, births, kids_of, deed_kept, noted, node_of}
-use Rattle.tree_core.proofs.Standing.{status-noted, content-noted, status-kid, content-kid, open_content}
+use Rattle.tree_core.specs.Stories.{Story, status, content, left_by, content_by}
+use Rattle.tree_core.specs.Replays.{is_allowed, kids_of, deed_kept, noted}
+use Rattle.tree_core.proofs.Standing.{status-kid, content-kid}
 use Rattle.fork_tree.specs.Nodes.{StateIs}
 use Rattle.fork_tree.specs.Works.{IsPart, Rules}
 use Rattle.fork_tree.specs.Drains.{sum_below, weight, heft, fuel}
@@ -39,10 +36,10 @@ pub sum_change : (p q : ℕ → ℕ) (n m : ℕ) → m < n → ((k : ℕ) → k 
 sum_change p q zero m lt same = absurd (omega arith)
 sum_change p q (suc n) m lt same = dite (ℕ_discrete n m)
     (λ e. let below : sum_below p n ≡ sum_below q n = sum_same p q n
-        (λ k low. same k (omega arith) (λ is. omega arith)) in
+    (λ k low. same k (omega arith) (λ is. omega arith)) in
     turned (sum_below p n) (sum_below q n) (p m) (q m) (p n) (q n) below (ap p e) (ap q e))
     (λ ne. let before : sum_below p n + q m ≡ sum_below q n + p m = sum_change p q n m (omega arith)
-        (λ k low. same k (omega arith)) in
+    (λ k low. same k (omega arith)) in
     kept (sum_below p n) (sum_below q n) (p m) (q m) (p n) (q n) before (same n (omega arith) ne))
   where
     turned : (a b pm qm pn qn : ℕ) → a ≡ b → pn ≡ pm → qn ≡ qm → (a + pn) + qm ≡ (b + qn) + pm
@@ -62,11 +59,11 @@ sum_more p f n [] same =
     zero_right a = omega arith
 sum_more {X} p f n (x ∷ xs) same = let here : n ≡ n + 0 = omega arith in
     let later : sum_below p (suc n + length xs) ≡ sum_below p (suc n) + sum_by f xs =
-        sum_more p f (suc n) xs (λ i y at. ap p (move n i) ∙ same (suc i) y at) in
+    sum_more p f (suc n) xs (λ i y at. ap p (move n i) ∙ same (suc i) y at) in
     let first : p n ≡ f x = ap p here ∙ same 0 x refl in
     ap (sum_below p) (sym (move n (length xs)))
-        ∙ (later ∙ joined (sum_below p n) (p n) (f x) (sum_by f xs) (sum_by f (x ∷ xs)) first
-        (sum_by-cons f x xs))
+    ∙ (later ∙ joined (sum_below p n) (p n) (f x) (sum_by f xs) (sum_by f (x ∷ xs)) first
+    (sum_by-cons f x xs))
   where
     move : (a b : ℕ) → suc a + b ≡ a + suc b
     move a b = omega arith
@@ -83,8 +80,8 @@ module _ {S L : Type 0} (rules : Rules S L) where
   pub fuel-noted : (s : Story (Content S L)) (e : Coming (Content S L)) → AreThere s →
       e.node < length s.nodes → IsTrue (is_allowed s e) →
       fuel rules (noted s e) + heft rules (status s e.node) (content s e.node) ≡ fuel rules s + heft
-          rules (left_by e.by (deed_kept e.deed)) (content_by (content s e.node) (deed_kept e.deed))
-          + sum_by (kid_heft rules) (kids_of e.deed)
+      rules (left_by e.by (deed_kept e.deed)) (content_by (content s e.node) (deed_kept e.deed))
+      + sum_by (kid_heft rules) (kids_of e.deed)
   fuel-noted s e named there may =
       let n : ℕ = length s.nodes in
       let m : ℕ = e.node in
@@ -92,23 +89,23 @@ module _ {S L : Type 0} (rules : Rules S L) where
       let p : ℕ → ℕ = λ k. heft rules (status s k) (content s k) in
       let q : ℕ → ℕ = λ k. heft rules (status (noted s e) k) (content (noted s e) k) in
       let kids_weigh : (i : ℕ) (kid : Kid (Content S L)) → slice_get kids i ≡ Some kid →
-          q (n + i) ≡ kid_heft rules kid =
-          λ i kid at. λ j. heft rules (status-kid s e i kid named there at j)
-              (content-kid s e i kid named there at j) in
+      q (n + i) ≡ kid_heft rules kid =
+      λ i kid at. λ j. heft rules (status-kid s e i kid named there at j)
+      (content-kid s e i kid named there at j) in
       let others : (k : ℕ) → k < n → k ≢ m → p k ≡ q k =
-          λ k lt ne. let other : m ≢ k = λ is. ne (sym is) in
-          λ j. heft rules (sym (status-other s e k lt other) j)
-              (sym (content-other s e k lt other) j) in
+      λ k lt ne. let other : m ≢ k = λ is. ne (sym is) in
+      λ j. heft rules (sym (status-other s e k lt other) j)
+      (sym (content-other s e k lt other) j) in
       let after_it : q m ≡ heft rules (left_by e.by (deed_kept e.deed))
-          (content_by (content s m) (deed_kept e.deed)) =
-          λ j. heft rules (status-here s e there j) (content-here s e there may j) in
+      (content_by (content s m) (deed_kept e.deed)) =
+      λ j. heft rules (status-here s e there j) (content-here s e there may j) in
       let change : sum_below p n + q m ≡ sum_below q n + p m = sum_change p q n m there others in
       let all : fuel rules (noted s e) ≡ sum_below q n + sum_by (kid_heft rules) kids =
-          ap (sum_below q) (length-noted s e) ∙ sum_more q (kid_heft rules) n kids kids_weigh in
+      ap (sum_below q) (length-noted s e) ∙ sum_more q (kid_heft rules) n kids kids_weigh in
       added (fuel rules (noted s e)) (sum_below q n) (sum_below p n) (p m) (q m)
-          (heft rules (left_by e.by (deed_kept e.deed))
-          (content_by (content s m) (deed_kept e.deed))) (sum_by (kid_heft rules) kids) all change
-          after_it
+      (heft rules (left_by e.by (deed_kept e.deed))
+      (content_by (content s m) (deed_kept e.deed))) (sum_by (kid_heft rules) kids) all change
+      after_it
     where
       added : (f b a pm qm h k : ℕ) → f ≡ b + k → a + qm ≡ b + pm → qm ≡ h → f + pm ≡ a + h + k
       added f b a pm qm h k x y z = omega arith
@@ -127,18 +124,18 @@ module _ {S L : Type 0} (rules : Rules S L) where
   fuel-claim s e x named there may claims free state =
       let all = fuel-noted s e named there may in
       let was : heft rules (status s e.node) (content s e.node) ≡ (rules.targets + 2) ^ rules.left
-          x =
-          ap (λ (st : Status). heft rules st (content s e.node)) free
-              ∙ weight-state (content s e.node) x state in
+      x =
+      ap (λ (st : Status). heft rules st (content s e.node)) free
+      ∙ weight-state (content s e.node) x state in
       let now : heft rules (left_by e.by (deed_kept e.deed))
-          (content_by (content s e.node) (deed_kept e.deed)) ≡ 0 =
-          ap (λ (d : Deed (Content S L) (Vec (Kid (Content S L)))). heft rules
-              (left_by e.by (deed_kept d)) (content_by (content s e.node) (deed_kept d))) claims in
+      (content_by (content s e.node) (deed_kept e.deed)) ≡ 0 =
+      ap (λ (d : Deed (Content S L) (Vec (Kid (Content S L)))). heft rules
+      (left_by e.by (deed_kept d)) (content_by (content s e.node) (deed_kept d))) claims in
       let none : sum_by (kid_heft rules) (kids_of e.deed) ≡ 0 =
-          ap (λ (d : Deed (Content S L) (Vec (Kid (Content S L)))). sum_by (kid_heft rules)
-              (kids_of d)) claims in
+      ap (λ (d : Deed (Content S L) (Vec (Kid (Content S L)))). sum_by (kid_heft rules)
+      (kids_of d)) claims in
       added (fuel rules (noted s e)) _ (fuel rules s) _ _ ((rules.targets + 2) ^ rules.left x) all
-          was now none
+      was now none
     where
       added : (f p a h k b : ℕ) → f + p ≡ a + h + k → p ≡ b → h ≡ 0 → k ≡ 0 → f + b ≡ a
       added f p a h k b x y z w = omega arith
@@ -147,14 +144,14 @@ module _ {S L : Type 0} (rules : Rules S L) where
   pub fuel-end : (s : Story (Content S L)) (e : Coming (Content S L)) → AreThere s →
       e.node < length s.nodes → IsTrue (is_allowed s e) → status s e.node ≡ Held e.by →
       heft rules (left_by e.by (deed_kept e.deed))
-          (content_by (content s e.node) (deed_kept e.deed)) ≡ 0 →
+      (content_by (content s e.node) (deed_kept e.deed)) ≡ 0 →
       fuel rules (noted s e) ≡ fuel rules s + sum_by (kid_heft rules) (kids_of e.deed)
   fuel-end s e named there may held now =
       let all = fuel-noted s e named there may in
       let was : heft rules (status s e.node) (content s e.node) ≡ 0 =
-          ap (λ (st : Status). heft rules st (content s e.node)) held in
+      ap (λ (st : Status). heft rules st (content s e.node)) held in
       added (fuel rules (noted s e)) _ (fuel rules s) _ (sum_by (kid_heft rules) (kids_of e.deed))
-          all was now
+      all was now
     where
       added : (f p a h k : ℕ) → f + p ≡ a + h + k → p ≡ 0 → h ≡ 0 → f ≡ a + k
       added f p a h k x y z = omega arith
@@ -165,15 +162,15 @@ module _ {S L : Type 0} (rules : Rules S L) where
       heft rules (cond kid.is_leaf Leaf Free) (Some c) ≤ (rules.targets + 2) ^ l
   part_light l choices kid (Open a) part =
       subst (λ (b : Bool). heft rules (cond b Leaf Free) (Some (Open a)) ≤ (rules.targets + 2) ^ l)
-          (sym part.0)
+      (sym part.0)
       (pow-le-pow_right {n = rules.targets + 2} (omega arith) {i = rules.left (arc_value a)} {j = l}
-          (below (rules.left (arc_value a)) l part.2))
+      (below (rules.left (arc_value a)) l part.2))
     where
       below : (a b : ℕ) → a < suc b → a ≤ b
       below a b lt = omega arith
   part_light l choices kid (Shut d) part =
       subst (λ (b : Bool). heft rules (cond b Leaf Free) (Some (Shut d)) ≤ (rules.targets + 2) ^ l)
-          (sym part.0) (omega arith)
+      (sym part.0) (omega arith)
 
   part_none : (choices : List Choice) (kid : Kid (Content S L)) (c : Content S L) →
       IsPart rules 0 choices kid c → heft rules (cond kid.is_leaf Leaf Free) (Some c) ≤ 0
@@ -183,7 +180,7 @@ module _ {S L : Type 0} (rules : Rules S L) where
       never n lt = omega arith
   part_none choices kid (Shut d) part =
       subst (λ (b : Bool). heft rules (cond b Leaf Free) (Some (Shut d)) ≤ 0) (sym part.0)
-          (omega arith)
+      (omega arith)
 
   abbrev PartOf : ℕ → List Choice → Kid (Content S L) → Type 0
   PartOf l choices kid = IsPart rules l choices kid kid.content
@@ -194,23 +191,23 @@ module _ {S L : Type 0} (rules : Rules S L) where
       length kids ≤ rules.targets + 1 → sum_by (kid_heft rules) kids < (rules.targets + 2) ^ l
   kids_light zero choices kids parts few =
       let all : sum_by (kid_heft rules) kids ≤ length kids * 0 = sum_by-le (kid_heft rules) 0 kids
-          (All-weaker (PartOf 0 choices) (λ (kid : Kid (Content S L)). kid_heft rules kid ≤ 0)
-              (λ kid part. part_none choices kid kid.content part) kids parts) in
+      (All-weaker (PartOf 0 choices) (λ (kid : Kid (Content S L)). kid_heft rules kid ≤ 0)
+      (λ kid part. part_none choices kid kid.content part) kids parts) in
       below (sum_by (kid_heft rules) kids) (length kids) ((rules.targets + 2) ^ 0) all
-          (one-le-pow 0 (rules.targets + 2) (omega arith))
+      (one-le-pow 0 (rules.targets + 2) (omega arith))
     where
       below : (s k p : ℕ) → s ≤ k * 0 → 1 ≤ p → s < p
       below s k p x y = omega arith
   kids_light (suc l) choices kids parts few =
       let all : sum_by (kid_heft rules) kids ≤ length kids * (rules.targets + 2) ^ l = sum_by-le
-          (kid_heft rules) ((rules.targets + 2) ^ l) kids
-          (All-weaker (PartOf (suc l) choices)
-              (λ (kid : Kid (Content S L)). kid_heft rules kid ≤ (rules.targets + 2) ^ l)
-              (λ kid part. part_light l choices kid kid.content part) kids parts) in
+      (kid_heft rules) ((rules.targets + 2) ^ l) kids
+      (All-weaker (PartOf (suc l) choices)
+      (λ (kid : Kid (Content S L)). kid_heft rules kid ≤ (rules.targets + 2) ^ l)
+      (λ kid part. part_light l choices kid kid.content part) kids parts) in
       let one : 1 ≤ (rules.targets + 2) ^ l = one-le-pow l (rules.targets + 2) (omega arith) in
       subst (λ (p : ℕ). sum_by (kid_heft rules) kids < p) (sym (pow-suc (rules.targets + 2) l))
-          (below (sum_by (kid_heft rules) kids) (length kids) rules.targets
-          ((rules.targets + 2) ^ l) all one few)
+      (below (sum_by (kid_heft rules) kids) (length kids) rules.targets
+      ((rules.targets + 2) ^ l) all one few)
     where
       below : (s k w p : ℕ) → s ≤ k * p → 1 ≤ p → k ≤ w + 1 → s < p * (w + 2)
       below s k w p x y z =

@@ -1,5 +1,5 @@
 -- What nodes hold when an event was noted.
-use Rattle.std.proofs.Common.{◌≡◌, ◌≢◌, ℕ, ◌+◌, ◌-◌, ◌<◌, ◌≤◌, eqb, Bool, true, false, cond, IsTrue, Option, Some, None, List, [], ◌∷◌, ◌++◌, length, map, option_map, sym, refl, ap, ◌∙◌, subst, arith, lt_of_not-le}
+use Rattle.std.proofs.Common.{◌≡◌, ◌≢◌, ℕ, ◌+◌, ◌-◌, ◌<◌, cond, IsTrue, Option, Some, None, List, [], ◌∷◌, ◌++◌, length, map, sym, refl, ap, ◌∙◌, subst, arith, lt_of_not-le}
 use mathlib.Core.Logic.{dite}
 use native.Mathlib.Decide.{ℕ_discrete, dec_le}
 use Rattle.std.specs.List.{All, slice_get}
@@ -8,22 +8,20 @@ use Rattle.std.proofs.lemmas.List.{length-map}
 use Rattle.std.proofs.lemmas.Option.{slice_get_within, get_or_from_slice_get}
 use Rattle.tree_core.specs.declared.cause.Cause.{Cause}
 use Rattle.tree_core.specs.declared.choice.Choice.{Choice}
-use Rattle.tree_core.specs.declared.event.Event.{Event}
 use Rattle.tree_core.specs.declared.event.Deed.{Deed}
 use Rattle.tree_core.specs.declared.event.Deed.TheVariants.{Claim, Split, Finish, Cut, Release}
 use Rattle.tree_core.specs.declared.event.Kid.{Kid}
-use Rattle.tree_core.specs.declared.node.Node.{Node}
 use Rattle.tree_core.specs.declared.node.Status.{Status}
 use Rattle.tree_core.specs.declared.node.Status.TheVariants.{Free, Held, Parted, Leaf}
-use Rattle.tree_core.specs.Stories.{Story, status, content, left_by, content_by, born_as, last_on}
-use Rattle.tree_core.specs.Replays.{allows, is_allowed, births, kids_of, deed_kept, noted, node_of}
+use Rattle.tree_core.specs.Stories.{Story, status, content, left_by, content_by}
+use Rattle.tree_core.specs.Replays.{allows, is_allowed, kids_of, deed_kept, noted}
 use Rattle.tree_core.proofs.Places.{get_before, get_last}
-use Rattle.tree_core.proofs.Standing.{status-noted, content-noted, status-kid, content-kid, open_content}
-use Rattle.fork_spec.specs.Histories.{IsOwnSplit, IsSideOf, IsSplitInto}
+use Rattle.tree_core.proofs.Standing.{status-kid, content-kid}
+use Rattle.fork_spec.specs.Histories.{IsOwnSplit, IsSideOf}
 use Rattle.fork_spec.specs.Walks.{Line, Side}
-use Rattle.fork_spec.specs.Written.{lines_of, nodes_after, side_of_kid, written_now}
+use Rattle.fork_spec.specs.Written.{lines_of, nodes_after, side_of_kid}
 use Rattle.fork_tree.specs.Contents.{choices_in, cut_in}
-use Rattle.fork_tree.specs.Nodes.{AllHold, HasLeaf, HasState, HoldsFor, IsRightAt}
+use Rattle.fork_tree.specs.Nodes.{AllHold, HasLeaf, HoldsFor, IsRightAt}
 use Rattle.fork_tree.specs.Works.{Rules}
 use Rattle.fork_tree.specs.declared.content.Content.{Content}
 use Rattle.fork_tree.specs.declared.content.Content.TheVariants.{Open, Shut}
@@ -67,11 +65,11 @@ module _ {R : Type 0} (cut : R → Option Cause) where
   -- kids are sides of the split that is noted last
   own-now : (lines : List Line) (by node n i : ℕ) (kids : Vec (Kid R)) → i < length kids.items →
       IsOwnSplit (lines ++ line_now cut n (record { by = by; node = node; deed = Split kids }) ∷ [])
-          (n + i) (choices_in kids.items)
+      (n + i) (choices_in kids.items)
   own-now lines by node n i kids lt =
       let line : Line = line_now cut n (record { by = by; node = node; deed = Split kids }) in
       let as_many : length (choices_in kids.items) ≡ length kids.items =
-          length-map kids.items (λ (kid : Kid R). kid.choice) in
+      length-map kids.items (λ (kid : Kid R). kid.choice) in
       own_is (lines ++ line ∷ []) (n + i) (choices_in kids.items) (record {
         first = n;
         parted = record {
@@ -99,8 +97,8 @@ module _ {S L : Type 0} (rules : Rules S L) where
   abbrev pub DeedHolds : Deed (Content S L) (Vec (Kid (Content S L))) → Type 0
   DeedHolds (Split kids) =
       All (λ (kid : Kid (Content S L)). HoldsFor rules.IsWell
-          (rules.IsRight (choices_in kids.items)) (cond kid.is_leaf Leaf Free) (Some kid.content))
-          kids.items
+      (rules.IsRight (choices_in kids.items)) (cond kid.is_leaf Leaf Free) (Some kid.content))
+      kids.items
   DeedHolds (Finish c) = HasLeaf (rules.IsRight []) (Some c)
   DeedHolds (Cut c) = HasLeaf (rules.IsRight []) (Some c)
   DeedHolds _ = Unit {0}
@@ -112,7 +110,7 @@ module _ {S L : Type 0} (rules : Rules S L) where
       HasLeaf (IsRightAt rules lines m) c
   alone lines m c h =
       holds-map rules.IsWell (rules.IsRight []) (IsRightAt rules lines m)
-          (λ l right. record { sides = []; own = tt; right = right }) Leaf c h
+      (λ l right. record { sides = []; own = tt; right = right }) Leaf c h
 
   -- what the node holds when the deed is done
   holds_here : (lines : List Line) (m : ℕ) (st : Status) (by : ℕ)
@@ -120,7 +118,7 @@ module _ {S L : Type 0} (rules : Rules S L) where
       IsTrue (allows st by d) → HoldsFor rules.IsWell (IsRightAt rules lines m) st old →
       DeedHolds d →
       HoldsFor rules.IsWell (IsRightAt rules lines m) (left_by by (deed_kept d))
-          (content_by old (deed_kept d))
+      (content_by old (deed_kept d))
   holds_here lines m Free by Claim old may h new = h
   holds_here lines m (Held w) by Claim old may h new = cc
   holds_here lines m Parted by Claim old may h new = cc
@@ -138,21 +136,25 @@ module _ {S L : Type 0} (rules : Rules S L) where
       (d : Deed (Content S L) (Vec (Kid (Content S L)))) (kid : Kid (Content S L)) →
       DeedHolds d → slice_get (kids_of d) i ≡ Some kid →
       HoldsFor rules.IsWell (IsRightAt rules
-          (lines ++ line_now (cut_in rules.cut) n (record { by = by; node = node; deed = d }) ∷ [])
-          (n + i)) (cond kid.is_leaf Leaf Free) (Some kid.content)
+      (lines ++ line_now (cut_in rules.cut) n (record { by = by; node = node; deed = d }) ∷ [])
+      (n + i)) (cond kid.is_leaf Leaf Free) (Some kid.content)
   kid_holds lines by node n i Claim kid new at = cc
   kid_holds lines by node n i (Split kids) kid new at =
       let line : Line =
-          line_now (cut_in rules.cut) n (record { by = by; node = node; deed = Split kids }) in
+      line_now (cut_in rules.cut) n (record { by = by; node = node; deed = Split kids }) in
       let within : i < length kids.items = slice_get_within kids.items i kid at in
       holds-map rules.IsWell (rules.IsRight (choices_in kids.items))
-          (IsRightAt rules (lines ++ line ∷ []) (n + i))
-      (λ l right. record { sides = choices_in kids.items; own = own-now (cut_in rules.cut) lines by
-          node n i kids within; right = right })
-          (cond kid.is_leaf Leaf Free) (Some kid.content)
-          (all_get (λ (x : Kid (Content S L)). HoldsFor rules.IsWell
-              (rules.IsRight (choices_in kids.items)) (cond x.is_leaf Leaf Free) (Some x.content))
-              kids.items i kid new at)
+      (IsRightAt rules (lines ++ line ∷ []) (n + i))
+      (λ l right. record {
+        sides = choices_in kids.items;
+        own = own-now (cut_in rules.cut) lines by
+            node n i kids within;
+        right = right;
+      })
+      (cond kid.is_leaf Leaf Free) (Some kid.content)
+      (all_get (λ (x : Kid (Content S L)). HoldsFor rules.IsWell
+      (rules.IsRight (choices_in kids.items)) (cond x.is_leaf Leaf Free) (Some x.content))
+      kids.items i kid new at)
   kid_holds lines by node n i (Finish c) kid new at = cc
   kid_holds lines by node n i (Cut c) kid new at = cc
   kid_holds lines by node n i Release kid new at = cc
@@ -187,27 +189,27 @@ module _ {S L : Type 0} (rules : Rules S L) where
         HoldsAfter k
     by_parts k st c stands has holds =
         subst (λ (p : Status × Option (Content S L)). HoldsFor rules.IsWell
-            (IsRightAt rules lines_after k) p.0 p.1)
+        (IsRightAt rules lines_after k) p.0 p.1)
         (λ i. (sym stands i, sym has i)) holds
 
     old_holds : (k : ℕ) → k < length s.nodes →
         HoldsFor rules.IsWell (IsRightAt rules lines_after k) (status s k) (content s k)
     old_holds k lt =
         later lines_before (line_now (cut_in rules.cut) (length s.nodes) e) k (status s k) (content s k)
-            (all k lt)
+        (all k lt)
 
     named_holds : HoldsAfter e.node
     named_holds =
         by_parts e.node (left_by e.by (deed_kept e.deed))
-            (content_by (content s e.node) (deed_kept e.deed))
+        (content_by (content s e.node) (deed_kept e.deed))
         (status-here s e there) (content-here s e there may)
         (holds_here lines_after e.node (status s e.node) e.by e.deed (content s e.node) may
-            (old_holds e.node there) new)
+        (old_holds e.node there) new)
 
     other_holds : (k : ℕ) → k < length s.nodes → e.node ≢ k → HoldsAfter k
     other_holds k lt other =
         by_parts k (status s k) (content s k) (status-other s e k lt other)
-            (content-other s e k lt other) (old_holds k lt)
+        (content-other s e k lt other) (old_holds k lt)
 
     born_holds : (i : ℕ) → i < length (kids_of e.deed) → HoldsAfter (length s.nodes + i)
     born_holds i lt = let kid = get_some (kids_of e.deed) i lt in
@@ -218,7 +220,7 @@ module _ {S L : Type 0} (rules : Rules S L) where
     holds_after : (k : ℕ) → k < length (noted s e).nodes → HoldsAfter k
     holds_after k lt = dite (dec_le (length s.nodes) k)
         (λ le. let long : length (noted s e).nodes ≡ length s.nodes + length
-            (kids_of e.deed) = length-noted s e in
+        (kids_of e.deed) = length-noted s e in
         let at : length s.nodes + (k - length s.nodes) ≡ k = omega (arith, le) in
         subst HoldsAfter at (born_holds (k - length s.nodes) (omega (arith, le, lt, long))))
         (λ not_le. let low : k < length s.nodes = lt_of_not-le not_le in
@@ -227,4 +229,4 @@ module _ {S L : Type 0} (rules : Rules S L) where
     pub holds-noted : AllHold rules (noted s e)
     holds-noted k lt =
         subst (λ (lines : List Line). HoldsIn lines (noted s e) k)
-            (sym (lines-noted (cut_in rules.cut) s e counted)) (holds_after k lt)
+        (sym (lines-noted (cut_in rules.cut) s e counted)) (holds_after k lt)

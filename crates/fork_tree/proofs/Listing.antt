@@ -2,10 +2,9 @@
 use Rattle.std.proofs.Common.{◌≡◌, ◌≢◌, ℕ, ◌+◌, ◌-◌, ◌<◌, ◌≤◌, eqb, Bool, true, false, cond, IsTrue, List, [], ◌∷◌, ◌++◌, length, sym, refl, ap, ◌∙◌, arith, eq-eqb, ne_eqb}
 use mathlib.Core.Logic.{dite}
 use native.Mathlib.Decide.{ℕ_discrete, dec_le}
-use Rattle.std.specs.List.{All, slice_get}
+use Rattle.std.specs.List.{slice_get}
 use Rattle.std.specs.Global.{Vec}
 use Rattle.std.proofs.lemmas.List.Sums.{sum_by-append}
-use Rattle.tree_core.specs.declared.event.Event.{Event}
 use Rattle.tree_core.specs.declared.event.Deed.{Deed}
 use Rattle.tree_core.specs.declared.event.Deed.TheVariants.{Claim, Release}
 use Rattle.tree_core.specs.declared.event.Kid.{Kid}
@@ -35,15 +34,15 @@ module _ {R : Type 0} where
       times_listed k rest ≡ one_if (stands_free (noted s e) k)
   listed-claim s e free rest named there claims is listed k = let m : ℕ = e.node in
       let all : times_listed k rest + one_if (eqb m k) ≡ one_if (stands_free s k) =
-          sym (listed-push k m rest) ∙ (ap (times_listed k) (sym is) ∙ listed k) in
+      sym (listed-push k m rest) ∙ (ap (times_listed k) (sym is) ∙ listed k) in
       dite (ℕ_discrete k m)
       (λ same. let yes : one_if (eqb m k) ≡ 1 = ap one_if (eq-eqb m k (sym same)) in
       let most : one_if (stands_free s k) ≤ 1 = one_most (stands_free s k) in
       let none : times_listed k rest ≡ 0 = omega arith in
       let held : stands_free (noted s e) k ≡ false =
-          ap (stands_free (noted s e)) same
-              ∙ (free-here s e there ∙ ap
-              (λ (d : Deed R (Vec (Kid R))). is_free (left_by e.by (deed_kept d))) claims) in
+      ap (stands_free (noted s e)) same
+      ∙ (free-here s e there ∙ ap
+      (λ (d : Deed R (Vec (Kid R))). is_free (left_by e.by (deed_kept d))) claims) in
       none ∙ sym (ap one_if held))
       (λ ne. let no : one_if (eqb m k) ≡ 0 = ap one_if (ne_eqb m k (λ x. ne (sym x))) in
       let a : times_listed k rest ≡ one_if (stands_free s k) = omega arith in
@@ -58,9 +57,9 @@ module _ {R : Type 0} where
   listed-end s e free named there none was ends listed k =
       listed k ∙ ap one_if (dite (ℕ_discrete k e.node)
       (λ same. let before : stands_free s k ≡ false = ap (stands_free s) same
-          ∙ (free-is s e.node there ∙ was) in
+      ∙ (free-is s e.node there ∙ was) in
       let after : stands_free (noted s e) k ≡ false = ap (stands_free (noted s e)) same
-          ∙ (free-here s e there ∙ ends) in before ∙ sym after)
+      ∙ (free-here s e there ∙ ends) in before ∙ sym after)
       (λ ne. sym (free-same s e k named there none ne)))
 
   -- a release puts its node behind the others
@@ -71,11 +70,11 @@ module _ {R : Type 0} where
   listed-release s e free named there gives was listed k =
       let m : ℕ = e.node in listed-push k m free ∙ dite (ℕ_discrete k m)
       (λ same. let before : stands_free s k ≡ false = ap (stands_free s) same
-          ∙ (free-is s m there ∙ was) in
+      ∙ (free-is s m there ∙ was) in
       let after : stands_free (noted s e) k ≡ true =
-          ap (stands_free (noted s e)) same
-              ∙ (free-here s e there ∙ ap
-              (λ (d : Deed R (Vec (Kid R))). is_free (left_by e.by (deed_kept d))) gives) in
+      ap (stands_free (noted s e)) same
+      ∙ (free-here s e there ∙ ap
+      (λ (d : Deed R (Vec (Kid R))). is_free (left_by e.by (deed_kept d))) gives) in
       let none : times_listed k free ≡ 0 = listed k ∙ ap one_if before in
       let yes : one_if (eqb m k) ≡ 1 = ap one_if (eq-eqb m k (sym same)) in
       let a : times_listed k free + one_if (eqb m k) ≡ 1 = omega arith in
@@ -90,7 +89,7 @@ module _ {R : Type 0} where
       is_free (status s e.node) ≡ false →
       ((k : ℕ) → times_listed k free ≡ one_if (stands_free s k)) → (k : ℕ) →
       times_listed k (free ++ born_free (length s.nodes) (kids_of e.deed)) ≡ one_if
-          (stands_free (noted s e) k)
+      (stands_free (noted s e) k)
   listed-split s e free named there parts was listed k =
       let n : ℕ = length s.nodes in
       let m : ℕ = e.node in
@@ -99,22 +98,22 @@ module _ {R : Type 0} where
       (λ le. let i : ℕ = k - n in let split : n + i ≡ k = omega arith in
       let none : times_listed k free ≡ 0 = listed k ∙ ap one_if (free-none s k le) in
       let born : times_listed k (born_free n kids) ≡ one_if (kid_free (slice_get kids i)) =
-          ap (λ j. times_listed j (born_free n kids)) (sym split) ∙ born-listed kids n i in
+      ap (λ j. times_listed j (born_free n kids)) (sym split) ∙ born-listed kids n i in
       let now : stands_free (noted s e) k ≡ kid_free (slice_get kids i) =
-          ap (stands_free (noted s e)) (sym split) ∙ free-behind s e i named there in
+      ap (stands_free (noted s e)) (sym split) ∙ free-behind s e i named there in
       let a : times_listed k free + times_listed k (born_free n kids) ≡ times_listed k
-          (born_free n kids) =
-          omega arith in
+      (born_free n kids) =
+      omega arith in
       a ∙ (born ∙ sym (ap one_if now)))
       (λ no. let low : k < n = Rattle.std.proofs.Common.lt_of_not-le no in
       let nothing : times_listed k (born_free n kids) ≡ 0 = born-low kids n k low in
       let a : times_listed k free + times_listed k (born_free n kids) ≡ times_listed k free =
-          omega arith in
+      omega arith in
       a ∙ (listed k ∙ ap one_if (dite (ℕ_discrete k m)
       (λ same. let before : stands_free s k ≡ false = ap (stands_free s) same
-          ∙ (free-is s m there ∙ was) in
+      ∙ (free-is s m there ∙ was) in
       let after : stands_free (noted s e) k ≡ false = ap (stands_free (noted s e)) same
-          ∙ (free-here s e there ∙ parts) in before ∙ sym after)
+      ∙ (free-here s e there ∙ parts) in before ∙ sym after)
       (λ ne. sym (free-old s e k low ne)))))
 
   pub allowed-claim : (s : Story R) (e : Coming R) → e.deed ≡ Claim → status s e.node ≡ Free →
@@ -127,7 +126,7 @@ module _ {R : Type 0} where
       1 ≤ held_count s
   some-held s m by lt is =
       at_least (one_if (is_held (status s m))) (held_count s)
-          (ap (λ (x : Status). one_if (is_held x)) is)
+      (ap (λ (x : Status). one_if (is_held x)) is)
       (count_at (λ k. is_held (status s k)) (length s.nodes) m lt)
     where
       at_least : (a b : ℕ) → a ≡ 1 → a ≤ b → 1 ≤ b
@@ -148,8 +147,8 @@ module _ {R : Type 0} where
       ((k : ℕ) → times_listed k free ≡ one_if (stands_free s k)) → stands_free s m ≡ true
   listed-free s free rest m is listed =
       one_some (times_listed m rest) (stands_free s m)
-          (ap (λ n. times_listed m rest + n) (sym (ap one_if (eq-eqb m m refl)))
-          ∙ (sym (listed-push m m rest) ∙ (sym (ap (times_listed m) is) ∙ listed m)))
+      (ap (λ n. times_listed m rest + n) (sym (ap one_if (eq-eqb m m refl)))
+      ∙ (sym (listed-push m m rest) ∙ (sym (ap (times_listed m) is) ∙ listed m)))
 
 is_free-true : (st : Status) → is_free st ≡ true → st ≡ Free
 is_free-true Free is = refl

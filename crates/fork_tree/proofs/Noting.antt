@@ -1,18 +1,15 @@
 -- What a tree keeps when an event was noted.
-use Rattle.std.proofs.Common.{◌≡◌, ℕ, zero, suc, ◌+◌, ◌^◌, ◌<◌, ◌≤◌, Bool, true, false, cond, IsTrue, Option, Some, None, List, [], ◌∷◌, ◌++◌, length, sym, refl, ap, ◌∙◌, subst, arith, ne_eqb, length-append}
-use Rattle.std.specs.List.{All}
+use Rattle.std.proofs.Common.{◌≡◌, ℕ, zero, suc, ◌+◌, ◌^◌, ◌<◌, ◌≤◌, true, false, IsTrue, Option, Some, None, List, [], ◌∷◌, ◌++◌, length, sym, refl, ap, ◌∙◌, subst, arith, ne_eqb, length-append}
 use Rattle.std.specs.Global.{Vec}
-use Rattle.std.specs.Arc.{arc_value}
-use Rattle.std.proofs.lemmas.List.{append-nil, length-map}
+use Rattle.std.proofs.lemmas.List.{append-nil}
 use Rattle.tree_core.specs.declared.cause.Cause.{Cause}
 use Rattle.tree_core.specs.declared.cause.Cause.TheVariants.{Steps}
-use Rattle.tree_core.specs.declared.event.Event.{Event}
 use Rattle.tree_core.specs.declared.event.Kid.{Kid}
 use Rattle.tree_core.specs.declared.node.Status.{Status}
-use Rattle.tree_core.specs.declared.node.Status.TheVariants.{Free, Held, Leaf}
-use Rattle.tree_core.specs.Stories.{Story, status, content, left_by}
-use Rattle.tree_core.specs.Covers.{covered, one_if}
-use Rattle.tree_core.specs.Replays.{IsFit, allows, births, deed_kept, is_allowed, is_free, is_held_by, kids_of, node_of, noted, opening}
+use Rattle.tree_core.specs.declared.node.Status.TheVariants.{Held}
+use Rattle.tree_core.specs.Stories.{Story, status, content}
+use Rattle.tree_core.specs.Covers.{one_if}
+use Rattle.tree_core.specs.Replays.{allows, is_allowed, is_held_by, kids_of, noted, opening}
 use Rattle.tree_core.specs.Cores.{ends, held_count, takes}
 use Rattle.tree_core.proofs.Sharing.{held_count-noted}
 use Rattle.fork_spec.specs.Partings.{IsUnder, KeepsApart, Place}
@@ -29,7 +26,7 @@ use Rattle.fork_spec.proofs.Walked.{walked-noted, walked-opening}
 use Rattle.fork_tree.proofs.Standings.{AreThere, Coming, length-noted}
 use Rattle.fork_tree.proofs.Free.{free-none, listed-push}
 use Rattle.fork_tree.proofs.Holding.{DeedHolds, holds-noted}
-use Rattle.fork_tree.proofs.Listing.{allowed-claim, free-status, free-within, held-allows, listed-claim, listed-end, listed-free, listed-release, listed-split, not_free, some-held}
+use Rattle.fork_tree.proofs.Listing.{allowed-claim, free-status, free-within, held-allows, listed-claim, listed-end, listed-free, listed-release, listed-split, not_free}
 
 module _ {S L : Type 0} where
   -- there is something where there is a state
@@ -71,20 +68,20 @@ module _ {S L : Type 0} (rules : Rules S L) (state_place : S → Place) (leaf_pl
   abbrev pub IsTended : Story (Content S L) → List ℕ → ℕ → Type 0
   IsTended s free room =
       FollowsRules rules state_place leaf_place s × IsListOfFree s free ×
-          (length free + held_count s ≤ room)
+      (length free + held_count s ≤ room)
 
   -- a free node has a state, which is well
   pub free-state : (s : Story (Content S L)) (m : ℕ) → FollowsRules rules state_place leaf_place s →
       stands_free s m ≡ true → HasState rules.IsWell (content s m)
   free-state s m follows free =
       subst (λ (st : Status). HoldsFor rules.IsWell (IsLeafRight rules s m) st (content s m))
-          (free-status s m free) (follows.holds m (free-within s m free))
+      (free-status s m free) (follows.holds m (free-within s m free))
 
   held-state : (s : Story (Content S L)) (m by : ℕ) → FollowsRules rules state_place leaf_place s →
       m < length s.nodes → status s m ≡ Held by → HasState rules.IsWell (content s m)
   held-state s m by follows there held =
       subst (λ (st : Status). HoldsFor rules.IsWell (IsLeafRight rules s m) st (content s m)) held
-          (follows.holds m there)
+      (follows.holds m there)
 
   -- a claim takes its node from the list
   pub tended-claim : (s t : Story (Content S L)) (by m : ℕ) (free rest : List ℕ) (room : ℕ) →
@@ -160,11 +157,11 @@ module _ {S L : Type 0} (rules : Rules S L) (state_place : S → Place) (leaf_pl
   tended-finish s t by node leaf free room tended is named fit =
       let e : Coming (Content S L) = finish_event by node leaf in
       tended-end s t e fit.old free free room tended is named fit.there fit.is_old fit.held
-          (λ st by. refl) refl refl
-          (fit.same_choices, fit.cause) (leaf-under None s by node leaf fit) fit.right
-              (no_more (length s.nodes) tended.0.few)
-          (listed-end s e free named fit.there refl (not_free (status s node) by fit.held) refl
-              tended.1) (one_less (length free) (held_count s) room tended.2)
+      (λ st by. refl) refl refl
+      (fit.same_choices, fit.cause) (leaf-under None s by node leaf fit) fit.right
+      (no_more (length s.nodes) tended.0.few)
+      (listed-end s e free named fit.there refl (not_free (status s node) by fit.held) refl
+      tended.1) (one_less (length free) (held_count s) room tended.2)
 
   pub tended-cut : (s t : Story (Content S L)) (by node : ℕ) (leaf : L) (free : List ℕ) (room : ℕ) →
       IsTended s free room → t ≡ noted s (cut_event by node leaf) → AreThere s →
@@ -172,11 +169,11 @@ module _ {S L : Type 0} (rules : Rules S L) (state_place : S → Place) (leaf_pl
   tended-cut s t by node leaf free room tended is named fit =
       let e : Coming (Content S L) = cut_event by node leaf in
       tended-end s t e fit.old free free room tended is named fit.there fit.is_old fit.held
-          (λ st by. refl) refl refl
-          (fit.same_choices, fit.cause) (leaf-under (Some Steps) s by node leaf fit) fit.right
-              (no_more (length s.nodes) tended.0.few)
-          (listed-end s e free named fit.there refl (not_free (status s node) by fit.held) refl
-              tended.1) (one_less (length free) (held_count s) room tended.2)
+      (λ st by. refl) refl refl
+      (fit.same_choices, fit.cause) (leaf-under (Some Steps) s by node leaf fit) fit.right
+      (no_more (length s.nodes) tended.0.few)
+      (listed-end s e free named fit.there refl (not_free (status s node) by fit.held) refl
+      tended.1) (one_less (length free) (held_count s) room tended.2)
 
   -- a release puts its node behind the others
   pub tended-release : (s t : Story (Content S L)) (by node : ℕ) (free : List ℕ) (room : ℕ) →
@@ -185,12 +182,12 @@ module _ {S L : Type 0} (rules : Rules S L) (state_place : S → Place) (leaf_pl
   tended-release s t by node free room tended is named there held =
       let e : Coming (Content S L) = release_event by node in
       let old =
-          some_content rules.IsWell (content s node) (held-state s node by tended.0 there held) in
+      some_content rules.IsWell (content s node) (held-state s node by tended.0 there held) in
       tended-end s t e old.0 free (free ++ node ∷ []) room tended is named there old.1 held
-          (λ st by. refl) refl refl tt tt tt (no_more (length s.nodes) tended.0.few)
-          (listed-release s e free named there refl (not_free (status s node) by held) tended.1)
-          (one_more (length (free ++ node ∷ [])) (length free) (held_count s) room
-              (length-append free (node ∷ [])) tended.2)
+      (λ st by. refl) refl refl tt tt tt (no_more (length s.nodes) tended.0.few)
+      (listed-release s e free named there refl (not_free (status s node) by held) tended.1)
+      (one_more (length (free ++ node ∷ [])) (length free) (held_count s) room
+      (length-append free (node ∷ [])) tended.2)
     where
       one_more : (m f h room : ℕ) → m ≡ f + 1 → f + h ≤ room → m + h ≤ room + 1
       one_more m f h room x y = omega arith
@@ -206,11 +203,11 @@ module _ {S L : Type 0} (rules : Rules S L) (state_place : S → Place) (leaf_pl
   tended-split s t by node kids free more room tended is named fit few are fits =
       let e : Coming (Content S L) = split_event by node kids in
       tended-end s t e fit.old free more room tended is named fit.there fit.is_old fit.held
-          (λ st by. refl) refl refl
-          fit.in_form fit.apart fit.parts few
-          (subst (IsListOfFree (noted s e)) (sym are)
-              (listed-split s e free named fit.there refl (not_free (status s node) by fit.held)
-              tended.1)) fits
+      (λ st by. refl) refl refl
+      fit.in_form fit.apart fit.parts few
+      (subst (IsListOfFree (noted s e)) (sym are)
+      (listed-split s e free named fit.there refl (not_free (status s node) by fit.held)
+      tended.1)) fits
 
   -- a tree of one node, which is free
   follows-opening : (c : Content S L) → HasState rules.IsWell (Some c) →
@@ -233,10 +230,10 @@ module _ {S L : Type 0} (rules : Rules S L) (state_place : S → Place) (leaf_pl
       choices_at state_place leaf_place c ≡ [] → IsTended s free room
   tended-opening c s free room is lists fits well none =
       subst (λ (p : Story (Content S L) × List ℕ). IsTended p.0 p.1 room)
-          (λ i. (sym is i, sym lists i)) (follows-opening c well none, root_listed, fits)
+      (λ i. (sym is i, sym lists i)) (follows-opening c well none, root_listed, fits)
     where
       root_listed : IsListOfFree (opening c false) (0 ∷ [])
       root_listed zero = refl
       root_listed (suc m) =
           listed-push (suc m) 0 [] ∙ ap (λ b. 0 + one_if b) (ne_eqb 0 (suc m) (λ is. omega arith))
-              ∙ sym (ap one_if (free-none (opening c false) (suc m) (omega arith)))
+          ∙ sym (ap one_if (free-none (opening c false) (suc m) (omega arith)))

@@ -1,12 +1,11 @@
 -- How the nodes of a story stand when an event was noted.
-use Rattle.std.proofs.Common.{◌≡◌, ◌≢◌, ℕ, ◌+◌, ◌<◌, eqb, Bool, true, false, cond, IsTrue, Option, List, length, option_map, sym, refl, ap, ◌∙◌, eq-eqb, ne_eqb, length-append}
+use Rattle.std.proofs.Common.{◌≡◌, ◌≢◌, ℕ, ◌+◌, ◌<◌, cond, IsTrue, Option, length, option_map, sym, refl, ap, ◌∙◌, eq-eqb, ne_eqb, length-append}
 use Rattle.std.specs.List.{All, slice_get}
 use Rattle.std.specs.Global.{Vec}
 use Rattle.std.proofs.lemmas.List.{length-map}
 use Rattle.tree_core.specs.declared.event.Event.{Event}
 use Rattle.tree_core.specs.declared.event.Kid.{Kid}
 use Rattle.tree_core.specs.declared.node.Node.{Node}
-use Rattle.tree_core.specs.declared.node.Status.{Status}
 use Rattle.tree_core.specs.Stories.{Story, born_as, content, content_by, last_on, left_by, status}
 use Rattle.tree_core.specs.Replays.{births, deed_kept, is_allowed, kids_of, node_of, noted}
 use Rattle.tree_core.proofs.Standing.{content-noted, open_content, status-noted}
@@ -36,7 +35,7 @@ module _ {R : Type 0} (s : Story R) (e : Coming R) where
   content-other k lt other =
       content-noted s e k lt
       ∙ ap (λ b. cond b (content_by (option_map (λ (n : Node R). n.content) (slice_get s.nodes k))
-          (deed_kept e.deed)) (content s k)) (ne_eqb e.node k other)
+      (deed_kept e.deed)) (content s k)) (ne_eqb e.node k other)
 
   -- the node that it names
   pub status-here : e.node < length s.nodes →
@@ -44,7 +43,7 @@ module _ {R : Type 0} (s : Story R) (e : Coming R) where
   status-here there =
       status-noted s e e.node there
       ∙ ap (λ b. cond b (left_by e.by (deed_kept e.deed)) (status s e.node))
-          (eq-eqb e.node e.node refl)
+      (eq-eqb e.node e.node refl)
 
   -- and which holds what it was born with, where the event may come
   pub content-here : e.node < length s.nodes → IsTrue (is_allowed s e) →
@@ -52,9 +51,9 @@ module _ {R : Type 0} (s : Story R) (e : Coming R) where
   content-here there may =
       let first : Option R = option_map (λ (n : Node R). n.content) (slice_get s.nodes e.node) in
       let unended : content s e.node ≡ first =
-          open_content first (born_as (slice_get s.nodes e.node)) (last_on e.node s.events) e.by
-          e.deed may in
+      open_content first (born_as (slice_get s.nodes e.node)) (last_on e.node s.events) e.by
+      e.deed may in
       content-noted s e e.node there
       ∙ ap (λ b. cond b (content_by first (deed_kept e.deed)) (content s e.node))
-          (eq-eqb e.node e.node refl)
+      (eq-eqb e.node e.node refl)
       ∙ ap (λ o. content_by o (deed_kept e.deed)) (sym unended)

@@ -72,7 +72,7 @@ module _ {S L : Type 0} where
     pub is_old : content s node ≡ Some old
     pub shared : (input : List ℕ) →
         count_by (λ (kid : Kid (Content S L)). covers_at state_place leaf_place kid.content input)
-            kids.items
+        kids.items
         ≡ one_if (covers_at state_place leaf_place old input)
     pub in_form : IsInForm (choices_at state_place leaf_place) (cut_in rules.cut) rules.targets old
         (Split kids)

@@ -50,12 +50,12 @@ impl Work for Climber {
     type Leaf = End;
 
     ghost rules = { λ w. record {
-        left = λ r. if r.just then 0 else w.top + 1 - r.from;
-        targets = 2;
-        decides = λ input. replicate (length input) (Side true) ++ Side false ∷ [];
-        IsWell = λ r. r.from ≤ w.top;
-        IsRight = λ sides e. e.cut ≡ Some Conflicts → sides ≡ No ∷ Yes ∷ [];
-        cut = λ e. e.cut
+      left = λ r. if r.just then 0 else w.top + 1 - r.from;
+      targets = 2;
+      decides = λ input. replicate (length input) (Side true) ++ Side false ∷ [];
+      IsWell = λ r. r.from ≤ w.top;
+      IsRight = λ sides e. e.cut ≡ Some Conflicts → sides ≡ No ∷ Yes ∷ [];
+      cut = λ e. e.cut;
     } };
 
     fn work(&self, alloc: Global, state: &Rung) -> Result<Parts<Rung, End>, NoMemory> {
@@ -134,7 +134,11 @@ fn drains(rt: HostRuntime) -> Result<(), Fail> {
     assert_eq!(rt; tree.events().len(), 12);
     assert_eq!(rt; tree.worker().top, 3);
     // The first side of the second rung is node 3, the rung at the top node 6.
-    for (node, want) in [(1, None), (3, Some(Cause::Conflicts)), (6, Some(Cause::Steps))] {
+    for (node, want) in [
+        (1, None),
+        (3, Some(Cause::Conflicts)),
+        (6, Some(Cause::Steps)),
+    ] {
         assert!(rt; node < tree.len() && tree.status(node) == Status::Leaf);
         assert_eq!(rt; tree.leaf(node).cut, want);
     }

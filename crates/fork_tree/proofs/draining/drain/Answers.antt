@@ -23,19 +23,19 @@ loop-preserved g c = record {
 pub returns-in_err-work_next-clause-grows : goal.returns-in_err-work_next-clause-grows
 returns-in_err-work_next-clause-grows g c =
     grows-both c.args.by c.args.tree.now.story c.loop.tree.story c.work_next.new.tree.story
-        c.loop.invariant.grows c.work_next.ensures.grows
+    c.loop.invariant.grows c.work_next.ensures.grows
 
 pub returns-clause-grows : goal.returns-clause-grows
 returns-clause-grows g c =
     grows-both c.args.by c.args.tree.now.story c.loop.tree.story c.work_next.new.tree.story
-        c.loop.invariant.grows c.work_next.ensures.grows
+    c.loop.invariant.grows c.work_next.ensures.grows
 
 pub returns-clause-drained : goal.returns-clause-drained
 returns-clause-drained g c =
     let w = c.work_next.new.tree.worker in let s = c.work_next.new.tree.story in
     let quiet : IsQuiet s =
-        c.work_next.ensures.quiet (c.in_ok-work_next.was ∙ ap Ok c.if-branch.false) in
+    c.work_next.ensures.quiet (c.in_ok-work_next.was ∙ ap Ok c.if-branch.false) in
     subst (λ (x : g.row.W.Denot). IsDrained (g.W.Work.rules x) g.W.State.Placed.place
-        g.W.Leaf.Placed.place s) (c.work_next.ensures.worker ∙ c.loop.invariant.worker)
+    g.W.Leaf.Placed.place s) (c.work_next.ensures.worker ∙ c.loop.invariant.worker)
     (drained (g.W.Work.rules w) g.W.State.Placed.place g.W.Leaf.Placed.place s quiet
-        c.is_whole.ensures.partition c.is_whole.ensures.follows)
+    c.is_whole.ensures.partition c.is_whole.ensures.follows)

@@ -20,7 +20,7 @@ returns-in_err-reserve-clause-grows g c =
 pub returns-in_err-node-clause-grows : goal.returns-in_err-node-clause-grows
 returns-in_err-node-clause-grows g c =
     grows-none c.args.by c.args.tree.now.story c.claim.new.self.story
-        (c.in_err-node.ensures.err ∙ c.reserve.ensures.story)
+    (c.in_err-node.ensures.err ∙ c.reserve.ensures.story)
 
 pub enter-requires-clause-held : goal.enter-requires-clause-held
 enter-requires-clause-held g c =
@@ -28,10 +28,10 @@ enter-requires-clause-held g c =
     let t = c.claim.new.self.story in
     let m = c.in-Claimed.node in
     let claim : IsClaim (g.W.Work.rules c.reserve.new.self.worker).IsWell s c.args.by
-        (Claimed m c.in-Claimed.state) t =
-        subst (λ (x : Claim g.row.W-State.Denot). IsClaim
-            (g.W.Work.rules c.reserve.new.self.worker).IsWell s c.args.by x t) c.in-Claimed.is
-            c.in_ok-node.ensures.ok in
+    (Claimed m c.in-Claimed.state) t =
+    subst (λ (x : Claim g.row.W-State.Denot). IsClaim
+    (g.W.Work.rules c.reserve.new.self.worker).IsWell s c.args.by x t) c.in-Claimed.is
+    c.in_ok-node.ensures.ok in
     claimed-status s t c.args.by m claim.4 claim.0
 
 pub enter-requires-clause-state : goal.enter-requires-clause-state
@@ -40,12 +40,12 @@ enter-requires-clause-state g c =
     let t = c.claim.new.self.story in
     let m = c.in-Claimed.node in
     let claim : IsClaim (g.W.Work.rules c.reserve.new.self.worker).IsWell s c.args.by
-        (Claimed m c.in-Claimed.state) t =
-        subst (λ (x : Claim g.row.W-State.Denot). IsClaim
-            (g.W.Work.rules c.reserve.new.self.worker).IsWell s c.args.by x t) c.in-Claimed.is
-            c.in_ok-node.ensures.ok in
+    (Claimed m c.in-Claimed.state) t =
+    subst (λ (x : Claim g.row.W-State.Denot). IsClaim
+    (g.W.Work.rules c.reserve.new.self.worker).IsWell s c.args.by x t) c.in-Claimed.is
+    c.in_ok-node.ensures.ok in
     claimed-state s t c.args.by m c.deref.result.now claim.4 claim.0 claim.1
-        (subst (StateIs (content s m)) (sym c.deref.ensures) claim.2)
+    (subst (StateIs (content s m)) (sym c.deref.ensures) claim.2)
 
 pub returns-in_err-enter-in-Claimed-clause-none_held : goal.returns-in_err-enter-in-Claimed-clause-none_held
 returns-in_err-enter-in-Claimed-clause-none_held g c =
@@ -53,16 +53,16 @@ returns-in_err-enter-in-Claimed-clause-none_held g c =
     let t = c.claim.new.self.story in
     let m = c.in-Claimed.node in
     let claim : IsClaim (g.W.Work.rules c.reserve.new.self.worker).IsWell s c.args.by
-        (Claimed m c.in-Claimed.state) t =
-        subst (λ (x : Claim g.row.W-State.Denot). IsClaim
-            (g.W.Work.rules c.reserve.new.self.worker).IsWell s c.args.by x t) c.in-Claimed.is
-            c.in_ok-node.ensures.ok in
+    (Claimed m c.in-Claimed.state) t =
+    subst (λ (x : Claim g.row.W-State.Denot). IsClaim
+    (g.W.Work.rules c.reserve.new.self.worker).IsWell s c.args.by x t) c.in-Claimed.is
+    c.in_ok-node.ensures.ok in
     let more : held_count t ≡ held_count s + 1 =
-        held-more s t (claim_event c.args.by m) claim.4 c.is_whole.ensures.named claim.0 claim.1
-            refl refl refl in
+    held-more s t (claim_event c.args.by m) claim.4 c.is_whole.ensures.named claim.0 claim.1
+    refl refl refl in
     no_more (held_count c.enter.new.tree.story) (held_count t) (held_count s)
-        (held_count c.args.tree.now.story) c.enter.ensures.held more
-        (ap held_count c.reserve.ensures.story) c.requires.none_held
+    (held_count c.args.tree.now.story) c.enter.ensures.held more
+    (ap held_count c.reserve.ensures.story) c.requires.none_held
 
 pub returns-in_err-enter-in-Claimed-clause-grows : goal.returns-in_err-enter-in-Claimed-clause-grows
 returns-in_err-enter-in-Claimed-clause-grows g c =
@@ -70,14 +70,14 @@ returns-in_err-enter-in-Claimed-clause-grows g c =
     let t = c.claim.new.self.story in
     let m = c.in-Claimed.node in
     let claim : IsClaim (g.W.Work.rules c.reserve.new.self.worker).IsWell s c.args.by
-        (Claimed m c.in-Claimed.state) t =
-        subst (λ (x : Claim g.row.W-State.Denot). IsClaim
-            (g.W.Work.rules c.reserve.new.self.worker).IsWell s c.args.by x t) c.in-Claimed.is
-            c.in_ok-node.ensures.ok in
+    (Claimed m c.in-Claimed.state) t =
+    subst (λ (x : Claim g.row.W-State.Denot). IsClaim
+    (g.W.Work.rules c.reserve.new.self.worker).IsWell s c.args.by x t) c.in-Claimed.is
+    c.in_ok-node.ensures.ok in
     grows-both c.args.by c.args.tree.now.story t c.enter.new.tree.story
-        (grows-both c.args.by c.args.tree.now.story s t
-        (grows-none c.args.by c.args.tree.now.story s c.reserve.ensures.story)
-        (grows-one c.args.by s t (claim_event c.args.by m) claim.4 refl)) c.enter.ensures.grows
+    (grows-both c.args.by c.args.tree.now.story s t
+    (grows-none c.args.by c.args.tree.now.story s c.reserve.ensures.story)
+    (grows-one c.args.by s t (claim_event c.args.by m) claim.4 refl)) c.enter.ensures.grows
 
 pub returns-in_ok-enter-in-Claimed-clause-none_held : goal.returns-in_ok-enter-in-Claimed-clause-none_held
 returns-in_ok-enter-in-Claimed-clause-none_held g c =
@@ -85,16 +85,16 @@ returns-in_ok-enter-in-Claimed-clause-none_held g c =
     let t = c.claim.new.self.story in
     let m = c.in-Claimed.node in
     let claim : IsClaim (g.W.Work.rules c.reserve.new.self.worker).IsWell s c.args.by
-        (Claimed m c.in-Claimed.state) t =
-        subst (λ (x : Claim g.row.W-State.Denot). IsClaim
-            (g.W.Work.rules c.reserve.new.self.worker).IsWell s c.args.by x t) c.in-Claimed.is
-            c.in_ok-node.ensures.ok in
+    (Claimed m c.in-Claimed.state) t =
+    subst (λ (x : Claim g.row.W-State.Denot). IsClaim
+    (g.W.Work.rules c.reserve.new.self.worker).IsWell s c.args.by x t) c.in-Claimed.is
+    c.in_ok-node.ensures.ok in
     let more : held_count t ≡ held_count s + 1 =
-        held-more s t (claim_event c.args.by m) claim.4 c.is_whole.ensures.named claim.0 claim.1
-            refl refl refl in
+    held-more s t (claim_event c.args.by m) claim.4 c.is_whole.ensures.named claim.0 claim.1
+    refl refl refl in
     no_more (held_count c.enter.new.tree.story) (held_count t) (held_count s)
-        (held_count c.args.tree.now.story) c.enter.ensures.held more
-        (ap held_count c.reserve.ensures.story) c.requires.none_held
+    (held_count c.args.tree.now.story) c.enter.ensures.held more
+    (ap held_count c.reserve.ensures.story) c.requires.none_held
 
 pub returns-in_ok-enter-in-Claimed-clause-grows : goal.returns-in_ok-enter-in-Claimed-clause-grows
 returns-in_ok-enter-in-Claimed-clause-grows g c =
@@ -102,14 +102,14 @@ returns-in_ok-enter-in-Claimed-clause-grows g c =
     let t = c.claim.new.self.story in
     let m = c.in-Claimed.node in
     let claim : IsClaim (g.W.Work.rules c.reserve.new.self.worker).IsWell s c.args.by
-        (Claimed m c.in-Claimed.state) t =
-        subst (λ (x : Claim g.row.W-State.Denot). IsClaim
-            (g.W.Work.rules c.reserve.new.self.worker).IsWell s c.args.by x t) c.in-Claimed.is
-            c.in_ok-node.ensures.ok in
+    (Claimed m c.in-Claimed.state) t =
+    subst (λ (x : Claim g.row.W-State.Denot). IsClaim
+    (g.W.Work.rules c.reserve.new.self.worker).IsWell s c.args.by x t) c.in-Claimed.is
+    c.in_ok-node.ensures.ok in
     grows-both c.args.by c.args.tree.now.story t c.enter.new.tree.story
-        (grows-both c.args.by c.args.tree.now.story s t
-        (grows-none c.args.by c.args.tree.now.story s c.reserve.ensures.story)
-        (grows-one c.args.by s t (claim_event c.args.by m) claim.4 refl)) c.enter.ensures.grows
+    (grows-both c.args.by c.args.tree.now.story s t
+    (grows-none c.args.by c.args.tree.now.story s c.reserve.ensures.story)
+    (grows-one c.args.by s t (claim_event c.args.by m) claim.4 refl)) c.enter.ensures.grows
 
 pub returns-in_ok-enter-in-Claimed-clause-less : goal.returns-in_ok-enter-in-Claimed-clause-less
 returns-in_ok-enter-in-Claimed-clause-less g c = λ is.
@@ -117,30 +117,30 @@ returns-in_ok-enter-in-Claimed-clause-less g c = λ is.
     let t = c.claim.new.self.story in
     let m = c.in-Claimed.node in
     let claim : IsClaim (g.W.Work.rules c.reserve.new.self.worker).IsWell s c.args.by
-        (Claimed m c.in-Claimed.state) t =
-        subst (λ (x : Claim g.row.W-State.Denot). IsClaim
-            (g.W.Work.rules c.reserve.new.self.worker).IsWell s c.args.by x t) c.in-Claimed.is
-            c.in_ok-node.ensures.ok in
+    (Claimed m c.in-Claimed.state) t =
+    subst (λ (x : Claim g.row.W-State.Denot). IsClaim
+    (g.W.Work.rules c.reserve.new.self.worker).IsWell s c.args.by x t) c.in-Claimed.is
+    c.in_ok-node.ensures.ok in
     let x = c.deref.result.now in
     let u = c.enter.new.tree.story in
     let w0 = c.args.tree.now.worker in
     let state : StateIs (content s m) x =
-        subst (StateIs (content s m)) (sym c.deref.ensures) claim.2 in
+    subst (StateIs (content s m)) (sym c.deref.ensures) claim.2 in
     let less : fuel (g.W.Work.rules w0) u < fuel (g.W.Work.rules w0) t +
-        ((g.W.Work.rules w0).targets + 2) ^ (g.W.Work.rules w0).left x =
+    ((g.W.Work.rules w0).targets + 2) ^ (g.W.Work.rules w0).left x =
     subst (λ (w : g.row.W.Denot). fuel (g.W.Work.rules w) u < fuel (g.W.Work.rules w) t +
-        ((g.W.Work.rules w).targets + 2) ^ (g.W.Work.rules w).left x)
-        (c.claim.ensures.worker ∙ c.reserve.ensures.worker) c.in_ok-enter-in-Claimed.ensures.less in
+    ((g.W.Work.rules w).targets + 2) ^ (g.W.Work.rules w).left x)
+    (c.claim.ensures.worker ∙ c.reserve.ensures.worker) c.in_ok-enter-in-Claimed.ensures.less in
     subst (λ (y : Story (Content g.row.W-State.Denot g.row.W-Leaf.Denot)). fuel (g.W.Work.rules w0)
-        u < fuel (g.W.Work.rules w0) y) c.reserve.ensures.story
+    u < fuel (g.W.Work.rules w0) y) c.reserve.ensures.story
     (round-less (g.W.Work.rules w0) s t u c.args.by m x claim.4 c.is_whole.ensures.named claim.0
-        claim.1 state less)
+    claim.1 state less)
 
 pub returns-in-Quiet-clause-grows : goal.returns-in-Quiet-clause-grows
 returns-in-Quiet-clause-grows g c =
     let s = c.reserve.new.self.story in let t = c.claim.new.self.story in
     let claim : IsClaim (g.W.Work.rules c.reserve.new.self.worker).IsWell s c.args.by Quiet t =
-        subst (λ (x : Claim g.row.W-State.Denot). IsClaim
-            (g.W.Work.rules c.reserve.new.self.worker).IsWell s c.args.by x t) c.in-Quiet.is
-            c.in_ok-node.ensures.ok in
+    subst (λ (x : Claim g.row.W-State.Denot). IsClaim
+    (g.W.Work.rules c.reserve.new.self.worker).IsWell s c.args.by x t) c.in-Quiet.is
+    c.in_ok-node.ensures.ok in
     grows-none c.args.by c.args.tree.now.story t (claim.1 ∙ c.reserve.ensures.story)

@@ -15,8 +15,8 @@ loop-kid-preserved g c =
     let others : List ℕ = born_free (n + 1) (drop (i + 1) kids) in
     let rest : List ℕ = born_free n (drop i kids) in
     let at : rest ≡ cond kid.is_leaf others (n ∷ others) =
-        born-at kids i n kid c.loop-kid-test.true
-            ∙ ap (λ (k : Kid R). cond k.is_leaf others (n ∷ others)) (sym c.kid-item.is) in
+    born-at kids i n kid c.loop-kid-test.true
+    ∙ ap (λ (k : Kid R). cond k.is_leaf others (n ∷ others)) (sym c.kid-item.is) in
     let inv = c.loop-kid.invariant in
     elim c.if-not-kid.branch [
       | then-not-kid w ↦ record {

@@ -1,12 +1,10 @@
-use Rattle.std.proofs.Common.{◌≡◌, ◌≢◌, ℕ, zero, suc, ◌+◌, ◌-◌, ◌<◌, ◌≤◌, ◌==◌, ◌&&◌, ◌||◌, nat_le, Bool, true, false, cond, if◌then◌else◌, IsTrue, Option, Some, None, List, [], ◌∷◌, ◌++◌, length, map, replicate, append_assoc, sym, refl, ap, ◌∙◌, subst, arith}
-use Rattle.std.specs.List.{All, count_by, slice_get}
-use Rattle.std.specs.Arc.{arc_value}
+use Rattle.std.proofs.Common.{◌≡◌, ℕ, zero, suc, ◌+◌, ◌-◌, ◌<◌, ◌≤◌, ◌==◌, ◌||◌, nat_le, Bool, true, false, if◌then◌else◌, IsTrue, Some, None, List, [], ◌∷◌, ◌++◌, length, replicate, append_assoc, sym, refl, ap, ◌∙◌, subst, arith}
+use Rattle.std.specs.List.{All}
 use Rattle.std.proofs.lemmas.Bool.Decides.{nat_tests}
 use Rattle.std.proofs.lemmas.List.{append-nil, replicate-append-replicate}
 use Rattle.std.proofs.lemmas.List.Elements.{All-cons, All-nil}
 use Rattle.std.proofs.lemmas.List.Sums.{sum_by-cons}
 use Rattle.rv_spec.specs.Decisions.{Decision, Side}
-use Rattle.tree_core.specs.declared.cause.Cause.{Cause}
 use Rattle.tree_core.specs.declared.cause.Cause.TheVariants.{Conflicts}
 use Rattle.tree_core.specs.declared.choice.Choice.{Choice}
 use Rattle.tree_core.specs.declared.choice.Choice.TheVariants.{No, Yes}
@@ -27,8 +25,11 @@ use Rattle.fork_tree.proofs.tests.ClimberWork.work.Goals as goal
 
 abbrev rung_place : Rung → Place
 rung_place r =
-    record { choices = replicate r.from Yes ++ (if r.just then No ∷ [] else []); covers = λ input.
-        if r.just then length input == r.from else nat_le r.from (length input) }
+    record {
+      choices = replicate r.from Yes ++ (if r.just then No ∷ [] else []);
+      covers = λ input.
+          if r.just then length input == r.from else nat_le r.from (length input);
+    }
 
 abbrev end_place : End → Place
 end_place e = rung_place e.rung
@@ -72,14 +73,14 @@ ends f a is = ap (λ n. replicate n (Side true) ++ Side false ∷ []) (is_same_n
 
 goes_on : (f : ℕ) (b : List ℕ) → nat_le (f + 1) (length b) ≡ true →
     decides b ≡ replicate f (Side true) ++ Side true ∷
-        (replicate (length b - (f + 1)) (Side true) ++ Side false ∷ [])
+    (replicate (length b - (f + 1)) (Side true) ++ Side false ∷ [])
 goes_on f b is =
     let more : f + 1 ≤ length b = is_at_least (length b) (f + 1) is in
     let sum : (f + 1) + (length b - (f + 1)) ≡ length b = omega (arith, more) in
     let rest : List Decision = replicate (length b - (f + 1)) (Side true) in
     ap (λ n. replicate n (Side true) ++ Side false ∷ []) (sym sum)
     ∙ ap (λ ds. ds ++ Side false ∷ [])
-        (sym (replicate-append-replicate (f + 1) (length b - (f + 1)) (Side true)))
+    (sym (replicate-append-replicate (f + 1) (length b - (f + 1)) (Side true)))
     ∙ append_assoc (replicate (f + 1) (Side true)) rest (Side false ∷ [])
     ∙ ap (λ ds. ds ++ (rest ++ Side false ∷ [])) (one_more f (Side true))
     ∙ append_assoc (replicate f (Side true)) (Side true ∷ []) (rest ++ Side false ∷ [])
@@ -92,8 +93,14 @@ apart_up : (f : ℕ) →
 apart_up f = record {
   c = No;
   d = Yes;
-  first = record { front = replicate f Yes; one_back = []; other_back = []; one = refl;
-      other = up_choices f; differ = λ is. cc };
+  first = record {
+    front = replicate f Yes;
+    one_back = [];
+    other_back = [];
+    one = refl;
+    other = up_choices f;
+    differ = λ is. cc;
+  };
   part = λ a b here above. record {
     front = replicate f (Side true);
     one_decision = Side false;
@@ -113,8 +120,14 @@ apart_down : (f : ℕ) →
 apart_down f = record {
   c = Yes;
   d = No;
-  first = record { front = replicate f Yes; one_back = []; other_back = []; one = up_choices f;
-      other = refl; differ = λ is. cc };
+  first = record {
+    front = replicate f Yes;
+    one_back = [];
+    other_back = [];
+    one = up_choices f;
+    other = refl;
+    differ = λ is. cc;
+  };
   part = λ a b above here. record {
     front = replicate f (Side true);
     one_decision = Side true;
@@ -152,20 +165,20 @@ open_part top f choices kid (Shut e) lt open' is = absurd is
 
 two_apart : (p q : Kid (Content Rung End)) →
     ArePlacesApart decides (place_in rung_place end_place p.content)
-        (place_in rung_place end_place q.content) →
+    (place_in rung_place end_place q.content) →
     ArePlacesApart decides (place_in rung_place end_place q.content)
-        (place_in rung_place end_place p.content) →
+    (place_in rung_place end_place p.content) →
     AreKidsApart (place_in rung_place end_place) decides (p ∷ q ∷ [])
 two_apart p q there back zero zero a b ne at bt = absurd (ne refl)
 two_apart p q there back zero (suc zero) a b ne at bt =
     subst (λ (k : Kid (Content Rung End) × Kid (Content Rung End)). ArePlacesApart decides
-        (place_in rung_place end_place k.0.content) (place_in rung_place end_place k.1.content))
-        (λ i. (same_held p a at i, same_held q b bt i)) there
+    (place_in rung_place end_place k.0.content) (place_in rung_place end_place k.1.content))
+    (λ i. (same_held p a at i, same_held q b bt i)) there
 two_apart p q there back zero (suc (suc j)) a b ne at bt = absurd (none_is_some b bt)
 two_apart p q there back (suc zero) zero a b ne at bt =
     subst (λ (k : Kid (Content Rung End) × Kid (Content Rung End)). ArePlacesApart decides
-        (place_in rung_place end_place k.0.content) (place_in rung_place end_place k.1.content))
-        (λ i. (same_held q a at i, same_held p b bt i)) back
+    (place_in rung_place end_place k.0.content) (place_in rung_place end_place k.1.content))
+    (λ i. (same_held q a at i, same_held p b bt i)) back
 two_apart p q there back (suc zero) (suc zero) a b ne at bt = absurd (ne refl)
 two_apart p q there back (suc zero) (suc (suc j)) a b ne at bt = absurd (none_is_some b bt)
 two_apart p q there back (suc (suc i)) j a b ne at bt = absurd (none_is_some a at)
@@ -181,7 +194,7 @@ first_holds false b h = absurd (none_is_true h)
 abbrev written_sides : Kid (Content Rung End) → List BranchSide
 written_sides low =
     record { choice = No; cut = (side_of_kid (cut_in (λ (e : End). e.cut)) low).cut } ∷ record
-        { choice = Yes; cut = None } ∷ []
+    { choice = Yes; cut = None } ∷ []
 
 two_sides : (top f : ℕ) (low high : Kid (Content Rung End)) → f < top → low.choice ≡ No →
     place_in rung_place end_place low.content ≡ rung_place (ends_here f) →
@@ -191,73 +204,76 @@ two_sides : (top f : ℕ) (low high : Kid (Content Rung End)) → f < top → lo
     IsSplit (rules top) rung_place end_place (climbs_on f) (low ∷ high ∷ [])
 two_sides top f low high lt low_choice low_place low_cut low_part high_choice high_open high_state =
     let high_place : place_in rung_place end_place high.content ≡ rung_place (climbs_on (f + 1)) =
-        open_place high.content (climbs_on (f + 1)) high_state in
+    open_place high.content (climbs_on (f + 1)) high_state in
     let pair : choices_in (low ∷ high ∷ []) ≡ No ∷ Yes ∷ [] =
-        λ i. low_choice i ∷ high_choice i ∷ [] in
+    λ i. low_choice i ∷ high_choice i ∷ [] in
     record {
       shared = λ input. sum_by-cons
           (λ (kid : Kid (Content Rung End)). one_if
           ((place_in rung_place end_place kid.content).covers input)) low (high ∷ [])
           ∙ ap (λ n. one_if ((place_in rung_place end_place low.content).covers input) + n)
-              (sum_by-cons (λ (kid : Kid (Content Rung End)). one_if
-              ((place_in rung_place end_place kid.content).covers input)) high [])
+          (sum_by-cons (λ (kid : Kid (Content Rung End)). one_if
+          ((place_in rung_place end_place kid.content).covers input)) high [])
           ∙ (λ i. one_if ((low_place i).covers input) + (one_if ((high_place i).covers input) + 0))
           ∙ either (length input) f;
       choices = All-cons (λ (kid : Kid (Content Rung End)).
           (place_in rung_place end_place kid.content).choices ≡ (replicate f Yes ++ []) ++
           kid.choice ∷ []) low (high ∷ [])
           (ap (λ (p : Place). p.choices) low_place
-              ∙ (λ i. sym (append-nil (replicate f Yes)) i ++ sym low_choice i ∷ []))
+          ∙ (λ i. sym (append-nil (replicate f Yes)) i ++ sym low_choice i ∷ []))
           (All-cons (λ (kid : Kid (Content Rung End)).
-              (place_in rung_place end_place kid.content).choices ≡ (replicate f Yes ++ []) ++
-              kid.choice ∷ []) high []
+          (place_in rung_place end_place kid.content).choices ≡ (replicate f Yes ++ []) ++
+          kid.choice ∷ []) high []
           (ap (λ (p : Place). p.choices) high_place ∙ up_choices f
-              ∙ (λ i. sym (append-nil (replicate f Yes)) i ++ sym high_choice i ∷ []))
+          ∙ (λ i. sym (append-nil (replicate f Yes)) i ++ sym high_choice i ∷ []))
           (All-nil (λ (kid : Kid (Content Rung End)).
-              (place_in rung_place end_place kid.content).choices ≡ (replicate f Yes ++ []) ++
-              kid.choice ∷ [])));
+          (place_in rung_place end_place kid.content).choices ≡ (replicate f Yes ++ []) ++
+          kid.choice ∷ [])));
       parts = subst (λ (cs : List Choice). All
           (λ (kid : Kid (Content Rung End)). IsPart (rules top) (top + 1 - f) cs kid kid.content)
           (low ∷ high ∷ [])) (sym pair)
           (All-cons (λ (kid : Kid (Content Rung End)). IsPart (rules top) (top + 1 - f)
-              (No ∷ Yes ∷ []) kid kid.content) low (high ∷ [])
-              (low_part (top + 1 - f) (omega arith))
+          (No ∷ Yes ∷ []) kid kid.content) low (high ∷ [])
+          (low_part (top + 1 - f) (omega arith))
           (All-cons (λ (kid : Kid (Content Rung End)). IsPart (rules top) (top + 1 - f)
-              (No ∷ Yes ∷ []) kid kid.content) high []
-              (open_part top f (No ∷ Yes ∷ []) high high.content lt high_open high_state)
+          (No ∷ Yes ∷ []) kid kid.content) high []
+          (open_part top f (No ∷ Yes ∷ []) high high.content lt high_open high_state)
           (All-nil (λ (kid : Kid (Content Rung End)). IsPart (rules top) (top + 1 - f)
-              (No ∷ Yes ∷ []) kid kid.content))));
+          (No ∷ Yes ∷ []) kid kid.content))));
       sides = subst (λ (b : Bool). IsTrue
-          (are_sides 2 (side_of_kid (cut_in (λ (e : End). e.cut)) low ∷ record
-          { choice = high.choice; cut = if b then cut_in (λ (e : End). e.cut) high.content else None
+          (are_sides 2 (side_of_kid (cut_in (λ (e : End). e.cut)) low ∷ record {
+            choice = high.choice;
+            cut = if b then cut_in (λ (e : End). e.cut) high.content else None;
           } ∷ []))) (sym high_open)
           (subst (λ (p : Choice × Choice). IsTrue
-              (are_sides 2 (record { choice = p.0;
-              cut = (side_of_kid (cut_in (λ (e : End). e.cut)) low).cut } ∷ record
-              { choice = p.1; cut = None } ∷ []))) (λ i. (sym low_choice i, sym high_choice i))
+          (are_sides 2 (record {
+            choice = p.0;
+            cut = (side_of_kid (cut_in (λ (e : End). e.cut)) low).cut;
+          } ∷ record
+          { choice = p.1; cut = None } ∷ []))) (λ i. (sym low_choice i, sym high_choice i))
           (first_holds (are_branch_sides (written_sides low)) (are_values 2 (written_sides low))
-              low_cut));
+          low_cut));
       few = omega arith;
       apart = two_apart low high
           (subst (λ (p : Place × Place). ArePlacesApart decides p.0 p.1)
-              (λ i. (sym low_place i, sym high_place i)) (apart_up f))
+          (λ i. (sym low_place i, sym high_place i)) (apart_up f))
           (subst (λ (p : Place × Place). ArePlacesApart decides p.0 p.1)
-              (λ i. (sym high_place i, sym low_place i)) (apart_down f));
+          (λ i. (sym high_place i, sym low_place i)) (apart_down f));
     }
 
 pub returns : goal.returns
 returns c = let r = c.args.state.now in let top = c.args.self.now.top in
     subst (λ (kids : List (Kid (Content Rung End))). IsSplit (rules top) rung_place end_place r
-        kids)
+    kids)
     (sym (c.push_reserved-2.ensures.items
-        ∙ ap (λ kids. kids ++ c.in_ok-second.second ∷ [])
-        (c.push_reserved.ensures.items
-        ∙ ap (λ kids. kids ++ c.in_ok-first.first ∷ []) c.in_ok-kids.ensures.items)))
+    ∙ ap (λ kids. kids ++ c.in_ok-second.second ∷ [])
+    (c.push_reserved.ensures.items
+    ∙ ap (λ kids. kids ++ c.in_ok-first.first ∷ []) c.in_ok-kids.ensures.items)))
     (subst (λ (b : Bool). IsSplit (rules top) rung_place end_place
-        (record { from = r.from; just = b }) (c.in_ok-first.first ∷ c.in_ok-second.second ∷ []))
-        (sym c.if-rung.false)
+    (record { from = r.from; just = b }) (c.in_ok-first.first ∷ c.in_ok-second.second ∷ []))
+    (sym c.if-rung.false)
     (two_sides top r.from c.in_ok-first.first c.in_ok-second.second
-        (omega (arith, c.requires.well, c.if-rung-self.false))
+    (omega (arith, c.requires.well, c.if-rung-self.false))
     c.in_ok-first.ensures.choice c.in_ok-first.ensures.place c.in_ok-first.ensures.cut
-        (λ limit some. c.in_ok-first.ensures.part top limit c.requires.well some)
+    (λ limit some. c.in_ok-first.ensures.part top limit c.requires.well some)
     c.in_ok-second.ensures.choice c.in_ok-second.ensures.open c.in_ok-second.ensures.state))

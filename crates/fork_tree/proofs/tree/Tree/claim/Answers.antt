@@ -1,4 +1,4 @@
-use Rattle.std.proofs.Common.{◌≡◌, ◌∷◌, [], true, subst, sym, vec_capacity}
+use Rattle.std.proofs.Common.{◌≡◌, true, subst, sym, vec_capacity}
 use Rattle.std.specs.Arc.{arc_value}
 use Rattle.tree_core.specs.Stories.{content}
 use Rattle.fork_tree.specs.Nodes.{StateIs}
@@ -13,7 +13,7 @@ pub state_of-requires-clause-there : goal.state_of-requires-clause-there
 state_of-requires-clause-there g c =
     let i = c.self.inside in let s = i.core.story in let m = c.in-Some.node in
     free-within s m (listed-free s i.free.items c.pop.new.self.items m c.in-Some.ensures.items
-        c.self.invariant.1)
+    c.self.invariant.1)
 
 pub state_of-requires-clause-open : goal.state_of-requires-clause-open
 state_of-requires-clause-open g c =
@@ -22,25 +22,27 @@ state_of-requires-clause-open g c =
     let m = c.in-Some.node in
     let rules = g.W.Work.rules i.worker in
     let stands : stands_free s m ≡ true =
-        listed-free s i.free.items c.pop.new.self.items m c.in-Some.ensures.items c.self.invariant.1
-            in
+    listed-free s i.free.items c.pop.new.self.items m c.in-Some.ensures.items c.self.invariant.1
+    in
     any_state rules.IsWell (content s m)
-        (free-state rules g.W.State.Placed.place g.W.Leaf.Placed.place s m c.self.invariant.0
-        stands)
+    (free-state rules g.W.State.Placed.place g.W.Leaf.Placed.place s m c.self.invariant.0
+    stands)
 
 pub note-requires-clause-fit : goal.note-requires-clause-fit
 note-requires-clause-fit g c =
-    let i = c.self.inside in let s = i.core.story in let m = c.in-Some.node in
-    (free-within s m (listed-free s i.free.items c.pop.new.self.items m c.in-Some.ensures.items
-        c.self.invariant.1), tt)
+    let i = c.self.inside in let s = i.core.story in let m = c.in-Some.node in (
+      free-within s m (listed-free s i.free.items c.pop.new.self.items m c.in-Some.ensures.items
+          c.self.invariant.1),
+      tt,
+    )
 
 pub invariant_of-self-2 : goal.invariant_of-self-2
 invariant_of-self-2 g c = let i = c.self.inside in let s = i.core.story in let m = c.in-Some.node in
     subst (IsTended (g.W.Work.rules i.worker) g.W.State.Placed.place g.W.Leaf.Placed.place
-        c.note.new.core.story c.pop.new.self.items) (sym c.pop.ensures.capacity)
+    c.note.new.core.story c.pop.new.self.items) (sym c.pop.ensures.capacity)
     (tended-claim (g.W.Work.rules i.worker) g.W.State.Placed.place g.W.Leaf.Placed.place s
-        c.note.new.core.story c.args.by m i.free.items c.pop.new.self.items (vec_capacity i.free)
-        c.self.invariant c.note.ensures.story c.note.ensures.named c.in-Some.ensures.items)
+    c.note.new.core.story c.args.by m i.free.items c.pop.new.self.items (vec_capacity i.free)
+    c.self.invariant c.note.ensures.story c.note.ensures.named c.in-Some.ensures.items)
 
 pub returns-clause-ok : goal.returns-clause-ok
 returns-clause-ok g c =
@@ -49,14 +51,19 @@ returns-clause-ok g c =
     let m = c.in-Some.node in
     let rules = g.W.Work.rules i.worker in
     let stands : stands_free s m ≡ true =
-        listed-free s i.free.items c.pop.new.self.items m c.in-Some.ensures.items c.self.invariant.1
-            in
+    listed-free s i.free.items c.pop.new.self.items m c.in-Some.ensures.items c.self.invariant.1
+    in
     let has : StateIs (content s m) (arc_value c.in-Ok.state) = c.in-Ok.ensures in
     let state =
-        free-state rules g.W.State.Placed.place g.W.Leaf.Placed.place s m c.self.invariant.0 stands
-            in
+    free-state rules g.W.State.Placed.place g.W.Leaf.Placed.place s m c.self.invariant.0 stands
+    in
     subst (λ (k : TreeValue g.row.W.Denot g.row.W-State.Denot g.row.W-Leaf.Denot). IsClaim
-        (g.W.Work.rules k.worker).IsWell k.story c.args.by (Claimed m c.in-Ok.state)
-        c.note.new.core.story) c.self.view_is
-    (free-within s m stands, free-status s m stands, has, such_state rules.IsWell (content s m)
-        (arc_value c.in-Ok.state) state has, c.note.ensures.story)
+    (g.W.Work.rules k.worker).IsWell k.story c.args.by (Claimed m c.in-Ok.state)
+    c.note.new.core.story) c.self.view_is (
+      free-within s m stands,
+      free-status s m stands,
+      has,
+      such_state rules.IsWell (content s m)
+          (arc_value c.in-Ok.state) state has,
+      c.note.ensures.story,
+    )

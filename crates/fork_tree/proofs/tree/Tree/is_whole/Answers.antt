@@ -9,13 +9,13 @@ use Rattle.fork_tree.proofs.tree.Tree.is_whole.Goals as goal
 pub returns-clause-replays : goal.returns-clause-replays
 returns-clause-replays g c =
     subst (λ (k : TreeValue g.row.W.Denot g.row.W-State.Denot g.row.W-Leaf.Denot). Replays
-        (λ (x : Content g.row.W-State.Denot g.row.W-Leaf.Denot).
-        (place_in g.W.State.Placed.place g.W.Leaf.Placed.place x).covers) k.story) c.self.view_is
-        c.is_whole.ensures.replays
+    (λ (x : Content g.row.W-State.Denot g.row.W-Leaf.Denot).
+    (place_in g.W.State.Placed.place g.W.Leaf.Placed.place x).covers) k.story) c.self.view_is
+    c.is_whole.ensures.replays
 
 pub returns-clause-partition : goal.returns-clause-partition
 returns-clause-partition g c =
     subst (λ (k : TreeValue g.row.W.Denot g.row.W-State.Denot g.row.W-Leaf.Denot). Partition
-        (λ (x : Content g.row.W-State.Denot g.row.W-Leaf.Denot).
-        (place_in g.W.State.Placed.place g.W.Leaf.Placed.place x).covers) k.story) c.self.view_is
-        c.is_whole.ensures.partition
+    (λ (x : Content g.row.W-State.Denot g.row.W-Leaf.Denot).
+    (place_in g.W.State.Placed.place g.W.Leaf.Placed.place x).covers) k.story) c.self.view_is
+    c.is_whole.ensures.partition

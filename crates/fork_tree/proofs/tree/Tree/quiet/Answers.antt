@@ -9,9 +9,9 @@ returns-else-is_empty g c = (
   λ is. cc,
   λ quiet. let i = c.self.inside in
       let quiet' : IsQuiet i.core.story =
-          subst (λ (k : TreeValue g.row.W.Denot g.row.W-State.Denot g.row.W-Leaf.Denot). IsQuiet
-              k.story) (sym c.self.view_is) quiet in
+      subst (λ (k : TreeValue g.row.W.Denot g.row.W-State.Denot g.row.W-Leaf.Denot). IsQuiet
+      k.story) (sym c.self.view_is) quiet in
       let none : i.free.items ≡ [] =
-          none_listed i.core.story i.free.items quiet'.0 c.self.invariant.1 in
+      none_listed i.core.story i.free.items quiet'.0 c.self.invariant.1 in
       c.is_empty.ensures ∙ eq-eqb (vec_len i.free) 0 (i.free.ok.0 ∙ ap length none),
 )
