@@ -77,8 +77,8 @@ pub record AreTwoSides (decision : List ℕ → Decision) (one other : Piece) : 
   pub choices : one.choice ≢ other.choice
   pub decisions : (a b : List ℕ) → IsTrue ((content_place one.content).covers a) → IsTrue ((content_place other.content).covers b) → decision a ≢ decision b
 
-turned : (decision : List ℕ → Decision) (one other : Piece) → AreTwoSides decision one other → AreTwoSides decision other one
-turned decision one other are = record {
+swapped : (decision : List ℕ → Decision) (one other : Piece) → AreTwoSides decision one other → AreTwoSides decision other one
+swapped decision one other are = record {
   choices = λ is. are.choices (sym is);
   decisions = λ a b on_a on_b is. are.decisions b a on_b on_a (sym is);
 }
@@ -113,18 +113,18 @@ AreOtherSides decision [] = Unit {0}
 AreOtherSides decision (kid ∷ kids) = All (AreTwoSides decision kid) kids × AreOtherSides decision kids
 
 -- what holds of all holds of the one at a place
-at_place : (P : Piece → Type 0) (kids : List Piece) (i : ℕ) (kid : Piece) → All P kids → slice_get kids i ≡ Some kid → P kid
-at_place P [] i kid all there = absurd (cc there)
-at_place P (k ∷ ks) zero kid all there = let same : k ≡ kid = cc there in subst P same (All-head P k ks all)
-at_place P (k ∷ ks) (suc i) kid all there = at_place P ks i kid (All-tail P k ks all) there
+at_index : (P : Piece → Type 0) (kids : List Piece) (i : ℕ) (kid : Piece) → All P kids → slice_get kids i ≡ Some kid → P kid
+at_index P [] i kid all there = absurd (cc there)
+at_index P (k ∷ ks) zero kid all there = let same : k ≡ kid = cc there in subst P same (All-head P k ks all)
+at_index P (k ∷ ks) (suc i) kid all there = at_index P ks i kid (All-tail P k ks all) there
 
 two_of : (decision : List ℕ → Decision) (kids : List Piece) (i j : ℕ) (a b : Piece) → AreOtherSides decision kids → i ≢ j → slice_get kids i ≡ Some a → slice_get kids j ≡ Some b → AreTwoSides decision a b
 two_of decision [] i j a b are apart at_i at_j = absurd (cc at_i)
 two_of decision (k ∷ ks) zero zero a b are apart at_i at_j = absurd (apart refl)
 two_of decision (k ∷ ks) zero (suc j) a b (first, rest) apart at_i at_j =
-    let same : k ≡ a = cc at_i in subst (λ (x : Piece). AreTwoSides decision x b) same (at_place (AreTwoSides decision k) ks j b first at_j)
+    let same : k ≡ a = cc at_i in subst (λ (x : Piece). AreTwoSides decision x b) same (at_index (AreTwoSides decision k) ks j b first at_j)
 two_of decision (k ∷ ks) (suc i) zero a b (first, rest) apart at_i at_j =
-    let same : k ≡ b = cc at_j in turned decision b a (subst (λ (x : Piece). AreTwoSides decision x a) same (at_place (AreTwoSides decision k) ks i a first at_i))
+    let same : k ≡ b = cc at_j in swapped decision b a (subst (λ (x : Piece). AreTwoSides decision x a) same (at_index (AreTwoSides decision k) ks i a first at_i))
 two_of decision (k ∷ ks) (suc i) (suc j) a b (first, rest) apart at_i at_j = two_of decision ks i j a b rest (λ is. apart (ap suc is)) at_i at_j
 
 -- any two sides of a fork are apart
@@ -132,4 +132,4 @@ pub kids_apart : (p : Program) (s : Symbolic) (most : ℕ) (decision : List ℕ 
     → All (IsOnFork p s decision) kids → AreOtherSides decision kids → AreKidsApart content_place (λ input. decisions p.image (regions_of p) input most) kids
 kids_apart p s most decision kids was few next each are = λ i j a b apart at_i at_j.
     sides_apart p s most decision was few next a b
-    (at_place (IsOnFork p s decision) kids i a each at_i) (at_place (IsOnFork p s decision) kids j b each at_j) (two_of decision kids i j a b are apart at_i at_j)
+    (at_index (IsOnFork p s decision) kids i a each at_i) (at_index (IsOnFork p s decision) kids j b each at_j) (two_of decision kids i j a b are apart at_i at_j)

@@ -53,8 +53,8 @@ forms_are : (p : Program) (steps targets : ℕ) (s : Symbolic) (no_test yes_test
 forms_are p steps targets s no_test yes_test left_kid right_kid left right = cc (side_form p steps targets s No no_test left_kid left, side_form p steps targets s Yes yes_test right_kid right)
 
 -- where a side stands
-abbrev IsPlaced : Symbolic → Piece → Type 0
-IsPlaced s k = (content_place k.content).choices ≡ s.choices ++ k.choice ∷ []
+abbrev StandsOnSide : Symbolic → Piece → Type 0
+StandsOnSide s k = (content_place k.content).choices ≡ s.choices ++ k.choice ∷ []
 
 pub two_sides : (p : Program) (steps targets : ℕ) (s : Symbolic) (left_kid right_kid : Piece) (term : ℕ) → IsOpen p s → IsBranch p s term → s.steps < steps → 1 ≤ targets
     → IsSide p s No (λ input. is_side false (number_of s.terms term input)) left_kid → IsSide p s Yes (λ input. is_side true (number_of s.terms term input)) right_kid
@@ -70,7 +70,7 @@ two_sides p steps targets s left_kid right_kid term was at few some left right =
           ∙ ap (λ b. one_if b + (one_if ((content_place right_kid.content).covers input) + 0)) (side-covers p s No no_test left_kid left input)
           ∙ ap (λ b. one_if ((run_place s).covers input && not (number_of s.terms term input == 1)) + (one_if b + 0)) (side-covers p s Yes yes_test right_kid right input)
           ∙ one_of_two ((run_place s).covers input) (number_of s.terms term input == 1);
-      choices = All-cons (IsPlaced s) left_kid (right_kid ∷ []) (side-choices p s No no_test left_kid left) (All-cons (IsPlaced s) right_kid [] (side-choices p s Yes yes_test right_kid right) (All-nil (IsPlaced s)));
+      choices = All-cons (StandsOnSide s) left_kid (right_kid ∷ []) (side-choices p s No no_test left_kid left) (All-cons (StandsOnSide s) right_kid [] (side-choices p s Yes yes_test right_kid right) (All-nil (StandsOnSide s)));
       parts = All-cons Part left_kid (right_kid ∷ []) (side_part p steps targets (choices_in (left_kid ∷ right_kid ∷ [])) s No no_test left_kid few left)
           (All-cons Part right_kid [] (side_part p steps targets (choices_in (left_kid ∷ right_kid ∷ [])) s Yes yes_test right_kid few right) (All-nil Part));
       sides = subst (λ (sides : List Side). IsTrue (are_sides targets sides))

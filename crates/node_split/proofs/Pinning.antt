@@ -22,6 +22,7 @@ use Rattle.node_split.specs.Narrowing.{GoesOn, IsNarrower}
 use Rattle.node_split.specs.Values.{HasValue}
 use Rattle.node_split.specs.declared.question.ValueAt.{ValueAt}
 use Rattle.sym_state.proofs.Assigning.{both_true}
+use Rattle.node_split.proofs.Increasing.{equals, same}
 use Rattle.node_split.proofs.Sides.{meets-narrowed, open_narrowed}
 
 differs : (r : ℕ) → (r ≡ 0 → ⊥) → (r == 0) ≡ false
@@ -90,12 +91,6 @@ by_test false = refl
 
 equal_one : (n v : ℕ) → ((if n == v then 1 else 0) == 1) ≡ (n == v)
 equal_one n v = by_test (n == v)
-
-equals : (n m : ℕ) → (n == m) ≡ true → n ≡ m
-equals n m is = search (rules, is)
-
-same : (n m : ℕ) → n ≡ m → (n == m) ≡ true
-same n m is = search (rules, is)
 
 -- The side on which the term has a value.
 pub value_narrower : (p : Program) (s : Symbolic) (g : Graph) (r offset term equal n : ℕ) (f : ValueAt) → IsOpen p s → IsPin p s r offset term → HasValue s.terms s.condition term f → f.value < 2 ^ 32 → Grows s.terms g → width_of g equal ≡ 1

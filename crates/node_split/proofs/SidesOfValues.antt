@@ -44,19 +44,12 @@ use Rattle.node_split.specs.Values.{AreValues, numbers_in}
 use Rattle.node_split.specs.declared.question.ValueAt.{ValueAt}
 use Rattle.node_split.proofs.Apart.{AreOtherSides, AreTwoSides, IsOnFork, kids_apart}
 use Rattle.node_split.proofs.Bytes.{IsByte, all_true, not_true, one_byte}
-use Rattle.node_split.proofs.Increasing.{counted-once}
+use Rattle.node_split.proofs.Increasing.{counted-once, equals, or-true, same}
 use Rattle.node_split.proofs.Sharing.{and-assoc, count-cons, covered_assigned, covered_meets, side-choices, side-covers, side_form, side_on_fork, side_part, side_passes, two_runs}
-
-equals : (n m : ℕ) → (n == m) ≡ true → n ≡ m
-equals n m is = search (rules, is)
-
-or-true : (b : Bool) → (b || true) ≡ true
-or-true true = refl
-or-true false = refl
 
 -- the first is one of them
 first_among : (v : ℕ) (vs : List ℕ) → is_among (v ∷ vs) v ≡ true
-first_among v vs = let same : (v == v) ≡ true = search rules in ap (λ b. b || is_among vs v) same
+first_among v vs = ap (λ b. b || is_among vs v) (same v v refl)
 
 -- one side more
 pub sides-push : (p : Program) (s : Symbolic) (term : ℕ) (fs : List ValueAt) (ks : List Piece) (f : ValueAt) (k : Piece) → AreSidesOf p s term fs ks → IsSideOf p s term f k → AreSidesOf p s term (fs ++ f ∷ []) (ks ++ k ∷ [])

@@ -14,15 +14,15 @@ use Rattle.sym_state.specs.Places.{run_place}
 use Rattle.sym_state.specs.Programs.{Program, program_code, regions_of}
 use Rattle.sym_state.specs.Symbolic.{Symbolic, IsOpen, left_to_do}
 
--- a program, and what its exploration may spend
-pub record Job : Type 0 where
+-- who works the runs of a program, and what its exploration may spend
+pub record Worker : Type 0 where
   pub program : Program
   pub budgets : Budgets
 
--- the code of jobs, by which they are told apart
-abbrev pub job_code : Coded Job
-job_code = code_by (Program × (ℕ × (ℕ × ℕ))) (coded× program_code (coded× coded_ℕ (coded× coded_ℕ coded_ℕ)))
-    (λ j. (j.program, (j.budgets.steps, (j.budgets.targets, j.budgets.conflicts))))
+-- the code of workers, by which they are told apart
+abbrev pub worker_code : Coded Worker
+worker_code = code_by (Program × (ℕ × (ℕ × ℕ))) (coded× program_code (coded× coded_ℕ (coded× coded_ℕ coded_ℕ)))
+    (λ w. (w.program, (w.budgets.steps, (w.budgets.targets, w.budgets.conflicts))))
     (λ c. record { program = c.0; budgets = record { steps = c.1.0; targets = c.1.1.0; conflicts = c.1.1.1 } }) (λ _. refl)
 
 -- runs are open with steps left; leaves are right as the report claims

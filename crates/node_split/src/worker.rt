@@ -30,11 +30,11 @@ impl Model for Worker {
     ghost use Rattle.std.specs.Prelude.{◌≤◌};
     ghost use Rattle.sym_state.specs.Programs.{IsRunnable};
     ghost use Rattle.sym_state.specs.Symbolic.{most_steps};
-    ghost use Rattle.node_split.specs.Rules.{Job, job_code};
+    ghost use Rattle.node_split.specs.Rules as spec;
 
-    ghost Value = { Job };
+    ghost Value = { spec.Worker };
 
-    ghost coded = { job_code };
+    ghost coded = { spec.worker_code };
 
     ghost view = { λ w. record { program = w.program; budgets = w.budgets } };
 
