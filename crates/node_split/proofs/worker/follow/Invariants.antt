@@ -1,7 +1,7 @@
 use Rattle.std.proofs.Common.{◌≤◌}
 use Rattle.sym_state.specs.Symbolic.{left_to_do}
 use Rattle.node_split.specs.Working.{IsOnward}
-use Rattle.node_split.proofs.worker.work.Given as goal
+use Rattle.node_split.proofs.worker.follow.Given as goal
 
 -- the run is as far as it was, or further
 abbrev pub invariant-loop-state : goal.invariant-loop-state
