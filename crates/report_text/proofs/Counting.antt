@@ -3,10 +3,26 @@ use Rattle.std.proofs.lemmas.List.{length-append, map-append, take_more}
 use Rattle.std.proofs.lemmas.List.Elements.{filter-append}
 use Rattle.std.proofs.lemmas.List.Sums.{sum_by-append}
 use Rattle.std.proofs.lemmas.List.Filters.{length-filter_both}
-use Rattle.smt_text.specs.Leaves.{LeafText}
+use Rattle.fork_spec.specs.Histories.{LeafNode}
+use Rattle.fork_spec.specs.Leaves.{Leaf}
+use Rattle.fork_spec.specs.declared.end.LeafEnd.{LeafEnd}
 use Rattle.report_text.specs.declared.summary.Summary.{Summary}
-use Rattle.report_text.specs.Reports.{Entry, leaves_of}
-use Rattle.report_text.specs.Summaries.{count, has_ended, is_tested, one_if, with_one}
+use Rattle.report_text.specs.Reports.{leaves_in}
+use Rattle.report_text.specs.Summaries.{HasRoom, count, has_ended, is_finished, is_tested}
+
+abbrev one_if : Bool → ℕ
+one_if true = 1
+one_if false = 0
+
+-- the summary of leaves and one more
+abbrev pub one_more : Summary → LeafEnd → (steps : ℕ) → Summary
+one_more before end steps = record {
+  leaves = before.leaves + 1;
+  finished = before.finished + one_if (is_finished end);
+  cut = before.cut + one_if (not (is_finished end));
+  tests = before.tests + one_if (is_tested end);
+  steps = before.steps + (if is_finished end then steps else 0);
+}
 
 one_kept : {X : Type 0} (passes : Bool) (x : X) → length (cond passes (x ∷ []) []) ≡ one_if passes
 one_kept true x = refl
@@ -17,25 +33,25 @@ kept_more : {X : Type 0} (f : X → Bool) (xs : List X) (x : X) → length (filt
 kept_more f xs x =
     ap length (filter-append f xs (x ∷ [])) ∙ length-append (filter f xs) (filter f (x ∷ [])) ∙ ap (λ n. length (filter f xs) + n) (one_kept (f x) x)
 
-one_sum : (passes : Bool) (leaf : LeafText) → sum_by (λ (l : LeafText). l.steps) (cond passes (leaf ∷ []) []) ≡ (if passes then leaf.steps else 0)
+one_sum : (passes : Bool) (leaf : Leaf) → sum_by (λ (l : Leaf). l.steps) (cond passes (leaf ∷ []) []) ≡ (if passes then leaf.steps else 0)
 one_sum true leaf = omega arith
 one_sum false leaf = refl
 
-steps_more : (leaves : List LeafText) (leaf : LeafText) →
-    sum_by (λ (l : LeafText). l.steps) (filter has_ended (leaves ++ leaf ∷ [])) ≡ sum_by (λ (l : LeafText). l.steps) (filter has_ended leaves) + (if has_ended leaf then leaf.steps else 0)
+steps_more : (leaves : List Leaf) (leaf : Leaf) →
+    sum_by (λ (l : Leaf). l.steps) (filter has_ended (leaves ++ leaf ∷ [])) ≡ sum_by (λ (l : Leaf). l.steps) (filter has_ended leaves) + (if has_ended leaf then leaf.steps else 0)
 steps_more leaves leaf =
-    ap (sum_by (λ (l : LeafText). l.steps)) (filter-append has_ended leaves (leaf ∷ []))
-    ∙ sum_by-append (λ (l : LeafText). l.steps) (filter has_ended leaves) (filter has_ended (leaf ∷ []))
-    ∙ ap (λ n. sum_by (λ (l : LeafText). l.steps) (filter has_ended leaves) + n) (one_sum (has_ended leaf) leaf)
+    ap (sum_by (λ (l : Leaf). l.steps)) (filter-append has_ended leaves (leaf ∷ []))
+    ∙ sum_by-append (λ (l : Leaf). l.steps) (filter has_ended leaves) (filter has_ended (leaf ∷ []))
+    ∙ ap (λ n. sum_by (λ (l : Leaf). l.steps) (filter has_ended leaves) + n) (one_sum (has_ended leaf) leaf)
 
 -- the summary of leaves and one more
-pub count_more : (leaves : List LeafText) (leaf : LeafText) → count (leaves ++ leaf ∷ []) ≡ with_one (count leaves) leaf
+pub count_more : (leaves : List Leaf) (leaf : Leaf) → count (leaves ++ leaf ∷ []) ≡ one_more (count leaves) leaf.end leaf.steps
 unfolding count
 count_more leaves leaf = λ i. record {
   leaves = length-append leaves (leaf ∷ []) i;
   finished = kept_more has_ended leaves leaf i;
   cut = kept_more (λ l. not (has_ended l)) leaves leaf i;
-  tests = kept_more (λ (l : LeafText). is_tested l.end) leaves leaf i;
+  tests = kept_more (λ (l : Leaf). is_tested l.end) leaves leaf i;
   steps = steps_more leaves leaf i;
 }
 
@@ -43,14 +59,12 @@ pub count_none : record { leaves = 0; finished = 0; cut = 0; tests = 0; steps = 
 unfolding count
 count_none = refl
 
--- the step of a loop over leaves
-pub counted_next : {X : Type 0} (f : X → Entry) (xs : List X) (i : ℕ) (d : X) (before : Summary) (leaf : LeafText) → i < length xs →
-    before ≡ count (leaves_of (map f (take i xs))) → leaf ≡ (f (get_or xs i d)).leaf → with_one before leaf ≡ count (leaves_of (map f (take (i + 1) xs)))
-counted_next f xs i d before leaf h counted is =
-    let more : leaves_of (map f (take (i + 1) xs)) ≡ leaves_of (map f (take i xs)) ++ (f (get_or xs i d)).leaf ∷ [] =
-    ap (λ ys. leaves_of (map f ys)) (take_more xs i d h) ∙ ap leaves_of (map-append f (take i xs) (get_or xs i d ∷ []))
-    ∙ map-append (λ (e : Entry). e.leaf) (map f (take i xs)) (f (get_or xs i d) ∷ []) in
-    rw (more, count_more, counted, is) refl
+-- the leaves of the first items, and of one more
+pub leaves_next : {X : Type 0} (f : X → LeafNode) (xs : List X) (i : ℕ) (d : X) → i < length xs →
+    leaves_in (map f (take (i + 1) xs)) ≡ leaves_in (map f (take i xs)) ++ (f (get_or xs i d)).leaf ∷ []
+leaves_next f xs i d h =
+    ap (λ ys. leaves_in (map f ys)) (take_more xs i d h) ∙ ap leaves_in (map-append f (take i xs) (get_or xs i d ∷ []))
+    ∙ map-append (λ (l : LeafNode). l.leaf) (map f (take i xs)) (f (get_or xs i d) ∷ [])
 
 kept_within : {X : Type 0} (f : X → Bool) (xs : List X) → length (filter f xs) ≤ length xs
 kept_within f xs =
@@ -58,11 +72,11 @@ kept_within f xs =
     omega (arith, both)
 
 -- no more leaves of a sort than of all
-pub count_within : (leaves : List LeafText) →
+pub count_within : (leaves : List Leaf) →
     ((count leaves).finished ≤ (count leaves).leaves) × ((count leaves).cut ≤ (count leaves).leaves) × ((count leaves).tests ≤ (count leaves).leaves)
 unfolding count
 count_within leaves = (
   kept_within has_ended leaves,
   kept_within (λ l. not (has_ended l)) leaves,
-  kept_within (λ (l : LeafText). is_tested l.end) leaves,
+  kept_within (λ (l : Leaf). is_tested l.end) leaves,
 )

@@ -1,4 +1,6 @@
 mod SixDigits
 pub mod Counting
-pub mod Walking
 mod ReportTexts
+mod SampleWords
+mod EventTexts
+pub mod Claimed
