@@ -1,5 +1,5 @@
-use Rattle.std.proofs.Common.{◌≡◌, ◌∙◌, ℕ, ◌+◌, ◌≤◌, ◌<◌, Bool, true, false, cond, not, if◌then◌else◌, refl, ap, arith, List, [], ◌∷◌, ◌++◌, filter, length, map, take, get_or, sum_by}
-use Rattle.std.proofs.lemmas.List.{length-append, map-append, take_more}
+use Rattle.std.proofs.Common.{◌*◌, ◌-◌, ◌^◌, sym, ◌≡◌, ◌∙◌, ℕ, ◌+◌, ◌≤◌, ◌<◌, Bool, true, false, cond, not, if◌then◌else◌, refl, ap, arith, List, [], ◌∷◌, ◌++◌, filter, length, map, take, get_or, sum_by}
+use Rattle.std.proofs.lemmas.List.{length-append, length-map, length-take-le, map-append, take_more}
 use Rattle.std.proofs.lemmas.List.Elements.{filter-append}
 use Rattle.std.proofs.lemmas.List.Sums.{sum_by-append}
 use Rattle.std.proofs.lemmas.List.Filters.{length-filter_both}
@@ -71,12 +71,28 @@ kept_within f xs =
     let both : length (filter f xs) + length (filter (λ x. not (f x)) xs) ≡ length xs = length-filter_both f (λ x. not (f x)) (λ x. refl) xs in
     omega (arith, both)
 
--- no more leaves of a sort than of all
-pub count_within : (leaves : List Leaf) →
-    ((count leaves).finished ≤ (count leaves).leaves) × ((count leaves).cut ≤ (count leaves).leaves) × ((count leaves).tests ≤ (count leaves).leaves)
+pub counted_more : (before after : Summary) (end : LeafEnd) (steps : ℕ) (leaves : List Leaf) (leaf : Leaf) →
+    after ≡ one_more before end steps → before ≡ count leaves → end ≡ leaf.end → steps ≡ leaf.steps → after ≡ count (leaves ++ leaf ∷ [])
+counted_more before after end steps leaves leaf is counted same_end same_steps =
+    is ∙ ap (λ s. one_more s end steps) counted ∙ ap (λ e. one_more (count leaves) e steps) same_end
+    ∙ ap (λ n. one_more (count leaves) leaf.end n) same_steps ∙ sym (count_more leaves leaf)
+
+pub no_steps : (s : Summary) → s ≡ count [] → s.steps ≤ 0
 unfolding count
-count_within leaves = (
-  kept_within has_ended leaves,
-  kept_within (λ l. not (has_ended l)) leaves,
-  kept_within (λ (l : Leaf). is_tested l.end) leaves,
-)
+no_steps s e = omega (arith, ap (λ (x : Summary). x.steps) e)
+
+-- one more of so few leaves can be counted
+pub room_of : {X : Type 0} (f : X → LeafNode) (xs : List X) (i : ℕ) (s : Summary) → i < length xs → i < 2 ^ 32 →
+    s ≡ count (leaves_in (map f (take i xs))) → s.steps ≤ i * (2 ^ 32 - 1) → HasRoom s
+unfolding count
+room_of f xs i s h few e steps =
+    let leaves = leaves_in (map f (take i xs)) in
+    let many : length leaves ≡ i = length-map (map f (take i xs)) (λ (l : LeafNode). l.leaf) ∙ length-map (take i xs) f ∙ length-take-le i xs (omega (arith, h)) in
+    let all : s.leaves ≡ i = ap (λ (x : Summary). x.leaves) e ∙ many in
+    record {
+      few = omega (arith, all, few);
+      finished = omega (arith, ap (λ (x : Summary). x.leaves) e, ap (λ (x : Summary). x.finished) e, kept_within has_ended leaves);
+      cut = omega (arith, ap (λ (x : Summary). x.leaves) e, ap (λ (x : Summary). x.cut) e, kept_within (λ l. not (has_ended l)) leaves);
+      tests = omega (arith, ap (λ (x : Summary). x.leaves) e, ap (λ (x : Summary). x.tests) e, kept_within (λ (l : Leaf). is_tested l.end) leaves);
+      steps = omega (arith, all, steps);
+    }
