@@ -7,3 +7,4 @@ pub mod Fuel
 pub mod Entering
 pub mod Drained
 pub mod Fitting
+pub mod Recorded

@@ -7,8 +7,9 @@ use Rattle.tree_core.specs.Covers.{one_if, count_below, covered, root_content}
 use Rattle.tree_core.specs.declared.event.Event.{Event}
 use Rattle.tree_core.specs.declared.node.Node.{Node}
 use Rattle.tree_core.specs.declared.node.Status.{Status}
-use Rattle.tree_core.specs.declared.node.Status.TheVariants.{Free, Leaf}
-use Rattle.fork_spec.specs.Histories.{is_leaf_status}
+use Rattle.tree_core.specs.declared.node.Status.TheVariants.{Free, Leaf as IsLeaf}
+use Rattle.fork_spec.specs.Histories.{LeafNode, cause_of, is_leaf_status}
+use Rattle.fork_spec.specs.Leaves.{Leaf}
 use Rattle.fork_spec.specs.Partings.{AreNodesApart, Place}
 use Rattle.fork_spec.specs.Written.{IsWalked}
 use Rattle.fork_tree.specs.Calls.{IsQuiet}
@@ -17,7 +18,7 @@ use Rattle.fork_tree.specs.Nodes.{HasLeaf, IsLeafRight}
 use Rattle.fork_tree.specs.Trees.{choices_at, covers_at}
 use Rattle.fork_tree.specs.Works.{Rules}
 use Rattle.fork_tree.specs.declared.content.Content.{Content}
-use Rattle.fork_tree.specs.declared.content.Content.TheVariants.{Open}
+use Rattle.fork_tree.specs.declared.content.Content.TheVariants.{Open, Shut}
 
 -- the sum of the first so many
 abbrev pub sum_below : (ℕ → ℕ) → ℕ → ℕ
@@ -65,8 +66,22 @@ pub record IsDrained {S L : Type 0} (rules : Rules S L) (state_place : S → Pla
   pub one : (input : List ℕ) →
       leaf_count (covers_at state_place leaf_place) s input
       ≡ one_if (covered (covers_at state_place leaf_place) (root_content s) input)
-  pub leaves : (m : ℕ) → m < length s.nodes → status s m ≡ Leaf →
+  pub leaves : (m : ℕ) → m < length s.nodes → status s m ≡ IsLeaf →
       HasLeaf (IsLeafRight rules s m) (content s m)
   pub walked : IsWalked (choices_at state_place leaf_place) (cut_in rules.cut) rules.targets s
   pub apart : AreNodesApart (place_in state_place leaf_place) rules.decides s
   pub few : length s.nodes < 2 ^ 32
+
+-- the entry is of a leaf of the tree: its node is a leaf, and of what that holds this leaf is read
+pub record IsLeafOf {S L : Type 0} (leaf_of : L → Leaf) (s : Story (Content S L))
+    (entry : LeafNode) : Type 0 where
+  pub is_leaf : status s entry.node ≡ IsLeaf
+  pub held : L
+  pub is_held : content s entry.node ≡ Some (Shut held)
+  pub same : leaf_of held ≡ entry.leaf
+
+-- what is read of a worker's leaf tells the choices that lead to it, and why it was cut
+pub record Reads {S L : Type 0} (rules : Rules S L) (leaf_place : L → Place)
+    (leaf_of : L → Leaf) : Type 0 where
+  pub choices : (l : L) → (leaf_place l).choices ≡ (leaf_of l).choices
+  pub cause : (l : L) → rules.cut l ≡ cause_of (leaf_of l).end
