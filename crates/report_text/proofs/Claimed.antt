@@ -68,7 +68,7 @@ none_is_some x e = cc
 pub same_held : {X : Type 0} (x y : X) → Some x ≡ Some y → x ≡ y
 same_held x y e = cc
 
-same_shut : {S L : Type 0} (x y : L) → ◌≡◌ {A = Content S L} (Shut x) (Shut y) → x ≡ y
+pub same_shut : {S L : Type 0} (x y : L) → ◌≡◌ {A = Content S L} (Shut x) (Shut y) → x ≡ y
 same_shut x y e = cc
 
 pub mapped_at : {X Y : Type 0} (f : X → Y) (xs : List X) (i : ℕ) (y : Y) → slice_get (map f xs) i ≡ Some y → (x : X) × (slice_get xs i ≡ Some x) × (f x ≡ y)

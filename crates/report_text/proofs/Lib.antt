@@ -5,3 +5,5 @@ mod SampleWords
 mod Ranked
 mod EventTexts
 pub mod Claimed
+pub mod Entering
+pub mod Ordering

@@ -56,6 +56,10 @@ numbers_where p (suc n) = numbers_where p n ++ (if p n then n ∷ [] else [])
 abbrev pub leaf_numbers : {R : Type 0} → Story R → List ℕ
 leaf_numbers s = numbers_where (λ m. is_leaf_status (status s m)) (length s.nodes)
 
+-- the place of a leaf is that of its part
+abbrev pub IsPlacedByPart : {L : Type 0} → (part_of : L → Part) → (L → Place) → Type 0
+IsPlacedByPart {L} part_of leaf_place = (leaf : L) → leaf_place leaf ≡ place_of (part_of leaf).leaf
+
 module _ {S L : Type 0} (part_of : L → Part) where
   -- at the node is this leaf
   pub record IsLeafAt (s : Story (Content S L)) (node : ℕ) (part : Part) : Type 0 where
@@ -64,10 +68,6 @@ module _ {S L : Type 0} (part_of : L → Part) where
     pub leaf : L
     pub held : content s node ≡ Some (Shut leaf)
     pub same : part_of leaf ≡ part
-
-  -- the place of a leaf is that of its part
-  abbrev pub IsPlacedByPart : (L → Place) → Type 0
-  IsPlacedByPart leaf_place = (leaf : L) → leaf_place leaf ≡ place_of (part_of leaf).leaf
 
   -- the choices lead to the leaf at this node
   pub record ChoicesLead (s : Story (Content S L)) (r : RankedLeaf) : Type 0 where
@@ -98,7 +98,7 @@ module _ {S L : Type 0} (part_of : L → Part) where
   pub record AskAsClaimed (rules : Rules S L) (leaf_place : L → Place) (image : Image) (regions : List Region) (budgets : Budgets) : Type 0 where
     pub right : (sides : List Choice) (leaf : L) → rules.IsRight sides leaf → IsRight image regions budgets.steps budgets.targets sides (part_of leaf)
     pub cut : (leaf : L) → rules.cut leaf ≡ cause_of (part_of leaf).leaf.end
-    pub place : IsPlacedByPart leaf_place
+    pub place : IsPlacedByPart part_of leaf_place
     pub decides : (input : List ℕ) → rules.decides input ≡ decisions image regions input budgets.steps
     pub targets : rules.targets ≡ budgets.targets
 

@@ -5,8 +5,10 @@
 mod event_lines;
 mod file_names;
 pub mod laws;
+mod leaves;
 mod marked;
 mod ranking;
+mod report;
 mod report_json;
 mod reported;
 mod sample_test;
@@ -17,7 +19,9 @@ mod tests;
 
 pub use event_lines::write_events;
 pub use file_names::{events_name, leaf_name, report_name, spent_name, test_name};
+pub use leaves::HasPart;
 pub use marked::Marked;
+pub use report::{Report, make_report};
 pub use ranking::{RankedLeaf, sort_by_rank};
 pub use report_json::write_report;
 pub use reported::Reported;
