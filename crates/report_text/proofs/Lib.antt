@@ -7,3 +7,4 @@ mod EventTexts
 pub mod Claimed
 pub mod Entering
 pub mod Ordering
+pub mod FileList

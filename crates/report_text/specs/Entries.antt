@@ -9,7 +9,7 @@ use Rattle.tree_core.specs.Stories.{Story, content, status}
 use Rattle.tree_core.specs.declared.budgets.Budgets.{Budgets}
 use Rattle.tree_core.specs.declared.choice.Choice.{Choice}
 use Rattle.tree_core.specs.declared.node.Status.TheVariants.{Leaf as IsLeaf}
-use Rattle.fork_spec.specs.Histories.{cause_of, is_leaf_status}
+use Rattle.fork_spec.specs.Histories.{LeafNode, cause_of, is_leaf_status}
 use Rattle.fork_spec.specs.Leaves.{Leaf}
 use Rattle.fork_spec.specs.Partings.{Place, place_of}
 use Rattle.fork_spec.specs.Parts.{Evidence, IsRight, OnTargets, Part}
@@ -41,6 +41,10 @@ beside_of regions rank leaf None None = Spending (record { term = 0; found = [] 
 -- the entry of a leaf at this node, of this rank
 abbrev pub entry_of : List Region → (rank : ℕ) → LeafAt → Entry
 entry_of regions rank l = record { leaf = l.part.now.leaf; node = l.node; beside = beside_of regions rank l.part.now.leaf l.part.now.sample l.part.now.evidence }
+
+-- the leaf at its node
+abbrev pub node_of : LeafAt → LeafNode
+node_of l = record { leaf = l.part.now.leaf; node = l.node }
 
 -- the entries of leaves, whose ranks begin with this one
 unfoldable pub entries_of : List Region → (rank : ℕ) → List LeafAt → List Entry
@@ -111,6 +115,10 @@ HasBeside places None None = ⊥
 -- a leaf of which a report can be written
 abbrev pub IsReportable : Part → Type 0
 IsReportable part = HasBeside part.leaf.condition.graph.inputs part.sample part.evidence
+
+-- so it is of each leaf of a tree
+abbrev pub AreReportable : {S L : Type 0} → (part_of : L → Part) → Story (Content S L) → Type 0
+AreReportable {S} {L} part_of s = (m : ℕ) (leaf : L) → m < length s.nodes → status s m ≡ IsLeaf → content s m ≡ Some (Shut leaf) → IsReportable (part_of leaf)
 
 -- these files and this line are the report of the leaves of a tree, in the folder `out`
 pub record IsReportOfTree {S L : Type 0} (part_of : L → Part) (cut : L → Option Cause) (out : List ℕ) (regions : List Region) (budgets : Budgets) (workers : ℕ)

@@ -1,13 +1,10 @@
 //! The report of a tree that is done: its files, and the line that is said.
 
-ghost use Rattle.std.specs.Prelude.{◌≡◌, ◌<◌, ◌++◌, ◌∷◌, [], All, IfOk, OnOk, ℕ, Some, length};
-ghost use Rattle.tree_core.specs.Stories.{content, status};
-ghost use Rattle.tree_core.specs.declared.node.Status.TheVariants.{Leaf};
-ghost use Rattle.fork_spec.specs.Written.{lines_of};
+ghost use Rattle.std.specs.Prelude.{◌≡◌, ◌<◌, ◌^◌, ◌++◌, ◌∷◌, [], All, IfOk, OnOk, length, map};
+ghost use Rattle.fork_spec.specs.Written.{lines_of, nodes_after};
 ghost use Rattle.fork_tree.specs.Contents.{cut_in};
 ghost use Rattle.fork_tree.specs.Drains.{IsDrained};
-ghost use Rattle.fork_tree.specs.declared.content.Content.TheVariants.{Shut};
-ghost use Rattle.report_text.specs.Entries.{IsPlacedByPart, IsReportOfTree, IsReportable, beside_of, entries_of};
+ghost use Rattle.report_text.specs.Entries.{AreReportable, IsPlacedByPart, IsReportOfTree, IsReportable, beside_of, entries_of, node_of};
 ghost use Rattle.report_text.specs.Files.{beside_put, events_put, files_from, leaf_put, report_put};
 
 use crate::event_lines::write_events;
@@ -110,8 +107,35 @@ fn push_leaves(
     Ok(())
 }
 
-/// The report of a tree that is done, in the folder `out`: of a program with its input bytes in these regions, with the budgets and the
-/// number of workers that were asked for.
+// The file of the events.
+fn events_file<W: Work>(alloc: Global, out: &str, tree: &Tree<W>) -> Result<NamedFile, NoMemory>
+where
+    W::Leaf: Marked,
+    requires { nodes_after 1 tree.now.story.events ≡ length tree.now.story.nodes }
+    ensures { IfOk result (λ file. file ≡ events_put out.now (lines_of (cut_in W.Leaf.cut) tree.now.story)) }
+{
+    let text = write_events(alloc, tree.nodes(), tree.events())?;
+    Ok(NamedFile::new(events_name(alloc, out)?, text))
+}
+
+// The file of the report's JSON.
+fn report_file(
+    alloc: Global,
+    out: &str,
+    regions: &Regions,
+    budgets: &Budgets,
+    workers: u32,
+    leaves: &[LeafAt<'_>],
+) -> Result<NamedFile, NoMemory>
+    requires { length leaves.now < 2 ^ 32 }
+    ensures { IfOk result (λ file. file ≡ report_put out.now budgets.now workers regions.now (map node_of leaves.now)) }
+{
+    let text = write_report(alloc, budgets, workers, regions, leaves)?;
+    Ok(NamedFile::new(report_name(alloc, out)?, text))
+}
+
+/// The report of a tree that is done, in the folder `out`: of a program with its input bytes in these regions, with the budgets
+/// and the number of workers that were asked for.
 pub fn make_report<W: Work>(
     alloc: Global,
     out: &str,
@@ -123,19 +147,16 @@ pub fn make_report<W: Work>(
 where
     W::Leaf: HasPart + Marked,
     requires placed { IsPlacedByPart W.Leaf.part W.Leaf.place }
-    requires marked { (l : W.Leaf) → W.Leaf.cut l ≡ (W.rules tree.now.worker).cut l }
     requires done { IsDrained (W.rules tree.now.worker) W.State.place W.Leaf.place tree.now.story }
-    requires reportable { (m : ℕ) (l : W.Leaf) → m < length tree.now.story.nodes → status tree.now.story m ≡ Leaf → content tree.now.story m ≡ Some (Shut l) → IsReportable (W.Leaf.part l) }
-    ensures { IfOk result (λ report. IsReportOfTree W.Leaf.part (W.rules tree.now.worker).cut out.now regions.now budgets.now workers tree.now.story report.files.items report.summary) }
+    requires reportable { AreReportable W.Leaf.part tree.now.story }
+    ensures { IfOk result (λ report. IsReportOfTree W.Leaf.part W.Leaf.cut out.now regions.now budgets.now workers tree.now.story report.files.items report.summary) }
 {
     let leaves = by_rank(alloc, tree)?;
     let summary = summarize(&leaves);
     let mut files = Vec::new(alloc);
-    let events = write_events(alloc, tree.nodes(), tree.events())?;
-    files.push(NamedFile::new(events_name(alloc, out)?, events))?;
+    files.push(events_file(alloc, out, tree)?)?;
     push_leaves(alloc, &mut files, out, regions, &leaves)?;
-    let json = write_report(alloc, budgets, workers, regions, &leaves)?;
-    files.push(NamedFile::new(report_name(alloc, out)?, json))?;
+    files.push(report_file(alloc, out, regions, budgets, workers, &leaves)?)?;
     Ok(Report {
         files,
         summary: summary_line(alloc, &summary)?,
