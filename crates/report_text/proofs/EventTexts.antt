@@ -1,10 +1,10 @@
-use Rattle.std.proofs.Common.{◌≡◌, ◌∙◌, ℕ, suc, ◌+◌, ◌<◌, ◌≤◌, List, [], ◌∷◌, ◌++◌, Option, ap, append_assoc, add-one, arith, codes, decimal, drop, get_or, length, refl, sym}
+use Rattle.std.proofs.Common.{◌≡◌, ℕ, ◌+◌, ◌<◌, ◌≤◌, List, [], ◌∷◌, ◌++◌, Option, ap, append_assoc, add-one, arith, codes, decimal, drop, get_or, length, refl, sym}
 use Rattle.std.proofs.Math.Seq.{drop-cons}
 use Rattle.std.proofs.lemmas.List.{append-nil, drop_all}
 use Rattle.tree_core.specs.declared.cause.Cause.{Cause}
 use Rattle.tree_core.specs.declared.event.Event.{Event}
 use Rattle.tree_core.specs.declared.node.Node.{Node}
-use Rattle.fork_spec.specs.Walks.{Line, Side}
+use Rattle.fork_spec.specs.Walks.{Side}
 use Rattle.fork_spec.specs.Written.{born_by, lines_from, nodes_after, written}
 use Rattle.report_text.specs.Events.{actors_text, cut_text, deed_text, events_text, sides_text}
 

@@ -1,12 +1,10 @@
 -- The files of a report, which stand in a folder, and the line that is said.
-use Rattle.std.specs.Prelude.{◌≡◌, ℕ, ◌+◌, List, [], ◌∷◌, ◌++◌, map}
+use Rattle.std.specs.Prelude.{ℕ, ◌+◌, List, [], ◌∷◌, ◌++◌, map}
 use Rattle.elf_load.specs.declared.region.Region.{Region}
 use Rattle.tool_io.specs.Told.{Put}
 use Rattle.tree_core.specs.declared.budgets.Budgets.{Budgets}
-use Rattle.fork_spec.specs.Evidence.{Spent}
 use Rattle.fork_spec.specs.Histories.{LeafNode}
 use Rattle.fork_spec.specs.Leaves.{Leaf, worth}
-use Rattle.fork_spec.specs.Parts.{Evidence, OnTargets, Part}
 use Rattle.fork_spec.specs.Runs.{end_on}
 use Rattle.fork_spec.specs.Walks.{Line}
 use Rattle.smt_text.specs.LeafLines.{leaf_text}

@@ -1,4 +1,4 @@
-use Rattle.std.proofs.Common.{◌≡◌, map, take, length, ◌<◌}
+use Rattle.std.proofs.Common.{◌≡◌, map, take}
 use Rattle.std.proofs.Common.{◌≤◌, ◌*◌, ◌-◌, ◌^◌}
 use Rattle.report_text.specs.Reports.{leaves_in}
 use Rattle.report_text.specs.Summaries.{count}
