@@ -217,7 +217,6 @@ not_held p n m lt none = by_test (p m) (count_at p n m lt)
 module _ {S L : Type 0} (part_of : L → Part) (rules : Rules S L) (state_place : S → Place) (leaf_place : L → Place)
     (image : Image) (regions : List Region) (budgets : Budgets) (asks : AskAsClaimed part_of rules leaf_place image regions budgets)
     (s : Story (Content S L)) (drained : IsDrained rules state_place leaf_place s) (entries : List Entry) (are : AreEntries part_of regions s entries) where
-
   abbrev lines : List Line
   lines = lines_of (cut_in rules.cut) s
 

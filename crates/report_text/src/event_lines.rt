@@ -48,7 +48,11 @@ fn choice_of(origin: Option<Origin>) -> Choice
 fn cut_of<R: Marked>(node: &Node<R>) -> Option<Cause>
     ensures { result ≡ (if node.now.is_leaf then R.cut node.now.content else None) }
 {
-    if node.is_leaf { node.content.cut() } else { None }
+    if node.is_leaf {
+        node.content.cut()
+    } else {
+        None
+    }
 }
 
 /// The side that a node was born as, behind a blank.
@@ -84,12 +88,7 @@ fn plain_line(alloc: Global, deed: &str, by: u32, node: usize) -> Result<String,
 }
 
 /// The line of a leaf that was cut.
-fn cut_line(
-    alloc: Global,
-    by: u32,
-    node: usize,
-    cut: Option<Cause>,
-) -> Result<String, NoMemory>
+fn cut_line(alloc: Global, by: u32, node: usize, cut: Option<Cause>) -> Result<String, NoMemory>
     ensures { IfOk result (λ line. string_bytes line ≡ codes "cut " ++ spec.actors_text by node ++ codes " " ++ spec.cut_text cut ++ codes "\n") }
 {
     let (mut worker, mut place) = (Buffer::new(), Buffer::new());
@@ -128,9 +127,7 @@ fn event_line<R: Marked>(
     let (by, node) = (event.by, event.node);
     match &event.deed {
         Deed::Claim => plain_line(alloc, "claim", by, node),
-        Deed::Split(count) => {
-            split_line(alloc, by, node, first, &nodes[first..first + *count])
-        }
+        Deed::Split(count) => { split_line(alloc, by, node, first, &nodes[first..first + *count]) }
         Deed::Finish(_) => plain_line(alloc, "finish", by, node),
         Deed::Cut(leaf) => cut_line(alloc, by, node, leaf.cut()),
         Deed::Release => plain_line(alloc, "release", by, node),

@@ -1,10 +1,9 @@
 //! The text of events, byte for byte.
 
+ghost use Rattle.std.specs.Prelude.{◌≡◌};
+
 use crate::{Marked, events_name, write_events};
-use std::alloc::{AllocError as NoMemory, Global};
-use std::process::Abort;
 use std::test::Fail;
-use tool_io::Bytes;
 use tree_core::{Cause, Choice, Deed, Event, Node, Noted, Origin};
 
 /// A program with one path.
@@ -56,6 +55,53 @@ fn root() -> Node<Mark> {
 }
 
 /// The event of a worker and a node.
-fn event(by: u32, node: usize, deed: Deed<Mark, usize>) -> Noted<Mark> {
+fn event(by: u32, node: usize, deed: Deed<Mark, usize>) -> Noted<Mark>
+    ensures { result ≡ record { by = by; node = node; deed = deed } }
+{
     Event { by, node, deed }
+}
+
+#[test]
+fn a_program_with_one_path_is_claimed_and_finished(rt: HostRuntime) -> Result<(), Fail> {
+    let nodes = [root()];
+    let events = [
+        event(0, 0, Deed::Claim),
+        event(0, 0, Deed::Finish(Mark(None))),
+    ];
+    let text = write_events(rt.alloc(), &nodes, &events)?;
+    assert_eq!(rt; text.as_slice(), ONE_LEAF.as_bytes());
+    Ok(())
+}
+
+#[test]
+fn each_deed_has_its_line(rt: HostRuntime) -> Result<(), Fail> {
+    let nodes = [
+        root(),
+        side(0, Choice::No, None),
+        side(0, Choice::Yes, Some(Cause::Conflicts)),
+        side(1, Choice::Value(0x0001_0020), None),
+        side(1, Choice::Value(0xffff_fff8), None),
+        side(1, Choice::Rest, Some(Cause::Targets)),
+    ];
+    let events = [
+        event(0, 0, Deed::Claim),
+        event(0, 0, Deed::Split(2)),
+        event(3, 1, Deed::Claim),
+        event(3, 1, Deed::Release),
+        event(11, 1, Deed::Claim),
+        event(11, 1, Deed::Split(3)),
+        event(2, 3, Deed::Claim),
+        event(2, 3, Deed::Cut(Mark(Some(Cause::Steps)))),
+        event(0, 4, Deed::Claim),
+        event(0, 4, Deed::Finish(Mark(None))),
+    ];
+    let text = write_events(rt.alloc(), &nodes, &events)?;
+    assert_eq!(rt; text.as_slice(), EACH.as_bytes());
+    Ok(())
+}
+
+#[test]
+fn the_events_have_their_name(rt: HostRuntime) -> Result<(), Fail> {
+    assert_eq!(rt; events_name(rt.alloc(), "out")?.as_str(), "out/events.txt");
+    Ok(())
 }

@@ -1,14 +1,12 @@
 //! The JSON text of reports and the line said of them, byte for byte.
 
 use crate::{Reported, report_name, summarize, summary_line, write_report};
-use bv_dag::{Dag, Query};
 use elf_load::{Region, Regions};
+use fork_spec::LeafEnd;
 use rv_decode::Trap;
-use smt_text::{LeafEnd, LeafText};
 use std::alloc::{AllocError as NoMemory, Global};
 use std::test::Fail;
-use tree_core::Budgets;
-use tree_core::{Cause, Choice};
+use tree_core::{Budgets, Cause, Choice};
 
 const ONE_LEAF: &str =
     "{\"budgets\":{\"conflicts\":2000,\"steps\":10000,\"targets\":16,\"workers\":1},\"leaves\":[{\"choices\":\"\",\"end\":\"exit\",\"kind\":\"finished\",\"node\":0,\"steps\":3}],\"regions\":[\"00011000:1\"],\"summary\":{\"cut\":0,\"finished\":1,\"leaves\":1,\"steps\":3,\"tests\":1}}\n";
@@ -25,20 +23,40 @@ const BUDGETS: Budgets = Budgets {
     conflicts: 2_000,
 };
 
-/// A leaf, and the number of its node.
+/// What a report says of a leaf.
 #[derive(Drop)]
-struct Placed {
-    leaf: LeafText,
+struct Shown {
+    choices: Vec<Choice>,
+    steps: u32,
+    end: LeafEnd,
     node: usize,
 }
 
-impl Reported for Placed {
-    ghost use Rattle.report_text.specs.Reports as spec;
+impl Reported for Shown {
+    ghost use Rattle.std.specs.Prelude.{[]};
 
-    ghost entry = { λ p. record { leaf = p.leaf; node = p.node } };
+    ghost leaf_node = { λ s. record {
+      leaf = record {
+        choices = s.choices.items;
+        path = [];
+        steps = s.steps;
+        end = s.end;
+        condition = record { graph = record { inputs = 0; nodes = [] }; asserted = [] };
+        outputs = [];
+      };
+      node = s.node;
+    } };
 
-    fn leaf(&self) -> &LeafText {
-        &self.leaf
+    fn choices(&self) -> &[Choice] {
+        &self.choices
+    }
+
+    fn steps(&self) -> u32 {
+        self.steps
+    }
+
+    fn end(&self) -> LeafEnd {
+        self.end
     }
 
     fn node(&self) -> usize {
@@ -53,16 +71,13 @@ fn make_leaf(
     choices: &[Choice],
     steps: u32,
     end: LeafEnd,
-) -> Result<Placed, NoMemory> {
-    let leaf = LeafText {
+) -> Result<Shown, NoMemory> {
+    Ok(Shown {
         choices: Vec::from_slice(alloc, choices)?,
-        path: Vec::new(alloc),
         steps,
         end,
-        condition: Query::new(Dag::new(alloc, 1), Vec::new(alloc)),
-        outputs: Vec::new(alloc),
-    };
-    Ok(Placed { leaf, node })
+        node,
+    })
 }
 
 /// One input byte.
@@ -94,7 +109,7 @@ fn a_report_of_two_leaves(rt: HostRuntime) -> Result<(), Fail> {
     let regions = one_region(rt.alloc())?;
     let text = write_report(rt.alloc(), &BUDGETS, 1, &regions, &leaves)?;
     assert_eq!(rt; text.as_slice(), TWO_LEAVES.as_bytes());
-    let line = summary_line(rt.alloc(), &summarize(&leaves)?)?;
+    let line = summary_line(rt.alloc(), &summarize(&leaves))?;
     assert_eq!(rt;
         line.as_slice(),
         "leaves 2 finished 2 cut 0 tests 2 steps 13\n".as_bytes()
@@ -115,7 +130,7 @@ fn a_report_of_leaves_that_were_cut(rt: HostRuntime) -> Result<(), Fail> {
     let regions = one_region(rt.alloc())?;
     let text = write_report(rt.alloc(), &BUDGETS, 1, &regions, &leaves)?;
     assert_eq!(rt; text.as_slice(), CUT.as_bytes());
-    let line = summary_line(rt.alloc(), &summarize(&leaves)?)?;
+    let line = summary_line(rt.alloc(), &summarize(&leaves))?;
     assert_eq!(rt;
         line.as_slice(),
         "leaves 3 finished 1 cut 2 tests 2 steps 4\n".as_bytes()

@@ -1,9 +1,9 @@
 //! What was spent, byte for byte, and the names of a leaf's files.
 
 use crate::{leaf_name, spent_name, test_name, write_targets};
-use node_split::{Found, Spent};
 use std::alloc::{AllocError as NoMemory, Global};
 use std::test::Fail;
+use sym_state::{Found, Spent};
 use tool_io::Bytes;
 
 /// Two values of a term over two input bytes.
