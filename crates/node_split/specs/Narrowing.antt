@@ -14,7 +14,8 @@ is_side false number = not (number == 1)
 
 -- the assignment meets the condition, and is on this side of the term
 abbrev pub answers : Graph → List ℕ → ℕ → Bool → List ℕ → Bool
-answers terms condition term side input = holds (record { graph = terms; asserted = condition }) input && is_side side (number_of terms term input)
+answers terms condition term side input =
+    holds (record { graph = terms; asserted = condition }) input && is_side side (number_of terms term input)
 
 -- A run on one side of a fork: it stands for those assignments of the run before it that pass a
 -- test, and has less to do.

@@ -64,7 +64,8 @@ pub record IsEnding (p : Program) (s : Symbolic) (end : RunEnd) : Type 0 where
   pub numbers : HasSmallNumbers s
   pub sampled : (s.sample < 256) × (meets s (s.sample ∷ []) ≡ true)
   pub ends : (input : List ℕ) → IsAssignment (regions_of p) input → meets s input ≡ true →
-      IsRunOf (run p.image (regions_of p) input s.steps) s.steps s.path (Some (end_on s input end)) (numbers_of s.terms input s.output)
+      IsRunOf (run p.image (regions_of p) input s.steps) s.steps s.path (Some (end_on s input end))
+      (numbers_of s.terms input s.output)
   pub alike : DecidedAlike p s
 
 -- a conditional branch comes next, of two registers that are not both numbers

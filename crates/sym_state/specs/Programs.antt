@@ -33,4 +33,6 @@ pub record IsRunnable (p : Program) : Type 0 where
 
 -- the code of programs, by which they are told apart
 abbrev pub program_code : Coded Program
-program_code = code_by (Image × ℕ) (coded× image_code coded_ℕ) (λ p. (p.image, p.place)) (λ c. record { image = c.0; place = c.1 }) (λ _. refl)
+program_code =
+    code_by (Image × ℕ) (coded× image_code coded_ℕ) (λ p. (p.image, p.place))
+    (λ c. record { image = c.0; place = c.1 }) (λ _. refl)

@@ -98,7 +98,9 @@ Goes side c = GoesBy side c (fetch c.flags c.byte c.pc)
 -- the side was chosen: all of its runs go this way
 abbrev pub IsDecided : Program → Symbolic → Option Bool → Type 0
 IsDecided p s None = Unit {0}
-IsDecided p s (Some side) = (input : List ℕ) → IsAssignment (regions_of p) input → meets s input ≡ true → Goes side (concrete p s input)
+IsDecided p s (Some side) =
+    (input : List ℕ) → IsAssignment (regions_of p) input → meets s input ≡ true
+    → Goes side (concrete p s input)
 
 -- its numbers are below 2 ^ 32: a step writes 4096 bytes at most
 pub record HasSmallNumbers (s : Symbolic) : Type 0 where
