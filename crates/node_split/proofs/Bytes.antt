@@ -50,14 +50,18 @@ other_side true n h = not_false (n == 1) h where
 other_side false n h = h
 
 -- where no byte is on the other side, all that meets the condition is on this one
-pub one_side : (p : Program) (s : Symbolic) (term : ℕ) (side : Bool) → ((byte : ℕ) → byte < 256 → answers s.terms s.condition term (not side) (byte ∷ []) ≡ false) → (input : List ℕ) → IsAssignment (regions_of p) input → meets s input ≡ true → (number_of s.terms term input == 1) ≡ side
+pub one_side : (p : Program) (s : Symbolic) (term : ℕ) (side : Bool)
+    → ((byte : ℕ) → byte < 256 → answers s.terms s.condition term (not side) (byte ∷ []) ≡ false)
+    → (input : List ℕ) → IsAssignment (regions_of p) input → meets s input ≡ true
+    → (number_of s.terms term input == 1) ≡ side
 one_side p s term side none input assigned meeting =
     let one : IsByte input = one_byte p input assigned in
     let met : meets s (one.byte ∷ []) ≡ true = ap (meets s) (sym one.is) ∙ meeting in
     ap (λ i. number_of s.terms term i == 1) one.is ∙ other_side side (number_of s.terms term (one.byte ∷ [])) (second_false (meets s (one.byte ∷ [])) _ (none one.byte one.small) met)
 
 -- bytes that meet the condition are an assignment
-pub assigned : (p : Program) (s : Symbolic) (input : List ℕ) → s.terms.inputs ≡ 1 → are_bytes input ≡ true → meets s input ≡ true → IsAssignment (regions_of p) input
+pub assigned : (p : Program) (s : Symbolic) (input : List ℕ) → s.terms.inputs ≡ 1
+    → are_bytes input ≡ true → meets s input ≡ true → IsAssignment (regions_of p) input
 assigned p s input one bytes met =
     let long : (length input == s.terms.inputs) ≡ true = (both_true (length input == s.terms.inputs) _ met).0 in
     let same : length input ≡ s.terms.inputs = search (rules, long) in

@@ -45,14 +45,17 @@ use Rattle.node_split.proofs.Bytes.{all_true}
 use Rattle.node_split.proofs.Sharing.{and-assoc}
 
 -- the run of an assignment, where the symbolic run is
-pub still_runs : (p : Program) (s : Symbolic) (g : Graph) (input : List ℕ) → IsOpen p s → Grows s.terms g → IsAssignment (regions_of p) input → meets s input ≡ true
+pub still_runs : (p : Program) (s : Symbolic) (g : Graph) (input : List ℕ) → IsOpen p s
+    → Grows s.terms g → IsAssignment (regions_of p) input → meets s input ≡ true
     → IsRunOf (run p.image (regions_of p) input s.steps) s.steps s.path None (numbers_of g input s.output)
 still_runs p s g input was grows assigned meeting =
     subst (λ (r : Run). IsRunOf r s.steps s.path None (numbers_of g input s.output)) (sym (was.sound input assigned meeting))
     (record { all_steps = refl; same_path = refl; same_end = refl; same_output = sym (numbers-grown s.terms g input s.output grows was.bytes) })
 
 -- A leaf in full.
-pub full_leaf : (s : Symbolic) (g : Graph) (condition : List ℕ) (choices : List Choice) (end : LeafEnd) → HasSmallNumbers s → IsDag g → g.inputs ≡ 1 → length g.nodes < 2 ^ 32 → AreBits g condition → IsByteStatus g end → AreBytes g s.output → All IsSmallChoice choices
+pub full_leaf : (s : Symbolic) (g : Graph) (condition : List ℕ) (choices : List Choice)
+    (end : LeafEnd) → HasSmallNumbers s → IsDag g → g.inputs ≡ 1 → length g.nodes < 2 ^ 32
+    → AreBits g condition → IsByteStatus g end → AreBytes g s.output → All IsSmallChoice choices
     → IsFull (record { choices = choices; path = s.path; steps = s.steps; end = end; condition = record { graph = g; asserted = condition }; outputs = s.output })
 full_leaf s g condition choices end numbers dag one few bits status bytes small = record {
   is_dag = dag;
@@ -67,7 +70,8 @@ full_leaf s g condition choices end numbers dag one few bits status bytes small 
   few_outputs = omega (arith, numbers.few_steps, numbers.few_outputs);
 }
 
-holds-append : (g : Graph) (xs ys input : List ℕ) → holds (record { graph = g; asserted = xs ++ ys }) input ≡ (holds (record { graph = g; asserted = xs }) input && list_all (λ id. number_of g id input == 1) ys)
+holds-append : (g : Graph) (xs ys input : List ℕ)
+    → holds (record { graph = g; asserted = xs ++ ys }) input ≡ (holds (record { graph = g; asserted = xs }) input && list_all (λ id. number_of g id input == 1) ys)
 holds-append g xs ys input = ap (λ b. (length input == g.inputs) && b) (list_all-append (λ id. number_of g id input == 1) xs ys) ∙ and-assoc (length input == g.inputs) _ _
 
 -- the leaf of what is left beside these values
@@ -86,7 +90,8 @@ values-founds : (found : List ValueAt) → values_of (founds_of found) ≡ numbe
 values-founds [] = refl
 values-founds (f ∷ fs) = ap (λ vs. f.value ∷ vs) (values-founds fs)
 
-front : (xs ids : List ℕ) (count : ℕ) → length ids ≡ count → take (length (xs ++ ids) - count) (xs ++ ids) ≡ xs
+front : (xs ids : List ℕ) (count : ℕ) → length ids ≡ count
+    → take (length (xs ++ ids) - count) (xs ++ ids) ≡ xs
 front xs ids count each =
     let long : length (xs ++ ids) - count ≡ length xs = omega (arith, each, length-append xs ids) in
     ap (λ k. take k (xs ++ ids)) long ∙ take-append_seam xs ids
@@ -94,32 +99,41 @@ front xs ids count each =
 one_assigned : (p : Program) (byte : ℕ) → byte < 256 → IsAssignment (regions_of p) (byte ∷ [])
 one_assigned p byte small = (refl, All-cons (λ b. b < 256) byte [] small (All-nil (λ b. b < 256)))
 
-all-bytes : (P : ValueAt → Type 0) (Q : Found → Type 0) (found : List ValueAt) → All P found → ((f : ValueAt) → P f → Q (record { value = f.value; input = f.byte ∷ [] })) → All Q (founds_of found)
+all-bytes : (P : ValueAt → Type 0) (Q : Found → Type 0) (found : List ValueAt) → All P found
+    → ((f : ValueAt) → P f → Q (record { value = f.value; input = f.byte ∷ [] }))
+    → All Q (founds_of found)
 all-bytes P Q found each turn = All-map Q (λ (f : ValueAt). record { value = f.value; input = f.byte ∷ [] }) found (λ k d within. turn (get_or found k d) (each k d within))
 
 module _ (p : Program) (steps targets : ℕ) (s : Symbolic) (g : Graph) (ids : List ℕ) (r offset term : ℕ) (found : List ValueAt) (other : ℕ) (was : IsOpen p s) (at : IsPin p s r offset term) (grows : Grows s.terms g)
     (values : AreValues s.terms s.condition term targets 256 found (Some other)) (each : length ids ≡ length (numbers_in found))
-    (bits : AreBits g ids) (tells : (input : List ℕ) → list_all (λ id. number_of g id input == 1) ids ≡ not (is_among (numbers_in found) (number_of s.terms term input))) where
-  covers-left : (input : List ℕ) → covers (left_leaf s g ids) input ≡ (meets s input && not (is_among (numbers_in found) (number_of s.terms term input)))
+    (bits : AreBits g ids) (tells : (input : List ℕ)
+    → list_all (λ id. number_of g id input == 1) ids ≡ not (is_among (numbers_in found) (number_of s.terms term input))) where
+  covers-left : (input : List ℕ)
+      → covers (left_leaf s g ids) input ≡ (meets s input && not (is_among (numbers_in found) (number_of s.terms term input)))
   covers-left input = holds-append g s.condition ids input ∙ ap (λ b. b && list_all (λ id. number_of g id input == 1) ids) (holds-grown s.terms g s.condition input grows was.bits) ∙ ap (λ b. meets s input && b) (tells input)
 
   count-left : length ids ≡ targets
   count-left = each ∙ length-map found (λ (f : ValueAt). f.value) ∙ (values.others other refl).0
 
-  others-left : (input : List ℕ) → holds (record { graph = g; asserted = take (length (s.condition ++ ids) - targets) (s.condition ++ ids) }) input ≡ meets s input
+  others-left : (input : List ℕ)
+      → holds (record { graph = g; asserted = take (length (s.condition ++ ids) - targets) (s.condition ++ ids) }) input ≡ meets s input
   others-left input = ap (λ xs. holds (record { graph = g; asserted = xs }) input) (front s.condition ids targets count-left) ∙ holds-grown s.terms g s.condition input grows was.bits
 
   term-left : (input : List ℕ) → number_of g term input ≡ number_of s.terms term input
   term-left input = number_of-grown s.terms g term 32 input grows at.wide (omega arith)
 
-  reached-left : (f : ValueAt) → HasValue s.terms s.condition term f → IsReached (regions_of p) (left_leaf s g ids) targets term (record { value = f.value; input = f.byte ∷ [] })
+  reached-left : (f : ValueAt) → HasValue s.terms s.condition term f
+      → IsReached (regions_of p) (left_leaf s g ids) targets term (record { value = f.value; input = f.byte ∷ [] })
   reached-left f (small, holding, has) = record {
     assignment = one_assigned p f.byte small;
     holds_others = others-left (f.byte ∷ []) ∙ holding;
     has_value = term-left (f.byte ∷ []) ∙ has;
   }
 
-  covered-left : (byte : ℕ) → holds (record { graph = s.terms; asserted = s.condition }) (byte ∷ []) ≡ true → is_among (numbers_in found) (number_of s.terms term (byte ∷ [])) ≡ false → IsTrue (covers (left_leaf s g ids) (byte ∷ []))
+  covered-left : (byte : ℕ)
+      → holds (record { graph = s.terms; asserted = s.condition }) (byte ∷ []) ≡ true
+      → is_among (numbers_in found) (number_of s.terms term (byte ∷ [])) ≡ false
+      → IsTrue (covers (left_leaf s g ids) (byte ∷ []))
   covered-left byte holding other = covers-left (byte ∷ []) ∙ all_true _ _ holding (ap not other)
 
   sample-left : IsSample (regions_of p) (left_leaf s g ids) (other ∷ [])
@@ -155,7 +169,8 @@ module _ (p : Program) (steps targets : ℕ) (s : Symbolic) (g : Graph) (ids : L
       was.alike.alike a assigned_a (both_true (meets s a) _ (sym (covers-left a) ∙ on_a)).0
       ∙ sym (was.alike.alike b assigned_b (both_true (meets s b) _ (sym (covers-left b) ∙ on_b)).0)
 
-  pub rest-left : s.steps < steps → IsRest p steps targets s term found (left_part (left_leaf s g ids) term found other)
+  pub rest-left : s.steps < steps
+      → IsRest p steps targets s term found (left_part (left_leaf s g ids) term found other)
   rest-left few = record {
     choices = refl;
     cut = refl;
@@ -170,7 +185,8 @@ module _ (p : Program) (steps targets : ℕ) (s : Symbolic) (g : Graph) (ids : L
   }
 
 -- the bits of what is left
-pub bits-left : (s rest : Symbolic) (term : ℕ) (values : List ℕ) → AreBits s.terms s.condition → IsWithout s term values rest → AreBits rest.terms rest.condition
+pub bits-left : (s rest : Symbolic) (term : ℕ) (values : List ℕ) → AreBits s.terms s.condition
+    → IsWithout s term values rest → AreBits rest.terms rest.condition
 bits-left s rest term values bits is =
     subst (AreBits rest.terms) (sym (ap (λ (r : Symbolic). r.condition) is.same)) (All-append (λ id. width_of rest.terms id ≡ 1) s.condition is.ids (AreBits-grown s.terms rest.terms s.condition is.grows bits) is.bits)
 
@@ -185,7 +201,8 @@ module _ (p : Program) (steps targets : ℕ) (s rest : Symbolic) (r offset term 
       subst (λ (t : Symbolic). IsFull (left_as (with_rest t) (Cut Targets))) (sym is.same)
       (full-left p steps targets s rest.terms is.ids r offset term found other was at is.grows values is.each is.bits is.tells)
 
-  pub rest_made : s.steps < steps → IsRest p steps targets s term found (left_part (left_as (with_rest rest) (Cut Targets)) term found other)
+  pub rest_made : s.steps < steps
+      → IsRest p steps targets s term found (left_part (left_as (with_rest rest) (Cut Targets)) term found other)
   rest_made few =
       subst (λ (t : Symbolic). IsRest p steps targets s term found (left_part (left_as (with_rest t) (Cut Targets)) term found other)) (sym is.same)
       (rest-left p steps targets s rest.terms is.ids r offset term found other was at is.grows values is.each is.bits is.tells few)
@@ -195,7 +212,8 @@ pub cut_full : (p : Program) (s : Symbolic) → IsOpen p s → IsFull (left_as s
 cut_full p s was = full_leaf s s.terms s.condition s.choices (Cut Steps) was.numbers was.dag was.one_input was.numbers.few_terms was.bits tt was.bytes was.numbers.choices
 
 -- all that meets its condition has decided alike
-alike_as : (p : Program) (s : Symbolic) (g : Graph) (end : LeafEnd) → DecidedAlike p s → ((input : List ℕ) → holds (record { graph = g; asserted = s.condition }) input ≡ meets s input)
+alike_as : (p : Program) (s : Symbolic) (g : Graph) (end : LeafEnd) → DecidedAlike p s
+    → ((input : List ℕ) → holds (record { graph = g; asserted = s.condition }) input ≡ meets s input)
     → DecidesAlike p.image (regions_of p) (left_as (with_terms s g) end)
 alike_as p s g end was same = λ a b assigned_a on_a assigned_b on_b.
     was.alike a assigned_a (sym (same a) ∙ on_a) ∙ sym (was.alike b assigned_b (sym (same b) ∙ on_b))
@@ -216,7 +234,9 @@ cut_whole p steps targets s was spent = record {
 }
 
 -- A run whose runs have all ended.
-ended_runs : (p : Program) (s : Symbolic) (g : Graph) (end : RunEnd) (said : Option End) (input : List ℕ) → IsEnding p s end → Grows s.terms g → said ≡ Some (ends_on s input end) → IsAssignment (regions_of p) input → meets s input ≡ true
+ended_runs : (p : Program) (s : Symbolic) (g : Graph) (end : RunEnd) (said : Option End)
+    (input : List ℕ) → IsEnding p s end → Grows s.terms g → said ≡ Some (ends_on s input end)
+    → IsAssignment (regions_of p) input → meets s input ≡ true
     → IsRunOf (run p.image (regions_of p) input s.steps) s.steps s.path said (numbers_of g input s.output)
 ended_runs p s g end said input ending grows is assigned meeting =
     subst (λ (e : Option End). IsRunOf (run p.image (regions_of p) input s.steps) s.steps s.path e (numbers_of g input s.output)) (sym is)
@@ -226,7 +246,8 @@ abbrev pub ended_part : Symbolic → LeafEnd → Part
 ended_part s end = record { leaf = left_as s end; sample = Some (s.sample ∷ []); evidence = None }
 
 -- its status is a byte
-ended_status : (s : Symbolic) (g : Graph) (end : RunEnd) (leaf_end : LeafEnd) → EndsLike s g end leaf_end → IsByteStatus g leaf_end
+ended_status : (s : Symbolic) (g : Graph) (end : RunEnd) (leaf_end : LeafEnd)
+    → EndsLike s g end leaf_end → IsByteStatus g leaf_end
 ended_status s g Exits (LeafExits status) (byte, number) = byte
 ended_status s g Exits (LeafTraps other) is = absurd is
 ended_status s g Exits (Cut cause) is = absurd is
@@ -234,12 +255,16 @@ ended_status s g (Traps trap) (LeafExits status) is = absurd is
 ended_status s g (Traps trap) (LeafTraps other) is = tt
 ended_status s g (Traps trap) (Cut cause) is = absurd is
 
-pub ended_full : (p : Program) (s : Symbolic) (g : Graph) (end : RunEnd) (leaf_end : LeafEnd) → IsEnding p s end → Grows s.terms g → EndsLike s g end leaf_end → IsFull (left_as (with_terms s g) leaf_end)
+pub ended_full : (p : Program) (s : Symbolic) (g : Graph) (end : RunEnd) (leaf_end : LeafEnd)
+    → IsEnding p s end → Grows s.terms g → EndsLike s g end leaf_end
+    → IsFull (left_as (with_terms s g) leaf_end)
 ended_full p s g end leaf_end ending grows like =
     full_leaf s g s.condition s.choices leaf_end ending.numbers grows.dag (grows.same_inputs ∙ ending.one_input) (grows.few ending.numbers.few_terms)
     (AreBits-grown s.terms g s.condition grows ending.bits) (ended_status s g end leaf_end like) (AreBytes-grown s.terms g s.output grows ending.bytes) ending.numbers.choices
 
-pub ended_whole : (p : Program) (steps targets : ℕ) (s : Symbolic) (g : Graph) (end : RunEnd) (leaf_end : LeafEnd) → IsEnding p s end → Grows s.terms g → EndsLike s g end leaf_end → s.steps ≤ steps
+pub ended_whole : (p : Program) (steps targets : ℕ) (s : Symbolic) (g : Graph) (end : RunEnd)
+    (leaf_end : LeafEnd) → IsEnding p s end → Grows s.terms g → EndsLike s g end leaf_end
+    → s.steps ≤ steps
     → EndsAs (rules_of p steps targets) run_place leaf_place None s (ended_part (with_terms s g) leaf_end)
 ended_whole p steps targets s g Exits (LeafExits status) ending grows (byte, number) within =
     let same : (input : List ℕ) → holds (record { graph = g; asserted = s.condition }) input ≡ meets s input = λ input. holds-grown s.terms g s.condition input grows ending.bits in record {

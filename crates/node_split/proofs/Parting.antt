@@ -45,10 +45,13 @@ two_decisions b c is_no is_yes is =
 two_choices : No ≢ Yes
 two_choices is = cc is
 
-branch_form : (targets : ℕ) → IsTrue (are_sides targets (record { choice = No; cut = None } ∷ record { choice = Yes; cut = None } ∷ []))
+branch_form : (targets : ℕ)
+    → IsTrue (are_sides targets (record { choice = No; cut = None } ∷ record { choice = Yes; cut = None } ∷ []))
 branch_form targets = refl
 
-forms_are : (p : Program) (steps targets : ℕ) (s : Symbolic) (no_test yes_test : List ℕ → Bool) (left_kid right_kid : Piece) → IsSide p s No no_test left_kid → IsSide p s Yes yes_test right_kid
+forms_are : (p : Program) (steps targets : ℕ) (s : Symbolic) (no_test yes_test : List ℕ → Bool)
+    (left_kid right_kid : Piece) → IsSide p s No no_test left_kid
+    → IsSide p s Yes yes_test right_kid
     → map (side_of_kid (cut_in (rules_of p steps targets).cut)) (left_kid ∷ right_kid ∷ []) ≡ record { choice = No; cut = None } ∷ record { choice = Yes; cut = None } ∷ []
 forms_are p steps targets s no_test yes_test left_kid right_kid left right = cc (side_form p steps targets s No no_test left_kid left, side_form p steps targets s Yes yes_test right_kid right)
 
@@ -56,8 +59,10 @@ forms_are p steps targets s no_test yes_test left_kid right_kid left right = cc 
 abbrev StandsOnSide : Symbolic → Piece → Type 0
 StandsOnSide s k = (content_place k.content).choices ≡ s.choices ++ k.choice ∷ []
 
-pub two_sides : (p : Program) (steps targets : ℕ) (s : Symbolic) (left_kid right_kid : Piece) (term : ℕ) → IsOpen p s → IsBranch p s term → s.steps < steps → 1 ≤ targets
-    → IsSide p s No (λ input. is_side false (number_of s.terms term input)) left_kid → IsSide p s Yes (λ input. is_side true (number_of s.terms term input)) right_kid
+pub two_sides : (p : Program) (steps targets : ℕ) (s : Symbolic) (left_kid right_kid : Piece)
+    (term : ℕ) → IsOpen p s → IsBranch p s term → s.steps < steps → 1 ≤ targets
+    → IsSide p s No (λ input. is_side false (number_of s.terms term input)) left_kid
+    → IsSide p s Yes (λ input. is_side true (number_of s.terms term input)) right_kid
     → IsForkOf p steps targets s (left_kid ∷ right_kid ∷ [])
 two_sides p steps targets s left_kid right_kid term was at few some left right =
     let no_test = λ (input : List ℕ). is_side false (number_of s.terms term input) in

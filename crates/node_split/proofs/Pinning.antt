@@ -29,32 +29,42 @@ differs : (r : ℕ) → (r ≡ 0 → ⊥) → (r == 0) ≡ false
 differs r other = search (rules, other)
 
 -- the register is not x0, which is a number
-not_zero : (rs : List Value) (r : ℕ) → value_at rs 0 ≡ Number 0 → is_term (value_at rs r) ≡ true → (r == 0) ≡ false
+not_zero : (rs : List Value) (r : ℕ) → value_at rs 0 ≡ Number 0 → is_term (value_at rs r) ≡ true
+    → (r == 0) ≡ false
 not_zero rs r zero kind = differs r (λ is. absurd (let here : is_term (value_at rs 0) ≡ true = subst (λ k. is_term (value_at rs k) ≡ true) is kind in let number : is_term (value_at rs 0) ≡ false = ap is_term zero in cc (here, number)))
 
 set_is : (rs : List Value) (r : ℕ) (v : Value) → (r == 0) ≡ false → set_value rs r v ≡ set rs r v
 set_is rs r v other = ap (λ b. if b then rs else set rs r v) other
 
 -- the same number stands there on an assignment
-same_map : (g : Graph) (input : List ℕ) (rs : List Value) (r n : ℕ) → (r == 0) ≡ false → worth_of g input (value_at rs r) ≡ n → map (worth_of g input) (set_value rs r (Number n)) ≡ map (worth_of g input) rs
+same_map : (g : Graph) (input : List ℕ) (rs : List Value) (r n : ℕ) → (r == 0) ≡ false
+    → worth_of g input (value_at rs r) ≡ n
+    → map (worth_of g input) (set_value rs r (Number n)) ≡ map (worth_of g input) rs
 same_map g input rs r n other is = ap (map (worth_of g input)) (set_is rs r (Number n) other) ∙ map-set_same (worth_of g input) rs r (Number n) (Number 0) (sym is)
 
-fewer : (rs : List Value) (r n : ℕ) → (r == 0) ≡ false → r < length rs → is_term (value_at rs r) ≡ true → count_by is_term (set_value rs r (Number n)) + 1 ≡ count_by is_term rs
+fewer : (rs : List Value) (r n : ℕ) → (r == 0) ≡ false → r < length rs
+    → is_term (value_at rs r) ≡ true
+    → count_by is_term (set_value rs r (Number n)) + 1 ≡ count_by is_term rs
 fewer rs r n other within kind =
     let there : ◌≡◌ {A = ℕ} (cond (is_term (value_at rs r)) 1 0) 1 = ap (λ b. cond b 1 0) kind in
     let counted = sum_by-set (λ (v : Value). cond (is_term v) 1 0) rs r (Number n) (Number 0) within in
     let same : count_by is_term (set_value rs r (Number n)) ≡ count_by is_term (set rs r (Number n)) = ap (count_by is_term) (set_is rs r (Number n) other) in
     omega (arith, there, counted, same)
 
-concrete-pinned : (p : Program) (s : Symbolic) (r n : ℕ) (input : List ℕ) → (r == 0) ≡ false → worth_of s.terms input (value_at s.registers r) ≡ n → concrete p (record s { registers = set_value s.registers r (Number n) }) input ≡ concrete p s input
+concrete-pinned : (p : Program) (s : Symbolic) (r n : ℕ) (input : List ℕ) → (r == 0) ≡ false
+    → worth_of s.terms input (value_at s.registers r) ≡ n
+    → concrete p (record s { registers = set_value s.registers r (Number n) }) input ≡ concrete p s input
 concrete-pinned p s r n input other is = ap (λ rs. record (concrete p s input) { registers = rs }) (same_map s.terms input s.registers r n other is)
 
-decided-pinned : (p : Program) (s : Symbolic) (r n : ℕ) (d : Option Bool) → (r == 0) ≡ false → ((input : List ℕ) → IsAssignment (regions_of p) input → meets s input ≡ true → worth_of s.terms input (value_at s.registers r) ≡ n)
+decided-pinned : (p : Program) (s : Symbolic) (r n : ℕ) (d : Option Bool) → (r == 0) ≡ false
+    → ((input : List ℕ) → IsAssignment (regions_of p) input → meets s input ≡ true → worth_of s.terms input (value_at s.registers r) ≡ n)
     → IsDecided p s d → IsDecided p (record s { registers = set_value s.registers r (Number n) }) d
 decided-pinned p s r n None other is goes = tt
 decided-pinned p s r n (Some side) other is goes = λ input assigned meeting. subst (λ (c : State). Goes side c) (sym (concrete-pinned p s r n input other (is input assigned meeting))) (goes input assigned meeting)
 
-pub open_pinned : (p : Program) (s : Symbolic) (r n : ℕ) → IsOpen p s → is_term (value_at s.registers r) ≡ true → n < 2 ^ 32 → ((input : List ℕ) → IsAssignment (regions_of p) input → meets s input ≡ true → worth_of s.terms input (value_at s.registers r) ≡ n)
+pub open_pinned : (p : Program) (s : Symbolic) (r n : ℕ) → IsOpen p s
+    → is_term (value_at s.registers r) ≡ true → n < 2 ^ 32
+    → ((input : List ℕ) → IsAssignment (regions_of p) input → meets s input ≡ true → worth_of s.terms input (value_at s.registers r) ≡ n)
     → IsOpen p (record s { registers = set_value s.registers r (Number n) })
 open_pinned p s r n was kind small is =
     let other = not_zero s.registers r was.zero kind in record {
@@ -74,16 +84,21 @@ open_pinned p s r n was kind small is =
       alike = record { made = was.alike.made; alike = was.alike.alike };
     }
 
-less-pinned : (p : Program) (s : Symbolic) (r n : ℕ) → IsOpen p s → r < 32 → is_term (value_at s.registers r) ≡ true → 34 * (most_steps - s.steps) + count_by is_term (set_value s.registers r (Number n)) + undecided s.decided < left_to_do s
+less-pinned : (p : Program) (s : Symbolic) (r n : ℕ) → IsOpen p s → r < 32
+    → is_term (value_at s.registers r) ≡ true
+    → 34 * (most_steps - s.steps) + count_by is_term (set_value s.registers r (Number n)) + undecided s.decided < left_to_do s
 less-pinned p s r n was within kind =
     let counted = fewer s.registers r n (not_zero s.registers r was.zero kind) (omega (arith, within, was.all_registers)) kind in omega (arith, counted)
 
 -- the number of the register, from that of its sum with an offset
-pub unsum : (x offset v : ℕ) → x < 2 ^ 32 → offset < 2 ^ 32 → v ≡ sum32 x offset → x ≡ (v + (2 ^ 32 - offset)) % 2 ^ 32
+pub unsum : (x offset v : ℕ) → x < 2 ^ 32 → offset < 2 ^ 32 → v ≡ sum32 x offset
+    → x ≡ (v + (2 ^ 32 - offset)) % 2 ^ 32
 unsum x offset v small less is = omega (arith, small, less, is)
 
-worth_small : (p : Program) (s : Symbolic) (r : ℕ) (input : List ℕ) → IsOpen p s → r < 32 → IsAssignment (regions_of p) input → worth_of s.terms input (value_at s.registers r) < 2 ^ 32
-worth_small p s r input was within assigned = was.small input assigned r (Number 0) (omega (arith, within, was.all_registers))
+worth_small : (p : Program) (s : Symbolic) (r : ℕ) (input : List ℕ) → IsOpen p s → r < 32
+    → IsAssignment (regions_of p) input → worth_of s.terms input (value_at s.registers r) < 2 ^ 32
+worth_small p s r input was within assigned =
+    was.small input assigned r (Number 0) (omega (arith, within, was.all_registers))
 
 by_test : (b : Bool) → ((if b then 1 else 0) == 1) ≡ b
 by_test true = refl
@@ -93,8 +108,11 @@ equal_one : (n v : ℕ) → ((if n == v then 1 else 0) == 1) ≡ (n == v)
 equal_one n v = by_test (n == v)
 
 -- The side on which the term has a value.
-pub value_narrower : (p : Program) (s : Symbolic) (g : Graph) (r offset term equal n : ℕ) (f : ValueAt) → IsOpen p s → IsPin p s r offset term → HasValue s.terms s.condition term f → f.value < 2 ^ 32 → Grows s.terms g → width_of g equal ≡ 1
-    → ((input : List ℕ) → number_of g equal input ≡ (if number_of s.terms term input == f.value then 1 else 0)) → n ≡ (f.value + (2 ^ 32 - offset)) % 2 ^ 32
+pub value_narrower : (p : Program) (s : Symbolic) (g : Graph) (r offset term equal n : ℕ)
+    (f : ValueAt) → IsOpen p s → IsPin p s r offset term → HasValue s.terms s.condition term f
+    → f.value < 2 ^ 32 → Grows s.terms g → width_of g equal ≡ 1
+    → ((input : List ℕ) → number_of g equal input ≡ (if number_of s.terms term input == f.value then 1 else 0))
+    → n ≡ (f.value + (2 ^ 32 - offset)) % 2 ^ 32
     → IsNarrower p s (record (narrowed (with_terms s g) (OfValue f.value) equal f.byte) { registers = set_value s.registers r (Number n) }) (OfValue f.value) (λ input. number_of s.terms term input == f.value)
 value_narrower p s g r offset term equal n f was at (small_byte, met, has) small grows bit tells is_n =
     let before : (input : List ℕ) → meets (with_terms s g) input ≡ meets s input = λ input. holds-grown s.terms g s.condition input grows was.bits in
@@ -114,7 +132,9 @@ value_narrower p s g r offset term equal n f was at (small_byte, met, has) small
     }
 
 -- The run where the term has one value alone, without the terms that were made to ask.
-pub goes_pinned : (p : Program) (s : Symbolic) (g : Graph) (r offset term v n : ℕ) → IsOpen p s → Grows s.terms g → IsPin p (with_terms s g) r offset term → n ≡ (v + (2 ^ 32 - offset)) % 2 ^ 32
+pub goes_pinned : (p : Program) (s : Symbolic) (g : Graph) (r offset term v n : ℕ) → IsOpen p s
+    → Grows s.terms g → IsPin p (with_terms s g) r offset term
+    → n ≡ (v + (2 ^ 32 - offset)) % 2 ^ 32
     → ((input : List ℕ) → IsAssignment (regions_of p) input → meets (with_terms s g) input ≡ true → number_of g term input ≡ v)
     → GoesOn p (with_terms s g) (record s { registers = set_value s.registers r (Number n) })
 goes_pinned p s g r offset term v n was grows at is_n one = record {

@@ -28,20 +28,24 @@ and_last true true false = refl
 and_last true false c = refl
 and_last false b c = refl
 
-pub meets-narrowed : (s : Symbolic) (choice : Choice) (term sample : ℕ) (input : List ℕ) → meets (narrowed s choice term sample) input ≡ (meets s input && (number_of s.terms term input == 1))
+pub meets-narrowed : (s : Symbolic) (choice : Choice) (term sample : ℕ) (input : List ℕ)
+    → meets (narrowed s choice term sample) input ≡ (meets s input && (number_of s.terms term input == 1))
 meets-narrowed s choice term sample input =
     ap (λ b. (length input == s.terms.inputs) && b) (list_all-append (λ id. number_of s.terms id input == 1) s.condition (term ∷ []))
     ∙ and_last (length input == s.terms.inputs) (list_all (λ id. number_of s.terms id input == 1) s.condition) (number_of s.terms term input == 1)
 
-pub met_before : (s : Symbolic) (choice : Choice) (term sample : ℕ) (input : List ℕ) → meets (narrowed s choice term sample) input ≡ true → meets s input ≡ true
+pub met_before : (s : Symbolic) (choice : Choice) (term sample : ℕ) (input : List ℕ)
+    → meets (narrowed s choice term sample) input ≡ true → meets s input ≡ true
 met_before s choice term sample input h = (both_true (meets s input) (number_of s.terms term input == 1) (sym (meets-narrowed s choice term sample input) ∙ h)).0
 
-renamed : (p : Program) (s : Symbolic) (d e : Option Bool) → IsDecided p s e → IsDecided p (record s { decided = d }) e
+renamed : (p : Program) (s : Symbolic) (d e : Option Bool) → IsDecided p s e
+    → IsDecided p (record s { decided = d }) e
 renamed p s d None is = tt
 renamed p s d (Some side) is = is
 
 -- a run whose next branch goes one way, and nothing else changes
-pub open_decided : (p : Program) (s : Symbolic) (d : Option Bool) → IsOpen p s → IsDecided p s d → IsOpen p (record s { decided = d })
+pub open_decided : (p : Program) (s : Symbolic) (d : Option Bool) → IsOpen p s → IsDecided p s d
+    → IsOpen p (record s { decided = d })
 open_decided p s d was is = record {
   dag = was.dag;
   one_input = was.one_input;
@@ -59,11 +63,15 @@ open_decided p s d was is = record {
   alike = record { made = was.alike.made; alike = was.alike.alike };
 }
 
-narrower_decided : (p : Program) (s : Symbolic) (choice : Choice) (term sample : ℕ) (d : Option Bool) → IsDecided p s d → IsDecided p (narrowed s choice term sample) d
+narrower_decided : (p : Program) (s : Symbolic) (choice : Choice) (term sample : ℕ)
+    (d : Option Bool) → IsDecided p s d → IsDecided p (narrowed s choice term sample) d
 narrower_decided p s choice term sample None is = tt
-narrower_decided p s choice term sample (Some side) is = λ input assigned meeting. is input assigned (met_before s choice term sample input meeting)
+narrower_decided p s choice term sample (Some side) is =
+    λ input assigned meeting. is input assigned (met_before s choice term sample input meeting)
 
-pub open_narrowed : (p : Program) (s : Symbolic) (choice : Choice) (term sample : ℕ) → IsOpen p s → IsSmallChoice choice → width_of s.terms term ≡ 1 → sample < 256 → meets s (sample ∷ []) ≡ true → (number_of s.terms term (sample ∷ []) == 1) ≡ true → IsOpen p (narrowed s choice term sample)
+pub open_narrowed : (p : Program) (s : Symbolic) (choice : Choice) (term sample : ℕ) → IsOpen p s
+    → IsSmallChoice choice → width_of s.terms term ≡ 1 → sample < 256 → meets s (sample ∷ []) ≡ true
+    → (number_of s.terms term (sample ∷ []) == 1) ≡ true → IsOpen p (narrowed s choice term sample)
 open_narrowed p s choice term sample was small bit below met one = record {
   dag = was.dag;
   one_input = was.one_input;
@@ -88,11 +96,13 @@ open_narrowed p s choice term sample was small bit below met one = record {
 }
 
 -- choosing the side of a branch leaves less to do
-pub less-decided : (steps : ℕ) (rs : List Value) (d : Option Bool) → d ≡ None → 34 * (most_steps - steps) + count_by is_term rs + 0 < 34 * (most_steps - steps) + count_by is_term rs + undecided d
+pub less-decided : (steps : ℕ) (rs : List Value) (d : Option Bool) → d ≡ None
+    → 34 * (most_steps - steps) + count_by is_term rs + 0 < 34 * (most_steps - steps) + count_by is_term rs + undecided d
 less-decided steps rs d none = let one : undecided d ≡ 1 = ap undecided none in omega (arith, one)
 
 -- the side on which the branch is taken
-pub yes_narrower : (p : Program) (s : Symbolic) (term sample : ℕ) → IsOpen p s → IsBranch p s term → sample < 256 → answers s.terms s.condition term true (sample ∷ []) ≡ true
+pub yes_narrower : (p : Program) (s : Symbolic) (term sample : ℕ) → IsOpen p s → IsBranch p s term
+    → sample < 256 → answers s.terms s.condition term true (sample ∷ []) ≡ true
     → IsNarrower p s (record (narrowed s Yes term sample) { decided = Some true }) Yes (λ input. is_side true (number_of s.terms term input))
 yes_narrower p s term sample was at small answer =
     let parts = both_true (meets s (sample ∷ [])) (number_of s.terms term (sample ∷ []) == 1) answer in record {
@@ -107,7 +117,9 @@ yes_narrower p s term sample was at small answer =
     }
 
 -- and the side on which it isn't, where the term's negation is 1
-pub no_narrower : (p : Program) (s : Symbolic) (g : Graph) (term negated sample : ℕ) → IsOpen p s → IsBranch p s term → Grows s.terms g → width_of g negated ≡ 1 → ((input : List ℕ) → number_of g negated input ≡ 1 - number_of s.terms term input)
+pub no_narrower : (p : Program) (s : Symbolic) (g : Graph) (term negated sample : ℕ) → IsOpen p s
+    → IsBranch p s term → Grows s.terms g → width_of g negated ≡ 1
+    → ((input : List ℕ) → number_of g negated input ≡ 1 - number_of s.terms term input)
     → sample < 256 → answers s.terms s.condition term false (sample ∷ []) ≡ true
     → IsNarrower p s (record (narrowed (with_terms s g) No negated sample) { decided = Some false }) No (λ input. is_side false (number_of s.terms term input))
 no_narrower p s g term negated sample was at grows bit tells small answer =
@@ -128,7 +140,9 @@ no_narrower p s g term negated sample was at grows bit tells small answer =
     }
 
 -- along one side, without the terms that were made to ask
-pub goes_one : (p : Program) (s : Symbolic) (g : Graph) (term : ℕ) (side : Bool) → IsOpen p s → Grows s.terms g → IsBranch p (with_terms s g) term → ((byte : ℕ) → byte < 256 → answers g s.condition term (not side) (byte ∷ []) ≡ false)
+pub goes_one : (p : Program) (s : Symbolic) (g : Graph) (term : ℕ) (side : Bool) → IsOpen p s
+    → Grows s.terms g → IsBranch p (with_terms s g) term
+    → ((byte : ℕ) → byte < 256 → answers g s.condition term (not side) (byte ∷ []) ≡ false)
     → GoesOn p (with_terms s g) (record s { decided = Some side })
 goes_one p s g term side was grows at none = record {
   is_open = open_decided p s (Some side) was (λ input assigned meeting.

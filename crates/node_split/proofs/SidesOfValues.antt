@@ -52,18 +52,22 @@ first_among : (v : ℕ) (vs : List ℕ) → is_among (v ∷ vs) v ≡ true
 first_among v vs = ap (λ b. b || is_among vs v) (same v v refl)
 
 -- one side more
-pub sides-push : (p : Program) (s : Symbolic) (term : ℕ) (fs : List ValueAt) (ks : List Piece) (f : ValueAt) (k : Piece) → AreSidesOf p s term fs ks → IsSideOf p s term f k → AreSidesOf p s term (fs ++ f ∷ []) (ks ++ k ∷ [])
+pub sides-push : (p : Program) (s : Symbolic) (term : ℕ) (fs : List ValueAt) (ks : List Piece)
+    (f : ValueAt) (k : Piece) → AreSidesOf p s term fs ks → IsSideOf p s term f k
+    → AreSidesOf p s term (fs ++ f ∷ []) (ks ++ k ∷ [])
 sides-push p s term [] [] f k is one = (one, tt)
 sides-push p s term [] (l ∷ ls) f k is one = absurd is
 sides-push p s term (g ∷ gs) [] f k is one = absurd is
-sides-push p s term (g ∷ gs) (l ∷ ls) f k (first, rest) one = (first, sides-push p s term gs ls f k rest one)
+sides-push p s term (g ∷ gs) (l ∷ ls) f k (first, rest) one =
+    (first, sides-push p s term gs ls f k rest one)
 
 -- what the sides cover
 abbrev when : Bool → ℕ → ℕ
 when true n = n
 when false n = 0
 
-when-step : (met one : Bool) (n : ℕ) → one_if (met && one) + when met n ≡ when met (cond one 1 0 + n)
+when-step : (met one : Bool) (n : ℕ)
+    → one_if (met && one) + when met n ≡ when met (cond one 1 0 + n)
 when-step true true n = refl
 when-step true false n = omega arith
 when-step false one n = refl
@@ -76,7 +80,8 @@ none false = refl
 abbrev has_value : Symbolic → ℕ → ℕ → List ℕ → Bool
 has_value s term v input = number_of s.terms term input == v
 
-pub sides-count : (p : Program) (s : Symbolic) (term : ℕ) (fs : List ValueAt) (ks : List Piece) (input : List ℕ) → AreSidesOf p s term fs ks
+pub sides-count : (p : Program) (s : Symbolic) (term : ℕ) (fs : List ValueAt) (ks : List Piece)
+    (input : List ℕ) → AreSidesOf p s term fs ks
     → count_by (λ (k : Piece). (content_place k.content).covers input) ks ≡ when ((run_place s).covers input) (count_by (λ v. number_of s.terms term input == v) (numbers_in fs))
 sides-count p s term [] [] input is = none ((run_place s).covers input)
 sides-count p s term [] (l ∷ ls) input is = absurd is
@@ -89,16 +94,22 @@ sides-count p s term (g ∷ gs) (l ∷ ls) input (first, rest) =
     ∙ ap (when ((run_place s).covers input)) (sym (sum_by-cons (λ v. cond (number_of s.terms term input == v) 1 0) g.value (numbers_in gs)))
 
 -- what holds of each side of a value holds of all
-sides-all : (p : Program) (s : Symbolic) (term : ℕ) (P : Piece → Type 0) → ((f : ValueAt) (k : Piece) → IsSideOf p s term f k → P k) → (fs : List ValueAt) (ks : List Piece) → AreSidesOf p s term fs ks → All P ks
+sides-all : (p : Program) (s : Symbolic) (term : ℕ) (P : Piece → Type 0)
+    → ((f : ValueAt) (k : Piece) → IsSideOf p s term f k → P k) → (fs : List ValueAt)
+    (ks : List Piece) → AreSidesOf p s term fs ks → All P ks
 sides-all p s term P each [] [] is = All-nil P
 sides-all p s term P each [] (l ∷ ls) is = absurd is
 sides-all p s term P each (g ∷ gs) [] is = absurd is
-sides-all p s term P each (g ∷ gs) (l ∷ ls) (first, rest) = All-cons P l ls (each g l first) (sides-all p s term P each gs ls rest)
+sides-all p s term P each (g ∷ gs) (l ∷ ls) (first, rest) =
+    All-cons P l ls (each g l first) (sides-all p s term P each gs ls rest)
 
-pub sides-placed : (p : Program) (s : Symbolic) (term : ℕ) (fs : List ValueAt) (ks : List Piece) → AreSidesOf p s term fs ks → All (λ (k : Piece). (content_place k.content).choices ≡ s.choices ++ k.choice ∷ []) ks
+pub sides-placed : (p : Program) (s : Symbolic) (term : ℕ) (fs : List ValueAt) (ks : List Piece)
+    → AreSidesOf p s term fs ks
+    → All (λ (k : Piece). (content_place k.content).choices ≡ s.choices ++ k.choice ∷ []) ks
 sides-placed p s term fs ks is = sides-all p s term _ (λ f k side. side-choices p s (Value f.value) (has_value s term f.value) k side) fs ks is
 
-pub sides-parts : (p : Program) (steps targets : ℕ) (sides : List Choice) (s : Symbolic) (term : ℕ) (fs : List ValueAt) (ks : List Piece) → s.steps < steps → AreSidesOf p s term fs ks
+pub sides-parts : (p : Program) (steps targets : ℕ) (sides : List Choice) (s : Symbolic) (term : ℕ)
+    (fs : List ValueAt) (ks : List Piece) → s.steps < steps → AreSidesOf p s term fs ks
     → All (λ (k : Piece). IsPart (rules_of p steps targets) (left_to_do s) sides k k.content) ks
 sides-parts p steps targets sides s term fs ks few is =
     sides-all p s term (λ (k : Piece). IsPart (rules_of p steps targets) (left_to_do s) sides k k.content)
@@ -108,20 +119,25 @@ sides-parts p steps targets sides s term fs ks few is =
 abbrev forms_of : Program → (steps targets : ℕ) → List Piece → List Side
 forms_of p steps targets kids = map (side_of_kid (cut_in (rules_of p steps targets).cut)) kids
 
-pub sides-forms : (p : Program) (steps targets : ℕ) (s : Symbolic) (term : ℕ) (fs : List ValueAt) (ks : List Piece) → AreSidesOf p s term fs ks → forms_of p steps targets ks ≡ map value_side (numbers_in fs)
+pub sides-forms : (p : Program) (steps targets : ℕ) (s : Symbolic) (term : ℕ) (fs : List ValueAt)
+    (ks : List Piece) → AreSidesOf p s term fs ks
+    → forms_of p steps targets ks ≡ map value_side (numbers_in fs)
 sides-forms p steps targets s term [] [] is = refl
 sides-forms p steps targets s term [] (l ∷ ls) is = absurd is
 sides-forms p steps targets s term (g ∷ gs) [] is = absurd is
 sides-forms p steps targets s term (g ∷ gs) (l ∷ ls) (first, rest) =
     cc (side_form p steps targets s (Value g.value) (has_value s term g.value) l first, sides-forms p steps targets s term gs ls rest)
 
-pub sides-choices : (p : Program) (s : Symbolic) (term : ℕ) (fs : List ValueAt) (ks : List Piece) → AreSidesOf p s term fs ks → choices_in ks ≡ map Value (numbers_in fs)
+pub sides-choices : (p : Program) (s : Symbolic) (term : ℕ) (fs : List ValueAt) (ks : List Piece)
+    → AreSidesOf p s term fs ks → choices_in ks ≡ map Value (numbers_in fs)
 sides-choices p s term [] [] is = refl
 sides-choices p s term [] (l ∷ ls) is = absurd is
 sides-choices p s term (g ∷ gs) [] is = absurd is
-sides-choices p s term (g ∷ gs) (l ∷ ls) (first, rest) = cc (first.on.choice, sides-choices p s term gs ls rest)
+sides-choices p s term (g ∷ gs) (l ∷ ls) (first, rest) =
+    cc (first.on.choice, sides-choices p s term gs ls rest)
 
-pub sides-length : (p : Program) (s : Symbolic) (term : ℕ) (fs : List ValueAt) (ks : List Piece) → AreSidesOf p s term fs ks → length ks ≡ length fs
+pub sides-length : (p : Program) (s : Symbolic) (term : ℕ) (fs : List ValueAt) (ks : List Piece)
+    → AreSidesOf p s term fs ks → length ks ≡ length fs
 sides-length p s term [] [] is = refl
 sides-length p s term [] (l ∷ ls) is = absurd is
 sides-length p s term (g ∷ gs) [] is = absurd is
@@ -134,7 +150,8 @@ number_there s term input = Needs (number_of s.terms term input)
 on_value : (n v : ℕ) → (n == v) ≡ true → IsOnSide (Value v) (Needs n)
 on_value n v is = let same : n ≡ v = equals n v is in ap Value same
 
-sides-on : (p : Program) (s : Symbolic) (term : ℕ) (fs : List ValueAt) (ks : List Piece) → IsOpen p s → AreSidesOf p s term fs ks → All (IsOnFork p s (number_there s term)) ks
+sides-on : (p : Program) (s : Symbolic) (term : ℕ) (fs : List ValueAt) (ks : List Piece)
+    → IsOpen p s → AreSidesOf p s term fs ks → All (IsOnFork p s (number_there s term)) ks
 sides-on p s term fs ks was is =
     sides-all p s term (IsOnFork p s (number_there s term))
     (λ f k side. side_on_fork p s (Value f.value) (has_value s term f.value) (number_there s term) k was side (λ input one. on_value _ _ one)) fs ks is
@@ -149,13 +166,17 @@ other_numbers v w n m less at_v at_w is =
     let same : n ≡ m = cc is in
     omega (arith, less, is_v, is_w, same)
 
-two_values : (p : Program) (s : Symbolic) (term : ℕ) (f g : ValueAt) (k l : Piece) → IsSideOf p s term f k → IsSideOf p s term g l → f.value < g.value → AreTwoSides (number_there s term) k l
+two_values : (p : Program) (s : Symbolic) (term : ℕ) (f g : ValueAt) (k l : Piece)
+    → IsSideOf p s term f k → IsSideOf p s term g l → f.value < g.value
+    → AreTwoSides (number_there s term) k l
 two_values p s term f g k l is_k is_l less =
     two_runs p s (number_there s term) (Value f.value) (Value g.value) (has_value s term f.value) (has_value s term g.value) k l is_k is_l
     (other_values f.value g.value less) (λ a b. other_numbers f.value g.value _ _ less)
 
 -- a side is another than those of greater values
-behind : (p : Program) (s : Symbolic) (term : ℕ) (f : ValueAt) (k : Piece) (fs : List ValueAt) (ks : List Piece) → IsSideOf p s term f k → All (λ w. f.value < w) (numbers_in fs) → AreSidesOf p s term fs ks → All (AreTwoSides (number_there s term) k) ks
+behind : (p : Program) (s : Symbolic) (term : ℕ) (f : ValueAt) (k : Piece) (fs : List ValueAt)
+    (ks : List Piece) → IsSideOf p s term f k → All (λ w. f.value < w) (numbers_in fs)
+    → AreSidesOf p s term fs ks → All (AreTwoSides (number_there s term) k) ks
 behind p s term f k [] [] is less sides = All-nil (AreTwoSides (number_there s term) k)
 behind p s term f k [] (l ∷ ls) is less sides = absurd sides
 behind p s term f k (g ∷ gs) [] is less sides = absurd sides
@@ -164,11 +185,14 @@ behind p s term f k (g ∷ gs) (l ∷ ls) is less (first, rest) =
     (two_values p s term f g k l is first (All-head (λ w. f.value < w) g.value (numbers_in gs) less))
     (behind p s term f k gs ls is (All-tail (λ w. f.value < w) g.value (numbers_in gs) less) rest)
 
-sides-others : (p : Program) (s : Symbolic) (term : ℕ) (fs : List ValueAt) (ks : List Piece) → AreIncreasing (numbers_in fs) → AreSidesOf p s term fs ks → AreOtherSides (number_there s term) ks
+sides-others : (p : Program) (s : Symbolic) (term : ℕ) (fs : List ValueAt) (ks : List Piece)
+    → AreIncreasing (numbers_in fs) → AreSidesOf p s term fs ks
+    → AreOtherSides (number_there s term) ks
 sides-others p s term [] [] increasing is = tt
 sides-others p s term [] (l ∷ ls) increasing is = absurd is
 sides-others p s term (g ∷ gs) [] increasing is = absurd is
-sides-others p s term (g ∷ gs) (l ∷ ls) (less, increasing) (first, rest) = (behind p s term g l gs ls first less rest, sides-others p s term gs ls increasing rest)
+sides-others p s term (g ∷ gs) (l ∷ ls) (less, increasing) (first, rest) =
+    (behind p s term g l gs ls first less rest, sides-others p s term gs ls increasing rest)
 
 -- the values are increasing, as the walk of events reads it
 next_below : (v w : ℕ) → v < w → nat_lt v w ≡ true
@@ -190,10 +214,12 @@ without_none s term dag = record {
   tells = λ input. refl;
 }
 
-among-push : (vs : List ℕ) (v n : ℕ) → is_among (vs ++ v ∷ []) n ≡ (is_among vs n || ((n == v) || false))
+among-push : (vs : List ℕ) (v n : ℕ)
+    → is_among (vs ++ v ∷ []) n ≡ (is_among vs n || ((n == v) || false))
 among-push vs v n = list_any-append (λ x. n == x) vs (v ∷ [])
 
-tell-step : (one eq among : Bool) → one ≡ not eq → (not among && (one && true)) ≡ not (among || (eq || false))
+tell-step : (one eq among : Bool) → one ≡ not eq
+    → (not among && (one && true)) ≡ not (among || (eq || false))
 tell-step one true true is = refl
 tell-step one false true is = refl
 tell-step one true false is = ap (λ b. b && true) is
@@ -203,15 +229,19 @@ turned-equal : (eq : Bool) → (1 - (if eq then 1 else 0) == 1) ≡ not eq
 turned-equal true = refl
 turned-equal false = refl
 
-ones-grown : (g h : Graph) (input ids : List ℕ) → Grows g h → AreBits g ids → list_all (λ id. number_of h id input == 1) ids ≡ list_all (λ id. number_of g id input == 1) ids
+ones-grown : (g h : Graph) (input ids : List ℕ) → Grows g h → AreBits g ids
+    → list_all (λ id. number_of h id input == 1) ids ≡ list_all (λ id. number_of g id input == 1) ids
 ones-grown g h input [] grows bits = refl
 ones-grown g h input (id ∷ ids) grows bits =
     let first : number_of h id input ≡ number_of g id input = number_of-grown g h id 1 input grows (All-head (λ i. width_of g i ≡ 1) id ids bits) (omega arith) in
     cc (first, ones-grown g h input ids grows (All-tail (λ i. width_of g i ≡ 1) id ids bits))
 
 -- One value more is ruled out.
-pub without-more : (s t : Symbolic) (g h : Graph) (term v equal unequal : ℕ) (vs : List ℕ) → width_of s.terms term ≡ 32 → IsWithout s term vs t → Grows t.terms g → Grows g h → width_of h unequal ≡ 1
-    → ((input : List ℕ) → number_of g equal input ≡ (if number_of t.terms term input == v then 1 else 0)) → ((input : List ℕ) → number_of h unequal input ≡ 1 - number_of g equal input)
+pub without-more : (s t : Symbolic) (g h : Graph) (term v equal unequal : ℕ) (vs : List ℕ)
+    → width_of s.terms term ≡ 32 → IsWithout s term vs t → Grows t.terms g → Grows g h
+    → width_of h unequal ≡ 1
+    → ((input : List ℕ) → number_of g equal input ≡ (if number_of t.terms term input == v then 1 else 0))
+    → ((input : List ℕ) → number_of h unequal input ≡ 1 - number_of g equal input)
     → IsWithout s term (vs ++ v ∷ []) (record (with_terms t h) { condition = t.condition ++ unequal ∷ [] })
 without-more s t g h term v equal unequal vs wide was first second bit is turned = record {
   ids = was.ids ++ unequal ∷ [];
@@ -228,7 +258,8 @@ without-more s t g h term v equal unequal vs wide was first second bit is turned
       ∙ ap not (sym (among-push vs v (number_of s.terms term input)));
 }
 
-pub numbers-more : (found : List ValueAt) (at : ℕ) (d : ValueAt) → at < length found → numbers_in (take (at + 1) found) ≡ numbers_in (take at found) ++ (get_or found at d).value ∷ []
+pub numbers-more : (found : List ValueAt) (at : ℕ) (d : ValueAt) → at < length found
+    → numbers_in (take (at + 1) found) ≡ numbers_in (take at found) ++ (get_or found at d).value ∷ []
 numbers-more found at d within = ap numbers_in (take_at_read found at d within).1 ∙ map-append (λ (f : ValueAt). f.value) (take at found) (get_or found at d ∷ [])
 
 -- The values alone part a run, where there are no more.
@@ -236,13 +267,18 @@ ones-true : (met among : Bool) → (met ≡ true → among ≡ true) → when me
 ones-true true among is = ap one_if (is refl)
 ones-true false among is = refl
 
-among_all : (p : Program) (s : Symbolic) (term targets : ℕ) (found : List ValueAt) → AreValues s.terms s.condition term targets 256 found None → (input : List ℕ) → IsAssignment (regions_of p) input → meets s input ≡ true → is_among (numbers_in found) (number_of s.terms term input) ≡ true
+among_all : (p : Program) (s : Symbolic) (term targets : ℕ) (found : List ValueAt)
+    → AreValues s.terms s.condition term targets 256 found None → (input : List ℕ)
+    → IsAssignment (regions_of p) input → meets s input ≡ true
+    → is_among (numbers_in found) (number_of s.terms term input) ≡ true
 among_all p s term targets found values input assigned meeting =
     let one : IsByte input = one_byte p input assigned in
     ap (λ i. is_among (numbers_in found) (number_of s.terms term i)) one.is ∙ values.all refl one.byte one.small (ap (meets s) (sym one.is) ∙ meeting)
 
-pub all_values : (p : Program) (steps targets : ℕ) (s : Symbolic) (term : ℕ) (found : List ValueAt) (kids : List Piece) → IsOpen p s → s.steps < steps → IsFirstOpen p s (number_there s term)
-    → AreValues s.terms s.condition term targets 256 found None → 2 ≤ length found → AreSidesOf p s term found kids → IsForkOf p steps targets s kids
+pub all_values : (p : Program) (steps targets : ℕ) (s : Symbolic) (term : ℕ) (found : List ValueAt)
+    (kids : List Piece) → IsOpen p s → s.steps < steps → IsFirstOpen p s (number_there s term)
+    → AreValues s.terms s.condition term targets 256 found None → 2 ≤ length found
+    → AreSidesOf p s term found kids → IsForkOf p steps targets s kids
 all_values p steps targets s term found kids was few next values several is = record {
   shared = λ input.
       sides-count p s term found kids input is
@@ -261,16 +297,19 @@ all_values p steps targets s term found kids was few next values several is = re
 abbrev pub rest_kid : Part → Piece
 rest_kid part = record { choice = Rest; content = Shut part; is_leaf = true }
 
-ones-both : (met among : Bool) → when met (one_if among) + (one_if (met && not among) + 0) ≡ one_if met
+ones-both : (met among : Bool)
+    → when met (one_if among) + (one_if (met && not among) + 0) ≡ one_if met
 ones-both true true = refl
 ones-both true false = refl
 ones-both false among = refl
 
 module _ (p : Program) (steps targets : ℕ) (s : Symbolic) (term : ℕ) (found : List ValueAt) (part : Part) (was : IsOpen p s) (rest : IsRest p steps targets s term found part) where
-  rest-covers : (input : List ℕ) → (content_place (Shut part)).covers input ≡ ((run_place s).covers input && not (is_among (numbers_in found) (number_of s.terms term input)))
+  rest-covers : (input : List ℕ)
+      → (content_place (Shut part)).covers input ≡ ((run_place s).covers input && not (is_among (numbers_in found) (number_of s.terms term input)))
   rest-covers input = ap (λ b. are_bytes input && b) (rest.covers input) ∙ and-assoc (are_bytes input) (meets s input) (not (is_among (numbers_in found) (number_of s.terms term input)))
 
-  rest-both : (input : List ℕ) → IsTrue ((content_place (Shut part)).covers input) → ((run_place s).covers input ≡ true) × (not (is_among (numbers_in found) (number_of s.terms term input)) ≡ true)
+  rest-both : (input : List ℕ) → IsTrue ((content_place (Shut part)).covers input)
+      → ((run_place s).covers input ≡ true) × (not (is_among (numbers_in found) (number_of s.terms term input)) ≡ true)
   rest-both input covered = both_true ((run_place s).covers input) (not (is_among (numbers_in found) (number_of s.terms term input))) (sym (rest-covers input) ∙ covered)
 
   rest-on : IsOnFork p s (number_there s term) (rest_kid part)
@@ -282,7 +321,8 @@ module _ (p : Program) (steps targets : ℕ) (s : Symbolic) (term : ℕ) (found 
   }
 
   -- a value that was found is another than those that are left
-  other_left : (v n m : ℕ) → is_among (numbers_in found) v ≡ true → (n == v) ≡ true → not (is_among (numbers_in found) m) ≡ true → Needs n ≢ Needs m
+  other_left : (v n m : ℕ) → is_among (numbers_in found) v ≡ true → (n == v) ≡ true
+      → not (is_among (numbers_in found) m) ≡ true → Needs n ≢ Needs m
   other_left v n m there at_v left is =
       let is_v : n ≡ v = equals n v at_v in
       let same : n ≡ m = cc is in
@@ -290,7 +330,8 @@ module _ (p : Program) (steps targets : ℕ) (s : Symbolic) (term : ℕ) (found 
       let here : is_among (numbers_in found) m ≡ true = ap (is_among (numbers_in found)) (sym same ∙ is_v) ∙ there in
       cc (gone, here)
 
-  value_and_rest : (f : ValueAt) (k : Piece) → is_among (numbers_in found) f.value ≡ true → IsSideOf p s term f k → AreTwoSides (number_there s term) k (rest_kid part)
+  value_and_rest : (f : ValueAt) (k : Piece) → is_among (numbers_in found) f.value ≡ true
+      → IsSideOf p s term f k → AreTwoSides (number_there s term) k (rest_kid part)
   value_and_rest f k there side = record {
     choices = λ is. let value : Value f.value ≡ Rest = sym side.on.choice ∙ is in cc value;
     decisions = λ a b on_a on_b.
@@ -298,7 +339,9 @@ module _ (p : Program) (steps targets : ℕ) (s : Symbolic) (term : ℕ) (found 
   }
 
   -- with what is left behind them the sides of values are others still
-  others-rest : (fs : List ValueAt) (ks : List Piece) → ((n : ℕ) → is_among (numbers_in fs) n ≡ true → is_among (numbers_in found) n ≡ true) → AreIncreasing (numbers_in fs) → AreSidesOf p s term fs ks
+  others-rest : (fs : List ValueAt) (ks : List Piece)
+      → ((n : ℕ) → is_among (numbers_in fs) n ≡ true → is_among (numbers_in found) n ≡ true)
+      → AreIncreasing (numbers_in fs) → AreSidesOf p s term fs ks
       → AreOtherSides (number_there s term) (ks ++ rest_kid part ∷ [])
   others-rest [] [] within increasing is = (All-nil (AreTwoSides (number_there s term) (rest_kid part)), tt)
   others-rest [] (l ∷ ls) within increasing is = absurd is
@@ -308,21 +351,31 @@ module _ (p : Program) (steps targets : ℕ) (s : Symbolic) (term : ℕ) (found 
     others-rest gs ls (λ n there. within n (ap (λ b. (n == g.value) || b) there ∙ or-true (n == g.value))) increasing behind_it,
   )
 
-rest-count : (part : Part) (input : List ℕ) → count_by (λ (k : Piece). (content_place k.content).covers input) (rest_kid part ∷ []) ≡ one_if ((content_place (Shut part)).covers input) + 0
+rest-count : (part : Part) (input : List ℕ)
+    → count_by (λ (k : Piece). (content_place k.content).covers input) (rest_kid part ∷ []) ≡ one_if ((content_place (Shut part)).covers input) + 0
 rest-count part input = count-cons input (rest_kid part) []
 
-rest-form : (p : Program) (steps targets : ℕ) (s : Symbolic) (term : ℕ) (found : List ValueAt) (part : Part) → IsRest p steps targets s term found part
+rest-form : (p : Program) (steps targets : ℕ) (s : Symbolic) (term : ℕ) (found : List ValueAt)
+    (part : Part) → IsRest p steps targets s term found part
     → side_of_kid (cut_in (rules_of p steps targets).cut) (rest_kid part) ≡ rest_side (Some Targets)
-rest-form p steps targets s term found part rest = ap {B = Side} (λ end. record { choice = Rest; cut = cause_of end }) rest.cut
+rest-form p steps targets s term found part rest =
+    ap {B = Side} (λ end. record { choice = Rest; cut = cause_of end }) rest.cut
 
-rest_part : (p : Program) (steps targets limit : ℕ) (sides : List Choice) (part : Part) → part.leaf.end ≡ Cut Targets → IsRight p.image (regions_of p) steps targets sides part → IsPart (rules_of p steps targets) limit sides (rest_kid part) (Shut part)
-rest_part p steps targets limit sides part cut right = (refl, right, subst (λ end. IsCutOr true (cause_of end)) (sym cut) tt)
+rest_part : (p : Program) (steps targets limit : ℕ) (sides : List Choice) (part : Part)
+    → part.leaf.end ≡ Cut Targets → IsRight p.image (regions_of p) steps targets sides part
+    → IsPart (rules_of p steps targets) limit sides (rest_kid part) (Shut part)
+rest_part p steps targets limit sides part cut right =
+    (refl, right, subst (λ end. IsCutOr true (cause_of end)) (sym cut) tt)
 
-targets_spent : (targets found : ℕ) → found ≡ targets → IsTrue (is_rest_cut targets found (Some Targets))
+targets_spent : (targets found : ℕ) → found ≡ targets
+    → IsTrue (is_rest_cut targets found (Some Targets))
 targets_spent targets found is = search (rules, is)
 
-pub values_and_rest : (p : Program) (steps targets : ℕ) (s : Symbolic) (term : ℕ) (found : List ValueAt) (other : ℕ) (kids : List Piece) (part : Part) → IsOpen p s → s.steps < steps → IsFirstOpen p s (number_there s term)
-    → AreValues s.terms s.condition term targets 256 found (Some other) → AreSidesOf p s term found kids → IsRest p steps targets s term found part
+pub values_and_rest : (p : Program) (steps targets : ℕ) (s : Symbolic) (term : ℕ)
+    (found : List ValueAt) (other : ℕ) (kids : List Piece) (part : Part) → IsOpen p s
+    → s.steps < steps → IsFirstOpen p s (number_there s term)
+    → AreValues s.terms s.condition term targets 256 found (Some other)
+    → AreSidesOf p s term found kids → IsRest p steps targets s term found part
     → IsForkOf p steps targets s (kids ++ rest_kid part ∷ [])
 values_and_rest p steps targets s term found other kids part was few next values is rest =
     let all = kids ++ rest_kid part ∷ [] in
@@ -355,9 +408,14 @@ first_or : (b : Bool) → (b || false) ≡ true → b ≡ true
 first_or true is = refl
 first_or false is = is
 
-pub one_value : (p : Program) (s : Symbolic) (term targets : ℕ) (found : List ValueAt) (other : Option ℕ) (d : ValueAt) → AreValues s.terms s.condition term targets 256 found other → other ≡ None → length found ≤ 1
-    → (input : List ℕ) → IsAssignment (regions_of p) input → meets s input ≡ true → number_of s.terms term input ≡ (get_or found 0 d).value
-one_value p s term targets [] other d values none few input assigned meeting = absurd (omega (arith, values.some))
+pub one_value : (p : Program) (s : Symbolic) (term targets : ℕ) (found : List ValueAt)
+    (other : Option ℕ) (d : ValueAt) → AreValues s.terms s.condition term targets 256 found other
+    → other ≡ None → length found ≤ 1
+    → (input : List ℕ) → IsAssignment (regions_of p) input → meets s input ≡ true
+    → number_of s.terms term input ≡ (get_or found 0 d).value
+one_value p s term targets [] other d values none few input assigned meeting =
+    absurd (omega (arith, values.some))
 one_value p s term targets (f ∷ []) other d values none few input assigned meeting =
     equals _ _ (first_or _ (among_all p s term targets (f ∷ []) (subst (AreValues s.terms s.condition term targets 256 (f ∷ [])) none values) input assigned meeting))
-one_value p s term targets (f ∷ g ∷ fs) other d values none few input assigned meeting = absurd (omega (arith, few))
+one_value p s term targets (f ∷ g ∷ fs) other d values none few input assigned meeting =
+    absurd (omega (arith, few))

@@ -10,10 +10,19 @@ use Rattle.sym_state.specs.Symbolic.{Symbolic, condition_of, value_at, worth_of}
 
 -- the leaf of a run that is left where it is
 abbrev pub left_as : Symbolic → LeafEnd → Leaf
-left_as s end = record { choices = s.choices; path = s.path; steps = s.steps; end = end; condition = condition_of s; outputs = s.output }
+left_as s end = record {
+  choices = s.choices;
+  path = s.path;
+  steps = s.steps;
+  end = end;
+  condition = condition_of s;
+  outputs = s.output;
+}
 
 -- a term is the low byte of x10, or it is the same trap
 abbrev pub EndsLike : Symbolic → Graph → RunEnd → LeafEnd → Type 0
-EndsLike s g Exits (LeafExits status) = (width_of g status ≡ 8) × ((input : List ℕ) → number_of g status input ≡ worth_of s.terms input (value_at s.registers 10) % 256)
+EndsLike s g Exits (LeafExits status) =
+    (width_of g status ≡ 8)
+    × ((input : List ℕ) → number_of g status input ≡ worth_of s.terms input (value_at s.registers 10) % 256)
 EndsLike s g (Traps trap) (LeafTraps other) = trap ≡ other
 EndsLike s g _ _ = ⊥

@@ -14,10 +14,13 @@ is_side false number = not (number == 1)
 
 -- the assignment meets the condition, and is on this side of the term
 abbrev pub answers : Graph → List ℕ → ℕ → Bool → List ℕ → Bool
-answers terms condition term side input = holds (record { graph = terms; asserted = condition }) input && is_side side (number_of terms term input)
+answers terms condition term side input =
+    holds (record { graph = terms; asserted = condition }) input && is_side side (number_of terms term input)
 
--- A run on one side of a fork: it stands for those assignments of the run before it that pass a test, and has less to do.
-pub record IsNarrower (p : Program) (old new : Symbolic) (choice : Choice) (test : List ℕ → Bool) : Type 0 where
+-- A run on one side of a fork: it stands for those assignments of the run before it that pass a
+-- test, and has less to do.
+pub record IsNarrower (p : Program) (old new : Symbolic) (choice : Choice) (test : List ℕ → Bool)
+    : Type 0 where
   pub is_open : IsOpen p new
   pub choices : new.choices ≡ old.choices ++ choice ∷ []
   pub steps : new.steps ≡ old.steps

@@ -19,7 +19,8 @@ use Rattle.node_split.specs.declared.question.ValueAt.{ValueAt}
 
 -- the run on which the term has this value
 abbrev pub IsSideOf : Program → Symbolic → (term : ℕ) → ValueAt → Piece → Type 0
-IsSideOf p s term f kid = IsSide p s (Value f.value) (λ input. number_of s.terms term input == f.value) kid
+IsSideOf p s term f kid =
+    IsSide p s (Value f.value) (λ input. number_of s.terms term input == f.value) kid
 
 -- a side for each value, in their order
 abbrev pub AreSidesOf : Program → Symbolic → ℕ → List ValueAt → List Piece → Type 0
@@ -34,15 +35,18 @@ pub record IsWithout (s : Symbolic) (term : ℕ) (values : List ℕ) (new : Symb
   pub grows : Grows s.terms new.terms
   pub bits : AreBits new.terms ids
   pub each : length ids ≡ length values
-  pub tells : (input : List ℕ) → list_all (λ id. number_of new.terms id input == 1) ids ≡ not (is_among values (number_of s.terms term input))
+  pub tells : (input : List ℕ)
+      → list_all (λ id. number_of new.terms id input == 1) ids ≡ not (is_among values (number_of s.terms term input))
 
 -- the values with assignments of one byte
 abbrev pub founds_of : List ValueAt → List Found
 founds_of found = map (λ (f : ValueAt). record { value = f.value; input = f.byte ∷ [] }) found
 
 -- the leaf of what is left beside these values
-pub record IsRest (p : Program) (steps targets : ℕ) (s : Symbolic) (term : ℕ) (found : List ValueAt) (part : Part) : Type 0 where
+pub record IsRest (p : Program) (steps targets : ℕ) (s : Symbolic) (term : ℕ) (found : List ValueAt)
+    (part : Part) : Type 0 where
   pub choices : part.leaf.choices ≡ s.choices ++ Rest ∷ []
   pub cut : part.leaf.end ≡ Cut Targets
-  pub covers : (input : List ℕ) → covers part.leaf input ≡ (meets s input && not (is_among (numbers_in found) (number_of s.terms term input)))
+  pub covers : (input : List ℕ)
+      → covers part.leaf input ≡ (meets s input && not (is_among (numbers_in found) (number_of s.terms term input)))
   pub right : IsRight p.image (regions_of p) steps targets (map Value (numbers_in found) ++ Rest ∷ []) part

@@ -26,7 +26,8 @@ pub record IsRunOn (side : Choice) (run : Symbolic) (kid : Piece) : Type 0 where
   pub holds : HoldsRun kid.content run
 
 -- a side that is a run on which this test holds
-pub record IsSide (p : Program) (s : Symbolic) (choice : Choice) (test : List ℕ → Bool) (kid : Piece) : Type 0 where
+pub record IsSide (p : Program) (s : Symbolic) (choice : Choice) (test : List ℕ → Bool)
+    (kid : Piece) : Type 0 where
   pub run : Symbolic
   pub on : IsRunOn choice run kid
   pub narrower : IsNarrower p s run choice test

@@ -29,11 +29,15 @@ sum_small : (a b : ℕ) → sum32 a b < 2 ^ 32
 sum_small a b = omega arith
 
 -- one entry more of the path
-path_more : (s : Symbolic) (entry : PathStep) → HasSmallNumbers s → IsSmallStep entry → All IsSmallStep (s.path ++ entry ∷ [])
+path_more : (s : Symbolic) (entry : PathStep) → HasSmallNumbers s → IsSmallStep entry
+    → All IsSmallStep (s.path ++ entry ∷ [])
 path_more s entry was small = All-push IsSmallStep s.path entry was.path small
 
 -- A register is written with a value over grown terms, and the machine does likewise.
-pub writes_register : (p : Program) (s : Symbolic) (g : Graph) (rd : ℕ) (v : Value) → IsOpen p s → Grows s.terms g → IsWide g v → ((input : List ℕ) → IsAssignment (regions_of p) input → IsWord g input v) → s.steps < most_steps → StepsAlike p s
+pub writes_register : (p : Program) (s : Symbolic) (g : Graph) (rd : ℕ) (v : Value) → IsOpen p s
+    → Grows s.terms g → IsWide g v
+    → ((input : List ℕ) → IsAssignment (regions_of p) input → IsWord g input v)
+    → s.steps < most_steps → StepsAlike p s
     → ((input : List ℕ) → IsAssignment (regions_of p) input → next (concrete p s input) ≡ Running (onward (concrete p s input) (written (map (worth_of s.terms input) s.registers) rd (worth_of g input v))))
     → Stepped p s (moved s (sum32 s.pc 4) (set_value s.registers rd v) g s.output s.path) GoesOn
 writes_register p s g rd v was grows wide small few step does = (
@@ -55,7 +59,8 @@ writes_register p s g rd v was grows wide small few step does = (
 )
 
 -- an instruction that traps
-pub stops_by_trap : (p : Program) (s : Symbolic) (trap : Trap) → IsOpen p s → s.steps < most_steps → StepsAlike p s
+pub stops_by_trap : (p : Program) (s : Symbolic) (trap : Trap) → IsOpen p s → s.steps < most_steps
+    → StepsAlike p s
     → ((input : List ℕ) → IsAssignment (regions_of p) input → next (concrete p s input) ≡ trapped trap (concrete p s input))
     → Stepped p s (moved s s.pc s.registers s.terms s.output s.path) (Stops (Traps trap))
 stops_by_trap p s trap was few step does = (
@@ -65,13 +70,17 @@ stops_by_trap p s trap was few step does = (
 )
 
 -- JAL, to a target that is a multiple of 4 and to one that is not
-to_linked : (s t : State) (rd target : ℕ) → (target % 4 == 0) ≡ true → t ≡ record s { registers = written s.registers rd (sum32 s.pc 4); pc = target } → linked s rd target ≡ Running t
+to_linked : (s t : State) (rd target : ℕ) → (target % 4 == 0) ≡ true
+    → t ≡ record s { registers = written s.registers rd (sum32 s.pc 4); pc = target }
+    → linked s rd target ≡ Running t
 to_linked s t rd target aligned is = rw (aligned, is) refl
 
-pub refuses_link : (s : State) (rd target : ℕ) → (target % 4 == 0) ≡ false → linked s rd target ≡ trapped FetchMisaligned s
+pub refuses_link : (s : State) (rd target : ℕ) → (target % 4 == 0) ≡ false
+    → linked s rd target ≡ trapped FetchMisaligned s
 refuses_link s rd target misaligned = rw misaligned refl
 
-pub links : (p : Program) (s : Symbolic) (rd target : ℕ) → IsOpen p s → s.steps < most_steps → target < 2 ^ 32 → (target % 4 == 0) ≡ true → StepsAlike p s
+pub links : (p : Program) (s : Symbolic) (rd target : ℕ) → IsOpen p s → s.steps < most_steps
+    → target < 2 ^ 32 → (target % 4 == 0) ≡ true → StepsAlike p s
     → ((input : List ℕ) → IsAssignment (regions_of p) input → next (concrete p s input) ≡ linked (concrete p s input) rd target)
     → Stepped p s (moved s target (set_value s.registers rd (Number (sum32 s.pc 4))) s.terms s.output s.path) GoesOn
 links p s rd target was few small aligned step does = (
@@ -89,7 +98,8 @@ links p s rd target was few small aligned step does = (
 )
 
 -- A branch along one side, to a target that is a multiple of 4 and to one that is not.
-pub goes_on : (p : Program) (s : Symbolic) (target : ℕ) → IsOpen p s → s.steps < most_steps → StepsAlike p s
+pub goes_on : (p : Program) (s : Symbolic) (target : ℕ) → IsOpen p s → s.steps < most_steps
+    → StepsAlike p s
     → ((input : List ℕ) → IsAssignment (regions_of p) input → meets s input ≡ true → next (concrete p s input) ≡ branch (concrete p s input) false target)
     → Stepped p s (moved s (sum32 s.pc 4) s.registers s.terms s.output (s.path ++ NotTaken ∷ [])) GoesOn
 goes_on p s target was few step does = (
@@ -99,13 +109,16 @@ goes_on p s target was few step does = (
   refl,
 )
 
-to_taken : (s : State) (target : ℕ) → (target % 4 == 0) ≡ true → branch s true target ≡ Running (record (noted s Taken) { pc = target })
+to_taken : (s : State) (target : ℕ) → (target % 4 == 0) ≡ true
+    → branch s true target ≡ Running (record (noted s Taken) { pc = target })
 to_taken s target aligned = rw aligned refl
 
-refuses_taken : (s : State) (target : ℕ) → (target % 4 == 0) ≡ false → branch s true target ≡ trapped FetchMisaligned (noted s Taken)
+refuses_taken : (s : State) (target : ℕ) → (target % 4 == 0) ≡ false
+    → branch s true target ≡ trapped FetchMisaligned (noted s Taken)
 refuses_taken s target misaligned = rw misaligned refl
 
-pub is_taken : (p : Program) (s : Symbolic) (target : ℕ) → IsOpen p s → s.steps < most_steps → target < 2 ^ 32 → (target % 4 == 0) ≡ true → StepsAlike p s
+pub is_taken : (p : Program) (s : Symbolic) (target : ℕ) → IsOpen p s → s.steps < most_steps
+    → target < 2 ^ 32 → (target % 4 == 0) ≡ true → StepsAlike p s
     → ((input : List ℕ) → IsAssignment (regions_of p) input → meets s input ≡ true → next (concrete p s input) ≡ branch (concrete p s input) true target)
     → Stepped p s (moved s target s.registers s.terms s.output (s.path ++ Taken ∷ [])) GoesOn
 is_taken p s target was few small aligned step does = (
@@ -116,7 +129,8 @@ is_taken p s target was few small aligned step does = (
   refl,
 )
 
-pub stops_taken : (p : Program) (s : Symbolic) (target : ℕ) → IsOpen p s → s.steps < most_steps → (target % 4 == 0) ≡ false → StepsAlike p s
+pub stops_taken : (p : Program) (s : Symbolic) (target : ℕ) → IsOpen p s → s.steps < most_steps
+    → (target % 4 == 0) ≡ false → StepsAlike p s
     → ((input : List ℕ) → IsAssignment (regions_of p) input → meets s input ≡ true → next (concrete p s input) ≡ branch (concrete p s input) true target)
     → Stepped p s (moved s s.pc s.registers s.terms s.output (s.path ++ Taken ∷ [])) (Stops (Traps FetchMisaligned))
 stops_taken p s target was few misaligned step does = (

@@ -20,32 +20,44 @@ use Rattle.sym_machine.proofs.Moving.{open_grown, same_grown, is_grown, concrete
 use Rattle.sym_machine.proofs.Stepping.{next_executes}
 
 -- what a register holds on an assignment
-pub x-worth : (p : Program) (s : Symbolic) (input : List ℕ) (r : ℕ) → x (concrete p s input) r ≡ worth_of s.terms input (value_at s.registers r)
+pub x-worth : (p : Program) (s : Symbolic) (input : List ℕ) (r : ℕ)
+    → x (concrete p s input) r ≡ worth_of s.terms input (value_at s.registers r)
 x-worth p s input r = get_or-map (worth_of s.terms input) s.registers r (OfNumber 0)
 
-pub x-number : (p : Program) (s : Symbolic) (input : List ℕ) (r n : ℕ) → value_at s.registers r ≡ OfNumber n → x (concrete p s input) r ≡ n
+pub x-number : (p : Program) (s : Symbolic) (input : List ℕ) (r n : ℕ)
+    → value_at s.registers r ≡ OfNumber n → x (concrete p s input) r ≡ n
 x-number p s input r n is = x-worth p s input r ∙ ap (worth_of s.terms input) is
 
 -- the branch that comes next, along the side that was chosen
-goes_by : (c : State) (side : Bool) (test : Test) (rs1 rs2 offset : ℕ) → IsFetched c (Branch test rs1 rs2 offset) → Goes side c → passes test (x c rs1) (x c rs2) ≡ side
+goes_by : (c : State) (side : Bool) (test : Test) (rs1 rs2 offset : ℕ)
+    → IsFetched c (Branch test rs1 rs2 offset) → Goes side c
+    → passes test (x c rs1) (x c rs2) ≡ side
 goes_by c side test rs1 rs2 offset fetched goes = subst (GoesBy side c) fetched goes
 
-pub goes_with : (c : State) (side : Bool) (test : Test) (rs1 rs2 offset : ℕ) → IsFetched c (Branch test rs1 rs2 offset) → passes test (x c rs1) (x c rs2) ≡ side → Goes side c
+pub goes_with : (c : State) (side : Bool) (test : Test) (rs1 rs2 offset : ℕ)
+    → IsFetched c (Branch test rs1 rs2 offset) → passes test (x c rs1) (x c rs2) ≡ side
+    → Goes side c
 goes_with c side test rs1 rs2 offset fetched is = subst (GoesBy side c) (sym fetched) is
 
-pub along : (c : State) (side : Bool) (test : Test) (rs1 rs2 offset : ℕ) → IsFetched c (Branch test rs1 rs2 offset) → passes test (x c rs1) (x c rs2) ≡ side → next c ≡ branch c side (sum32 c.pc offset)
+pub along : (c : State) (side : Bool) (test : Test) (rs1 rs2 offset : ℕ)
+    → IsFetched c (Branch test rs1 rs2 offset) → passes test (x c rs1) (x c rs2) ≡ side
+    → next c ≡ branch c side (sum32 c.pc offset)
 along c side test rs1 rs2 offset fetched is = next_executes c (Branch test rs1 rs2 offset) fetched ∙ ap (λ b. branch c b (sum32 c.pc offset)) is
 
-pub along_chosen : (p : Program) (s : Symbolic) (side : Bool) (test : Test) (rs1 rs2 offset : ℕ) → IsOpen p s → s.decided ≡ Some side
+pub along_chosen : (p : Program) (s : Symbolic) (side : Bool) (test : Test) (rs1 rs2 offset : ℕ)
+    → IsOpen p s → s.decided ≡ Some side
     → ((input : List ℕ) → IsAssignment (regions_of p) input → IsFetched (concrete p s input) (Branch test rs1 rs2 offset))
-    → (input : List ℕ) → IsAssignment (regions_of p) input → meets s input ≡ true → next (concrete p s input) ≡ branch (concrete p s input) side (sum32 s.pc offset)
+    → (input : List ℕ) → IsAssignment (regions_of p) input → meets s input ≡ true
+    → next (concrete p s input) ≡ branch (concrete p s input) side (sum32 s.pc offset)
 along_chosen p s side test rs1 rs2 offset was chosen fetched input assigned meeting =
     along (concrete p s input) side test rs1 rs2 offset (fetched input assigned)
     (goes_by (concrete p s input) side test rs1 rs2 offset (fetched input assigned) ((subst (IsDecided p s) chosen was.decided) input assigned meeting))
 
-pub along_numbers : (p : Program) (s : Symbolic) (test : Test) (rs1 rs2 offset left right : ℕ) → value_at s.registers rs1 ≡ OfNumber left → value_at s.registers rs2 ≡ OfNumber right
+pub along_numbers : (p : Program) (s : Symbolic) (test : Test) (rs1 rs2 offset left right : ℕ)
+    → value_at s.registers rs1 ≡ OfNumber left → value_at s.registers rs2 ≡ OfNumber right
     → ((input : List ℕ) → IsAssignment (regions_of p) input → IsFetched (concrete p s input) (Branch test rs1 rs2 offset))
-    → (input : List ℕ) → IsAssignment (regions_of p) input → meets s input ≡ true → next (concrete p s input) ≡ branch (concrete p s input) (passes test left right) (sum32 s.pc offset)
+    → (input : List ℕ) → IsAssignment (regions_of p) input → meets s input ≡ true
+    → next (concrete p s input) ≡ branch (concrete p s input) (passes test left right) (sum32 s.pc offset)
 along_numbers p s test rs1 rs2 offset left right is_left is_right fetched input assigned meeting =
     along (concrete p s input) (passes test left right) test rs1 rs2 offset (fetched input assigned)
     (cc (x-number p s input rs1 left is_left, x-number p s input rs2 right is_right))
@@ -61,7 +73,8 @@ one_test false = refl
 -- the term is 1 where the test is passed
 passes-one : (p : Program) (s : Symbolic) (g : Graph) (test : Test) (rs1 rs2 term : ℕ)
     → ((input : List ℕ) → number_of g term input ≡ one_where (passes test (worth_of s.terms input (value_at s.registers rs1)) (worth_of s.terms input (value_at s.registers rs2))))
-    → (input : List ℕ) → passes test (x (concrete p s input) rs1) (x (concrete p s input) rs2) ≡ (number_of g term input == 1)
+    → (input : List ℕ)
+    → passes test (x (concrete p s input) rs1) (x (concrete p s input) rs2) ≡ (number_of g term input == 1)
 passes-one p s g test rs1 rs2 term number input =
     cc (x-worth p s input rs1, x-worth p s input rs2, one_test (passes test (worth_of s.terms input (value_at s.registers rs1)) (worth_of s.terms input (value_at s.registers rs2))), number input)
 
@@ -74,21 +87,24 @@ side_alike p s test rs1 rs2 side is decides = record {
   alike = λ input assigned meeting. decides input assigned meeting ∙ ap (λ b. Number (next_word p s) ∷ Side b ∷ []) (is input assigned meeting);
 }
 
-pub chosen_alike : (p : Program) (s : Symbolic) (side : Bool) (test : Test) (rs1 rs2 offset : ℕ) → IsOpen p s → s.decided ≡ Some side
+pub chosen_alike : (p : Program) (s : Symbolic) (side : Bool) (test : Test) (rs1 rs2 offset : ℕ)
+    → IsOpen p s → s.decided ≡ Some side
     → ((input : List ℕ) → IsAssignment (regions_of p) input → IsFetched (concrete p s input) (Branch test rs1 rs2 offset))
     → StepDecides p s (λ c. Side (passes test (x c rs1) (x c rs2)) ∷ []) → StepsAlike p s
 chosen_alike p s side test rs1 rs2 offset was chosen fetched decides =
     side_alike p s test rs1 rs2 side
     (λ input assigned meeting. goes_by (concrete p s input) side test rs1 rs2 offset (fetched input assigned) ((subst (IsDecided p s) chosen was.decided) input assigned meeting)) decides
 
-pub numbers_alike : (p : Program) (s : Symbolic) (test : Test) (rs1 rs2 left right : ℕ) → value_at s.registers rs1 ≡ OfNumber left → value_at s.registers rs2 ≡ OfNumber right
+pub numbers_alike : (p : Program) (s : Symbolic) (test : Test) (rs1 rs2 left right : ℕ)
+    → value_at s.registers rs1 ≡ OfNumber left → value_at s.registers rs2 ≡ OfNumber right
     → StepDecides p s (λ c. Side (passes test (x c rs1) (x c rs2)) ∷ []) → StepsAlike p s
 numbers_alike p s test rs1 rs2 left right is_left is_right decides =
     side_alike p s test rs1 rs2 (passes test left right)
     (λ input assigned meeting. cc (x-number p s input rs1 left is_left, x-number p s input rs2 right is_right)) decides
 
 -- a branch that may go both ways
-pub at_branch : (p : Program) (s : Symbolic) (g : Graph) (test : Test) (rs1 rs2 offset term : ℕ) → IsOpen p s → Grows s.terms g → width_of g term ≡ 1 → s.decided ≡ None
+pub at_branch : (p : Program) (s : Symbolic) (g : Graph) (test : Test) (rs1 rs2 offset term : ℕ)
+    → IsOpen p s → Grows s.terms g → width_of g term ≡ 1 → s.decided ≡ None
     → ((input : List ℕ) → number_of g term input ≡ one_where (passes test (worth_of s.terms input (value_at s.registers rs1)) (worth_of s.terms input (value_at s.registers rs2))))
     → ((input : List ℕ) → IsAssignment (regions_of p) input → IsFetched (concrete p s input) (Branch test rs1 rs2 offset))
     → (is_term (value_at s.registers rs1) || is_term (value_at s.registers rs2)) ≡ true

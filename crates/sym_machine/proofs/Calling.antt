@@ -35,7 +35,8 @@ and-true true = refl
 and-true false = refl
 
 -- One address more.
-pub addresses-more : (start count : ℕ) → start < 2 ^ 32 → addresses start (suc count) ≡ addresses start count ++ (start + count) % 2 ^ 32 ∷ []
+pub addresses-more : (start count : ℕ) → start < 2 ^ 32
+    → addresses start (suc count) ≡ addresses start count ++ (start + count) % 2 ^ 32 ∷ []
 unfolding addresses
 addresses-more start zero small =
     let here : start ≡ (start + 0) % 2 ^ 32 = omega (arith, small) in ap (λ a. a ∷ []) here
@@ -43,12 +44,15 @@ addresses-more start (suc count) small =
     let next : (sum32 start 1 + count) % 2 ^ 32 ≡ (start + suc count) % 2 ^ 32 = omega (arith, small) in
     ap (λ xs. start ∷ xs) (addresses-more (sum32 start 1) count (omega arith) ∙ ap (λ a. addresses (sum32 start 1) count ++ a ∷ []) next)
 
-pub mapped_none : (flags : ℕ → Option ℕ) (start : ℕ) → true ≡ list_all (is_mapped flags) (addresses start 0)
+pub mapped_none : (flags : ℕ → Option ℕ) (start : ℕ)
+    → true ≡ list_all (is_mapped flags) (addresses start 0)
 unfolding addresses
 mapped_none flags start = refl
 
 -- whether one address more is mapped
-pub mapped-more : (flags : ℕ → Option ℕ) (start count : ℕ) (mapped one : Bool) → start < 2 ^ 32 → mapped ≡ list_all (is_mapped flags) (addresses start count) → one ≡ is_mapped flags ((start + count) % 2 ^ 32)
+pub mapped-more : (flags : ℕ → Option ℕ) (start count : ℕ) (mapped one : Bool) → start < 2 ^ 32
+    → mapped ≡ list_all (is_mapped flags) (addresses start count)
+    → one ≡ is_mapped flags ((start + count) % 2 ^ 32)
     → (mapped && one) ≡ list_all (is_mapped flags) (addresses start (count + 1))
 mapped-more flags start count mapped one small is more =
     let all : list_all (is_mapped flags) (addresses start (suc count)) ≡ (list_all (is_mapped flags) (addresses start count) && (is_mapped flags ((start + count) % 2 ^ 32) && true))
@@ -68,11 +72,13 @@ writes_none p s start was = record {
   numbers = λ input. refl;
 }
 
-numbers-append : (g : Graph) (input xs : List ℕ) (id : ℕ) → numbers_of g input (xs ++ id ∷ []) ≡ numbers_of g input xs ++ number_of g id input ∷ []
+numbers-append : (g : Graph) (input xs : List ℕ) (id : ℕ)
+    → numbers_of g input (xs ++ id ∷ []) ≡ numbers_of g input xs ++ number_of g id input ∷ []
 numbers-append g input xs id = map-append (λ i. number_of g i input) xs (id ∷ [])
 
 -- one byte more is written
-pub writes_more : (p : Program) (s t : Symbolic) (g : Graph) (start count id : ℕ) → start < 2 ^ 32 → WritesBytes p s t start count → Grows t.terms g → width_of g id ≡ 8
+pub writes_more : (p : Program) (s t : Symbolic) (g : Graph) (start count id : ℕ) → start < 2 ^ 32
+    → WritesBytes p s t start count → Grows t.terms g → width_of g id ≡ 8
     → ((input : List ℕ) → number_of g id input ≡ placed (regions_of p) input (byte_of p.image) ((start + count) % 2 ^ 32))
     → WritesBytes p s (record (with_terms t g) { output = t.output ++ id ∷ [] }) start (count + 1)
 writes_more p s t g start count id small was grows width number = record {
@@ -93,8 +99,10 @@ writes_more p s t g start count id small was grows width number = record {
 whole : (n : ℕ) → n < 2 ^ 32 → n ≡ sum32 n 0
 whole n small = omega (arith, small)
 
-pub at_call_pin : (p : Program) (s : Symbolic) (register term : ℕ) → IsOpen p s → register < 32 → value_at s.registers register ≡ Term term
-    → IsFirstOpen p s (λ input. Needs (number_of s.terms term input)) → Stepped p s s (Pin register 0 term)
+pub at_call_pin : (p : Program) (s : Symbolic) (register term : ℕ) → IsOpen p s → register < 32
+    → value_at s.registers register ≡ Term term
+    → IsFirstOpen p s (λ input. Needs (number_of s.terms term input))
+    → Stepped p s s (Pin register 0 term)
 at_call_pin p s register term was small is decides =
     let wide : IsWide s.terms (Term term) = subst (IsWide s.terms) is (wide_at p s register was small) in
     at_pin p s s.terms register 0 term was (Grows-none s.terms was.dag) wide small (omega arith) (ap is_term is) (wide_at p s register was small)
@@ -103,7 +111,8 @@ at_call_pin p s register term was small is decides =
     whole (number_of s.terms term input) fits ∙ ap (λ v. sum32 (worth_of s.terms input v) 0) (sym is)) decides
 
 -- The calls.
-pub exits : (p : Program) (s : Symbolic) → IsOpen p s → s.steps < most_steps → StepDecides p s (λ c. call_decisions c) → value_at s.registers 17 ≡ Number 93
+pub exits : (p : Program) (s : Symbolic) → IsOpen p s → s.steps < most_steps
+    → StepDecides p s (λ c. call_decisions c) → value_at s.registers 17 ≡ Number 93
     → ((input : List ℕ) → IsAssignment (regions_of p) input → next (concrete p s input) ≡ call (concrete p s input) (x (concrete p s input) 17))
     → Stepped p s (moved s s.pc s.registers s.terms s.output s.path) (Ended Exits)
 exits p s was few decides is does = (
@@ -117,51 +126,70 @@ exits p s was few decides is does = (
   refl,
 )
 
-other_call : (c : State) (a7 : ℕ) → (a7 == 93) ≡ false → (a7 == 64) ≡ false → call c a7 ≡ trapped Call c
+other_call : (c : State) (a7 : ℕ) → (a7 == 93) ≡ false → (a7 == 64) ≡ false
+    → call c a7 ≡ trapped Call c
 other_call c a7 no_exit other = rw (no_exit, other) refl
 
-pub stops_call : (p : Program) (s : Symbolic) (a7 : ℕ) → IsOpen p s → s.steps < most_steps → StepDecides p s (λ c. call_decisions c) → value_at s.registers 17 ≡ Number a7 → (a7 == 93) ≡ false → (a7 == 64) ≡ false
+pub stops_call : (p : Program) (s : Symbolic) (a7 : ℕ) → IsOpen p s → s.steps < most_steps
+    → StepDecides p s (λ c. call_decisions c) → value_at s.registers 17 ≡ Number a7
+    → (a7 == 93) ≡ false → (a7 == 64) ≡ false
     → ((input : List ℕ) → IsAssignment (regions_of p) input → next (concrete p s input) ≡ call (concrete p s input) (x (concrete p s input) 17))
     → Stepped p s (moved s s.pc s.registers s.terms s.output s.path) (Ended (Traps Call))
 stops_call p s a7 was few decides is no_exit other does =
     stops_by_trap p s Call was few (no_write p s a7 is other decides) (λ input assigned. does input assigned ∙ ap (call (concrete p s input)) (x-number p s input 17 a7 is) ∙ other_call (concrete p s input) a7 no_exit other)
 
 -- The cases of a write.
-no_file : (c : State) (file start count : ℕ) → (file == 1 || file == 2) ≡ false → write c file start count ≡ trapped Call c
+no_file : (c : State) (file start count : ℕ) → (file == 1 || file == 2) ≡ false
+    → write c file start count ≡ trapped Call c
 unfolding write
 no_file c file start count none = rw none refl
 
-no_bytes : (c : State) (file start count : ℕ) → (file == 1 || file == 2) ≡ true → list_all (is_mapped c.flags) (addresses start (min count 4096)) ≡ false → write c file start count ≡ trapped LoadAccess c
+no_bytes : (c : State) (file start count : ℕ) → (file == 1 || file == 2) ≡ true
+    → list_all (is_mapped c.flags) (addresses start (min count 4096)) ≡ false
+    → write c file start count ≡ trapped LoadAccess c
 unfolding write
 no_bytes c file start count one unmapped = rw (one, unmapped) refl
 
-all_bytes : (c : State) (file start count : ℕ) → (file == 1 || file == 2) ≡ true → list_all (is_mapped c.flags) (addresses start (min count 4096)) ≡ true
+all_bytes : (c : State) (file start count : ℕ) → (file == 1 || file == 2) ≡ true
+    → list_all (is_mapped c.flags) (addresses start (min count 4096)) ≡ true
     → write c file start count ≡ GoesOn (onward (record c { output = c.output ++ map c.byte (addresses start (min count 4096)) }) (written c.registers 10 (min count 4096)))
 unfolding write
 all_bytes c file start count one mapped = rw (one, mapped) refl
 
-pub stops_file : (p : Program) (s : Symbolic) (file : ℕ) → IsOpen p s → s.steps < most_steps → StepDecides p s (λ c. Needs 64 ∷ write_decisions c) → value_at s.registers 10 ≡ Number file → (file == 1 || file == 2) ≡ false
+pub stops_file : (p : Program) (s : Symbolic) (file : ℕ) → IsOpen p s → s.steps < most_steps
+    → StepDecides p s (λ c. Needs 64 ∷ write_decisions c) → value_at s.registers 10 ≡ Number file
+    → (file == 1 || file == 2) ≡ false
     → ((input : List ℕ) → IsAssignment (regions_of p) input → next (concrete p s input) ≡ write (concrete p s input) (x (concrete p s input) 10) (x (concrete p s input) 11) (x (concrete p s input) 12))
     → Stepped p s (moved s s.pc s.registers s.terms s.output s.path) (Ended (Traps Call))
 stops_file p s file was few decides is none does =
     stops_by_trap p s Call was few (no_file_alike p s file is none decides) (λ input assigned. does input assigned
     ∙ no_file (concrete p s input) (x (concrete p s input) 10) (x (concrete p s input) 11) (x (concrete p s input) 12) (ap (λ f. f == 1 || f == 2) (x-number p s input 10 file is) ∙ none))
 
-pub stops_write : (p : Program) (s : Symbolic) (file start count : ℕ) → IsOpen p s → s.steps < most_steps → StepDecides p s (λ c. Needs 64 ∷ write_decisions c) → value_at s.registers 10 ≡ Number file → value_at s.registers 11 ≡ Number start → value_at s.registers 12 ≡ Number count
-    → (file == 1 || file == 2) ≡ true → list_all (is_mapped (flags_of p.image)) (addresses start (min count 4096)) ≡ false
+pub stops_write : (p : Program) (s : Symbolic) (file start count : ℕ) → IsOpen p s
+    → s.steps < most_steps → StepDecides p s (λ c. Needs 64 ∷ write_decisions c)
+    → value_at s.registers 10 ≡ Number file → value_at s.registers 11 ≡ Number start
+    → value_at s.registers 12 ≡ Number count
+    → (file == 1 || file == 2) ≡ true
+    → list_all (is_mapped (flags_of p.image)) (addresses start (min count 4096)) ≡ false
     → ((input : List ℕ) → IsAssignment (regions_of p) input → next (concrete p s input) ≡ write (concrete p s input) (x (concrete p s input) 10) (x (concrete p s input) 11) (x (concrete p s input) 12))
     → Stepped p s (moved s s.pc s.registers s.terms s.output s.path) (Ended (Traps LoadAccess))
 stops_write p s file start count was few decides is_file is_start is_count one unmapped does =
     stops_by_trap p s LoadAccess was few (write_alike p s file start count is_file one is_start is_count decides) (λ input assigned. does input assigned
     ∙ cc (x-number p s input 10 file is_file, x-number p s input 11 start is_start, x-number p s input 12 count is_count, no_bytes (concrete p s input) file start count one unmapped))
 
-asked : (p : Program) (s : Symbolic) (input : List ℕ) (file start count : ℕ) → value_at s.registers 10 ≡ Number file → value_at s.registers 11 ≡ Number start → value_at s.registers 12 ≡ Number count
+asked : (p : Program) (s : Symbolic) (input : List ℕ) (file start count : ℕ)
+    → value_at s.registers 10 ≡ Number file → value_at s.registers 11 ≡ Number start
+    → value_at s.registers 12 ≡ Number count
     → write (concrete p s input) (x (concrete p s input) 10) (x (concrete p s input) 11) (x (concrete p s input) 12) ≡ write (concrete p s input) file start count
 asked p s input file start count is_file is_start is_count = cc (x-number p s input 10 file is_file, x-number p s input 11 start is_start, x-number p s input 12 count is_count)
 
-pub writes : (p : Program) (s t : Symbolic) (file start count least : ℕ) → IsOpen p s → WritesBytes p s t start least → s.steps < most_steps → StepDecides p s (λ c. Needs 64 ∷ write_decisions c) → least ≡ min count 4096
-    → value_at s.registers 10 ≡ Number file → value_at s.registers 11 ≡ Number start → value_at s.registers 12 ≡ Number count
-    → (file == 1 || file == 2) ≡ true → list_all (is_mapped (flags_of p.image)) (addresses start least) ≡ true
+pub writes : (p : Program) (s t : Symbolic) (file start count least : ℕ) → IsOpen p s
+    → WritesBytes p s t start least → s.steps < most_steps
+    → StepDecides p s (λ c. Needs 64 ∷ write_decisions c) → least ≡ min count 4096
+    → value_at s.registers 10 ≡ Number file → value_at s.registers 11 ≡ Number start
+    → value_at s.registers 12 ≡ Number count
+    → (file == 1 || file == 2) ≡ true
+    → list_all (is_mapped (flags_of p.image)) (addresses start least) ≡ true
     → ((input : List ℕ) → IsAssignment (regions_of p) input → next (concrete p s input) ≡ write (concrete p s input) (x (concrete p s input) 10) (x (concrete p s input) 11) (x (concrete p s input) 12))
     → Stepped p s (moved t (sum32 t.pc 4) (set_value t.registers 10 (Number least)) t.terms t.output t.path) Running
 writes p s t file start count least was bytes few decides is_least is_file is_start is_count one mapped does = rw bytes.same (

@@ -27,7 +27,8 @@ is_equal Less is = search (rules, is)
 is_equal Equal is = refl
 is_equal Greater is = search (rules, is)
 
-pub page_found : (image : Image) (es : List (ℕ × Page)) → ArePagesKnown image es → (q : ℕ) → IsSome (find nat_cmp q es) → IsPageKnown image q
+pub page_found : (image : Image) (es : List (ℕ × Page)) → ArePagesKnown image es → (q : ℕ)
+    → IsSome (find nat_cmp q es) → IsPageKnown image q
 page_found image [] all q some = search (rules, some)
 page_found image (e ∷ es) all q some =
     elim (is_eq (nat_cmp q e.0)) as (λ b. is_eq (nat_cmp q e.0) ≡ b → IsSome (cond b (Some e.1) (find nat_cmp q es)) → IsPageKnown image q) [
@@ -40,16 +41,20 @@ mapped None can = search (rules, can)
 mapped (Some p) can = refl
 
 -- one page more
-pub page_more : (image : Image) (rest after : List (ℕ × Page)) (e : ℕ × Page) (known one : Bool) → rest ≡ e ∷ after
-    → (known ≡ true → ArePagesKnown image rest → ArePagesKnown image (entries image.pages)) → (one ≡ true → IsPageKnown image e.0)
+pub page_more : (image : Image) (rest after : List (ℕ × Page)) (e : ℕ × Page) (known one : Bool)
+    → rest ≡ e ∷ after
+    → (known ≡ true → ArePagesKnown image rest → ArePagesKnown image (entries image.pages))
+    → (one ≡ true → IsPageKnown image e.0)
     → (known && one) ≡ true → ArePagesKnown image after → ArePagesKnown image (entries image.pages)
-page_more image rest after e true true is before now both all = before refl (subst (ArePagesKnown image) (sym is) (now refl, all))
+page_more image rest after e true true is before now both all =
+    before refl (subst (ArePagesKnown image) (sym is) (now refl, all))
 page_more image rest after e true false is before now both all = search (rules, both)
 page_more image rest after e false one is before now both all = search (rules, both)
 
 -- where each page is known, each word is that can be executed
 pub words_known : (image : Image) → ArePagesKnown image (entries image.pages)
-    → (pc : ℕ) → pc % 4 ≡ 0 → can_execute (flags_of image) pc ≡ true → IsKnown (instr (word_at (byte_of image) pc))
+    → (pc : ℕ) → pc % 4 ≡ 0 → can_execute (flags_of image) pc ≡ true
+    → IsKnown (instr (word_at (byte_of image) pc))
 words_known image all pc aligned can =
     page_found image (entries image.pages) all (pc / 256) (subst IsSome (get-entries image.pages (pc / 256)) (mapped (get image.pages (pc / 256)) can)) pc refl aligned can
 
@@ -57,7 +62,9 @@ abbrev IsWordKnown : Image → ℕ → ℕ → Type 0
 IsWordKnown image page k = IsKnown (instr (word_at (byte_of image) (256 * page + 4 * k)))
 
 -- one word of a page more
-pub word_more : (image : Image) (page i : ℕ) (known one : Bool) → (known ≡ true → (k : ℕ) → k < i → IsWordKnown image page k) → (one ≡ true → IsWordKnown image page i)
+pub word_more : (image : Image) (page i : ℕ) (known one : Bool)
+    → (known ≡ true → (k : ℕ) → k < i → IsWordKnown image page k)
+    → (one ≡ true → IsWordKnown image page i)
     → (known && one) ≡ true → (k : ℕ) → k < i + 1 → IsWordKnown image page k
 word_more image page i true true before now both k small =
     elim (nat_lt k i) as (λ b. nat_lt k i ≡ b → IsWordKnown image page k) [
@@ -68,7 +75,8 @@ word_more image page i true false before now both k small = search (rules, both)
 word_more image page i false one before now both k small = search (rules, both)
 
 -- the words of one page, each by its place on it
-pub each_word : (image : Image) (page : ℕ) → ((k : ℕ) → k < 64 → IsKnown (instr (word_at (byte_of image) (256 * page + 4 * k))))
+pub each_word : (image : Image) (page : ℕ)
+    → ((k : ℕ) → k < 64 → IsKnown (instr (word_at (byte_of image) (256 * page + 4 * k))))
     → (pc : ℕ) → pc / 256 ≡ page → pc % 4 ≡ 0 → IsKnown (instr (word_at (byte_of image) pc))
 each_word image page all pc there aligned =
     let place : 256 * page + 4 * (pc % 256 / 4) ≡ pc = omega (arith, there, aligned) in

@@ -37,9 +37,11 @@ StepDecides p s more = (input : List ℕ) → IsAssignment (regions_of p) input 
 -- the step decides the same on all assignments that meet the condition
 pub record StepsAlike (p : Program) (s : Symbolic) : Type 0 where
   pub made : List Decision
-  pub alike : (input : List ℕ) → IsAssignment (regions_of p) input → meets s input ≡ true → step_decisions (concrete p s input) ≡ made
+  pub alike : (input : List ℕ) → IsAssignment (regions_of p) input → meets s input ≡ true
+      → step_decisions (concrete p s input) ≡ made
 
--- This is the first of the step's decisions that may differ: those before it are the same on all assignments that meet the condition.
+-- This is the first of the step's decisions that may differ: those before it are the same on all
+-- assignments that meet the condition.
 pub record IsFirstOpen (p : Program) (s : Symbolic) (decision : List ℕ → Decision) : Type 0 where
   pub front : List Decision
   pub back : List ℕ → List Decision
@@ -62,7 +64,8 @@ pub record IsEnding (p : Program) (s : Symbolic) (end : RunEnd) : Type 0 where
   pub numbers : HasSmallNumbers s
   pub sampled : (s.sample < 256) × (meets s (s.sample ∷ []) ≡ true)
   pub ends : (input : List ℕ) → IsAssignment (regions_of p) input → meets s input ≡ true →
-      IsRunOf (run p.image (regions_of p) input s.steps) s.steps s.path (Some (end_on s input end)) (numbers_of s.terms input s.output)
+      IsRunOf (run p.image (regions_of p) input s.steps) s.steps s.path (Some (end_on s input end))
+      (numbers_of s.terms input s.output)
   pub alike : DecidedAlike p s
 
 -- a conditional branch comes next, of two registers that are not both numbers
@@ -71,7 +74,8 @@ pub record ComparesTerms (p : Program) (s : Symbolic) : Type 0 where
   pub rs1 : ℕ
   pub rs2 : ℕ
   pub offset : ℕ
-  pub fetched : (input : List ℕ) → IsAssignment (regions_of p) input → IsFetched (concrete p s input) (Branches test rs1 rs2 offset)
+  pub fetched : (input : List ℕ) → IsAssignment (regions_of p) input
+      → IsFetched (concrete p s input) (Branches test rs1 rs2 offset)
   pub no_numbers : (is_term (value_at s.registers rs1) || is_term (value_at s.registers rs2)) ≡ true
 
 -- a conditional branch comes next, and is taken where this term is 1
@@ -79,22 +83,28 @@ pub record IsBranch (p : Program) (s : Symbolic) (term : ℕ) : Type 0 where
   pub bit : width_of s.terms term ≡ 1
   pub small : (input : List ℕ) → number_of s.terms term input ≤ 1
   pub undecided : s.decided ≡ None
-  pub goes : (input : List ℕ) → IsAssignment (regions_of p) input → meets s input ≡ true → Goes (number_of s.terms term input == 1) (concrete p s input)
+  pub goes : (input : List ℕ) → IsAssignment (regions_of p) input → meets s input ≡ true
+      → Goes (number_of s.terms term input == 1) (concrete p s input)
   pub compares : ComparesTerms p s
   pub decides : IsFirstOpen p s (λ input. Side (number_of s.terms term input == 1))
 
--- the step needs the number of the term, which is the sum of a register and an offset; the register holds no number
+-- the step needs the number of the term, which is the sum of a register and an offset; the register
+-- holds no number
 pub record IsPin (p : Program) (s : Symbolic) (register offset term : ℕ) : Type 0 where
   pub wide : width_of s.terms term ≡ 32
   pub is_register : register < 32
   pub small : offset < 2 ^ 32
   pub no_number : is_term (value_at s.registers register) ≡ true
-  pub sums : (input : List ℕ) → IsAssignment (regions_of p) input → number_of s.terms term input ≡ sum32 (worth_of s.terms input (value_at s.registers register)) offset
+  pub sums : (input : List ℕ) → IsAssignment (regions_of p) input
+      → number_of s.terms term input ≡ sum32 (worth_of s.terms input (value_at s.registers register)) offset
   pub decides : IsFirstOpen p s (λ input. Number (number_of s.terms term input))
 
--- it has gone on, it is at a branch or at a term that has to be a number and has not carried the instruction out, or all its runs have ended
+-- it has gone on, it is at a branch or at a term that has to be a number and has not carried the
+-- instruction out, or all its runs have ended
 abbrev pub Stepped : Program → Symbolic → Symbolic → Step → Type 0
 Stepped p old new Running = IsOpen p new × IsSame old new × (new.steps ≡ old.steps + 1)
-Stepped p old new (Branch term) = IsOpen p new × IsSame old new × IsGrown old new × IsBranch p new term
-Stepped p old new (Pin register offset term) = IsOpen p new × IsSame old new × IsGrown old new × IsPin p new register offset term
+Stepped p old new (Branch term) =
+    IsOpen p new × IsSame old new × IsGrown old new × IsBranch p new term
+Stepped p old new (Pin register offset term) =
+    IsOpen p new × IsSame old new × IsGrown old new × IsPin p new register offset term
 Stepped p old new (Ended end) = IsEnding p new end × IsSame old new × (new.steps ≡ old.steps + 1)

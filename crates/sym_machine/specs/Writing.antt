@@ -14,4 +14,5 @@ pub record WritesBytes (p : Program) (old new : Symbolic) (start count : ℕ) : 
   pub grows : Grows old.terms new.terms
   pub bytes : AreBytes new.terms ids
   pub each : length ids ≡ count
-  pub numbers : (input : List ℕ) → numbers_of new.terms input ids ≡ map (placed (regions_of p) input (byte_of p.image)) (addresses start count)
+  pub numbers : (input : List ℕ)
+      → numbers_of new.terms input ids ≡ map (placed (regions_of p) input (byte_of p.image)) (addresses start count)

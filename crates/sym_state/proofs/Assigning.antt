@@ -31,7 +31,8 @@ bytes_of (b ∷ bs) is =
     All-cons (λ n. n < 256) b bs (below_of b 256 parts.0) (bytes_of bs parts.1)
 
 -- the run of all assignments stands for each
-pub first_covers : (p : Program) (input : List ℕ) → IsAssignment (regions_of p) input → IsTrue ((run_place (first_run p)).covers input)
+pub first_covers : (p : Program) (input : List ℕ) → IsAssignment (regions_of p) input
+    → IsTrue ((run_place (first_run p)).covers input)
 first_covers p [] assigned = absurd (omega (arith, assigned.0))
 first_covers p (b ∷ []) assigned = ap (λ t. t && true) (bytes_true (b ∷ []) assigned.1)
 first_covers p (b ∷ c ∷ bs) assigned = absurd (omega (arith, assigned.0))

@@ -12,7 +12,8 @@ use Rattle.sym_state.specs.Symbolic.{Symbolic, IsWide, IsWord, IsOpen, first_run
 use Rattle.sym_state.specs.declared.value.Value.{Value}
 use Rattle.sym_state.specs.declared.value.Value.TheVariants.{Number}
 
-first_all : (P : Value → Type 0) (p : Program) → P (Number 0) → P (Number 0x7FFFFFF0) → All P (first_run p).registers
+first_all : (P : Value → Type 0) (p : Program) → P (Number 0) → P (Number 0x7FFFFFF0)
+    → All P (first_run p).registers
 first_all P p zero stack = All-set P (replicate 32 (Number 0)) 2 (Number 0x7FFFFFF0) stack (All-replicate P 32 (Number 0) zero)
 
 pub open_first : (p : Program) → p.image.entry < 2 ^ 32 → IsOpen p (first_run p)
@@ -41,6 +42,7 @@ open_first p entry = record {
 }
 
 -- what is equal to it, where memory was there
-pub opens : {E : Type 0} (p : Program) (r : Result Symbolic E) → p.image.entry < 2 ^ 32 → IfOk r (λ s. s ≡ first_run p) → IfOk r (IsOpen p)
+pub opens : {E : Type 0} (p : Program) (r : Result Symbolic E) → p.image.entry < 2 ^ 32
+    → IfOk r (λ s. s ≡ first_run p) → IfOk r (IsOpen p)
 opens p (Err e) entry is = tt
 opens p (Ok s) entry is = subst (IsOpen p) (sym is) (open_first p entry)

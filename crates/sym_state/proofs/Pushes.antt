@@ -11,7 +11,8 @@ use Rattle.bv_dag.proofs.TermLaws.{IsDag-with_node, width_of-with_node, number_o
 use Rattle.rv_spec.specs.Arithmetic.{sum32}
 use Rattle.sym_state.specs.Growing.{Grows, front_of}
 
-pub Grows-with_node : (g : Graph) (n : Node) → length g.nodes < 0xFFFFFFFF → IsDag g → Fits g.inputs (widths_of g.nodes) n → Grows g (with_node g n)
+pub Grows-with_node : (g : Graph) (n : Node) → length g.nodes < 0xFFFFFFFF → IsDag g
+    → Fits g.inputs (widths_of g.nodes) n → Grows g (with_node g n)
 Grows-with_node g n room dag fits = record {
   dag = IsDag-with_node g n dag fits;
   same_inputs = refl;
@@ -45,32 +46,44 @@ Grows-trans f g h first second = record {
 }
 
 -- What a push that succeeded has done.
-pub pushed_grows : {E : Type 0} (old new : Graph) (n : Node) (r : Result ℕ E) → length old.nodes < 0xFFFFFFFF → IsDag old → Fits old.inputs (widths_of old.nodes) n → OnOk r (new ≡ with_node old n) → OnOk r (Grows old new)
+pub pushed_grows : {E : Type 0} (old new : Graph) (n : Node) (r : Result ℕ E)
+    → length old.nodes < 0xFFFFFFFF → IsDag old → Fits old.inputs (widths_of old.nodes) n
+    → OnOk r (new ≡ with_node old n) → OnOk r (Grows old new)
 pushed_grows old new n (Err e) room dag fits is = tt
 pushed_grows old new n (Ok id) room dag fits is = rw is (Grows-with_node old n room dag fits)
 
-pub pushed_width : {E : Type 0} (old new : Graph) (n : Node) (r : Result ℕ E) → IfOk r (λ id. id ≡ length old.nodes) → OnOk r (new ≡ with_node old n) → IfOk r (λ id. width_of new id ≡ node_width (widths_of old.nodes) n)
+pub pushed_width : {E : Type 0} (old new : Graph) (n : Node) (r : Result ℕ E)
+    → IfOk r (λ id. id ≡ length old.nodes) → OnOk r (new ≡ with_node old n)
+    → IfOk r (λ id. width_of new id ≡ node_width (widths_of old.nodes) n)
 pushed_width old new n (Err e) place is = tt
 pushed_width old new n (Ok id) place is = rw (is, place) (width_of-new old n)
 
-pub pushed_number : {E : Type 0} (old new : Graph) (n : Node) (r : Result ℕ E) → IfOk r (λ id. id ≡ length old.nodes) → OnOk r (new ≡ with_node old n) → IfOk r (λ id. (input : List ℕ) → number_of new id input ≡ (node_value input (λ k. val old k input) n).number)
+pub pushed_number : {E : Type 0} (old new : Graph) (n : Node) (r : Result ℕ E)
+    → IfOk r (λ id. id ≡ length old.nodes) → OnOk r (new ≡ with_node old n)
+    → IfOk r (λ id. (input : List ℕ) → number_of new id input ≡ (node_value input (λ k. val old k input) n).number)
 pushed_number old new n (Err e) place is = tt
-pushed_number old new n (Ok id) place is = λ input. rw (is, place) (ap (λ (s : BitVector). s.number) (val-new old n input))
+pushed_number old new n (Ok id) place is =
+    λ input. rw (is, place) (ap (λ (s : BitVector). s.number) (val-new old n input))
 
 -- the complement of a bit
-pub other_bit : {E : Type 0} (old new : Graph) (bit : ℕ) (r : Result ℕ E) → width_of old bit ≡ 1 → IfOk r (λ id. (input : List ℕ) → number_of new id input ≡ (bvnot (val old bit input)).number) → IfOk r (λ id. (input : List ℕ) → number_of new id input ≡ 1 - number_of old bit input)
+pub other_bit : {E : Type 0} (old new : Graph) (bit : ℕ) (r : Result ℕ E) → width_of old bit ≡ 1
+    → IfOk r (λ id. (input : List ℕ) → number_of new id input ≡ (bvnot (val old bit input)).number)
+    → IfOk r (λ id. (input : List ℕ) → number_of new id input ≡ 1 - number_of old bit input)
 unfolding bvnot
 other_bit old new bit (Err e) width h = tt
 other_bit old new bit (Ok id) width h = λ input. h input ∙ ap (λ w. 2 ^ w - 1 - number_of old bit input) (width-val old bit input ∙ width)
 
 -- the sum of terms of 32 bits
-pub sums : {E : Type 0} (old new : Graph) (left right : ℕ) (r : Result ℕ E) → width_of old left ≡ 32 → IfOk r (λ id. (input : List ℕ) → number_of new id input ≡ (bvadd (val old left input) (val old right input)).number) → IfOk r (λ id. (input : List ℕ) → number_of new id input ≡ sum32 (number_of old left input) (number_of old right input))
+pub sums : {E : Type 0} (old new : Graph) (left right : ℕ) (r : Result ℕ E) → width_of old left ≡ 32
+    → IfOk r (λ id. (input : List ℕ) → number_of new id input ≡ (bvadd (val old left input) (val old right input)).number)
+    → IfOk r (λ id. (input : List ℕ) → number_of new id input ≡ sum32 (number_of old left input) (number_of old right input))
 unfolding bvadd
 sums old new left right (Err e) width h = tt
 sums old new left right (Ok id) width h = λ input. h input ∙ ap (λ w. (number_of old left input + number_of old right input) % 2 ^ w) (width-val old left input ∙ width)
 
 -- Whether memory was there or not, what was there is as it was.
-pub Grows-either : {E : Type 0} (g h : Graph) (r : Result ℕ E) → IsDag g → OnErr r (h ≡ g) → OnOk r (Grows g h) → Grows g h
+pub Grows-either : {E : Type 0} (g h : Graph) (r : Result ℕ E) → IsDag g → OnErr r (h ≡ g)
+    → OnOk r (Grows g h) → Grows g h
 Grows-either g h (Err e) dag same grows = subst (Grows g) (sym same) (Grows-none g dag)
 Grows-either g h (Ok id) dag same grows = grows
 

@@ -9,7 +9,8 @@ pub record Grows (old new : Graph) : Type 0 where
   pub longer : length old.nodes ≤ length new.nodes
   pub front : take (length old.nodes) new.nodes ≡ old.nodes
   pub same_width : (id : ℕ) → id < length old.nodes → width_of new id ≡ width_of old id
-  pub same_number : (id : ℕ) → id < length old.nodes → (input : List ℕ) → number_of new id input ≡ number_of old id input
+  pub same_number : (id : ℕ) → id < length old.nodes → (input : List ℕ)
+      → number_of new id input ≡ number_of old id input
   -- a table has room for fewer than 2 ^ 32 terms
   pub few : length old.nodes < 2 ^ 32 → length new.nodes < 2 ^ 32
 

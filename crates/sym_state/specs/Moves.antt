@@ -1,4 +1,5 @@
--- How symbolic runs change: terms are added, a step is made, a run is narrowed to one side of a fork.
+-- How symbolic runs change: terms are added, a step is made, a run is narrowed to one side of a
+-- fork.
 use Rattle.std.specs.Prelude.{◌≡◌, ℕ, ◌+◌, List, [], ◌∷◌, ◌++◌, None}
 use Rattle.bv_dag.specs.Graphs.{Graph}
 use Rattle.rv_decode.specs.declared.ends.PathStep.{PathStep}
@@ -21,7 +22,8 @@ pub record IsGrown (old new : Symbolic) : Type 0 where
   pub grows : Grows old.terms new.terms
 
 -- one step on: at this address, with these registers, output and path
-abbrev pub moved : Symbolic → (pc : ℕ) → (registers : List Value) → (terms : Graph) → (output : List ℕ) → (path : List PathStep) → Symbolic
+abbrev pub moved : Symbolic → (pc : ℕ) → (registers : List Value) → (terms : Graph)
+    → (output : List ℕ) → (path : List PathStep) → Symbolic
 moved s pc registers terms output path = record {
   pc = pc;
   registers = registers;

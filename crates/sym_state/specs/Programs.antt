@@ -22,13 +22,17 @@ abbrev pub IsKnown : Option Instr → Type 0
 IsKnown None = Unit {0}
 IsKnown (Some i) = IsOneOfEight i
 
--- each word on a page that can be executed is known, and the input byte is on a mapped page that can't be
+-- each word on a page that can be executed is known, and the input byte is on a mapped page that
+-- can't be
 pub record IsRunnable (p : Program) : Type 0 where
   pub in_memory : p.place < 2 ^ 32
   pub mapped : is_mapped (flags_of p.image) p.place ≡ true
   pub is_data : can_execute (flags_of p.image) p.place ≡ false
-  pub known : (pc : ℕ) → pc % 4 ≡ 0 → pc < 2 ^ 32 → can_execute (flags_of p.image) pc ≡ true → IsKnown (instr (word_at (byte_of p.image) pc))
+  pub known : (pc : ℕ) → pc % 4 ≡ 0 → pc < 2 ^ 32 → can_execute (flags_of p.image) pc ≡ true
+      → IsKnown (instr (word_at (byte_of p.image) pc))
 
 -- the code of programs, by which they are told apart
 abbrev pub program_code : Coded Program
-program_code = code_by (Image × ℕ) (coded× image_code coded_ℕ) (λ p. (p.image, p.place)) (λ c. record { image = c.0; place = c.1 }) (λ _. refl)
+program_code =
+    code_by (Image × ℕ) (coded× image_code coded_ℕ) (λ p. (p.image, p.place))
+    (λ c. record { image = c.0; place = c.1 }) (λ _. refl)

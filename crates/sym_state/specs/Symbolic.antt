@@ -1,4 +1,5 @@
--- What a symbolic run stands for: one run of the machine for each assignment that meets its condition.
+-- What a symbolic run stands for: one run of the machine for each assignment that meets its
+-- condition.
 use Rattle.std.specs.Prelude.{◌≡◌, ℕ, ◌+◌, ◌*◌, ◌^◌, ◌<◌, ◌≤◌, Bool, true, false, List, [], ◌∷◌, All, length, map, replicate, slice_index_or, slice_set, Option, None, Some, Result, Ok, count_by, ◌==◌, ◌-◌, if◌then◌else◌}
 use Rattle.bv_dag.specs.Graphs.{Graph, IsDag, number_of, width_of}
 use Rattle.bv_dag.specs.Queries.{Condition, AreBits, holds}
@@ -97,7 +98,9 @@ Goes side c = GoesBy side c (fetch c.flags c.byte c.pc)
 -- the side was chosen: all of its runs go this way
 abbrev pub IsDecided : Program → Symbolic → Option Bool → Type 0
 IsDecided p s None = Unit {0}
-IsDecided p s (Some side) = (input : List ℕ) → IsAssignment (regions_of p) input → meets s input ≡ true → Goes side (concrete p s input)
+IsDecided p s (Some side) =
+    (input : List ℕ) → IsAssignment (regions_of p) input → meets s input ≡ true
+    → Goes side (concrete p s input)
 
 -- its numbers are below 2 ^ 32: a step writes 4096 bytes at most
 pub record HasSmallNumbers (s : Symbolic) : Type 0 where
@@ -110,7 +113,8 @@ pub record HasSmallNumbers (s : Symbolic) : Type 0 where
 -- all assignments that meet the condition have made the same decisions in the steps made
 pub record DecidedAlike (p : Program) (s : Symbolic) : Type 0 where
   pub made : List Decision
-  pub alike : (input : List ℕ) → IsAssignment (regions_of p) input → meets s input ≡ true → decisions p.image (regions_of p) input s.steps ≡ made
+  pub alike : (input : List ℕ) → IsAssignment (regions_of p) input → meets s input ≡ true
+      → decisions p.image (regions_of p) input s.steps ≡ made
 
 -- all is right with a symbolic run, wherever it is
 pub record IsOpen (p : Program) (s : Symbolic) : Type 0 where
@@ -118,7 +122,8 @@ pub record IsOpen (p : Program) (s : Symbolic) : Type 0 where
   pub one_input : s.terms.inputs ≡ 1
   pub all_registers : length s.registers ≡ 32
   pub wide : All (IsWide s.terms) s.registers
-  pub small : (input : List ℕ) → IsAssignment (regions_of p) input → All (IsWord s.terms input) s.registers
+  pub small : (input : List ℕ) → IsAssignment (regions_of p) input
+      → All (IsWord s.terms input) s.registers
   pub zero : value_at s.registers 0 ≡ Number 0
   pub bits : AreBits s.terms s.condition
   pub bytes : AreBytes s.terms s.output
@@ -149,7 +154,8 @@ run_at entry = record {
 abbrev pub first_run : Program → Symbolic
 first_run p = run_at p.image.entry
 
--- how far a run may still go: each step, each number that a register gets in place of a term, and each side that is chosen makes it less
+-- how far a run may still go: each step, each number that a register gets in place of a term, and
+-- each side that is chosen makes it less
 abbrev pub undecided : Option Bool → ℕ
 undecided None = 1
 undecided (Some side) = 0
