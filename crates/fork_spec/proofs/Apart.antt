@@ -102,7 +102,6 @@ module _ {R : Type 0} (place : R → Place) (decides : List ℕ → List Decisio
 
   module _ (s : Story R) (e : Event R (Vec (Kid R))) (r : R) (named : All (λ (x : Event R ℕ). x.node < length s.nodes) s.events) (there : e.node < length s.nodes)
       (is : content s e.node ≡ Some r) (may : IsTrue (is_allowed s e)) (keeps : KeepsApart place decides r e.deed) where
-
     live_there : is_live (status s e.node) ≡ true
     live_there = live_before (status s e.node) e.by e.deed may
 

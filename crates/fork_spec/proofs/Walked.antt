@@ -152,7 +152,6 @@ module _ {R : Type 0} (choices : R → List Choice) (cut : R → Option Cause) (
 
   module _ (s : Story R) (e : Event R (Vec (Kid R))) (r : R) (named : All (λ (x : Event R ℕ). x.node < length s.nodes) s.events) (there : e.node < length s.nodes)
       (is : content s e.node ≡ Some r) (may : IsTrue (is_allowed s e)) (form : IsInForm choices cut targets r e.deed) where
-
     -- the content of its birth, which it has still
     birth : option_map (λ n. n.content) (slice_get s.nodes e.node) ≡ Some r
     birth = sym (open_content (option_map (λ n. n.content) (slice_get s.nodes e.node)) (stories.born_as (slice_get s.nodes e.node)) (last_on e.node s.events) e.by e.deed may) ∙ is

@@ -1,11 +1,13 @@
 -- Assignments of one byte, and what answers to questions over them say.
-use Rattle.std.proofs.Common.{◌≡◌, ℕ, zero, suc, ◌-◌, ◌<◌, ◌≤◌, Bool, true, false, ◌&&◌, List, [], ◌∷◌, refl, sym, ap, ◌∙◌, arith}
+use Rattle.std.proofs.Common.{◌≡◌, ℕ, zero, suc, ◌-◌, ◌<◌, ◌≤◌, Bool, true, false, ◌&&◌, List, [], ◌∷◌, length, refl, sym, ap, ◌∙◌, arith, rules}
 use Rattle.std.specs.Prelude.{◌==◌, not}
 use Rattle.std.proofs.lemmas.Bool.Decides.{nat_tests}
 use Rattle.bv_dag.specs.Graphs.{number_of}
+use Rattle.fork_spec.specs.Leaves.{are_bytes}
 use Rattle.rv_spec.specs.Memory.{IsAssignment}
 use Rattle.sym_state.specs.Programs.{Program, regions_of}
 use Rattle.sym_state.specs.Symbolic.{Symbolic, meets}
+use Rattle.sym_state.proofs.Assigning.{both_true, bytes_of}
 use Rattle.node_split.specs.Narrowing.{answers, is_side}
 
 pub record IsByte (input : List ℕ) : Type 0 where
@@ -17,10 +19,6 @@ pub one_byte : (p : Program) (input : List ℕ) → IsAssignment (regions_of p) 
 one_byte p [] assigned = absurd (omega (arith, assigned.0))
 one_byte p (b ∷ []) assigned = record { byte = b; is = refl; small = assigned.1 0 0 (omega arith) }
 one_byte p (b ∷ c ∷ rest) assigned = absurd (omega (arith, assigned.0))
-
-pub both_true : (a b : Bool) → (a && b) ≡ true → (a ≡ true) × (b ≡ true)
-both_true true b h = (refl, h)
-both_true false b h = cc
 
 pub all_true : (a b : Bool) → a ≡ true → b ≡ true → (a && b) ≡ true
 all_true a b h k = cc (h, k)
@@ -57,3 +55,10 @@ one_side p s term side none input assigned meeting =
     let one : IsByte input = one_byte p input assigned in
     let met : meets s (one.byte ∷ []) ≡ true = ap (meets s) (sym one.is) ∙ meeting in
     ap (λ i. number_of s.terms term i == 1) one.is ∙ other_side side (number_of s.terms term (one.byte ∷ [])) (second_false (meets s (one.byte ∷ [])) _ (none one.byte one.small) met)
+
+-- bytes that meet the condition are an assignment
+pub assigned : (p : Program) (s : Symbolic) (input : List ℕ) → s.terms.inputs ≡ 1 → are_bytes input ≡ true → meets s input ≡ true → IsAssignment (regions_of p) input
+assigned p s input one bytes met =
+    let long : (length input == s.terms.inputs) ≡ true = (both_true (length input == s.terms.inputs) _ met).0 in
+    let same : length input ≡ s.terms.inputs = search (rules, long) in
+    (omega (arith, same, one), bytes_of input bytes)

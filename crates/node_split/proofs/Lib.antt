@@ -3,6 +3,8 @@ pub mod Asking
 pub mod Valuing
 pub mod Bytes
 pub mod Sides
+pub mod Apart
+pub mod Sharing
 pub mod Parting
 pub mod Pinning
 pub mod SidesOfValues

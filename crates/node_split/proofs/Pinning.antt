@@ -13,7 +13,7 @@ use Rattle.sym_machine.proofs.Registers.{All-set_value, length-set_value, zero-s
 use Rattle.sym_state.specs.Growing.{Grows}
 use Rattle.sym_state.specs.Moves.{narrowed, with_terms}
 use Rattle.sym_state.specs.Programs.{Program, regions_of}
-use Rattle.sym_state.specs.Symbolic.{Symbolic, Goes, IsDecided, IsOpen, IsSmall, IsWide, concrete, is_term, left_to_do, meets, most_steps, set_value, undecided, value_at, worth_of}
+use Rattle.sym_state.specs.Symbolic.{Symbolic, Goes, IsDecided, IsOpen, IsWord, IsWide, concrete, is_term, left_to_do, meets, most_steps, set_value, undecided, value_at, worth_of}
 use Rattle.sym_state.specs.declared.value.Value.{Value}
 use Rattle.sym_state.specs.declared.value.Value.TheVariants.{Number}
 use Rattle.sym_state.proofs.Kept.{holds-grown, worth_of-grown}
@@ -21,7 +21,8 @@ use Rattle.tree_core.specs.declared.choice.Choice.TheVariants.{Value as OfValue}
 use Rattle.node_split.specs.Narrowing.{GoesOn, IsNarrower}
 use Rattle.node_split.specs.Values.{HasValue}
 use Rattle.node_split.specs.declared.question.ValueAt.{ValueAt}
-use Rattle.node_split.proofs.Bytes.{both_true}
+use Rattle.sym_state.proofs.Assigning.{both_true}
+use Rattle.node_split.proofs.Increasing.{equals, same}
 use Rattle.node_split.proofs.Sides.{meets-narrowed, open_narrowed}
 
 differs : (r : ℕ) → (r ≡ 0 → ⊥) → (r == 0) ≡ false
@@ -61,15 +62,16 @@ open_pinned p s r n was kind small is =
       one_input = was.one_input;
       all_registers = length-set_value s.registers r (Number n) ∙ was.all_registers;
       wide = All-set_value (IsWide s.terms) s.registers r (Number n) small was.wide;
-      small = λ input assigned. All-set_value (IsSmall s.terms input) s.registers r (Number n) small (was.small input assigned);
+      small = λ input assigned. All-set_value (IsWord s.terms input) s.registers r (Number n) small (was.small input assigned);
       zero = zero-set_value s.registers r (Number n) was.zero;
       bits = was.bits;
       bytes = was.bytes;
       in_memory = was.in_memory;
-      few = was.few;
+      numbers = record { choices = was.numbers.choices; path = was.numbers.path; few_steps = was.numbers.few_steps; few_terms = was.numbers.few_terms; few_outputs = was.numbers.few_outputs };
       sampled = was.sampled;
       decided = decided-pinned p s r n s.decided other is was.decided;
       sound = λ input assigned meeting. was.sound input assigned meeting ∙ ap (λ (c : State). record { state = c; end = None; steps = s.steps }) (sym (concrete-pinned p s r n input other (is input assigned meeting)));
+      alike = record { made = was.alike.made; alike = was.alike.alike };
     }
 
 less-pinned : (p : Program) (s : Symbolic) (r n : ℕ) → IsOpen p s → r < 32 → is_term (value_at s.registers r) ≡ true → 34 * (most_steps - s.steps) + count_by is_term (set_value s.registers r (Number n)) + undecided s.decided < left_to_do s
@@ -90,12 +92,6 @@ by_test false = refl
 equal_one : (n v : ℕ) → ((if n == v then 1 else 0) == 1) ≡ (n == v)
 equal_one n v = by_test (n == v)
 
-equals : (n m : ℕ) → (n == m) ≡ true → n ≡ m
-equals n m is = search (rules, is)
-
-same : (n m : ℕ) → n ≡ m → (n == m) ≡ true
-same n m is = search (rules, is)
-
 -- The side on which the term has a value.
 pub value_narrower : (p : Program) (s : Symbolic) (g : Graph) (r offset term equal n : ℕ) (f : ValueAt) → IsOpen p s → IsPin p s r offset term → HasValue s.terms s.condition term f → f.value < 2 ^ 32 → Grows s.terms g → width_of g equal ≡ 1
     → ((input : List ℕ) → number_of g equal input ≡ (if number_of s.terms term input == f.value then 1 else 0)) → n ≡ (f.value + (2 ^ 32 - offset)) % 2 ^ 32
@@ -103,7 +99,7 @@ pub value_narrower : (p : Program) (s : Symbolic) (g : Graph) (r offset term equ
 value_narrower p s g r offset term equal n f was at (small_byte, met, has) small grows bit tells is_n =
     let before : (input : List ℕ) → meets (with_terms s g) input ≡ meets s input = λ input. holds-grown s.terms g s.condition input grows was.bits in
     let test : (input : List ℕ) → (number_of g equal input == 1) ≡ (number_of s.terms term input == f.value) = λ input. ap (λ k. k == 1) (tells input) ∙ equal_one (number_of s.terms term input) f.value in
-    let opened = open_narrowed p (with_terms s g) (OfValue f.value) equal f.byte (open_grown p s g was grows) bit small_byte (before (f.byte ∷ []) ∙ met) (test (f.byte ∷ []) ∙ same _ _ has) in record {
+    let opened = open_narrowed p (with_terms s g) (OfValue f.value) equal f.byte (open_grown p s g was grows) small bit small_byte (before (f.byte ∷ []) ∙ met) (test (f.byte ∷ []) ∙ same _ _ has) in record {
       is_open = open_pinned p (narrowed (with_terms s g) (OfValue f.value) equal f.byte) r n opened at.no_number (omega (arith, is_n))
           (λ input assigned meeting.
           let parts = both_true (meets (with_terms s g) input) (number_of g equal input == 1) (sym (meets-narrowed (with_terms s g) (OfValue f.value) equal f.byte input) ∙ meeting) in
@@ -114,7 +110,7 @@ value_narrower p s g r offset term equal n f was at (small_byte, met, has) small
       choices = refl;
       steps = refl;
       less = less-pinned p s r n was at.is_register at.no_number;
-      covers = λ input assigned. meets-narrowed (with_terms s g) (OfValue f.value) equal f.byte input ∙ ap (λ b. b && (number_of g equal input == 1)) (before input) ∙ ap (λ b. meets s input && b) (test input);
+      covers = λ input. meets-narrowed (with_terms s g) (OfValue f.value) equal f.byte input ∙ ap (λ b. b && (number_of g equal input == 1)) (before input) ∙ ap (λ b. meets s input && b) (test input);
     }
 
 -- The run where the term has one value alone, without the terms that were made to ask.
@@ -131,5 +127,5 @@ goes_pinned p s g r offset term v n was grows at is_n one = record {
   choices = refl;
   steps = refl;
   less = less-pinned p s r n was at.is_register at.no_number;
-  covers = λ input assigned. sym (holds-grown s.terms g s.condition input grows was.bits);
+  covers = λ input. sym (holds-grown s.terms g s.condition input grows was.bits);
 }

@@ -5,6 +5,7 @@ use Rattle.std.specs.List.{list_all}
 use Rattle.std.proofs.lemmas.List.Elements.{All-push}
 use Rattle.std.proofs.lemmas.List.Folds.{list_all-append}
 use Rattle.bv_dag.specs.Graphs.{Graph, number_of, width_of}
+use Rattle.fork_spec.specs.Leaves.{IsSmallChoice}
 use Rattle.rv_spec.specs.Machine.{State}
 use Rattle.sym_machine.specs.Steps.{IsBranch}
 use Rattle.sym_machine.proofs.Moving.{concrete-grown, open_grown}
@@ -17,7 +18,8 @@ use Rattle.sym_state.proofs.Kept.{holds-grown}
 use Rattle.tree_core.specs.declared.choice.Choice.{Choice}
 use Rattle.tree_core.specs.declared.choice.Choice.TheVariants.{No, Yes}
 use Rattle.node_split.specs.Narrowing.{GoesOn, IsNarrower, answers, is_side}
-use Rattle.node_split.proofs.Bytes.{all_true, both_true, not_true, one_side, turned}
+use Rattle.sym_state.proofs.Assigning.{both_true}
+use Rattle.node_split.proofs.Bytes.{all_true, not_true, one_side, turned}
 
 -- one more term that is to be 1
 and_last : (a b c : Bool) → (a && (b && (c && true))) ≡ ((a && b) && c)
@@ -50,18 +52,19 @@ open_decided p s d was is = record {
   bits = was.bits;
   bytes = was.bytes;
   in_memory = was.in_memory;
-  few = was.few;
+  numbers = record { choices = was.numbers.choices; path = was.numbers.path; few_steps = was.numbers.few_steps; few_terms = was.numbers.few_terms; few_outputs = was.numbers.few_outputs };
   sampled = was.sampled;
   decided = renamed p s d d is;
   sound = was.sound;
+  alike = record { made = was.alike.made; alike = was.alike.alike };
 }
 
 narrower_decided : (p : Program) (s : Symbolic) (choice : Choice) (term sample : ℕ) (d : Option Bool) → IsDecided p s d → IsDecided p (narrowed s choice term sample) d
 narrower_decided p s choice term sample None is = tt
 narrower_decided p s choice term sample (Some side) is = λ input assigned meeting. is input assigned (met_before s choice term sample input meeting)
 
-pub open_narrowed : (p : Program) (s : Symbolic) (choice : Choice) (term sample : ℕ) → IsOpen p s → width_of s.terms term ≡ 1 → sample < 256 → meets s (sample ∷ []) ≡ true → (number_of s.terms term (sample ∷ []) == 1) ≡ true → IsOpen p (narrowed s choice term sample)
-open_narrowed p s choice term sample was bit below met one = record {
+pub open_narrowed : (p : Program) (s : Symbolic) (choice : Choice) (term sample : ℕ) → IsOpen p s → IsSmallChoice choice → width_of s.terms term ≡ 1 → sample < 256 → meets s (sample ∷ []) ≡ true → (number_of s.terms term (sample ∷ []) == 1) ≡ true → IsOpen p (narrowed s choice term sample)
+open_narrowed p s choice term sample was small bit below met one = record {
   dag = was.dag;
   one_input = was.one_input;
   all_registers = was.all_registers;
@@ -71,10 +74,17 @@ open_narrowed p s choice term sample was bit below met one = record {
   bits = All-push (λ id. width_of s.terms id ≡ 1) s.condition term was.bits bit;
   bytes = was.bytes;
   in_memory = was.in_memory;
-  few = was.few;
+  numbers = record {
+    choices = All-push IsSmallChoice s.choices choice was.numbers.choices small;
+    path = was.numbers.path;
+    few_steps = was.numbers.few_steps;
+    few_terms = was.numbers.few_terms;
+    few_outputs = was.numbers.few_outputs;
+  };
   sampled = (below, meets-narrowed s choice term sample (sample ∷ []) ∙ all_true _ _ met one);
   decided = narrower_decided p s choice term sample s.decided was.decided;
   sound = λ input assigned meeting. was.sound input assigned (met_before s choice term sample input meeting);
+  alike = record { made = was.alike.made; alike = λ input assigned meeting. was.alike.alike input assigned (met_before s choice term sample input meeting) };
 }
 
 -- choosing the side of a branch leaves less to do
@@ -86,14 +96,14 @@ pub yes_narrower : (p : Program) (s : Symbolic) (term sample : ℕ) → IsOpen p
     → IsNarrower p s (record (narrowed s Yes term sample) { decided = Some true }) Yes (λ input. is_side true (number_of s.terms term input))
 yes_narrower p s term sample was at small answer =
     let parts = both_true (meets s (sample ∷ [])) (number_of s.terms term (sample ∷ []) == 1) answer in record {
-      is_open = open_decided p (narrowed s Yes term sample) (Some true) (open_narrowed p s Yes term sample was at.bit small parts.0 parts.1)
+      is_open = open_decided p (narrowed s Yes term sample) (Some true) (open_narrowed p s Yes term sample was tt at.bit small parts.0 parts.1)
           (λ input assigned meeting.
           let met = both_true (meets s input) (number_of s.terms term input == 1) (sym (meets-narrowed s Yes term sample input) ∙ meeting) in
           subst (λ (b : Bool). Goes b (concrete p s input)) met.1 (at.goes input assigned met.0));
       choices = refl;
       steps = refl;
       less = less-decided s.steps s.registers s.decided at.undecided;
-      covers = λ input assigned. meets-narrowed s Yes term sample input;
+      covers = λ input. meets-narrowed s Yes term sample input;
     }
 
 -- and the side on which it isn't, where the term's negation is 1
@@ -105,7 +115,7 @@ no_narrower p s g term negated sample was at grows bit tells small answer =
     let same : (input : List ℕ) → meets (with_terms s g) input ≡ meets s input = λ input. holds-grown s.terms g s.condition input grows was.bits in
     let test : (input : List ℕ) → (number_of g negated input == 1) ≡ not (number_of s.terms term input == 1) = λ input. ap (λ n. n == 1) (tells input) ∙ turned (number_of s.terms term input) (at.small input) in record {
       is_open = open_decided p (narrowed (with_terms s g) No negated sample) (Some false)
-          (open_narrowed p (with_terms s g) No negated sample (open_grown p s g was grows) bit small (same (sample ∷ []) ∙ parts.0) (test (sample ∷ []) ∙ parts.1))
+          (open_narrowed p (with_terms s g) No negated sample (open_grown p s g was grows) tt bit small (same (sample ∷ []) ∙ parts.0) (test (sample ∷ []) ∙ parts.1))
           (λ input assigned meeting.
           let met = both_true (meets (with_terms s g) input) (number_of g negated input == 1) (sym (meets-narrowed (with_terms s g) No negated sample input) ∙ meeting) in
           let none : (number_of s.terms term input == 1) ≡ false = not_true _ (sym (test input) ∙ met.1) in
@@ -114,7 +124,7 @@ no_narrower p s g term negated sample was at grows bit tells small answer =
       choices = refl;
       steps = refl;
       less = less-decided s.steps s.registers s.decided at.undecided;
-      covers = λ input assigned. meets-narrowed (with_terms s g) No negated sample input ∙ ap (λ b. b && (number_of g negated input == 1)) (same input) ∙ ap (λ b. meets s input && b) (test input);
+      covers = λ input. meets-narrowed (with_terms s g) No negated sample input ∙ ap (λ b. b && (number_of g negated input == 1)) (same input) ∙ ap (λ b. meets s input && b) (test input);
     }
 
 -- along one side, without the terms that were made to ask
@@ -128,5 +138,5 @@ goes_one p s g term side was grows at none = record {
   choices = refl;
   steps = refl;
   less = less-decided s.steps s.registers s.decided at.undecided;
-  covers = λ input assigned. sym (holds-grown s.terms g s.condition input grows was.bits);
+  covers = λ input. sym (holds-grown s.terms g s.condition input grows was.bits);
 }

@@ -1,11 +1,16 @@
--- How the end of runs is said by terms.
+-- The leaf that a run becomes, and how its end is said by terms.
 use Rattle.std.specs.Prelude.{◌≡◌, ℕ, ◌%◌, List}
 use Rattle.bv_dag.specs.Graphs.{Graph, number_of, width_of}
-use Rattle.smt_text.specs.declared.leaf.LeafEnd.{LeafEnd}
-use Rattle.smt_text.specs.declared.leaf.LeafEnd.TheVariants.{Exits as LeafExits, Traps as LeafTraps}
+use Rattle.fork_spec.specs.Leaves.{Leaf}
+use Rattle.fork_spec.specs.declared.end.LeafEnd.{LeafEnd}
+use Rattle.fork_spec.specs.declared.end.LeafEnd.TheVariants.{Exits as LeafExits, Traps as LeafTraps}
 use Rattle.sym_machine.specs.declared.outcome.RunEnd.{RunEnd}
 use Rattle.sym_machine.specs.declared.outcome.RunEnd.TheVariants.{Exits, Traps}
-use Rattle.sym_state.specs.Symbolic.{Symbolic, value_at, worth_of}
+use Rattle.sym_state.specs.Symbolic.{Symbolic, condition_of, value_at, worth_of}
+
+-- the leaf of a run that is left where it is
+abbrev pub left_as : Symbolic → LeafEnd → Leaf
+left_as s end = record { choices = s.choices; path = s.path; steps = s.steps; end = end; condition = condition_of s; outputs = s.output }
 
 -- a term is the low byte of x10, or it is the same trap
 abbrev pub EndsLike : Symbolic → Graph → RunEnd → LeafEnd → Type 0

@@ -1,9 +1,7 @@
-pub mod Leaves
-pub mod Evidence
 pub mod Values
-pub mod LeafParts
-pub mod Parts
+pub mod Rules
 pub mod Narrowing
 pub mod Ends
+pub mod Splits
 pub mod Resting
 pub mod Working

@@ -3,8 +3,7 @@ use Rattle.std.specs.Prelude.{◌≡◌, ℕ, ◌==◌, ◌&&◌, ◌<◌, Bool,
 use Rattle.bv_dag.specs.Graphs.{number_of}
 use Rattle.bv_dag.specs.Queries.{holds}
 use Rattle.bv_dag.specs.Graphs.{Graph}
-use Rattle.rv_spec.specs.Memory.{IsAssignment}
-use Rattle.sym_state.specs.Programs.{Program, regions_of}
+use Rattle.sym_state.specs.Programs.{Program}
 use Rattle.sym_state.specs.Symbolic.{Symbolic, IsOpen, left_to_do, meets}
 use Rattle.tree_core.specs.declared.choice.Choice.{Choice}
 
@@ -23,7 +22,7 @@ pub record IsNarrower (p : Program) (old new : Symbolic) (choice : Choice) (test
   pub choices : new.choices ≡ old.choices ++ choice ∷ []
   pub steps : new.steps ≡ old.steps
   pub less : left_to_do new < left_to_do old
-  pub covers : (input : List ℕ) → IsAssignment (regions_of p) input → meets new input ≡ (meets old input && test input)
+  pub covers : (input : List ℕ) → meets new input ≡ (meets old input && test input)
 
 -- A run that goes on: it stands for the same assignments, and has less to do.
 pub record GoesOn (p : Program) (old new : Symbolic) : Type 0 where
@@ -31,4 +30,4 @@ pub record GoesOn (p : Program) (old new : Symbolic) : Type 0 where
   pub choices : new.choices ≡ old.choices
   pub steps : new.steps ≡ old.steps
   pub less : left_to_do new < left_to_do old
-  pub covers : (input : List ℕ) → IsAssignment (regions_of p) input → meets new input ≡ meets old input
+  pub covers : (input : List ℕ) → meets new input ≡ meets old input

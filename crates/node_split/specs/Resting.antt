@@ -3,31 +3,26 @@ use Rattle.std.specs.Prelude.{◌≡◌, ℕ, ◌&&◌, ◌==◌, not, List, [],
 use Rattle.bv_dag.specs.Graphs.{number_of}
 use Rattle.std.specs.List.{list_all}
 use Rattle.bv_dag.specs.Queries.{AreBits}
-use Rattle.rv_spec.specs.Memory.{IsAssignment}
+use Rattle.tree_core.specs.declared.cause.Cause.TheVariants.{Targets}
+use Rattle.tree_core.specs.declared.choice.Choice.TheVariants.{Value, Rest}
+use Rattle.fork_spec.specs.Evidence.{Found, is_among}
+use Rattle.fork_spec.specs.Leaves.{covers}
+use Rattle.fork_spec.specs.Parts.{IsRight, Part}
+use Rattle.fork_spec.specs.declared.end.LeafEnd.TheVariants.{Cut}
 use Rattle.sym_state.specs.Growing.{Grows}
 use Rattle.sym_state.specs.Programs.{Program, regions_of}
 use Rattle.sym_state.specs.Symbolic.{Symbolic, meets}
-use Rattle.tree_core.specs.declared.choice.Choice.TheVariants.{Value, Rest}
-use Rattle.smt_text.specs.Leaves.{covers}
-use Rattle.smt_text.specs.declared.leaf.LeafEnd.TheVariants.{Cut}
-use Rattle.tree_core.specs.declared.cause.Cause.TheVariants.{Targets}
-use Rattle.node_split.specs.Evidence.{Found, is_among}
-use Rattle.node_split.specs.LeafParts.{Part}
-use Rattle.node_split.specs.Narrowing.{IsNarrower}
-use Rattle.node_split.specs.Parts.{IsLeaf}
+use Rattle.node_split.specs.Rules.{Piece}
+use Rattle.node_split.specs.Splits.{IsSide}
 use Rattle.node_split.specs.Values.{numbers_in}
-use Rattle.node_split.specs.declared.parts.Content.TheVariants.{Run}
-use Rattle.node_split.specs.declared.parts.Kid.{Kid}
 use Rattle.node_split.specs.declared.question.ValueAt.{ValueAt}
 
 -- the run on which the term has this value
-pub record IsSideOf (p : Program) (s : Symbolic) (term : ℕ) (f : ValueAt) (kid : Kid) : Type 0 where
-  pub side : Symbolic
-  pub is : kid ≡ record { choice = Value f.value; content = Run side }
-  pub narrower : IsNarrower p s side (Value f.value) (λ input. number_of s.terms term input == f.value)
+abbrev pub IsSideOf : Program → Symbolic → (term : ℕ) → ValueAt → Piece → Type 0
+IsSideOf p s term f kid = IsSide p s (Value f.value) (λ input. number_of s.terms term input == f.value) kid
 
 -- a side for each value, in their order
-abbrev pub AreSidesOf : Program → Symbolic → ℕ → List ValueAt → List Kid → Type 0
+abbrev pub AreSidesOf : Program → Symbolic → ℕ → List ValueAt → List Piece → Type 0
 AreSidesOf p s term [] [] = Unit {0}
 AreSidesOf p s term (f ∷ fs) (k ∷ ks) = IsSideOf p s term f k × AreSidesOf p s term fs ks
 AreSidesOf p s term _ _ = ⊥
@@ -49,5 +44,5 @@ founds_of found = map (λ (f : ValueAt). record { value = f.value; input = f.byt
 pub record IsRest (p : Program) (steps targets : ℕ) (s : Symbolic) (term : ℕ) (found : List ValueAt) (part : Part) : Type 0 where
   pub choices : part.leaf.choices ≡ s.choices ++ Rest ∷ []
   pub cut : part.leaf.end ≡ Cut Targets
-  pub covers : (input : List ℕ) → IsAssignment (regions_of p) input → covers part.leaf input ≡ (meets s input && not (is_among (numbers_in found) (number_of s.terms term input)))
-  pub leaf : IsLeaf p steps targets (map Value (numbers_in found) ++ Rest ∷ []) part
+  pub covers : (input : List ℕ) → covers part.leaf input ≡ (meets s input && not (is_among (numbers_in found) (number_of s.terms term input)))
+  pub right : IsRight p.image (regions_of p) steps targets (map Value (numbers_in found) ++ Rest ∷ []) part

@@ -1,12 +1,11 @@
 -- A run that goes on for a while.
 use Rattle.std.specs.Prelude.{◌≡◌, ℕ, ◌≤◌, List}
-use Rattle.rv_spec.specs.Memory.{IsAssignment}
-use Rattle.sym_state.specs.Programs.{Program, regions_of}
+use Rattle.sym_state.specs.Programs.{Program}
 use Rattle.sym_state.specs.Symbolic.{Symbolic, IsOpen, left_to_do, meets}
 
 -- it stands for the same assignments, on the same side of every fork, and has no more to do
 pub record IsOnward (p : Program) (old new : Symbolic) : Type 0 where
   pub is_open : IsOpen p new
   pub choices : new.choices ≡ old.choices
-  pub covers : (input : List ℕ) → IsAssignment (regions_of p) input → meets new input ≡ meets old input
+  pub covers : (input : List ℕ) → meets new input ≡ meets old input
   pub less : left_to_do new ≤ left_to_do old

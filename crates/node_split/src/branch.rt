@@ -1,20 +1,20 @@
 //! Branches that may go both ways: the run goes on along one side where the other has no assignment, and else parts into two.
 
-ghost use Rattle.std.specs.Prelude.{◌≡◌, ◌==◌, ◌<◌, ℕ, ◌∷◌, [], IfOk, true, false, not};
+ghost use Rattle.std.specs.Prelude.{◌≡◌, ◌==◌, ◌<◌, ◌≤◌, ℕ, ◌∷◌, [], IfOk, true, false, not};
 ghost use Rattle.bv_dag.specs.Graphs.{number_of};
 ghost use Rattle.node_split.specs.Narrowing.{GoesOn, IsNarrower, answers, is_side};
-ghost use Rattle.node_split.specs.Parts.{IsForked};
+ghost use Rattle.node_split.specs.Splits.{IsForked};
 ghost use Rattle.sym_machine.specs.Steps.{IsBranch};
 ghost use Rattle.sym_state.specs.Growing.{Grows, front_of};
 ghost use Rattle.sym_state.specs.Moves.{cut_back};
 ghost use Rattle.sym_state.specs.Symbolic.{IsOpen};
 ghost use Rattle.tree_core.specs.declared.choice.Choice.TheVariants.{No, Yes};
 
-use crate::parts::{Budgets, Content, Forked, Kid};
+use crate::forked::{Forked, run_kid};
 use crate::question::{find_byte, is_one_on};
 use std::alloc::{AllocError as NoMemory, Global};
 use sym_state::{Program, State};
-use tree_core::Choice;
+use tree_core::{Budgets, Choice};
 
 // The side on which the branch isn't taken.
 fn no_side(program: &Program, state: State, term: usize, sample: u8) -> Result<State, NoMemory>
@@ -73,6 +73,7 @@ fn both(
     requires open { IsOpen program.now state }
     requires at { IsBranch program.now state term }
     requires few { state.steps < budgets.steps }
+    requires some { 1 ≤ budgets.targets }
     requires no_sample { answers state.terms state.condition term false (no_sample ∷ []) ≡ true }
     requires yes_sample { answers state.terms state.condition term true (yes_sample ∷ []) ≡ true }
     ensures { IfOk result (IsForked program.now budgets.steps budgets.targets state) }
@@ -81,14 +82,8 @@ fn both(
     let yes = yes_side(program, &state, term, yes_sample)?;
     let no = no_side(program, state, term, no_sample)?;
     let mut kids = Vec::new(alloc);
-    kids.push(Kid {
-        choice: Choice::No,
-        content: Content::Run(no),
-    })?;
-    kids.push(Kid {
-        choice: Choice::Yes,
-        content: Content::Run(yes),
-    })?;
+    kids.push(run_kid(alloc, Choice::No, no)?)?;
+    kids.push(run_kid(alloc, Choice::Yes, yes)?)?;
     Ok(Forked::Split(kids))
 }
 
@@ -107,6 +102,7 @@ pub fn at_branch(
     requires grows { Grows (front_of state.terms before) state.terms }
     requires at { IsBranch program.now state term }
     requires few { state.steps < budgets.steps }
+    requires some { 1 ≤ budgets.targets }
     ensures { IfOk result (IsForked program.now budgets.steps budgets.targets state) }
 {
     let sample = state.sample;

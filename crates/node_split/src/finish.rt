@@ -1,41 +1,45 @@
 //! The leaves of runs that go on no more.
 
-ghost use Rattle.std.specs.Prelude.{◌≡◌, ◌≤◌, ◌∷◌, [], All, IfOk, OnOk, length};
+ghost use Rattle.std.specs.Prelude.{◌≡◌, ◌≤◌, ◌∷◌, [], All, IfOk, None, OnOk, Some, length, option_map};
 ghost use Rattle.bv_dag.specs.Graphs.{IsDag};
 ghost use Rattle.bv_dag.specs.Queries.{AreBits};
+ghost use Rattle.fork_spec.specs.Leaves.{IsFull};
+ghost use Rattle.fork_tree.specs.Works.{EndsAs};
 ghost use Rattle.sym_machine.specs.Steps.{IsEnding};
 ghost use Rattle.sym_state.specs.Growing.{Grows};
 ghost use Rattle.sym_state.specs.Moves.{with_terms};
+ghost use Rattle.sym_state.specs.Places.{evidence_of, run_place};
 ghost use Rattle.sym_state.specs.Symbolic.{IsOpen, IsWide};
 ghost use Rattle.tree_core.specs.declared.cause.Cause.TheVariants.{Steps};
-ghost use Rattle.smt_text.specs.declared.leaf.LeafEnd.TheVariants.{Cut};
-ghost use Rattle.node_split.specs.Ends.{EndsLike};
-ghost use Rattle.node_split.specs.Parts.{IsFinishedEnd, IsWhole};
+ghost use Rattle.node_split.specs.Ends.{EndsLike, left_as};
+ghost use Rattle.node_split.specs.Rules.{leaf_place, rules_of};
 
-use crate::evidence::Evidence;
-use crate::parts::{Budgets, LeafPart};
 use bv_dag::Query;
+use fork_spec::LeafEnd;
 use rv_decode::Register;
-use smt_text::{LeafEnd, LeafText};
 use std::alloc::{AllocError as NoMemory, Global};
 use sym_machine::RunEnd;
-use sym_state::{Program, State};
+use sym_state::{Evidence, LeafPart, Program, State};
 use tool_io::Bytes;
-use tree_core::Cause;
+use tree_core::{Budgets, Cause};
 
 /// The leaf of a run that is left where it is.
-pub fn leaf_of(state: State, end: LeafEnd) -> LeafText
-    requires { AreBits state.terms state.condition }
-    ensures { result ≡ record { choices = state.choices; path = state.path; steps = state.steps; end = end; condition = record { graph = state.terms; asserted = state.condition }; outputs = state.output } }
+pub fn leaf_of(state: State, end: LeafEnd, sample: Bytes, evidence: Option<Evidence>) -> LeafPart
+    requires bits { AreBits state.terms state.condition }
+    requires full { IsFull (left_as state end) }
+    ensures { result ≡ record { leaf = left_as state end; sample = Some sample; evidence = option_map evidence_of evidence } }
 {
-    LeafText {
-        choices: state.choices,
-        path: state.path,
-        steps: state.steps,
+    let condition = Query::new(state.terms, state.condition);
+    LeafPart::new(
+        state.choices,
+        state.path,
+        state.steps,
         end,
-        condition: Query::new(state.terms, state.condition),
-        outputs: state.output,
-    }
+        condition,
+        state.output,
+        Some(sample),
+        evidence,
+    )
 }
 
 // The run's sample, as an assignment.
@@ -54,16 +58,12 @@ pub fn cut_steps(
 ) -> Result<LeafPart, NoMemory>
     requires open { IsOpen program.now state }
     requires spent { state.steps ≡ budgets.steps }
-    ensures whole { IfOk result (IsWhole program.now budgets.steps budgets.targets state) }
-    ensures cut { IfOk result (λ part. part.leaf.end ≡ Cut Steps) }
+    ensures { IfOk result (EndsAs (rules_of program.now budgets.steps budgets.targets) run_place leaf_place (Some Steps) state) }
 {
     let _program = program;
     let _budgets = budgets;
     let sample = sample_of(alloc, &state)?;
-    Ok(LeafPart {
-        leaf: leaf_of(state, LeafEnd::Cut(Cause::Steps)),
-        evidence: Evidence::Sample(sample),
-    })
+    Ok(leaf_of(state, LeafEnd::Cut(Cause::Steps), sample, None))
 }
 
 // How the runs end, by terms: an exit has the low byte of x10.
@@ -95,16 +95,12 @@ pub fn finish(
 ) -> Result<LeafPart, NoMemory>
     requires ending { IsEnding program.now state end }
     requires within { state.steps ≤ budgets.steps }
-    ensures whole { IfOk result (IsWhole program.now budgets.steps budgets.targets state) }
-    ensures ended { IfOk result (λ part. IsFinishedEnd part.leaf.end) }
+    ensures { IfOk result (EndsAs (rules_of program.now budgets.steps budgets.targets) run_place leaf_place None state) }
 {
     let _program = program;
     let _budgets = budgets;
     let sample = sample_of(alloc, &state)?;
     let mut state = state;
     let end = leaf_end(&mut state, end)?;
-    Ok(LeafPart {
-        leaf: leaf_of(state, end),
-        evidence: Evidence::Sample(sample),
-    })
+    Ok(leaf_of(state, end, sample, None))
 }

@@ -2,13 +2,10 @@
 #![tactic(auto)]
 
 mod branch;
-mod evidence;
 mod finish;
-mod parts;
+mod forked;
 mod pin;
 mod question;
 mod worker;
 
-pub use evidence::{Evidence, Found, Spent};
-pub use parts::{Budgets, Content, Kid, LeafPart, Parts};
-pub use worker::work;
+pub use worker::Worker;

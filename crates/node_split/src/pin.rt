@@ -1,6 +1,6 @@
 //! Terms that have to be numbers: the run goes on where one has one value, and else parts by its values, up to the budget of targets.
 
-ghost use Rattle.std.specs.Prelude.{◌≡◌, ◌==◌, ◌<◌, ◌≤◌, ℕ, List, All, IfOk, length, true, false};
+ghost use Rattle.std.specs.Prelude.{◌≡◌, ◌==◌, ◌<◌, ◌≤◌, ℕ, List, All, IfOk, length, true, None, Some};
 ghost use Rattle.bv_dag.specs.Graphs.{IsDag, number_of, width_of};
 ghost use Rattle.rv_spec.specs.Memory.{IsAssignment};
 ghost use Rattle.sym_machine.specs.Steps.{IsPin};
@@ -10,20 +10,20 @@ ghost use Rattle.sym_state.specs.Programs.{regions_of};
 ghost use Rattle.sym_state.specs.Symbolic.{IsOpen, meets};
 ghost use Rattle.tree_core.specs.declared.choice.Choice.TheVariants.{Value as OfValue};
 ghost use Rattle.node_split.specs.Narrowing.{GoesOn, IsNarrower};
-ghost use Rattle.node_split.specs.Parts.{IsForked};
+ghost use Rattle.node_split.specs.Splits.{IsForked};
 ghost use Rattle.node_split.specs.Resting.{AreSidesOf, IsRest, IsWithout, founds_of};
 ghost use Rattle.node_split.specs.Values.{AreValues, HasValue, numbers_in};
 
-use crate::evidence::{Evidence, Found, Spent};
 use crate::finish::leaf_of;
-use crate::parts::{Budgets, Content, Forked, Kid, LeafPart};
+use crate::forked::{Forked, run_kid};
 use crate::question::{ValueAt, Values, find_values};
+use fork_spec::LeafEnd;
+use fork_tree::Content;
 use rv_decode::Register;
-use smt_text::LeafEnd;
 use std::alloc::{AllocError as NoMemory, Global};
-use sym_state::{Program, State, Value};
+use sym_state::{Evidence, Found, LeafPart, Program, Spent, State, Value};
 use tool_io::Bytes;
-use tree_core::{Cause, Choice};
+use tree_core::{Budgets, Cause, Choice, Kid};
 
 /// A term that has to be a number: the sum of a register and an offset.
 #[derive(Clone, Copy, Debug)]
@@ -73,7 +73,7 @@ fn value_sides(
     state: &State,
     pin: &Pin,
     found: &[ValueAt],
-) -> Result<Vec<Kid>, NoMemory>
+) -> Result<Vec<Kid<Content<State, LeafPart>>>, NoMemory>
     requires open { IsOpen program.now state.now }
     requires at { IsPin program.now state.now pin.now.register pin.now.offset pin.now.term }
     requires each { All (HasValue state.now.terms state.now.condition pin.now.term) found.now }
@@ -82,10 +82,7 @@ fn value_sides(
     let mut kids = Vec::new(alloc);
     for at in found {
         let side = value_side(program, state, pin, *at)?;
-        kids.push(Kid {
-            choice: Choice::Value(at.value),
-            content: Content::Run(side),
-        })?;
+        kids.push(run_kid(alloc, Choice::Value(at.value), side)?)?;
     }
     Ok(kids)
 }
@@ -127,22 +124,23 @@ fn rest_leaf(
     state: State,
     pin: &Pin,
     found: &[ValueAt],
+    other: u8,
     budgets: Budgets,
 ) -> Result<LeafPart, NoMemory>
     requires open { IsOpen program.now state }
     requires at { IsPin program.now state pin.now.register pin.now.offset pin.now.term }
     requires few { state.steps < budgets.steps }
-    requires values { AreValues state.terms state.condition pin.now.term budgets.targets 256 found.now true }
+    requires values { AreValues state.terms state.condition pin.now.term budgets.targets 256 found.now (Some other) }
     ensures { IfOk result (IsRest program.now budgets.steps budgets.targets state pin.now.term found.now) }
 {
     let _program = program;
     let _budgets = budgets;
     let mut rest = without(state, pin.term, found)?;
     rest.choose(Choice::Rest)?;
-    Ok(LeafPart {
-        leaf: leaf_of(rest, LeafEnd::Cut(Cause::Targets)),
-        evidence: Evidence::Targets(spent_of(alloc, pin.term, found)?),
-    })
+    let sample = Bytes::from_slice(alloc, &[other])?;
+    let spent = spent_of(alloc, pin.term, found)?;
+    let evidence = Some(Evidence::Targets(spent));
+    Ok(leaf_of(rest, LeafEnd::Cut(Cause::Targets), sample, evidence))
 }
 
 // Parts by the values, and what is left where there are more.
@@ -157,18 +155,19 @@ fn part(
     requires open { IsOpen program.now state }
     requires at { IsPin program.now state pin.now.register pin.now.offset pin.now.term }
     requires few { state.steps < budgets.steps }
-    requires values { AreValues state.terms state.condition pin.now.term budgets.targets 256 values.found.items values.more }
-    requires several { values.more ≡ false → 2 ≤ length values.found.items }
+    requires values { AreValues state.terms state.condition pin.now.term budgets.targets 256 values.found.items values.other }
+    requires several { values.other ≡ None → 2 ≤ length values.found.items }
     ensures { IfOk result (IsForked program.now budgets.steps budgets.targets state) }
 {
     let mut kids = value_sides(alloc, program, &state, pin, &values.found)?;
-    if !values.more {
+    let Some(other) = values.other else {
         return Ok(Forked::Split(kids));
-    }
-    let rest = rest_leaf(alloc, program, state, pin, &values.found, budgets)?;
+    };
+    let rest = rest_leaf(alloc, program, state, pin, &values.found, other, budgets)?;
     kids.push(Kid {
         choice: Choice::Rest,
-        content: Content::Leaf(rest),
+        content: Content::Shut(rest),
+        is_leaf: true,
     })?;
     Ok(Forked::Split(kids))
 }
@@ -192,9 +191,9 @@ pub fn at_pin(
     ensures { IfOk result (IsForked program.now budgets.steps budgets.targets state) }
 {
     let (term, sample) = (pin.term, state.sample);
-    let most = budgets.targets;
+    let most = budgets.targets as usize;
     let values = find_values(alloc, &state.terms, &state.condition, term, sample, most)?;
-    if values.more || values.found.len() > 1 {
+    if values.other.is_some() || values.found.len() > 1 {
         return part(alloc, program, state, pin, values, budgets);
     }
     let value = values.found[0].value;

@@ -5,7 +5,7 @@ ghost use Rattle.std.specs.List.{list_all};
 ghost use Rattle.bv_dag.specs.Graphs.{number_of, width_of};
 ghost use Rattle.bv_dag.specs.Nodes.{word_at};
 ghost use Rattle.bv_dag.specs.Queries.{AreBits, holds};
-ghost use Rattle.node_split.specs.Evidence.{AreIncreasing, is_among};
+ghost use Rattle.fork_spec.specs.Evidence.{AreIncreasing, is_among};
 ghost use Rattle.node_split.specs.Narrowing.{answers, is_side};
 ghost use Rattle.node_split.specs.Values.{AreValues, HasValue, IsAdded, IsPlace, numbers_in};
 
@@ -82,8 +82,8 @@ pub struct ValueAt {
 #[derive(Debug, Drop)]
 pub struct Values {
     pub found: Vec<ValueAt>,
-    /// Whether there are more than were asked for.
-    pub more: bool,
+    /// A byte with another, where there are more than were asked for.
+    pub other: Option<u8>,
 }
 
 // The place of a value among those found, behind the smaller ones, if it is another one.
@@ -143,7 +143,7 @@ fn add_value(values: &mut Values, most: usize, value: ValueAt) -> Result<(), NoM
         return Ok(());
     };
     if values.found.len() == most {
-        values.more = true;
+        values.other = Some(value.byte);
         return Ok(());
     }
     values.found.insert(at, value)?;
@@ -162,7 +162,7 @@ fn first_value(
     requires bits { AreBits terms.now condition.now }
     requires wide { width_of terms.now term ≡ 32 }
     requires sampled { holds (record { graph = terms.now; asserted = condition.now }) (sample ∷ []) ≡ true }
-    ensures { IfOk result (λ values. (most : ℕ) → 1 ≤ most → AreValues terms.now condition.now term most 0 values.found.items values.more) }
+    ensures { IfOk result (λ values. (most : ℕ) → 1 ≤ most → AreValues terms.now condition.now term most 0 values.found.items values.other) }
 {
     let mut found = Vec::new(alloc);
     match value_on(alloc, terms, condition, term, sample)? {
@@ -172,7 +172,7 @@ fn first_value(
             byte: sample,
         })?,
     }
-    Ok(Values { found, more: false })
+    Ok(Values { found, other: None })
 }
 
 // Adds the value on a byte, if the condition holds there.
@@ -188,8 +188,8 @@ fn add_byte(
     requires one_input { terms.now.inputs ≡ 1 }
     requires bits { AreBits terms.now condition.now }
     requires wide { width_of terms.now term ≡ 32 }
-    requires before { AreValues terms.now condition.now term most byte values.old.found.items values.old.more }
-    ensures { OnOk result (AreValues terms.now condition.now term most (byte + 1) values.new.found.items values.new.more) }
+    requires before { AreValues terms.now condition.now term most byte values.old.found.items values.old.other }
+    ensures { OnOk result (AreValues terms.now condition.now term most (byte + 1) values.new.found.items values.new.other) }
 {
     match value_on(alloc, terms, condition, term, byte)? {
         None => Ok(()),
@@ -197,7 +197,7 @@ fn add_byte(
     }
 }
 
-/// The values of a term where the condition holds, the sample's among them: all of them, or `most` and whether there are more.
+/// The values of a term where the condition holds, the sample's among them: all of them, or `most` and a byte with another.
 pub fn find_values(
     alloc: Global,
     terms: &Dag,
@@ -211,7 +211,7 @@ pub fn find_values(
     requires wide { width_of terms.now term ≡ 32 }
     requires some { 1 ≤ most }
     requires sampled { holds (record { graph = terms.now; asserted = condition.now }) (sample ∷ []) ≡ true }
-    ensures { IfOk result (λ values. AreValues terms.now condition.now term most 256 values.found.items values.more) }
+    ensures { IfOk result (λ values. AreValues terms.now condition.now term most 256 values.found.items values.other) }
 {
     let mut values = first_value(alloc, terms, condition, term, sample)?;
     for byte in 0..=u8::MAX {

@@ -1,31 +1,88 @@
 //! Work on one symbolic run.
 
-ghost use Rattle.std.specs.Prelude.{◌≡◌, ◌≤◌, ◌<◌, IfOk};
+ghost use Rattle.std.specs.Prelude.{◌≡◌, ◌≤◌, IfOk};
+ghost use Rattle.fork_tree.specs.Works.{IsWorked};
+ghost use Rattle.sym_state.specs.Places.{run_place};
 ghost use Rattle.sym_state.specs.Programs.{IsRunnable};
 ghost use Rattle.sym_state.specs.Symbolic.{IsOpen, most_steps};
-ghost use Rattle.node_split.specs.Parts.{IsWorked};
+ghost use Rattle.node_split.specs.Rules.{leaf_place, rules_of};
 
 use crate::branch::at_branch;
 use crate::finish::{cut_steps, finish};
-use crate::parts::{Budgets, Forked, Parts};
+use crate::forked::Forked;
 use crate::pin::{Pin, at_pin};
+use fork_tree::{Parts, Work};
 use std::alloc::{AllocError as NoMemory, Global};
+use std::marker::Model;
 use sym_machine::{Step, step};
-use sym_state::{Program, State};
+use sym_state::{LeafPart, Program, State};
+use tree_core::Budgets;
+
+/// Works the runs of a program, within budgets. The program can be run, a run may make 1,000,000 steps at most, and one value of
+/// a term at least becomes a side of its own.
+#[derive(Debug, Drop)]
+pub struct Worker {
+    program: Program,
+    budgets: Budgets,
+}
+
+impl Model for Worker {
+    ghost use Rattle.std.specs.Prelude.{◌≤◌};
+    ghost use Rattle.sym_state.specs.Programs.{IsRunnable};
+    ghost use Rattle.sym_state.specs.Symbolic.{most_steps};
+    ghost use Rattle.node_split.specs.Rules as spec;
+
+    ghost Value = { spec.Worker };
+
+    ghost coded = { spec.worker_code };
+
+    ghost view = { λ w. record { program = w.program; budgets = w.budgets } };
+
+    ghost invariant = { λ w. IsRunnable w.program × (w.budgets.steps ≤ most_steps) × (1 ≤ w.budgets.targets) };
+}
+
+impl Worker {
+    /// The worker of a program within these budgets.
+    pub fn new(program: Program, budgets: Budgets) -> Worker
+        requires runnable { IsRunnable program }
+        requires steps { budgets.steps ≤ most_steps }
+        requires targets { 1 ≤ budgets.targets }
+        ensures { result ≡ record { program = program; budgets = budgets } }
+    {
+        Worker { program, budgets }
+    }
+
+    /// What it runs.
+    pub fn program(&self) -> &Program
+        ensures value { result.now ≡ self.now.program }
+        ensures runnable { IsRunnable self.now.program }
+    {
+        &self.program
+    }
+
+    /// How far its work may go.
+    pub fn budgets(&self) -> Budgets
+        ensures value { result ≡ self.now.budgets }
+        ensures steps { result.steps ≤ most_steps }
+        ensures targets { 1 ≤ result.targets }
+    {
+        self.budgets
+    }
+}
 
 /// Goes on until the run forks, all its runs have ended, or its budget of steps is spent.
-pub fn work(
+fn follow(
     alloc: Global,
     program: &Program,
     state: State,
     budgets: Budgets,
-) -> Result<Parts, NoMemory>
+) -> Result<Parts<State, LeafPart>, NoMemory>
     requires runnable { IsRunnable program.now }
     requires open { IsOpen program.now state }
     requires within { state.steps ≤ budgets.steps }
     requires steps { budgets.steps ≤ most_steps }
     requires targets { 1 ≤ budgets.targets }
-    ensures { IfOk result (IsWorked program.now budgets.steps budgets.targets state) }
+    ensures { IfOk result (IsWorked (rules_of program.now budgets.steps budgets.targets) run_place leaf_place state) }
 {
     let mut state = state;
     loop {
@@ -60,5 +117,20 @@ pub fn work(
                 }
             }
         }
+    }
+}
+
+impl Work for Worker {
+    type State = State;
+
+    type Leaf = LeafPart;
+
+    ghost use Rattle.node_split.specs.Rules.{rules_of};
+
+    ghost rules = { λ worker. rules_of worker.program worker.budgets.steps worker.budgets.targets };
+
+    fn work(&self, alloc: Global, state: &State) -> Result<Parts<State, LeafPart>, NoMemory> {
+        let state = state.share()?;
+        follow(alloc, &self.program, state, self.budgets)
     }
 }

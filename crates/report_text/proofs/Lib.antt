@@ -1,4 +1,7 @@
 mod SixDigits
 pub mod Counting
-pub mod Walking
 mod ReportTexts
+mod SampleWords
+mod Ranked
+mod EventTexts
+pub mod Claimed

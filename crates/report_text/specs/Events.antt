@@ -2,39 +2,43 @@
 use Rattle.std.specs.Prelude.{ℕ, List, [], ◌++◌, Option, Some, None, codes, decimal}
 use Rattle.std.specs.List.{flat_map}
 use Rattle.tree_core.specs.declared.cause.Cause.{Cause}
-use Rattle.smt_text.specs.Names.{choice_text, cut, kind_text}
-use Rattle.report_text.specs.declared.event.Kid.{Kid}
-use Rattle.report_text.specs.declared.event.Deed.{Deed}
-use Rattle.report_text.specs.declared.event.Deed.TheVariants.{Claim, Split, Finish, Cut, Release}
-use Rattle.report_text.specs.declared.event.Event.{Event}
+use Rattle.tree_core.specs.declared.event.Deed.{Deed}
+use Rattle.tree_core.specs.declared.event.Deed.TheVariants.{Claim, Split, Finish, Cut, Release}
+use Rattle.fork_spec.specs.Walks.{Line, Side, Sides}
+use Rattle.smt_text.specs.Names.{cause_text, choice_text}
 
--- behind the choice of a kid that is a leaf at once, the budget that was spent
+-- why a leaf was cut, and nothing where it was not
+abbrev pub cut_text : Option Cause → List ℕ
+cut_text None = []
+cut_text (Some cause) = cause_text cause
+
+-- behind the choice of a side that is a leaf at once, the budget that was spent
 abbrev pub mark_text : Option Cause → List ℕ
 mark_text None = []
-mark_text (Some cause) = codes "!" ++ kind_text (cut cause)
+mark_text (Some cause) = codes "!" ++ cause_text cause
 
-abbrev pub kid_text : Kid → List ℕ
-kid_text kid = codes " " ++ choice_text kid.choice ++ mark_text kid.cut
+abbrev pub side_text : Side → List ℕ
+side_text side = codes " " ++ choice_text side.choice ++ mark_text side.cut
 
--- the kids, a blank before each
-abbrev pub kids_text : List Kid → List ℕ
-kids_text kids = flat_map kid_text kids
+-- the sides, a blank before each
+abbrev pub sides_text : List Side → List ℕ
+sides_text sides = flat_map side_text sides
 
 -- a worker and a node, by their numbers
 abbrev pub actors_text : (by node : ℕ) → List ℕ
 actors_text by node = decimal by ++ codes " " ++ decimal node
 
 -- the line of what this worker does with this node
-abbrev pub deed_text : (by node : ℕ) → Deed → List ℕ
+abbrev pub deed_text : (by node : ℕ) → Deed (Option Cause) Sides → List ℕ
 deed_text by node Claim = codes "claim " ++ actors_text by node ++ codes "\n"
-deed_text by node (Split first kids) = codes "split " ++ actors_text by node ++ codes " " ++ decimal first ++ kids_text kids ++ codes "\n"
-deed_text by node Finish = codes "finish " ++ actors_text by node ++ codes "\n"
-deed_text by node (Cut cause) = codes "cut " ++ actors_text by node ++ codes " " ++ kind_text (cut cause) ++ codes "\n"
+deed_text by node (Split sides) = codes "split " ++ actors_text by node ++ codes " " ++ decimal sides.first ++ sides_text sides.sides ++ codes "\n"
+deed_text by node (Finish cut) = codes "finish " ++ actors_text by node ++ codes "\n"
+deed_text by node (Cut cut) = codes "cut " ++ actors_text by node ++ codes " " ++ cut_text cut ++ codes "\n"
 deed_text by node Release = codes "release " ++ actors_text by node ++ codes "\n"
 
-abbrev pub event_text : Event → List ℕ
-event_text event = deed_text event.by event.node event.deed
+abbrev pub event_text : Line → List ℕ
+event_text line = deed_text line.by line.node line.deed
 
 -- all of them, in their order
-unfoldable pub events_text : List Event → List ℕ
-events_text events = flat_map event_text events
+unfoldable pub events_text : List Line → List ℕ
+events_text lines = flat_map event_text lines

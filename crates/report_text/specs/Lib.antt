@@ -1,10 +1,11 @@
 pub mod Events
-pub mod Walk
 pub mod Spent
 pub mod Summaries
 pub mod Reports
+pub mod Ranking
 pub mod FileNames
 pub mod ReportData
-pub mod WorkedWalks
+pub mod Samples
 pub mod Claims
 pub mod Files
+pub mod Entries

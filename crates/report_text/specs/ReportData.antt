@@ -6,7 +6,8 @@ use Rattle.elf_load.specs.declared.region.Region.{Region}
 use Rattle.smt_text.specs.Names.{choices_text, end_name, kind_name}
 use Rattle.test_files.specs.TestData.{regions_data}
 use Rattle.tree_core.specs.declared.budgets.Budgets.{Budgets}
-use Rattle.report_text.specs.Reports.{Entry, leaves_of}
+use Rattle.fork_spec.specs.Histories.{LeafNode}
+use Rattle.report_text.specs.Reports.{leaves_in}
 use Rattle.report_text.specs.Summaries.{count}
 use Rattle.report_text.specs.declared.summary.Summary.{Summary}
 
@@ -17,17 +18,17 @@ budgets_data budgets workers = object (
     member (codes "targets") (number (unsigned budgets.targets)) (
     member (codes "workers") (number (unsigned workers)) no_members))))
 
-abbrev pub entry_data : Entry → Data
-entry_data entry = object (
-    member (codes "choices") (string (choices_text entry.leaf.choices)) (
-    member (codes "end") (string (end_name entry.leaf.end)) (
-    member (codes "kind") (string (kind_name entry.leaf.end)) (
-    member (codes "node") (number (unsigned entry.node)) (
-    member (codes "steps") (number (unsigned entry.leaf.steps)) no_members)))))
+abbrev pub leaf_node_data : LeafNode → Data
+leaf_node_data l = object (
+    member (codes "choices") (string (choices_text l.leaf.choices)) (
+    member (codes "end") (string (end_name l.leaf.end)) (
+    member (codes "kind") (string (kind_name l.leaf.end)) (
+    member (codes "node") (number (unsigned l.node)) (
+    member (codes "steps") (number (unsigned l.leaf.steps)) no_members)))))
 
 -- the leaves, an object each
-abbrev pub entries_data : List Entry → Data
-entries_data entries = array (items_of (map entry_data entries))
+abbrev pub leaf_nodes_data : List LeafNode → Data
+leaf_nodes_data leaves = array (items_of (map leaf_node_data leaves))
 
 abbrev pub totals_data : Summary → Data
 totals_data summary = object (
@@ -45,6 +46,6 @@ object_data budgets leaves regions summary = object (
     member (codes "regions") regions (
     member (codes "summary") summary no_members))))
 
-abbrev pub report_data : Budgets → (workers : ℕ) → List Region → List Entry → Data
-report_data budgets workers regions entries =
-    object_data (budgets_data budgets workers) (entries_data entries) (regions_data regions) (totals_data (count (leaves_of entries)))
+abbrev pub report_data : Budgets → (workers : ℕ) → List Region → List LeafNode → Data
+report_data budgets workers regions leaves =
+    object_data (budgets_data budgets workers) (leaf_nodes_data leaves) (regions_data regions) (totals_data (count (leaves_in leaves)))

@@ -2,20 +2,16 @@
 use Rattle.std.specs.Prelude.{ℕ, List, [], ◌∷◌, ◌++◌, codes, decimal, map}
 use Rattle.json.specs.Print.{quoted}
 use Rattle.elf_load.specs.declared.region.Region.{Region}
-use Rattle.smt_text.specs.Leaves.{LeafText}
+use Rattle.fork_spec.specs.Histories.{LeafNode}
+use Rattle.fork_spec.specs.Leaves.{Leaf}
 use Rattle.smt_text.specs.Names.{choices_text, end_name, kind_name}
 use Rattle.test_files.specs.Tests.{quoted_all, region_text}
 use Rattle.tree_core.specs.declared.budgets.Budgets.{Budgets}
 use Rattle.report_text.specs.Summaries.{count}
 use Rattle.report_text.specs.declared.summary.Summary.{Summary}
 
--- A leaf, and the number of its node in the events.
-pub record Entry : Type 0 where
-  pub leaf : LeafText
-  pub node : ℕ
-
-abbrev pub leaves_of : List Entry → List LeafText
-leaves_of entries = map (λ (entry : Entry). entry.leaf) entries
+abbrev pub leaves_in : List LeafNode → List Leaf
+leaves_in nodes = map (λ (l : LeafNode). l.leaf) nodes
 
 -- texts with commas between
 abbrev pub with_commas : List (List ℕ) → List ℕ
@@ -33,13 +29,13 @@ budgets_text budgets workers =
     ++ codes "}"
 
 -- the object of a leaf
-abbrev pub entry_text : Entry → List ℕ
-entry_text entry =
-    codes "{\"choices\":" ++ quoted (choices_text entry.leaf.choices)
-    ++ codes ",\"end\":" ++ quoted (end_name entry.leaf.end)
-    ++ codes ",\"kind\":" ++ quoted (kind_name entry.leaf.end)
-    ++ codes ",\"node\":" ++ decimal entry.node
-    ++ codes ",\"steps\":" ++ decimal entry.leaf.steps
+abbrev pub leaf_node_text : LeafNode → List ℕ
+leaf_node_text l =
+    codes "{\"choices\":" ++ quoted (choices_text l.leaf.choices)
+    ++ codes ",\"end\":" ++ quoted (end_name l.leaf.end)
+    ++ codes ",\"kind\":" ++ quoted (kind_name l.leaf.end)
+    ++ codes ",\"node\":" ++ decimal l.node
+    ++ codes ",\"steps\":" ++ decimal l.leaf.steps
     ++ codes "}"
 
 -- the object of the summary
@@ -53,10 +49,10 @@ totals_text summary =
     ++ codes "}"
 
 -- a JSON object (RFC 8259) with its keys in order and no blanks, and a line feed
-unfoldable pub report_text : Budgets → (workers : ℕ) → List Region → List Entry → List ℕ
-report_text budgets workers regions entries =
+unfoldable pub report_text : Budgets → (workers : ℕ) → List Region → List LeafNode → List ℕ
+report_text budgets workers regions leaves =
     codes "{\"budgets\":" ++ budgets_text budgets workers
-    ++ codes ",\"leaves\":[" ++ with_commas (map entry_text entries)
+    ++ codes ",\"leaves\":[" ++ with_commas (map leaf_node_text leaves)
     ++ codes "],\"regions\":[" ++ quoted_all (map region_text regions)
-    ++ codes "],\"summary\":" ++ totals_text (count (leaves_of entries))
+    ++ codes "],\"summary\":" ++ totals_text (count (leaves_in leaves))
     ++ codes "}\n"

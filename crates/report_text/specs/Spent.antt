@@ -3,7 +3,7 @@ use Rattle.std.specs.Prelude.{ℕ, List, ◌++◌, codes, decimal, length}
 use Rattle.std.specs.List.{flat_map}
 use Rattle.hex.specs.Hex.{encode_lower}
 use Rattle.smt_text.specs.Names.{eight_digits}
-use Rattle.node_split.specs.Evidence.{Found, Spent}
+use Rattle.fork_spec.specs.Evidence.{Found, Spent}
 
 -- a value, and the bytes of the assignment
 abbrev pub found_text : Found → List ℕ

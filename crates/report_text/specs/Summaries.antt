@@ -1,9 +1,9 @@
 -- How many leaves of which sort there are, and the line that says it.
-use Rattle.std.specs.Prelude.{Bool, true, false, not, ℕ, ◌+◌, if◌then◌else◌, List, ◌++◌, codes, decimal, filter, length, sum_by}
+use Rattle.std.specs.Prelude.{Bool, true, false, not, ℕ, ◌*◌, ◌-◌, ◌^◌, ◌<◌, ◌≤◌, List, ◌++◌, codes, decimal, filter, length, sum_by}
 use Rattle.tree_core.specs.declared.cause.Cause.TheVariants.{Steps, Targets, Conflicts}
-use Rattle.smt_text.specs.Leaves.{LeafText}
-use Rattle.smt_text.specs.declared.leaf.LeafEnd.{LeafEnd}
-use Rattle.smt_text.specs.declared.leaf.LeafEnd.TheVariants.{Exits, Traps, Cut}
+use Rattle.fork_spec.specs.Leaves.{Leaf}
+use Rattle.fork_spec.specs.declared.end.LeafEnd.{LeafEnd}
+use Rattle.fork_spec.specs.declared.end.LeafEnd.TheVariants.{Exits, Traps, Cut}
 use Rattle.report_text.specs.declared.summary.Summary.{Summary}
 
 -- the runs have ended
@@ -20,32 +20,26 @@ is_tested (Cut Steps) = true
 is_tested (Cut Targets) = false
 is_tested (Cut Conflicts) = false
 
-abbrev pub has_ended : LeafText → Bool
+abbrev pub has_ended : Leaf → Bool
 has_ended leaf = is_finished leaf.end
 
 -- the steps are those of the leaves whose runs have ended
-unfoldable pub count : List LeafText → Summary
+unfoldable pub count : List Leaf → Summary
 count leaves = record {
   leaves = length leaves;
   finished = length (filter has_ended leaves);
   cut = length (filter (λ leaf. not (has_ended leaf)) leaves);
-  tests = length (filter (λ (leaf : LeafText). is_tested leaf.end) leaves);
-  steps = sum_by (λ (leaf : LeafText). leaf.steps) (filter has_ended leaves);
+  tests = length (filter (λ (leaf : Leaf). is_tested leaf.end) leaves);
+  steps = sum_by (λ (leaf : Leaf). leaf.steps) (filter has_ended leaves);
 }
 
-abbrev pub one_if : Bool → ℕ
-one_if true = 1
-one_if false = 0
-
--- the summary of leaves and one more
-abbrev pub with_one : Summary → LeafText → Summary
-with_one before leaf = record {
-  leaves = before.leaves + 1;
-  finished = before.finished + one_if (has_ended leaf);
-  cut = before.cut + one_if (not (has_ended leaf));
-  tests = before.tests + one_if (is_tested leaf.end);
-  steps = before.steps + (if has_ended leaf then leaf.steps else 0);
-}
+-- So few leaves that one more can be counted: fewer than 2 ^ 32, and none of more steps than 32 bits hold.
+pub record HasRoom (summary : Summary) : Type 0 where
+  pub few : summary.leaves < 2 ^ 32
+  pub finished : summary.finished ≤ summary.leaves
+  pub cut : summary.cut ≤ summary.leaves
+  pub tests : summary.tests ≤ summary.leaves
+  pub steps : summary.steps ≤ summary.leaves * (2 ^ 32 - 1)
 
 -- the line that is said
 unfoldable pub summary_text : Summary → List ℕ

@@ -1,90 +1,167 @@
 //! The lines of events.
 
-ghost use Rattle.std.specs.Prelude.{◌≡◌, ◌++◌, None, IfOk, OnOk, string_bytes};
-ghost use Rattle.report_text.specs.Events.{deed_text, event_text, events_text, kid_text, kids_text, mark_text};
-ghost use Rattle.report_text.specs.declared.event.Deed.TheVariants.{Split};
+ghost use Rattle.std.specs.Prelude.{◌≡◌, ◌+◌, ◌≤◌, ◌++◌, IfOk, codes, decimal, if◌then◌else◌, length, map, None, string_bytes};
+ghost use Rattle.fork_spec.specs.Written.{born_by, choice_in, lines_of, nodes_after, side_born, written};
+ghost use Rattle.report_text.specs.Events as spec;
 
-use crate::event::{Deed, Event, Kid};
-use smt_text::{LeafEnd, write_choices};
+use crate::marked::Marked;
+use itoa::Buffer;
+use smt_text::{cause_name, write_choice};
 use std::alloc::{AllocError as NoMemory, Global};
 use tool_io::Bytes;
-use tree_core::Cause;
+use tree_core::{Cause, Choice, Deed, Node, Noted, Origin};
 
-/// Appends, for a kid that is a leaf at once, the budget that was spent.
-fn write_mark(text: &mut String, cut: Option<Cause>) -> Result<(), NoMemory>
-    ensures { OnOk result (string_bytes text.new ≡ string_bytes text.old ++ mark_text cut) }
+/// Why a leaf was cut; nothing where it was not.
+fn cut_name(cut: Option<Cause>) -> &'static str
+    ensures { result.now ≡ spec.cut_text cut }
 {
     match cut {
-        None => Ok(()),
-        Some(cause) => write!(text, "!{}", LeafEnd::Cut(cause).kind_name()),
+        None => "",
+        Some(cause) => cause_name(cause),
     }
 }
 
-/// Appends a kid, behind a blank.
-fn write_kid(alloc: Global, text: &mut String, kid: Kid) -> Result<(), NoMemory>
-    ensures { OnOk result (string_bytes text.new ≡ string_bytes text.old ++ kid_text kid) }
+/// What stands behind the choice of a side that is a leaf at once.
+fn mark_string(alloc: Global, cut: Option<Cause>) -> Result<String, NoMemory>
+    ensures { IfOk result (λ text. string_bytes text ≡ spec.mark_text cut) }
 {
-    text.push_str(" ")?;
-    write_choices(alloc, text, &[kid.choice])?;
-    write_mark(text, kid.cut)
-}
-
-/// Appends the kids.
-fn write_kids(alloc: Global, text: &mut String, kids: &[Kid]) -> Result<(), NoMemory>
-    ensures { OnOk result (string_bytes text.new ≡ string_bytes text.old ++ kids_text kids.now) }
-{
-    for kid in kids {
-        write_kid(alloc, text, *kid)?;
+    match cut {
+        None => Ok(String::new(alloc)),
+        Some(cause) => {
+            let name = cause_name(cause);
+            format!(in alloc; "!{name}")
+        }
     }
-    Ok(())
 }
 
-/// Appends the line of a split.
-fn write_split(
+/// On which side of its parent's fork a node is; the root is on none.
+fn choice_of(origin: Option<Origin>) -> Choice
+    ensures { result ≡ choice_in origin }
+{
+    match origin {
+        None => Choice::Rest,
+        Some(origin) => origin.choice,
+    }
+}
+
+/// Why a node that is born as a leaf was cut.
+fn cut_of<R: Marked>(node: &Node<R>) -> Option<Cause>
+    ensures { result ≡ (if node.now.is_leaf then R.cut node.now.content else None) }
+{
+    if node.is_leaf { node.content.cut() } else { None }
+}
+
+/// The side that a node was born as, behind a blank.
+fn side_string<R: Marked>(alloc: Global, node: &Node<R>) -> Result<String, NoMemory>
+    ensures { IfOk result (λ text. string_bytes text ≡ spec.side_text (side_born R.cut node.now)) }
+{
+    let mark = mark_string(alloc, cut_of(node))?;
+    let mut text = String::from_str(alloc, " ")?;
+    write_choice(alloc, &mut text, choice_of(node.origin))?;
+    text.push_str(&mark)?;
+    Ok(text)
+}
+
+/// The sides that these nodes were born as.
+fn sides_string<R: Marked>(alloc: Global, nodes: &[Node<R>]) -> Result<String, NoMemory>
+    ensures { IfOk result (λ text. string_bytes text ≡ spec.sides_text (map (side_born R.cut) nodes.now)) }
+{
+    let mut text = String::new(alloc);
+    for node in nodes {
+        let side = side_string(alloc, node)?;
+        text.push_str(&side)?;
+    }
+    Ok(text)
+}
+
+/// The line of a deed that says no more than who did it, and to which node.
+fn plain_line(alloc: Global, deed: &str, by: u32, node: usize) -> Result<String, NoMemory>
+    ensures { IfOk result (λ line. string_bytes line ≡ deed.now ++ codes " " ++ spec.actors_text by node ++ codes "\n") }
+{
+    let (mut worker, mut place) = (Buffer::new(), Buffer::new());
+    let (by, node) = (worker.format(by), place.format(node));
+    format!(in alloc; "{deed} {by} {node}\n")
+}
+
+/// The line of a leaf that was cut.
+fn cut_line(
     alloc: Global,
-    text: &mut String,
+    by: u32,
+    node: usize,
+    cut: Option<Cause>,
+) -> Result<String, NoMemory>
+    ensures { IfOk result (λ line. string_bytes line ≡ codes "cut " ++ spec.actors_text by node ++ codes " " ++ spec.cut_text cut ++ codes "\n") }
+{
+    let (mut worker, mut place) = (Buffer::new(), Buffer::new());
+    let (by, node) = (worker.format(by), place.format(node));
+    let name = cut_name(cut);
+    format!(in alloc; "cut {by} {node} {name}\n")
+}
+
+/// The line of a split into these nodes, of which the first has this number.
+fn split_line<R: Marked>(
+    alloc: Global,
     by: u32,
     node: usize,
     first: usize,
-    kids: &[Kid],
-) -> Result<(), NoMemory>
-    ensures { OnOk result (string_bytes text.new ≡ string_bytes text.old ++ deed_text by node (Split first kids.now)) }
+    nodes: &[Node<R>],
+) -> Result<String, NoMemory>
+    ensures { IfOk result (λ line. string_bytes line
+        ≡ codes "split " ++ spec.actors_text by node ++ codes " " ++ decimal first ++ spec.sides_text (map (side_born R.cut) nodes.now) ++ codes "\n") }
 {
-    write!(text, "split {by} {node} {first}")?;
-    write_kids(alloc, text, kids)?;
-    text.push_str("\n")
+    let (mut worker, mut place, mut kid) = (Buffer::new(), Buffer::new(), Buffer::new());
+    let (by, node, first) = (worker.format(by), place.format(node), kid.format(first));
+    let sides = sides_string(alloc, nodes)?;
+    format!(in alloc; "split {by} {node} {first}{sides}\n")
 }
 
-/// Appends the line of an event.
-fn write_event(alloc: Global, text: &mut String, event: &Event) -> Result<(), NoMemory>
-    ensures { OnOk result (string_bytes text.new ≡ string_bytes text.old ++ event_text event.now) }
+/// The line of an event of a tree with these nodes, of which those before it have made so many.
+fn event_line<R: Marked>(
+    alloc: Global,
+    nodes: &[Node<R>],
+    first: usize,
+    event: &Noted<R>,
+) -> Result<String, NoMemory>
+    requires { first + born_by event.now.deed ≤ length nodes.now }
+    ensures { IfOk result (λ line. string_bytes line ≡ spec.deed_text event.now.by event.now.node (written R.cut nodes.now first event.now.deed)) }
 {
     let (by, node) = (event.by, event.node);
     match &event.deed {
-        Deed::Claim => write!(text, "claim {by} {node}\n"),
-        Deed::Split { first, kids } => {
-            write_split(alloc, text, by, node, *first, kids.as_slice())
+        Deed::Claim => plain_line(alloc, "claim", by, node),
+        Deed::Split(count) => {
+            split_line(alloc, by, node, first, &nodes[first..first + *count])
         }
-        Deed::Finish => write!(text, "finish {by} {node}\n"),
-        Deed::Cut(cause) => {
-            write!(
-                text,
-                "cut {by} {node} {}\n",
-                LeafEnd::Cut(*cause).kind_name()
-            )
-        }
-        Deed::Release => write!(text, "release {by} {node}\n"),
+        Deed::Finish(_) => plain_line(alloc, "finish", by, node),
+        Deed::Cut(leaf) => cut_line(alloc, by, node, leaf.cut()),
+        Deed::Release => plain_line(alloc, "release", by, node),
     }
 }
 
-/// The text of the events, in their order.
-#[tactic(auto, unfolding(crate::specs::Events::events_text))]
-pub fn write_events(alloc: Global, events: &[Event]) -> Result<Bytes, NoMemory>
-    ensures { IfOk result (λ text. text ≡ events_text events.now) }
+/// How many nodes an event makes.
+fn born<R: Marked>(event: &Noted<R>) -> usize
+    ensures { result ≡ born_by event.now.deed }
+{
+    match &event.deed {
+        Deed::Split(count) => *count,
+        Deed::Claim | Deed::Finish(_) | Deed::Cut(_) | Deed::Release => 0,
+    }
+}
+
+/// The text of the events of a tree with these nodes, which the events have made behind the root.
+pub fn write_events<R: Marked>(
+    alloc: Global,
+    nodes: &[Node<R>],
+    events: &[Noted<R>],
+) -> Result<Bytes, NoMemory>
+    requires { nodes_after 1 events.now ≡ length nodes.now }
+    ensures { IfOk result (λ text. text ≡ spec.events_text (lines_of R.cut (record { nodes = nodes.now; events = events.now }))) }
 {
     let mut text = String::new(alloc);
+    let mut first = 1;
     for event in events {
-        write_event(alloc, &mut text, event)?;
+        let line = event_line(alloc, nodes, first, event)?;
+        text.push_str(&line)?;
+        first += born(event);
     }
     Ok(Bytes::from_vec(text.into_bytes()))
 }

@@ -1,55 +1,12 @@
-//! What holds of every walk, and walks that can be followed by hand.
+//! What holds of the order of choices.
 
-ghost use Rattle.std.specs.Prelude.{◌≡◌, ◌≤◌, ◌++◌, ℕ, List, [], ◌∷◌, Option, Some, None, IsFalse, IsTrue, length, map, option_and_then};
-ghost use Rattle.tree_core.specs.declared.cause.Cause.{Cause};
-ghost use Rattle.tree_core.specs.declared.cause.Cause.TheVariants.{Conflicts, Targets};
-ghost use Rattle.report_text.specs.Walk.{Node, are_kids, is_increasing, is_quiet, is_rest_cut, rest_kid, value_kid, walk, walk_from};
-ghost use Rattle.report_text.specs.WorkedWalks.{branch_events, branch_nodes, claimed_and, event, value_events, value_nodes};
-ghost use Rattle.report_text.specs.declared.event.Deed.TheVariants.{Claim, Cut, Finish, Split};
-ghost use Rattle.report_text.specs.declared.event.Event.{Event};
+ghost use Rattle.std.specs.Prelude.{◌≡◌, ◌≢◌, ◌⊎◌, List, true};
+ghost use Rattle.tree_core.specs.Choices.{is_before, precedes};
+ghost use Rattle.tree_core.specs.declared.choice.Choice.{Choice};
+ghost use Rattle.fork_spec.specs.Partings.{FirstDiffer};
 
-/// A walk goes on from where its first events lead.
-pub fn a_walk_goes_on_from_its_first_events()
-    ensures { (workers targets : ℕ) (nodes : List Node) (first more : List Event)
-        → walk_from workers targets nodes (first ++ more)
-        ≡ option_and_then (λ reached. walk_from workers targets reached more) (walk_from workers targets nodes first) }
-{}
-
-/// A node may part into the values of a term, two at least and no more than there may be, by increasing value.
-pub fn a_node_may_part_into_values()
-    ensures { (targets : ℕ) (values : List ℕ) → IsTrue (is_increasing values) → 2 ≤ length values → length values ≤ targets
-        → IsTrue (are_kids targets (map value_kid values)) }
-{}
-
-/// It may also part into one value or more and the rest, for each cause that may cut the rest.
-pub fn a_node_may_part_into_values_and_the_rest()
-    ensures { (targets : ℕ) (values : List ℕ) (cut : Option Cause) → IsTrue (is_increasing values) → 1 ≤ length values → length values ≤ targets
-        → IsTrue (is_rest_cut targets (length values) cut) → IsTrue (are_kids targets (map value_kid values ++ rest_kid cut ∷ [])) }
-{}
-
-/// Two walks, followed by hand: with two workers and a budget of two values.
-#[tactic(auto, unfolding(crate::specs::Walk::walk_from, crate::specs::Walk::step, crate::specs::Walk::are_values, crate::specs::Walk::values_first))]
-pub fn worked_walks()
-    ensures branch { walk 2 2 branch_events ≡ Some branch_nodes }
-    ensures branch_is_quiet { IsTrue (is_quiet branch_nodes) }
-    ensures values { walk 2 2 value_events ≡ Some value_nodes }
-    ensures values_are_not_quiet { IsFalse (is_quiet value_nodes) }
-{}
-
-/// Events that may not come, first of all or once worker 0 has claimed the root.
-#[tactic(auto, unfolding(crate::specs::Walk::walk_from, crate::specs::Walk::step, crate::specs::Walk::are_values, crate::specs::Walk::values_first))]
-pub fn worked_refusals()
-    ensures third_worker { walk 2 2 (event 2 0 Claim ∷ []) ≡ None }
-    ensures no_such_node { walk 2 2 (event 0 1 Claim ∷ []) ≡ None }
-    ensures not_claimed { walk 2 2 (event 0 0 Finish ∷ []) ≡ None }
-    ensures claimed_twice { walk 2 2 (claimed_and 1 Claim) ≡ None }
-    ensures held_by_another { walk 2 2 (claimed_and 1 Finish) ≡ None }
-    ensures cut_by_targets { walk 2 2 (claimed_and 0 (Cut Targets)) ≡ None }
-    ensures wrong_first_kid { walk 2 2 (claimed_and 0 (Split 2 (value_kid 7 ∷ value_kid 9 ∷ []))) ≡ None }
-    ensures one_kid { walk 2 2 (claimed_and 0 (Split 1 (value_kid 7 ∷ []))) ≡ None }
-    ensures rest_alone { walk 2 2 (claimed_and 0 (Split 1 (rest_kid (Some Conflicts) ∷ []))) ≡ None }
-    ensures not_increasing { walk 2 2 (claimed_and 0 (Split 1 (value_kid 9 ∷ value_kid 7 ∷ []))) ≡ None }
-    ensures too_many { walk 2 2 (claimed_and 0 (Split 1 (value_kid 7 ∷ value_kid 8 ∷ value_kid 9 ∷ []))) ≡ None }
-    ensures too_few { walk 2 2 (claimed_and 0 (Split 1 (value_kid 7 ∷ rest_kid (Some Targets) ∷ []))) ≡ None }
-    ensures open_rest { walk 2 2 (claimed_and 0 (Split 1 (value_kid 7 ∷ rest_kid None ∷ []))) ≡ None }
+/// Lists of choices that first differ in two choices stand in the order of these, and of two different choices one is before the other.
+pub fn choices_are_ordered_where_they_differ()
+    ensures first { (cs ds : List Choice) (c d : Choice) → FirstDiffer cs ds c d → precedes cs ds ≡ is_before c d }
+    ensures one { (c d : Choice) → c ≢ d → (is_before c d ≡ true) ⊎ (is_before d c ≡ true) }
 {}

@@ -1,21 +1,20 @@
 //! The JSON text of a report.
 
-ghost use Rattle.std.specs.Prelude.{◌≡◌, IfOk, map, string_bytes};
+ghost use Rattle.std.specs.Prelude.{◌≡◌, ◌<◌, ◌^◌, IfOk, length, map, string_bytes};
 ghost use Rattle.serde_json.specs.View.{view};
 ghost use Rattle.smt_text.specs.Names.{choices_text};
-ghost use Rattle.report_text.specs.ReportData.{budgets_data, entries_data, entry_data, object_data, report_data, totals_data};
+ghost use Rattle.report_text.specs.ReportData.{budgets_data, leaf_node_data, leaf_nodes_data, object_data, report_data, totals_data};
 ghost use Rattle.report_text.specs.Reports.{report_text};
 
 use crate::reported::Reported;
 use crate::summary::{Summary, summarize};
 use elf_load::Regions;
 use serde_json::{Value, json};
-use smt_text::{LeafText, write_choices};
+use smt_text::{end_name, kind_name, write_choices};
 use std::alloc::{AllocError as NoMemory, Global};
 use test_files::region_list;
 use tool_io::Bytes;
-use tree_core::Budgets;
-use tree_core::Choice;
+use tree_core::{Budgets, Choice};
 
 /// The choices, with nothing between.
 fn choices_string(alloc: Global, choices: &[Choice]) -> Result<String, NoMemory>
@@ -27,26 +26,26 @@ fn choices_string(alloc: Global, choices: &[Choice]) -> Result<String, NoMemory>
 }
 
 /// The object of a leaf.
-fn entry_value(alloc: Global, leaf: &LeafText, node: usize) -> Result<Value, NoMemory>
-    ensures { IfOk result (λ value. view value ≡ entry_data (record { leaf = leaf.now; node = node })) }
+fn leaf_value<E: Reported>(alloc: Global, leaf: &E) -> Result<Value, NoMemory>
+    ensures { IfOk result (λ value. view value ≡ leaf_node_data (E.leaf_node leaf.now)) }
 {
-    let choices = choices_string(alloc, &leaf.choices)?;
+    let choices = choices_string(alloc, leaf.choices())?;
     json!(in alloc; {
         "choices": choices,
-        "end": leaf.end.end_name(),
-        "kind": leaf.end.kind_name(),
-        "node": node,
-        "steps": leaf.steps
+        "end": end_name(leaf.end()),
+        "kind": kind_name(leaf.end()),
+        "node": leaf.node(),
+        "steps": leaf.steps()
     })
 }
 
 /// The objects of the leaves.
-fn entry_values<E: Reported>(alloc: Global, entries: &[E]) -> Result<Vec<Value>, NoMemory>
-    ensures { IfOk result (λ values. map view values.items ≡ map entry_data (map E.entry entries.now)) }
+fn leaf_values<E: Reported>(alloc: Global, leaves: &[E]) -> Result<Vec<Value>, NoMemory>
+    ensures { IfOk result (λ values. map view values.items ≡ map leaf_node_data (map E.leaf_node leaves.now)) }
 {
-    let mut values = Vec::new(alloc);
-    for entry in entries {
-        values.push(entry_value(alloc, entry.leaf(), entry.node())?)?;
+    let mut values = Vec::with_capacity(alloc, leaves.len())?;
+    for leaf in leaves {
+        values.push(leaf_value(alloc, leaf)?)?;
     }
     Ok(values)
 }
@@ -77,10 +76,10 @@ fn totals_value(alloc: Global, summary: Summary) -> Result<Value, NoMemory>
 }
 
 /// The leaves as a JSON list.
-fn entries_value<E: Reported>(alloc: Global, entries: &[E]) -> Result<Value, NoMemory>
-    ensures { IfOk result (λ value. view value ≡ entries_data (map E.entry entries.now)) }
+fn leaves_value<E: Reported>(alloc: Global, leaves: &[E]) -> Result<Value, NoMemory>
+    ensures { IfOk result (λ value. view value ≡ leaf_nodes_data (map E.leaf_node leaves.now)) }
 {
-    Ok(Value::Array(entry_values(alloc, entries)?))
+    Ok(Value::Array(leaf_values(alloc, leaves)?))
 }
 
 /// The object of these four.
@@ -107,14 +106,15 @@ fn report_value<E: Reported>(
     budgets: &Budgets,
     workers: u32,
     regions: &Regions,
-    entries: &[E],
+    leaves: &[E],
 ) -> Result<Value, NoMemory>
-    ensures { IfOk result (λ value. view value ≡ report_data budgets.now workers regions.now (map E.entry entries.now)) }
+    requires { length leaves.now < 2 ^ 32 }
+    ensures { IfOk result (λ value. view value ≡ report_data budgets.now workers regions.now (map E.leaf_node leaves.now)) }
 {
     let budgets = budgets_value(alloc, budgets, workers)?;
-    let leaves = entries_value(alloc, entries)?;
+    let summary = totals_value(alloc, summarize(leaves))?;
+    let leaves = leaves_value(alloc, leaves)?;
     let regions = region_list(alloc, regions.as_slice())?;
-    let summary = totals_value(alloc, summarize(entries)?)?;
     object_value(alloc, budgets, leaves, regions, summary)
 }
 
@@ -125,11 +125,12 @@ pub fn write_report<E: Reported>(
     budgets: &Budgets,
     workers: u32,
     regions: &Regions,
-    entries: &[E],
+    leaves: &[E],
 ) -> Result<Bytes, NoMemory>
-    ensures { IfOk result (λ text. text ≡ report_text budgets.now workers regions.now (map E.entry entries.now)) }
+    requires { length leaves.now < 2 ^ 32 }
+    ensures { IfOk result (λ text. text ≡ report_text budgets.now workers regions.now (map E.leaf_node leaves.now)) }
 {
-    let value = report_value(alloc, budgets, workers, regions, entries)?;
+    let value = report_value(alloc, budgets, workers, regions, leaves)?;
     let mut text = value.to_string(alloc)?;
     text.push_str("\n")?;
     Ok(Bytes::from_vec(text.into_bytes()))

@@ -1,40 +1,42 @@
 //! What was spent on a leaf that stands for all other values of a term.
 
-ghost use Rattle.std.specs.Prelude.{◌≡◌, ◌++◌, IfOk, OnOk, string_bytes};
+ghost use Rattle.std.specs.Prelude.{◌≡◌, IfOk, string_bytes};
 ghost use Rattle.std.specs.List.{flat_map};
 ghost use Rattle.report_text.specs.Spent.{found_text, targets_text};
 
-use node_split::{Found, Spent};
+use itoa::Buffer;
 use std::alloc::{AllocError as NoMemory, Global};
+use sym_state::{Found, Spent};
 use tool_io::Bytes;
 
-/// Appends a value with its assignment.
-fn write_found(alloc: Global, text: &mut String, found: &Found) -> Result<(), NoMemory>
-    ensures { OnOk result (string_bytes text.new ≡ string_bytes text.old ++ found_text found.now) }
+/// The line of a value and its assignment.
+fn found_line(alloc: Global, found: &Found) -> Result<String, NoMemory>
+    ensures { IfOk result (λ line. string_bytes line ≡ found_text found.now) }
 {
     let value = hex::encode(alloc, &found.value.to_be_bytes())?;
     let input = hex::encode(alloc, found.input.as_slice())?;
-    write!(text, "v {value} {input}\n")
+    format!(in alloc; "v {value} {input}\n")
 }
 
-/// Appends a line for each value.
-fn write_values(alloc: Global, text: &mut String, values: &[Found]) -> Result<(), NoMemory>
-    ensures { OnOk result (string_bytes text.new ≡ string_bytes text.old ++ flat_map found_text values.now) }
+/// A line for each value.
+fn found_lines(alloc: Global, values: &[Found]) -> Result<String, NoMemory>
+    ensures { IfOk result (λ lines. string_bytes lines ≡ flat_map found_text values.now) }
 {
+    let mut lines = String::new(alloc);
     for found in values {
-        write_found(alloc, text, found)?;
+        let line = found_line(alloc, found)?;
+        lines.push_str(&line)?;
     }
-    Ok(())
+    Ok(lines)
 }
 
 /// The text of the values that were found.
-#[tactic(auto, unfolding(crate::specs::Spent::targets_text))]
 pub fn write_targets(alloc: Global, spent: &Spent) -> Result<Bytes, NoMemory>
     ensures { IfOk result (λ text. text ≡ targets_text spent.now) }
 {
-    let mut text = String::new(alloc);
-    write!(text, "; spent targets {}\n", spent.found.len())?;
-    write!(text, "; term n{}\n", spent.term)?;
-    write_values(alloc, &mut text, &spent.found)?;
+    let (mut count, mut place) = (Buffer::new(), Buffer::new());
+    let (count, term) = (count.format(spent.found.len()), place.format(spent.term));
+    let lines = found_lines(alloc, &spent.found)?;
+    let text = format!(in alloc; "; spent targets {count}\n; term n{term}\n{lines}")?;
     Ok(Bytes::from_vec(text.into_bytes()))
 }

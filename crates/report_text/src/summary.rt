@@ -1,12 +1,14 @@
 //! How many leaves of which sort there are.
 
-ghost use Rattle.std.specs.Prelude.{◌≡◌, ◌≤◌, [], IfOk, map};
-ghost use Rattle.report_text.specs.Reports.{leaves_of};
+ghost use Rattle.std.specs.Prelude.{◌≡◌, ◌+◌, ◌-◌, ◌^◌, ◌<◌, ◌≤◌, List, [], ◌∷◌, ◌++◌, IfOk, length, map};
+ghost use Rattle.fork_spec.specs.Leaves.{Leaf};
+ghost use Rattle.report_text.specs.Reports.{leaves_in};
 ghost use Rattle.report_text.specs.Summaries as spec;
-ghost use Rattle.report_text.specs.Summaries.{count, summary_text, with_one};
+ghost use Rattle.report_text.specs.Summaries.{HasRoom, count, summary_text};
 
 use crate::reported::Reported;
-use smt_text::{LeafEnd, LeafText};
+use fork_spec::LeafEnd;
+use itoa::Buffer;
 use std::alloc::{AllocError as NoMemory, Global};
 use tool_io::Bytes;
 use tree_core::Cause;
@@ -60,43 +62,47 @@ fn is_tested(end: LeafEnd) -> bool
     }
 }
 
-/// The summary of these leaves and one more. A number that its type can't hold is want of memory.
-pub fn with_leaf(before: Summary, leaf: &LeafText) -> Result<Summary, NoMemory>
-    requires finished { before.finished ≤ before.leaves }
-    requires cut { before.cut ≤ before.leaves }
-    requires tests { before.tests ≤ before.leaves }
-    ensures { IfOk result (λ summary. summary ≡ with_one before leaf.now) }
+/// The summary of so many leaves and one more.
+fn with_leaf(before: Summary, end: LeafEnd, steps: u32) -> Summary
+    requires { HasRoom before }
+    ensures counted { (leaves : List Leaf) (leaf : Leaf) → before ≡ count leaves → end ≡ leaf.end → steps ≡ leaf.steps → result ≡ count (leaves ++ leaf ∷ []) }
+    ensures steps { result.steps ≤ before.steps + (2 ^ 32 - 1) }
 {
-    let finished = is_finished(leaf.end);
-    let tested = is_tested(leaf.end);
-    let steps = if finished { leaf.steps } else { 0 };
-    Ok(Summary {
-        leaves: before.leaves.checked_add(1).ok_or(NoMemory)?,
+    let finished = is_finished(end);
+    let tested = is_tested(end);
+    let steps = if finished { steps } else { 0 };
+    Summary {
+        leaves: before.leaves + 1,
         finished: before.finished + usize::from(finished),
         cut: before.cut + usize::from(!finished),
         tests: before.tests + usize::from(tested),
-        steps: before.steps.checked_add(u64::from(steps)).ok_or(NoMemory)?,
-    })
+        steps: before.steps + u64::from(steps),
+    }
 }
 
-/// How many leaves of which sort these are. A sum of steps past 64 bits is want of memory.
-pub fn summarize<E: Reported>(entries: &[E]) -> Result<Summary, NoMemory>
-    ensures { IfOk result (λ summary. summary ≡ count (leaves_of (map E.entry entries.now))) }
+/// How many leaves of which sort these are.
+pub fn summarize<E: Reported>(leaves: &[E]) -> Summary
+    requires { length leaves.now < 2 ^ 32 }
+    ensures { result ≡ count (leaves_in (map E.leaf_node leaves.now)) }
 {
     let mut summary = Summary::empty();
-    for entry in entries {
-        summary = with_leaf(summary, entry.leaf())?;
+    for leaf in leaves {
+        summary = with_leaf(summary, leaf.end(), leaf.steps());
     }
-    Ok(summary)
+    summary
 }
 
 /// The line that is said of them.
 pub fn summary_line(alloc: Global, summary: &Summary) -> Result<Bytes, NoMemory>
     ensures { IfOk result (λ line. line ≡ summary_text summary.now) }
 {
+    let (mut all, mut ended, mut not_ended) = (Buffer::new(), Buffer::new(), Buffer::new());
+    let (mut tested, mut made) = (Buffer::new(), Buffer::new());
+    let (leaves, finished) = (all.format(summary.leaves), ended.format(summary.finished));
+    let (cut, tests) = (not_ended.format(summary.cut), tested.format(summary.tests));
+    let steps = made.format(summary.steps);
     let line = format!(in alloc;
-        "leaves {} finished {} cut {} tests {} steps {}\n",
-        summary.leaves, summary.finished, summary.cut, summary.tests, summary.steps
+        "leaves {leaves} finished {finished} cut {cut} tests {tests} steps {steps}\n"
     )?;
     Ok(Bytes::from_vec(line.into_bytes()))
 }

@@ -1,3 +1,4 @@
 pub mod TextLines
+pub mod TextParts
 pub mod Fitting
 pub mod Reading

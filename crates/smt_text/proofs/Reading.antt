@@ -1,26 +1,30 @@
 use Rattle.std.proofs.Common.{◌≡◌, ◌∙◌, ℕ, zero, suc, subst, ◌<◌, ◌+◌, ◌^◌, List, [], ◌∷◌, ◌++◌, Some, length, map, ap, arith, sym, refl, true, false, append_assoc, length-append}
 use Rattle.std.specs.Prelude.{◌==◌, nat_lt, All}
-use Rattle.std.specs.List.{enumerate_from}
+use Rattle.std.specs.List.{enumerate_from, list_all}
 use Rattle.std.proofs.lemmas.Bool.{eq-eqb}
 use Rattle.std.proofs.lemmas.Bool.Decides.{nat_tests}
 use Rattle.std.proofs.lemmas.List.{append-nil}
 use Rattle.std.proofs.lemmas.List.Elements.{All-head, All-tail}
 use Rattle.bv_dag.specs.Nodes.{node_width, widths_of}
+use Rattle.rv_decode.specs.declared.ends.PathStep.{PathStep}
+use Rattle.rv_decode.specs.declared.ends.PathStep.TheVariants.{Taken, NotTaken, Target}
+use Rattle.tree_core.specs.declared.choice.Choice.{Choice}
+use Rattle.tree_core.specs.declared.choice.Choice.TheVariants.{No, Yes, Value, Rest}
 use Rattle.smt_text.specs.NodeFits.{fits}
 use Rattle.bv_dag.specs.Graphs.{AllFit, width_of}
 use Rattle.bv_dag.specs.Queries.{AreBits}
 use Rattle.bv_dag.specs.declared.nodes.Node.{Node}
-use Rattle.smt_text.specs.Grammar.{Reading, AmongAssertions, AtExit, AtLogic, Closed, IsByteStatus, IsPrintable, IsTextOf, agree, end_of, graph_of, next_state, past_input, past_node, past_output, read_lines, stands, start, with_line}
-use Rattle.smt_text.specs.LeafLines.{heading, assertions, input_lines, node_lines, output_lines, status_lines, leaf_text, lines_of}
-use Rattle.smt_text.specs.Leaves.{LeafText}
-use Rattle.smt_text.specs.Lines.{Line, LogicLine, InputLine, BaseLine, NodeLine, StatusLine, OutputLine, AssertLine, CheckLine, ExitLine}
+use Rattle.smt_text.specs.Grammar.{Reading, AmongAssertions, AtExit, AtLogic, Closed, IsTextOf, agree, end_of, graph_of, is_small_choice, is_small_step, next_state, past_input, past_node, past_output, read_lines, stands, start, with_line}
+use Rattle.smt_text.specs.LeafLines.{heading, assertions, input_lines, node_lines, output_lines, status_lines, leaf_text, leaf_lines}
+use Rattle.fork_spec.specs.Leaves.{IsByteStatus, IsFull, IsSmallChoice, IsSmallStep, Leaf}
+use Rattle.smt_text.specs.Lines.{LeafLine, LogicLine, InputLine, BaseLine, NodeLine, StatusLine, OutputLine, AssertLine, CheckLine, ExitLine}
 use Rattle.smt_text.specs.Names.{kind_of, word_of}
-use Rattle.smt_text.specs.declared.leaf.LeafEnd.{LeafEnd}
-use Rattle.smt_text.specs.declared.leaf.LeafEnd.TheVariants.{Exits, Traps, Cut}
+use Rattle.fork_spec.specs.declared.end.LeafEnd.{LeafEnd}
+use Rattle.fork_spec.specs.declared.end.LeafEnd.TheVariants.{Exits, Traps, Cut}
 use Rattle.smt_text.proofs.Fitting.{fits_here, width_here}
 
 -- a line that may stand
-reads : (r : Reading) (line : Line) (rest : List Line) → stands r.place r line ≡ true → read_lines r (line ∷ rest) ≡ read_lines (with_line r line) rest
+reads : (r : Reading) (line : LeafLine) (rest : List LeafLine) → stands r.place r line ≡ true → read_lines r (line ∷ rest) ≡ read_lines (with_line r line) rest
 unfolding read_lines next_state
 reads r line rest h = rw h refl
 
@@ -38,8 +42,27 @@ agrees (Exits status) = refl
 agrees (Traps t) = refl
 agrees (Cut cause) = refl
 
+small_choice : (c : Choice) → IsSmallChoice c → is_small_choice c ≡ true
+small_choice No h = refl
+small_choice Yes h = refl
+small_choice (Value v) h = small v h
+small_choice Rest h = refl
+
+small_choices : (cs : List Choice) → All IsSmallChoice cs → list_all is_small_choice cs ≡ true
+small_choices [] h = refl
+small_choices (c ∷ cs) h = rw (small_choice c (All-head IsSmallChoice c cs h)) (small_choices cs (All-tail IsSmallChoice c cs h))
+
+small_step : (s : PathStep) → IsSmallStep s → is_small_step s ≡ true
+small_step Taken h = refl
+small_step NotTaken h = refl
+small_step (Target address) h = small address h
+
+small_path : (steps : List PathStep) → All IsSmallStep steps → list_all is_small_step steps ≡ true
+small_path [] h = refl
+small_path (s ∷ steps) h = rw (small_step s (All-head IsSmallStep s steps h)) (small_path steps (All-tail IsSmallStep s steps h))
+
 -- The heading, from the first line on.
-heading_read : (leaf : LeafText) (rest : List Line) → IsPrintable leaf →
+heading_read : (leaf : Leaf) (rest : List LeafLine) → IsFull leaf →
     read_lines start (heading leaf ++ rest)
     ≡ read_lines (record start {
       place = AtLogic;
@@ -54,10 +77,10 @@ heading_read : (leaf : LeafText) (rest : List Line) → IsPrintable leaf →
     }) rest
 unfolding read_lines next_state
 heading_read leaf rest h =
-    rw (small leaf.steps h.few_steps, agrees leaf.end, small leaf.condition.graph.inputs h.few_inputs, small (length leaf.condition.graph.nodes) h.few_nodes, small (length leaf.outputs) h.few_outputs) refl
+    rw (small_choices leaf.choices h.small_choices, small_path leaf.path h.small_path, small leaf.steps h.few_steps, agrees leaf.end, small leaf.condition.graph.inputs h.few_inputs, small (length leaf.condition.graph.nodes) h.few_nodes, small (length leaf.outputs) h.few_outputs) refl
 
 -- The inputs that are left.
-inputs_read : (r : Reading) (more i : ℕ) (rest : List Line) → i + more ≡ r.inputs →
+inputs_read : (r : Reading) (more i : ℕ) (rest : List LeafLine) → i + more ≡ r.inputs →
     read_lines (past_input (record r { declared = i })) (input_lines i more ++ rest) ≡ read_lines (past_input (record r { declared = r.inputs })) rest
 inputs_read r zero i rest h =
     let all : i ≡ r.inputs = omega (arith, h) in
@@ -68,7 +91,7 @@ inputs_read r (suc more) i rest h =
     ∙ inputs_read r more (i + 1) rest (omega (arith, h))
 
 -- The nodes that are left.
-nodes_read : (r : Reading) (whole before after : List Node) (rest : List Line) → AllFit r.inputs whole → length whole ≡ r.node_count → before ++ after ≡ whole →
+nodes_read : (r : Reading) (whole before after : List Node) (rest : List LeafLine) → AllFit r.inputs whole → length whole ≡ r.node_count → before ++ after ≡ whole →
     read_lines (past_node (record r { nodes = before })) (map (λ (id, node). NodeLine id (width_of (record { inputs = r.inputs; nodes = whole }) id) node) (enumerate_from (length before) after) ++ rest)
     ≡ read_lines (past_node (record r { nodes = whole })) rest
 nodes_read r whole before [] rest all many e =
@@ -84,7 +107,7 @@ nodes_read r whole before (n ∷ after) rest all many e =
     ∙ nodes_read r whole (before ++ n ∷ []) after rest all many (append_assoc before (n ∷ []) after ∙ e)
 
 -- The status, where there is one.
-status_read : (r : Reading) (end : LeafEnd) (rest : List Line) → length r.nodes ≡ r.node_count → IsByteStatus (graph_of r) end →
+status_read : (r : Reading) (end : LeafEnd) (rest : List LeafLine) → length r.nodes ≡ r.node_count → IsByteStatus (graph_of r) end →
     read_lines (past_node (record r { end = end_of (kind_of end) (word_of end) })) (status_lines end ++ rest) ≡ read_lines (past_output (record r { end = end })) rest
 status_read r (Exits status) rest many wide =
     reads (past_node (record r { end = Exits 0 })) (StatusLine status) rest (rw (eq-eqb _ _ many) (eq-eqb _ _ wide))
@@ -92,7 +115,7 @@ status_read r (Traps t) rest many wide = rw (eq-eqb _ _ many) refl
 status_read r (Cut cause) rest many wide = rw (eq-eqb _ _ many) refl
 
 -- The bytes of the output that are left.
-outputs_read : (r : Reading) (before after : List ℕ) (rest : List Line) → All (λ id. width_of (graph_of r) id ≡ 8) after → length before + length after ≡ r.output_count →
+outputs_read : (r : Reading) (before after : List ℕ) (rest : List LeafLine) → All (λ id. width_of (graph_of r) id ≡ 8) after → length before + length after ≡ r.output_count →
     read_lines (past_output (record r { outputs = before })) (map (λ (i, id). OutputLine i id) (enumerate_from (length before) after) ++ rest)
     ≡ read_lines (past_output (record r { outputs = before ++ after })) rest
 outputs_read r before [] rest all many = ap (λ (ids : List ℕ). read_lines (past_output (record r { outputs = ids })) rest) (sym (append-nil before))
@@ -109,7 +132,7 @@ outputs_done : (r : Reading) → length r.outputs ≡ r.output_count → past_ou
 outputs_done r many = rw (eq-eqb _ _ many) refl
 
 -- The assertions.
-asserts_read : (r : Reading) (before after : List ℕ) (rest : List Line) → AreBits (graph_of r) after →
+asserts_read : (r : Reading) (before after : List ℕ) (rest : List LeafLine) → AreBits (graph_of r) after →
     read_lines (record r { place = AmongAssertions; asserted = before }) (map AssertLine after ++ rest)
     ≡ read_lines (record r { place = AmongAssertions; asserted = before ++ after }) rest
 asserts_read r before [] rest all = ap (λ (ids : List ℕ). read_lines (record r { place = AmongAssertions; asserted = ids }) rest) (sym (append-nil before))
@@ -124,7 +147,7 @@ in_a_row : {X : Type 0} (heads logic inputs base nodes status outputs asserts ta
 in_a_row heads logic inputs base nodes status outputs asserts tail = simp append_assoc
 
 -- the reading behind the heading
-abbrev begun : LeafText → Reading
+abbrev begun : Leaf → Reading
 begun leaf = record start {
   place = AtLogic;
   kind = kind_of leaf.end;
@@ -138,13 +161,13 @@ begun leaf = record start {
 }
 
 -- the reading behind the outputs
-abbrev defined : LeafText → Reading
+abbrev defined : Leaf → Reading
 defined leaf = record (begun leaf) { declared = leaf.condition.graph.inputs; nodes = leaf.condition.graph.nodes; end = leaf.end; outputs = leaf.outputs }
 
-abbrev ended : LeafText → Reading
+abbrev ended : Leaf → Reading
 ended leaf = record (defined leaf) { place = Closed; asserted = leaf.condition.asserted }
 
-tail_read : (leaf : LeafText) → AreBits leaf.condition.graph leaf.condition.asserted → read_lines (past_output (defined leaf)) (assertions leaf ++ (CheckLine ∷ ExitLine ∷ [])) ≡ Some (ended leaf)
+tail_read : (leaf : Leaf) → AreBits leaf.condition.graph leaf.condition.asserted → read_lines (past_output (defined leaf)) (assertions leaf ++ (CheckLine ∷ ExitLine ∷ [])) ≡ Some (ended leaf)
 unfolding read_lines
 tail_read leaf bits =
     let r = defined leaf in
@@ -153,8 +176,8 @@ tail_read leaf bits =
     ∙ reads (record r { place = AmongAssertions; asserted = leaf.condition.asserted }) CheckLine (ExitLine ∷ []) refl
     ∙ reads (record r { place = AtExit; asserted = leaf.condition.asserted }) ExitLine [] refl
 
-all_read : (leaf : LeafText) → IsPrintable leaf → read_lines start (lines_of leaf) ≡ Some (ended leaf)
-unfolding lines_of
+all_read : (leaf : Leaf) → IsFull leaf → read_lines start (leaf_lines leaf) ≡ Some (ended leaf)
+unfolding leaf_lines
 all_read leaf h =
     let graph = leaf.condition.graph in
     let tail = CheckLine ∷ ExitLine ∷ [] in
@@ -175,10 +198,10 @@ all_read leaf h =
     ∙ outputs_read (record built { end = leaf.end }) [] leaf.outputs (assertions leaf ++ tail) h.bytes (omega arith)
     ∙ tail_read leaf h.bits
 
-pub text_reads : (leaf : LeafText) → IsPrintable leaf → IsTextOf (leaf_text leaf) leaf
+pub text_reads : (leaf : Leaf) → IsFull leaf → IsTextOf (leaf_text leaf) leaf
 unfolding leaf_text
 text_reads leaf h = record {
-  lines = lines_of leaf;
+  lines = leaf_lines leaf;
   read_as = record { reading = ended leaf; all_stand = all_read leaf h; to_the_end = refl; same = refl };
   is_theirs = refl;
 }

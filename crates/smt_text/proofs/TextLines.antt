@@ -1,38 +1,44 @@
-use Rattle.std.proofs.Common.{◌≡◌, ℕ, zero, suc, ◌<◌, ◌≤◌, ◌+◌, ◌-◌, refl, List, [], ◌∷◌, ◌++◌, get_or, length, map, take, ap, sym, ◌∙◌, arith, append_assoc, add-one, add-zero}
+use Rattle.std.proofs.Common.{Result, Ok, Err, IfOk, String, Global, string_bytes, ◌≡◌, ℕ, zero, suc, ◌<◌, ◌≤◌, ◌+◌, ◌-◌, refl, List, [], ◌∷◌, ◌++◌, get_or, length, map, take, ap, sym, ◌∙◌, arith, append_assoc, add-one, add-zero}
+use Rattle.std.specs.declared.alloc.AllocError.{AllocError}
 use Rattle.std.proofs.lemmas.List.{append-nil, flat_map_more, map-append, take_more}
-use Rattle.std.proofs.lemmas.Grind.{flat_map-append}
 use Rattle.std.specs.List.{enumerate_from}
-use Rattle.smt_text.specs.Lines.{Line, InputLine, line_text, lines_text}
+use Rattle.smt_text.specs.Lines.{LeafLine, InputLine, line_text, lines_text}
 use Rattle.smt_text.specs.LeafLines.{input_lines}
 
+-- a text that was made, by another name
+pub made_text : (made : Result (String Global) AllocError) (one other : List ℕ) → IfOk made (λ text. string_bytes text ≡ one) → one ≡ other → IfOk made (λ text. string_bytes text ≡ other)
+made_text (Ok text) one other h e = h ∙ e
+made_text (Err e) one other h _ = tt
+
+-- a text behind another, by another name
+pub pushed : (old new text other : List ℕ) → new ≡ old ++ text → text ≡ other → new ≡ old ++ other
+pushed old new text other e more = e ∙ ap (λ t. old ++ t) more
+
+-- a text behind none
+pub alone : (old new text : List ℕ) → new ≡ old ++ text → old ≡ [] → new ≡ text
+alone old new text e none = e ∙ ap (λ t. t ++ text) none
+
 -- no lines yet
-pub no_lines : (start : List ℕ) → start ≡ start ++ lines_text []
+pub no_lines : (text : List ℕ) → text ≡ [] → text ≡ lines_text []
 unfolding lines_text
-no_lines start = sym (append-nil start)
-
--- one line behind others
-pub push_line : (start text new : List ℕ) (lines : List Line) (line : Line) → text ≡ start ++ lines_text lines → new ≡ text ++ line_text line → new ≡ start ++ lines_text (lines ++ line ∷ [])
-unfolding lines_text
-push_line start text new lines line e more = more ∙ ap (λ t. t ++ line_text line) e ∙ flat_map_more line_text start lines line
-
--- lines behind others
-pub push_lines : (start text new : List ℕ) (lines others : List Line) → text ≡ start ++ lines_text lines → new ≡ text ++ lines_text others → new ≡ start ++ lines_text (lines ++ others)
-unfolding lines_text
-push_lines start text new lines others e more =
-    more ∙ ap (λ t. t ++ lines_text others) e
-    ∙ append_assoc start (lines_text lines) (lines_text others)
-    ∙ ap (λ t. start ++ t) (sym (flat_map-append line_text lines others))
+no_lines text e = e
 
 -- one line alone
-pub only_line : (start new : List ℕ) (line : Line) → new ≡ start ++ line_text line → new ≡ start ++ lines_text (line ∷ [])
-only_line start new line e = push_line start start new [] line (no_lines start) e
+pub one_line : (text : List ℕ) (line : LeafLine) → text ≡ line_text line → text ≡ lines_text (line ∷ [])
+unfolding lines_text
+one_line text line e = e ∙ sym (append-nil (line_text line))
+
+-- one line behind others
+pub push_line : (text new : List ℕ) (lines : List LeafLine) (line : LeafLine) → text ≡ lines_text lines → new ≡ text ++ line_text line → new ≡ lines_text (lines ++ line ∷ [])
+unfolding lines_text
+push_line text new lines line e more = more ∙ ap (λ t. t ++ line_text line) e ∙ flat_map_more line_text [] lines line
 
 -- the step of a loop that appends a line for each item
-pub mapped_step : {X : Type 0} (f : X → Line) (xs : List X) (i : ℕ) (d : X) (start before after : List ℕ) → i < length xs →
-    before ≡ start ++ lines_text (map f (take i xs)) → after ≡ before ++ line_text (f (get_or xs i d)) → after ≡ start ++ lines_text (map f (take (i + 1) xs))
-mapped_step f xs i d start before after h e more =
-    push_line start before after (map f (take i xs)) (f (get_or xs i d)) e more
-    ∙ ap (λ lines. start ++ lines_text lines) (sym (ap (map f) (take_more xs i d h) ∙ map-append f (take i xs) (get_or xs i d ∷ [])))
+pub mapped_step : {X : Type 0} (f : X → LeafLine) (xs : List X) (i : ℕ) (d : X) (before after : List ℕ) → i < length xs →
+    before ≡ lines_text (map f (take i xs)) → after ≡ before ++ line_text (f (get_or xs i d)) → after ≡ lines_text (map f (take (i + 1) xs))
+mapped_step f xs i d before after h e more =
+    push_line before after (map f (take i xs)) (f (get_or xs i d)) e more
+    ∙ ap lines_text (sym (ap (map f) (take_more xs i d h) ∙ map-append f (take i xs) (get_or xs i d ∷ [])))
 
 numbered_suc : {X : Type 0} (n : ℕ) (xs : List X) (i : ℕ) (d : X) → i < length xs →
     enumerate_from n (take (suc i) xs) ≡ enumerate_from n (take i xs) ++ (n + i, get_or xs i d) ∷ []
@@ -49,12 +55,12 @@ numbered_next xs i d h =
     rw add-one (numbered_suc 0 xs i d h ∙ ap (λ k. enumerate_from 0 (take i xs) ++ (k, get_or xs i d) ∷ []) place)
 
 -- the step of a loop that appends a line for each item and its place
-pub numbered_step : {X : Type 0} (f : (ℕ × X) → Line) (xs : List X) (i : ℕ) (d : X) (start before after : List ℕ) → i < length xs →
-    before ≡ start ++ lines_text (map f (enumerate_from 0 (take i xs))) → after ≡ before ++ line_text (f (i, get_or xs i d)) →
-    after ≡ start ++ lines_text (map f (enumerate_from 0 (take (i + 1) xs)))
-numbered_step f xs i d start before after h e more =
-    push_line start before after (map f (enumerate_from 0 (take i xs))) (f (i, get_or xs i d)) e more
-    ∙ ap (λ lines. start ++ lines_text lines) (sym (ap (map f) (numbered_next xs i d h) ∙ map-append f (enumerate_from 0 (take i xs)) ((i, get_or xs i d) ∷ [])))
+pub numbered_step : {X : Type 0} (f : (ℕ × X) → LeafLine) (xs : List X) (i : ℕ) (d : X) (before after : List ℕ) → i < length xs →
+    before ≡ lines_text (map f (enumerate_from 0 (take i xs))) → after ≡ before ++ line_text (f (i, get_or xs i d)) →
+    after ≡ lines_text (map f (enumerate_from 0 (take (i + 1) xs)))
+numbered_step f xs i d before after h e more =
+    push_line before after (map f (enumerate_from 0 (take i xs))) (f (i, get_or xs i d)) e more
+    ∙ ap lines_text (sym (ap (map f) (numbered_next xs i d h) ∙ map-append f (enumerate_from 0 (take i xs)) ((i, get_or xs i d) ∷ [])))
 
 -- a line for each input that is left
 pub input_lines_next : (text new : List ℕ) (i n : ℕ) → i < n → new ≡ text ++ line_text (InputLine i) → new ++ lines_text (input_lines (i + 1) (n - (i + 1))) ≡ text ++ lines_text (input_lines i (n - i))

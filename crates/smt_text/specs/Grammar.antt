@@ -1,45 +1,47 @@
 -- The grammar of leaf texts, line by line: which line may stand after given lines.
-use Rattle.std.specs.Prelude.{◌≡◌, ℕ, ◌+◌, ◌^◌, ◌<◌, All, Bool, true, false, List, [], ◌∷◌, ◌++◌, ◌==◌, ◌&&◌, if◌then◌else◌, nat_lt, length, Option, Some, None, option_and_then}
-use Rattle.bv_dag.specs.Graphs.{Graph, IsDag, width_of}
-use Rattle.bv_dag.specs.Queries.{AreBits}
+use Rattle.std.specs.Prelude.{◌≡◌, ℕ, ◌+◌, ◌^◌, Bool, true, false, List, [], ◌∷◌, ◌++◌, ◌==◌, ◌&&◌, if◌then◌else◌, nat_lt, length, Option, Some, None, option_and_then}
+use Rattle.std.specs.List.{list_all}
+use Rattle.bv_dag.specs.Graphs.{Graph, width_of}
 use Rattle.bv_dag.specs.Nodes.{node_width, widths_of}
 use Rattle.bv_dag.specs.declared.nodes.Node.{Node}
 use Rattle.rv_decode.specs.declared.ends.PathStep.{PathStep}
+use Rattle.rv_decode.specs.declared.ends.PathStep.TheVariants.{Target}
 use Rattle.tree_core.specs.declared.cause.Cause.TheVariants.{Steps}
 use Rattle.tree_core.specs.declared.choice.Choice.{Choice}
-use Rattle.smt_text.specs.Leaves.{LeafText}
-use Rattle.smt_text.specs.Lines.{Line, FormatLine, KindLine, ChoicesLine, PathLine, StepsLine, EndLine, InputsLine, NodesLine, OutputsLine, LogicLine, InputLine, BaseLine, NodeLine, StatusLine, OutputLine, AssertLine, CheckLine, ExitLine, lines_text}
+use Rattle.tree_core.specs.declared.choice.Choice.TheVariants.{Value}
+use Rattle.fork_spec.specs.Leaves.{Leaf}
+use Rattle.smt_text.specs.Lines.{LeafLine, FormatLine, KindLine, ChoicesLine, PathLine, StepsLine, EndLine, InputsLine, NodesLine, OutputsLine, LogicLine, InputLine, BaseLine, NodeLine, StatusLine, OutputLine, AssertLine, CheckLine, ExitLine, lines_text}
 use Rattle.smt_text.specs.Names.{Kind, finished, cut, EndWord, exit, trap, running}
 use Rattle.smt_text.specs.NodeFits.{fits}
-use Rattle.smt_text.specs.declared.leaf.LeafEnd.{LeafEnd}
-use Rattle.smt_text.specs.declared.leaf.LeafEnd.TheVariants.{Exits, Traps, Cut}
+use Rattle.fork_spec.specs.declared.end.LeafEnd.{LeafEnd}
+use Rattle.fork_spec.specs.declared.end.LeafEnd.TheVariants.{Exits, Traps, Cut}
 
 -- Which line is to come: each place has one kind of line, and the last but one has two.
-pub data Place : Type 0 where
-  AtFormat : Place
-  AtKind : Place
-  AtChoices : Place
-  AtPath : Place
-  AtSteps : Place
-  AtEnd : Place
-  AtInputs : Place
-  AtNodes : Place
-  AtOutputs : Place
-  AtLogic : Place
-  AmongInputs : Place
-  AtBase : Place
-  AmongNodes : Place
-  AtStatus : Place
-  AmongOutputs : Place
+pub data Spot : Type 0 where
+  AtFormat : Spot
+  AtKind : Spot
+  AtChoices : Spot
+  AtPath : Spot
+  AtSteps : Spot
+  AtEnd : Spot
+  AtInputs : Spot
+  AtNodes : Spot
+  AtOutputs : Spot
+  AtLogic : Spot
+  AmongInputs : Spot
+  AtBase : Spot
+  AmongNodes : Spot
+  AtStatus : Spot
+  AmongOutputs : Spot
   -- an assertion or the check
-  AmongAssertions : Place
-  AtExit : Place
+  AmongAssertions : Spot
+  AtExit : Spot
   -- all lines were read
-  Closed : Place
+  Closed : Spot
 
 -- What the lines so far say.
 pub record Reading : Type 0 where
-  pub place : Place
+  pub place : Spot
   pub kind : Kind
   pub choices : List Choice
   pub path : List PathStep
@@ -78,7 +80,7 @@ abbrev pub graph_of : Reading → Graph
 graph_of r = record { inputs = r.inputs; nodes = r.nodes }
 
 -- the leaf that was read
-abbrev pub leaf_of : Reading → LeafText
+abbrev pub leaf_of : Reading → Leaf
 leaf_of r = record {
   choices = r.choices;
   path = r.path;
@@ -91,6 +93,16 @@ leaf_of r = record {
 -- a number that texts may have
 abbrev pub is_small : ℕ → Bool
 is_small n = nat_lt n (2 ^ 32)
+
+-- a choice whose value texts may have
+abbrev pub is_small_choice : Choice → Bool
+is_small_choice (Value v) = is_small v
+is_small_choice _ = true
+
+-- an entry of a path whose target texts may have
+abbrev pub is_small_step : PathStep → Bool
+is_small_step (Target address) = is_small address
+is_small_step _ = true
 
 -- runs that are finished exit or trap, others are still running
 abbrev pub agree : Kind → EndWord → Bool
@@ -114,13 +126,13 @@ exits (Traps t) = false
 exits (Cut cause) = false
 
 -- what is to come when so many inputs, nodes or outputs were read: one more, or what stands behind them
-abbrev pub behind_inputs : Reading → Place
+abbrev pub behind_inputs : Reading → Spot
 behind_inputs r = if r.declared == r.inputs then AtBase else AmongInputs
 
-abbrev pub behind_outputs : Reading → Place
+abbrev pub behind_outputs : Reading → Spot
 behind_outputs r = if length r.outputs == r.output_count then AmongAssertions else AmongOutputs
 
-abbrev pub behind_nodes : Reading → Place
+abbrev pub behind_nodes : Reading → Spot
 behind_nodes r = if length r.nodes == r.node_count then if exits r.end then AtStatus else behind_outputs r else AmongNodes
 
 -- the term is that wide
@@ -133,11 +145,11 @@ is_next_node r id width node =
     (id == length r.nodes) && fits r.inputs (widths_of r.nodes) node && (width == node_width (widths_of r.nodes) node)
 
 -- Whether the line may stand at this place, after what was read.
-abbrev pub stands : Place → Reading → Line → Bool
+abbrev pub stands : Spot → Reading → LeafLine → Bool
 stands AtFormat r FormatLine = true
 stands AtKind r (KindLine kind) = true
-stands AtChoices r (ChoicesLine choices) = true
-stands AtPath r (PathLine path) = true
+stands AtChoices r (ChoicesLine choices) = list_all is_small_choice choices
+stands AtPath r (PathLine path) = list_all is_small_step path
 stands AtSteps r (StepsLine steps) = is_small steps
 stands AtEnd r (EndLine word) = agree r.kind word
 stands AtInputs r (InputsLine inputs) = is_small inputs
@@ -165,7 +177,7 @@ abbrev pub past_output : Reading → Reading
 past_output r = record r { place = behind_outputs r }
 
 -- what is read after a line that may stand
-abbrev pub with_line : Reading → Line → Reading
+abbrev pub with_line : Reading → LeafLine → Reading
 with_line r FormatLine = record r { place = AtKind }
 with_line r (KindLine kind) = record r { place = AtChoices; kind = kind }
 with_line r (ChoicesLine choices) = record r { place = AtPath; choices = choices }
@@ -186,40 +198,23 @@ with_line r CheckLine = record r { place = AtExit }
 with_line r ExitLine = record r { place = Closed }
 
 -- the reading after one more line, and none where it may not stand
-unfoldable pub next_state : Reading → Line → Option Reading
+unfoldable pub next_state : Reading → LeafLine → Option Reading
 next_state r line = if stands r.place r line then Some (with_line r line) else None
 
 -- the reading after more lines, and none from the first on that may not stand
-unfoldable pub read_lines : Reading → List Line → Option Reading
+unfoldable pub read_lines : Reading → List LeafLine → Option Reading
 read_lines r [] = Some r
 read_lines r (line ∷ lines) = option_and_then (λ next. read_lines next lines) (next_state r line)
 
 -- the lines may each stand after those before it, the last is `(exit)`, and this is the leaf that they say
-pub record ReadAs (lines : List Line) (leaf : LeafText) : Type 0 where
+pub record ReadAs (lines : List LeafLine) (leaf : Leaf) : Type 0 where
   pub reading : Reading
   pub all_stand : read_lines start lines ≡ Some reading
   pub to_the_end : reading.place ≡ Closed
   pub same : leaf_of reading ≡ leaf
 
 -- the text is that of such lines
-pub record IsTextOf (text : List ℕ) (leaf : LeafText) : Type 0 where
-  pub lines : List Line
+pub record IsTextOf (text : List ℕ) (leaf : Leaf) : Type 0 where
+  pub lines : List LeafLine
   pub read_as : ReadAs lines leaf
   pub is_theirs : text ≡ lines_text lines
-
--- the status is a byte, where there is one
-abbrev pub IsByteStatus : Graph → LeafEnd → Type 0
-IsByteStatus graph (Exits status) = width_of graph status ≡ 8
-IsByteStatus graph (Traps t) = Unit {0}
-IsByteStatus graph (Cut cause) = Unit {0}
-
--- a leaf whose lines may stand: its terms fit, are as wide as they are to be, and its numbers are below 2 ^ 32
-pub record IsPrintable (leaf : LeafText) : Type 0 where
-  pub is_dag : IsDag leaf.condition.graph
-  pub bits : AreBits leaf.condition.graph leaf.condition.asserted
-  pub status : IsByteStatus leaf.condition.graph leaf.end
-  pub bytes : All (λ id. width_of leaf.condition.graph id ≡ 8) leaf.outputs
-  pub few_steps : leaf.steps < 2 ^ 32
-  pub few_inputs : leaf.condition.graph.inputs < 2 ^ 32
-  pub few_nodes : length leaf.condition.graph.nodes < 2 ^ 32
-  pub few_outputs : length leaf.outputs < 2 ^ 32

@@ -2,61 +2,69 @@
 use Rattle.std.specs.Prelude.{ℕ, suc, zero, ◌+◌, List, [], ◌∷◌, ◌++◌, length, map}
 use Rattle.std.specs.List.{enumerate_from}
 use Rattle.bv_dag.specs.Graphs.{Graph, width_of}
-use Rattle.smt_text.specs.Leaves.{LeafText}
-use Rattle.smt_text.specs.Lines.{Line, FormatLine, KindLine, ChoicesLine, PathLine, StepsLine, EndLine, InputsLine, NodesLine, OutputsLine, LogicLine, InputLine, BaseLine, NodeLine, StatusLine, OutputLine, AssertLine, CheckLine, ExitLine, lines_text}
+use Rattle.fork_spec.specs.Leaves.{Leaf}
+use Rattle.smt_text.specs.Lines.{LeafLine, FormatLine, KindLine, ChoicesLine, PathLine, StepsLine, EndLine, InputsLine, NodesLine, OutputsLine, LogicLine, InputLine, BaseLine, NodeLine, StatusLine, OutputLine, AssertLine, CheckLine, ExitLine, lines_text}
+use Rattle.rv_decode.specs.declared.ends.PathStep.{PathStep}
+use Rattle.tree_core.specs.declared.choice.Choice.{Choice}
 use Rattle.smt_text.specs.Names.{kind_of, word_of}
-use Rattle.smt_text.specs.declared.leaf.LeafEnd.{LeafEnd}
-use Rattle.smt_text.specs.declared.leaf.LeafEnd.TheVariants.{Exits, Traps, Cut}
+use Rattle.fork_spec.specs.declared.end.LeafEnd.{LeafEnd}
+use Rattle.fork_spec.specs.declared.end.LeafEnd.TheVariants.{Exits, Traps, Cut}
 
 -- so many inputs, from one on
-abbrev pub input_lines : ℕ → ℕ → List Line
+abbrev pub input_lines : ℕ → ℕ → List LeafLine
 input_lines i zero = []
 input_lines i (suc more) = InputLine i ∷ input_lines (i + 1) more
 
 -- each node by its place
-abbrev pub node_lines : Graph → List Line
+abbrev pub node_lines : Graph → List LeafLine
 node_lines graph = map (λ (id, node). NodeLine id (width_of graph id) node) (enumerate_from 0 graph.nodes)
 
 -- the status, where the runs exit
-abbrev pub status_lines : LeafEnd → List Line
+abbrev pub status_lines : LeafEnd → List LeafLine
 status_lines (Exits status) = StatusLine status ∷ []
 status_lines (Traps t) = []
 status_lines (Cut cause) = []
 
 -- each byte of the output by its place
-abbrev pub output_lines : List ℕ → List Line
+abbrev pub output_lines : List ℕ → List LeafLine
 output_lines outputs = map (λ (i, id). OutputLine i id) (enumerate_from 0 outputs)
 
--- what the leaf is, and how much follows
-abbrev pub heading : LeafText → List Line
-heading leaf =
+-- what runs a leaf is about
+abbrev pub runs_heading : List Choice → List PathStep → (steps : ℕ) → LeafEnd → List LeafLine
+runs_heading choices path steps end =
     FormatLine
-    ∷ KindLine (kind_of leaf.end)
-    ∷ ChoicesLine leaf.choices
-    ∷ PathLine leaf.path
-    ∷ StepsLine leaf.steps
-    ∷ EndLine (word_of leaf.end)
-    ∷ InputsLine leaf.condition.graph.inputs
-    ∷ NodesLine (length leaf.condition.graph.nodes)
-    ∷ OutputsLine (length leaf.outputs)
+    ∷ KindLine (kind_of end)
+    ∷ ChoicesLine choices
+    ∷ PathLine path
+    ∷ StepsLine steps
+    ∷ EndLine (word_of end)
     ∷ []
 
+-- how many inputs, terms and bytes of the output follow
+abbrev pub counts_heading : (inputs nodes outputs : ℕ) → List LeafLine
+counts_heading inputs nodes outputs = InputsLine inputs ∷ NodesLine nodes ∷ OutputsLine outputs ∷ []
+
+abbrev pub heading : Leaf → List LeafLine
+heading leaf =
+    runs_heading leaf.choices leaf.path leaf.steps leaf.end
+    ++ counts_heading leaf.condition.graph.inputs (length leaf.condition.graph.nodes) (length leaf.outputs)
+
 -- the inputs, and what is defined over them
-abbrev pub definitions : LeafText → List Line
-definitions leaf =
-    LogicLine ∷ input_lines 0 leaf.condition.graph.inputs
-    ++ (BaseLine ∷ node_lines leaf.condition.graph)
-    ++ status_lines leaf.end
-    ++ output_lines leaf.outputs
+abbrev pub definitions : Graph → LeafEnd → (outputs : List ℕ) → List LeafLine
+definitions graph end outputs =
+    LogicLine ∷ input_lines 0 graph.inputs
+    ++ (BaseLine ∷ node_lines graph)
+    ++ status_lines end
+    ++ output_lines outputs
 
 -- the condition
-abbrev pub assertions : LeafText → List Line
+abbrev pub assertions : Leaf → List LeafLine
 assertions leaf = map AssertLine leaf.condition.asserted
 
 -- all of them
-unfoldable pub lines_of : LeafText → List Line
-lines_of leaf = heading leaf ++ definitions leaf ++ assertions leaf ++ (CheckLine ∷ ExitLine ∷ [])
+unfoldable pub leaf_lines : Leaf → List LeafLine
+leaf_lines leaf = heading leaf ++ definitions leaf.condition.graph leaf.end leaf.outputs ++ assertions leaf ++ (CheckLine ∷ ExitLine ∷ [])
 
 -- the text
-unfoldable pub leaf_text : LeafText → List ℕ
-leaf_text leaf = lines_text (lines_of leaf)
+unfoldable pub leaf_text : Leaf → List ℕ
+leaf_text leaf = lines_text (leaf_lines leaf)

@@ -1,4 +1,3 @@
-pub mod Leaves
 pub mod Names
 pub mod NodeText
 pub mod Lines

@@ -8,34 +8,34 @@ use Rattle.smt_text.specs.Names.{Kind, EndWord, kind_text, word_text, path_text,
 use Rattle.smt_text.specs.NodeText.{node_text}
 
 -- One case for each kind of line. The first nine are comments, the others commands.
-pub data Line : Type 0 where
-  FormatLine : Line
-  KindLine : Kind → Line
-  ChoicesLine : List Choice → Line
-  PathLine : List PathStep → Line
-  StepsLine : ℕ → Line
-  EndLine : EndWord → Line
+pub data LeafLine : Type 0 where
+  FormatLine : LeafLine
+  KindLine : Kind → LeafLine
+  ChoicesLine : List Choice → LeafLine
+  PathLine : List PathStep → LeafLine
+  StepsLine : ℕ → LeafLine
+  EndLine : EndWord → LeafLine
   -- how many inputs, nodes and outputs follow
-  InputsLine : ℕ → Line
-  NodesLine : ℕ → Line
-  OutputsLine : ℕ → Line
-  LogicLine : Line
+  InputsLine : ℕ → LeafLine
+  NodesLine : ℕ → LeafLine
+  OutputsLine : ℕ → LeafLine
+  LogicLine : LeafLine
   -- an input, by its number
-  InputLine : ℕ → Line
-  BaseLine : Line
+  InputLine : ℕ → LeafLine
+  BaseLine : LeafLine
   -- a node, by its number and its width
-  NodeLine : ℕ → ℕ → Node → Line
+  NodeLine : ℕ → ℕ → Node → LeafLine
   -- the node that the exit status is
-  StatusLine : ℕ → Line
+  StatusLine : ℕ → LeafLine
   -- a byte of the output, by its number, and the node that it is
-  OutputLine : ℕ → ℕ → Line
+  OutputLine : ℕ → ℕ → LeafLine
   -- a node that is to be 1
-  AssertLine : ℕ → Line
-  CheckLine : Line
-  ExitLine : Line
+  AssertLine : ℕ → LeafLine
+  CheckLine : LeafLine
+  ExitLine : LeafLine
 
 -- a line, with its line feed
-abbrev pub line_text : Line → List ℕ
+abbrev pub line_text : LeafLine → List ℕ
 line_text FormatLine = codes "; rvklee leaf 1\n"
 line_text (KindLine kind) = codes "; kind " ++ kind_text kind ++ codes "\n"
 line_text (ChoicesLine choices) = codes "; choices " ++ choices_text choices ++ codes ".\n"
@@ -56,5 +56,5 @@ line_text CheckLine = codes "(check-sat)\n"
 line_text ExitLine = codes "(exit)\n"
 
 -- lines one behind the other
-unfoldable pub lines_text : List Line → List ℕ
+unfoldable pub lines_text : List LeafLine → List ℕ
 lines_text lines = flat_map line_text lines

@@ -11,8 +11,8 @@ use Rattle.tree_core.specs.declared.cause.Cause.{Cause}
 use Rattle.tree_core.specs.declared.cause.Cause.TheVariants.{Steps, Targets, Conflicts}
 use Rattle.tree_core.specs.declared.choice.Choice.{Choice}
 use Rattle.tree_core.specs.declared.choice.Choice.TheVariants.{No, Yes, Value, Rest}
-use Rattle.smt_text.specs.declared.leaf.LeafEnd.{LeafEnd}
-use Rattle.smt_text.specs.declared.leaf.LeafEnd.TheVariants.{Exits, Traps, Cut}
+use Rattle.fork_spec.specs.declared.end.LeafEnd.{LeafEnd}
+use Rattle.fork_spec.specs.declared.end.LeafEnd.TheVariants.{Exits, Traps, Cut}
 
 -- a number below 2 ^ 32 in eight hexadecimal digits
 abbrev pub eight_digits : ℕ → List ℕ
@@ -50,11 +50,15 @@ pub data EndWord : Type 0 where
   trap : Trap → EndWord
   running : EndWord
 
+-- the budget that was spent
+abbrev pub cause_text : Cause → List ℕ
+cause_text Steps = codes "steps"
+cause_text Targets = codes "targets"
+cause_text Conflicts = codes "conflicts"
+
 abbrev pub kind_text : Kind → List ℕ
 kind_text finished = codes "finished"
-kind_text (cut Steps) = codes "steps"
-kind_text (cut Targets) = codes "targets"
-kind_text (cut Conflicts) = codes "conflicts"
+kind_text (cut cause) = cause_text cause
 
 abbrev pub word_text : EndWord → List ℕ
 word_text exit = codes "exit"

@@ -3,9 +3,9 @@
 ghost use Rattle.std.specs.Prelude.{◌≡◌, ◌↔◌, ℕ, List, IsTrue};
 ghost use Rattle.bv_dag.specs.Nodes.{Fits};
 ghost use Rattle.bv_dag.specs.declared.nodes.Node.{Node};
-ghost use Rattle.smt_text.specs.Grammar.{IsPrintable, IsTextOf};
+ghost use Rattle.smt_text.specs.Grammar.{IsTextOf};
 ghost use Rattle.smt_text.specs.LeafLines.{leaf_text};
-ghost use Rattle.smt_text.specs.Leaves.{LeafText};
+ghost use Rattle.fork_spec.specs.Leaves.{IsFull, Leaf};
 ghost use Rattle.smt_text.specs.NodeFits.{fits};
 
 /// The grammar's test of a node is the condition under which a node may be pushed.
@@ -15,5 +15,5 @@ pub fn a_node_line_stands_where_its_node_fits()
 
 /// Each line of a leaf's text may stand after those before it, the last is `(exit)`, and they say this leaf.
 pub fn a_text_reads_as_its_leaf()
-    ensures { (leaf : LeafText) → IsPrintable leaf → IsTextOf (leaf_text leaf) leaf }
+    ensures { (leaf : Leaf) → IsFull leaf → IsTextOf (leaf_text leaf) leaf }
 {}

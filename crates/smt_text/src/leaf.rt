@@ -1,19 +1,10 @@
 //! A leaf of the fork tree.
 
 use bv_dag::Query;
-use rv_decode::{PathStep, Trap};
+use fork_spec::LeafEnd;
+use rv_decode::PathStep;
 use std::marker::Model;
-use tree_core::{Cause, Choice};
-
-/// How the runs of a leaf end, or why they were cut.
-#[derive(Clone, Copy, Debug, PartialEq, Eq)]
-pub enum LeafEnd {
-    /// They exit, with the value of the term of this number as their status.
-    Exits { status: usize },
-    Traps(Trap),
-    /// They are still running.
-    Cut(Cause),
-}
+use tree_core::Choice;
 
 /// All runs that make the same decisions, and the condition under which a run is one of them.
 #[derive(Debug, Drop)]
@@ -32,9 +23,9 @@ pub struct LeafText {
 }
 
 impl Model for LeafText {
-    ghost use Rattle.smt_text.specs.Leaves as spec;
+    ghost use Rattle.fork_spec.specs.Leaves.{Leaf};
 
-    ghost Value = { spec.LeafText };
+    ghost Value = { Leaf };
 
     ghost view = { λ l. record {
       choices = l.choices.items;
@@ -44,32 +35,4 @@ impl Model for LeafText {
       condition = l.condition;
       outputs = l.outputs.items;
     } };
-}
-
-impl LeafEnd {
-    ghost use Rattle.std.specs.Prelude.{◌≡◌};
-    ghost use Rattle.smt_text.specs.Names.{kind_name, end_name};
-
-    /// The kind of the leaf: `finished`, or the budget that was spent.
-    pub fn kind_name(self) -> &'static str
-        ensures { result.now ≡ kind_name self }
-    {
-        match self {
-            LeafEnd::Exits { .. } | LeafEnd::Traps(_) => "finished",
-            LeafEnd::Cut(Cause::Steps) => "steps",
-            LeafEnd::Cut(Cause::Targets) => "targets",
-            LeafEnd::Cut(Cause::Conflicts) => "conflicts",
-        }
-    }
-
-    /// How its runs end: `exit`, a trap's name, or `running`.
-    pub fn end_name(self) -> &'static str
-        ensures { result.now ≡ end_name self }
-    {
-        match self {
-            LeafEnd::Exits { .. } => "exit",
-            LeafEnd::Traps(trap) => trap.name(),
-            LeafEnd::Cut(_) => "running",
-        }
-    }
 }

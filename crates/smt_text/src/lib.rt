@@ -10,6 +10,6 @@ mod printing;
 #[cfg(test)]
 mod tests;
 
-pub use leaf::{LeafEnd, LeafText};
-pub use names::{write_choices, write_path};
-pub use printing::print_leaf;
+pub use leaf::LeafText;
+pub use names::{cause_name, end_name, kind_name, write_choice, write_choices, write_path};
+pub use printing::{print_leaf, print_parts};

@@ -1,122 +1,110 @@
-//! The lines of a leaf's text, and runs of lines of one kind.
+//! The lines of a leaf's text of each kind.
 
-ghost use Rattle.std.specs.Prelude.{◌≡◌, ◌++◌, OnOk, map, string_bytes};
-ghost use Rattle.smt_text.specs.LeafLines.{input_lines, node_lines, output_lines, status_lines};
-ghost use Rattle.smt_text.specs.Lines.{AssertLine, ChoicesLine, InputLine, NodeLine, OutputLine, PathLine, line_text, lines_text};
+ghost use Rattle.std.specs.Prelude.{◌≡◌, IfOk, map, string_bytes};
+ghost use Rattle.smt_text.specs.LeafLines as spec;
+ghost use Rattle.smt_text.specs.Lines.{AssertLine, InputLine, NodeLine, OutputLine, line_text, lines_text};
 
-use crate::leaf::LeafEnd;
-use crate::names::{write_choices, write_path};
-use crate::node_text::write_node;
+use crate::node_text::node_string;
 use bv_dag::{Dag, Node};
-use rv_decode::PathStep;
+use fork_spec::LeafEnd;
+use itoa::Buffer;
 use std::alloc::{AllocError as NoMemory, Global};
-use tree_core::Choice;
 
-/// Appends the line of the choices.
-pub fn write_choices_line(
-    alloc: Global,
-    text: &mut String,
-    choices: &[Choice],
-) -> Result<(), NoMemory>
-    ensures { OnOk result (string_bytes text.new ≡ string_bytes text.old ++ line_text (ChoicesLine choices.now)) }
+/// The line of an input.
+fn input_line(alloc: Global, i: usize) -> Result<String, NoMemory>
+    ensures { IfOk result (λ line. string_bytes line ≡ line_text (InputLine i)) }
 {
-    text.push_str("; choices ")?;
-    write_choices(alloc, text, choices)?;
-    text.push_str(".\n")?;
-    Ok(())
+    let mut buffer = Buffer::new();
+    let i = buffer.format(i);
+    format!(in alloc; "(declare-fun b{i} () (_ BitVec 8))\n")
 }
 
-/// Appends the line of the path.
-pub fn write_path_line(alloc: Global, text: &mut String, path: &[PathStep]) -> Result<(), NoMemory>
-    ensures { OnOk result (string_bytes text.new ≡ string_bytes text.old ++ line_text (PathLine path.now)) }
+/// A line for each input.
+pub fn input_lines(alloc: Global, inputs: usize) -> Result<String, NoMemory>
+    ensures { IfOk result (λ lines. string_bytes lines ≡ lines_text (spec.input_lines 0 inputs)) }
 {
-    text.push_str("; path ")?;
-    write_path(alloc, text, path)?;
-    text.push_str(".\n")?;
-    Ok(())
-}
-
-/// Appends the line of an input.
-fn write_input_line(text: &mut String, i: usize) -> Result<(), NoMemory>
-    ensures { OnOk result (string_bytes text.new ≡ string_bytes text.old ++ line_text (InputLine i)) }
-{
-    write!(text, "(declare-fun b{i} () (_ BitVec 8))\n")
-}
-
-/// Appends a line for each input.
-pub fn write_inputs(text: &mut String, inputs: usize) -> Result<(), NoMemory>
-    ensures { OnOk result (string_bytes text.new ≡ string_bytes text.old ++ lines_text (input_lines 0 inputs)) }
-{
+    let mut lines = String::new(alloc);
     for i in 0..inputs {
-        write_input_line(text, i)?;
+        let line = input_line(alloc, i)?;
+        lines.push_str(&line)?;
     }
-    Ok(())
+    Ok(lines)
 }
 
-/// Appends the line of a term, by its place and width.
-fn write_node_line(text: &mut String, id: usize, width: u32, node: Node) -> Result<(), NoMemory>
-    ensures { OnOk result (string_bytes text.new ≡ string_bytes text.old ++ line_text (NodeLine id width node)) }
+/// The line of a term, by its place and width.
+fn node_line(alloc: Global, id: usize, width: u32, node: Node) -> Result<String, NoMemory>
+    ensures { IfOk result (λ line. string_bytes line ≡ line_text (NodeLine id width node)) }
 {
-    write!(text, "(define-fun n{id} () (_ BitVec {width}) ")?;
-    write_node(text, node)?;
-    text.push_str(")\n")?;
-    Ok(())
+    let (mut place, mut bits) = (Buffer::new(), Buffer::new());
+    let (id, width) = (place.format(id), bits.format(width));
+    let term = node_string(alloc, node)?;
+    format!(in alloc; "(define-fun n{id} () (_ BitVec {width}) {term})\n")
 }
 
-/// Appends a line for each term.
-pub fn write_nodes(text: &mut String, dag: &Dag) -> Result<(), NoMemory>
-    ensures { OnOk result (string_bytes text.new ≡ string_bytes text.old ++ lines_text (node_lines dag.now)) }
+/// A line for each term.
+pub fn node_lines(alloc: Global, dag: &Dag) -> Result<String, NoMemory>
+    ensures { IfOk result (λ lines. string_bytes lines ≡ lines_text (spec.node_lines dag.now)) }
 {
+    let mut lines = String::new(alloc);
     for (id, node) in dag.nodes().iter().enumerate() {
-        write_node_line(text, id, dag.width_of(id), *node)?;
+        let line = node_line(alloc, id, dag.width_of(id), *node)?;
+        lines.push_str(&line)?;
     }
-    Ok(())
+    Ok(lines)
 }
 
-/// Appends the line of the status, if the runs exit.
-pub fn write_status(text: &mut String, end: LeafEnd) -> Result<(), NoMemory>
-    ensures { OnOk result (string_bytes text.new ≡ string_bytes text.old ++ lines_text (status_lines end)) }
+/// The line of the status, if the runs exit.
+pub fn status_lines(alloc: Global, end: LeafEnd) -> Result<String, NoMemory>
+    ensures { IfOk result (λ lines. string_bytes lines ≡ lines_text (spec.status_lines end)) }
 {
     match end {
         LeafEnd::Exits { status } => {
-            write!(text, "(define-fun status () (_ BitVec 8) n{status})\n")?;
-            Ok(())
+            let mut buffer = Buffer::new();
+            let id = buffer.format(status);
+            format!(in alloc; "(define-fun status () (_ BitVec 8) n{id})\n")
         }
-        LeafEnd::Traps(_) => Ok(()),
-        LeafEnd::Cut(_) => Ok(()),
+        LeafEnd::Traps(_) | LeafEnd::Cut(_) => Ok(String::new(alloc)),
     }
 }
 
-/// Appends the line of a byte of the output.
-fn write_output_line(text: &mut String, i: usize, id: usize) -> Result<(), NoMemory>
-    ensures { OnOk result (string_bytes text.new ≡ string_bytes text.old ++ line_text (OutputLine i id)) }
+/// The line of a byte of the output.
+fn output_line(alloc: Global, i: usize, id: usize) -> Result<String, NoMemory>
+    ensures { IfOk result (λ line. string_bytes line ≡ line_text (OutputLine i id)) }
 {
-    write!(text, "(define-fun out{i} () (_ BitVec 8) n{id})\n")
+    let (mut place, mut term) = (Buffer::new(), Buffer::new());
+    let (i, id) = (place.format(i), term.format(id));
+    format!(in alloc; "(define-fun out{i} () (_ BitVec 8) n{id})\n")
 }
 
-/// Appends a line for each byte of the output.
-pub fn write_outputs(text: &mut String, outputs: &[usize]) -> Result<(), NoMemory>
-    ensures { OnOk result (string_bytes text.new ≡ string_bytes text.old ++ lines_text (output_lines outputs.now)) }
+/// A line for each byte of the output.
+pub fn output_lines(alloc: Global, outputs: &[usize]) -> Result<String, NoMemory>
+    ensures { IfOk result (λ lines. string_bytes lines ≡ lines_text (spec.output_lines outputs.now)) }
 {
+    let mut lines = String::new(alloc);
     for (i, id) in outputs.iter().enumerate() {
-        write_output_line(text, i, *id)?;
+        let line = output_line(alloc, i, *id)?;
+        lines.push_str(&line)?;
     }
-    Ok(())
+    Ok(lines)
 }
 
-/// Appends the line of an asserted term.
-fn write_assert_line(text: &mut String, id: usize) -> Result<(), NoMemory>
-    ensures { OnOk result (string_bytes text.new ≡ string_bytes text.old ++ line_text (AssertLine id)) }
+/// The line of an asserted term.
+fn assert_line(alloc: Global, id: usize) -> Result<String, NoMemory>
+    ensures { IfOk result (λ line. string_bytes line ≡ line_text (AssertLine id)) }
 {
-    write!(text, "(assert (= n{id} (_ bv1 1)))\n")
+    let mut buffer = Buffer::new();
+    let id = buffer.format(id);
+    format!(in alloc; "(assert (= n{id} (_ bv1 1)))\n")
 }
 
-/// Appends a line for each asserted term.
-pub fn write_asserted(text: &mut String, asserted: &[usize]) -> Result<(), NoMemory>
-    ensures { OnOk result (string_bytes text.new ≡ string_bytes text.old ++ lines_text (map AssertLine asserted.now)) }
+/// A line for each asserted term.
+pub fn assert_lines(alloc: Global, asserted: &[usize]) -> Result<String, NoMemory>
+    ensures { IfOk result (λ lines. string_bytes lines ≡ lines_text (map AssertLine asserted.now)) }
 {
+    let mut lines = String::new(alloc);
     for id in asserted {
-        write_assert_line(text, *id)?;
+        let line = assert_line(alloc, *id)?;
+        lines.push_str(&line)?;
     }
-    Ok(())
+    Ok(lines)
 }

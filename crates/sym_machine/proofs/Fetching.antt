@@ -12,7 +12,11 @@ use Rattle.rv_decode.specs.Eight.{IsOneOfEight}
 use Rattle.rv_decode.specs.Instructions.{instr}
 use Rattle.rv_decode.specs.declared.ends.Trap.TheVariants.{Illegal, FetchAccess, FetchMisaligned}
 use Rattle.rv_decode.specs.declared.instr.Instr.{Instr}
-use Rattle.rv_spec.specs.Machine.{fetch}
+use Rattle.rv_decode.specs.declared.ends.Trap.{Trap}
+use Rattle.rv_spec.specs.Decisions.{Decision, Number, instr_decisions, step_decisions, word_decisions}
+use Rattle.rv_spec.specs.Machine.{State, fetch}
+use Rattle.sym_state.specs.Symbolic.{Symbolic, concrete}
+use Rattle.sym_machine.specs.Steps.{StepDecides, StepsAlike, next_word}
 use Rattle.rv_spec.specs.Memory.{byte_of, byte_in, flags_of, has_x, can_execute, placed, is_in, word_at}
 use Rattle.sym_state.specs.Programs.{Program, IsKnown, IsRunnable, regions_of}
 
@@ -90,6 +94,46 @@ fetch-aligned false p input pc runs is = refl
 pub fetch-placed : (p : Program) (input : List ℕ) (pc : ℕ) → IsRunnable p → fetch (flags_of p.image) (placed (regions_of p) input (byte_of p.image)) pc ≡ fetch (flags_of p.image) (byte_of p.image) pc
 unfolding fetch
 fetch-placed p input pc runs = fetch-aligned (pc % 4 == 0) p input pc runs refl
+
+-- What the step decides by what is fetched.
+decides-if : (c : State) (aligned can : Bool) (o : Option Instr) (word : ℕ) (i : Instr) → (aligned ≡ true → can ≡ true → word_at c.byte c.pc ≡ word) → instr word ≡ o
+    → (if aligned then (if can then ok_or o Illegal else Err FetchAccess) else Err FetchMisaligned) ≡ Ok i
+    → (if aligned then (if can then word_decisions c (word_at c.byte c.pc) else []) else []) ≡ Number word ∷ instr_decisions c (Some i)
+decides-if c true true (Some j) word i same is fetched =
+    let one : Some j ≡ Some i = ap Some (cc fetched) in
+    ap (word_decisions c) (same refl refl) ∙ ap (λ o. Number word ∷ instr_decisions c o) (is ∙ one)
+decides-if c true true None word i same is fetched = absurd (cc fetched)
+decides-if c true false o word i same is fetched = absurd (cc fetched)
+decides-if c false can o word i same is fetched = absurd (cc fetched)
+
+pub decides_fetched : (p : Program) (s : Symbolic) (i : Instr) → IsRunnable p → fetch (flags_of p.image) (byte_of p.image) s.pc ≡ Ok i → StepDecides p s (λ c. instr_decisions c (Some i))
+unfolding fetch step_decisions
+decides_fetched p s i runs fetched = λ input assigned meeting.
+    decides-if (concrete p s input) (s.pc % 4 == 0) (can_execute (flags_of p.image) s.pc) (instr (next_word p s)) (next_word p s) i
+    (λ aligned can. word-placed p input s.pc runs (search (rules, aligned)) can) refl fetched
+
+-- a word that is none, or no word at all
+abbrev no_instr : Bool → Bool → ℕ → List Decision
+no_instr true true word = Number word ∷ []
+no_instr true false word = []
+no_instr false can word = []
+
+traps-if : (c : State) (aligned can : Bool) (o : Option Instr) (word : ℕ) (trap : Trap) → (aligned ≡ true → can ≡ true → word_at c.byte c.pc ≡ word) → instr word ≡ o
+    → (if aligned then (if can then ok_or o Illegal else Err FetchAccess) else Err FetchMisaligned) ≡ Err trap
+    → (if aligned then (if can then word_decisions c (word_at c.byte c.pc) else []) else []) ≡ no_instr aligned can word
+traps-if c true true (Some j) word trap same is fetched = absurd (cc fetched)
+traps-if c true true None word trap same is fetched = ap (word_decisions c) (same refl refl) ∙ ap (λ o. Number word ∷ instr_decisions c o) is
+traps-if c true false o word trap same is fetched = refl
+traps-if c false can o word trap same is fetched = refl
+
+pub alike_unfetched : (p : Program) (s : Symbolic) (trap : Trap) → IsRunnable p → fetch (flags_of p.image) (byte_of p.image) s.pc ≡ Err trap → StepsAlike p s
+unfolding fetch step_decisions
+alike_unfetched p s trap runs fetched = record {
+  made = no_instr (s.pc % 4 == 0) (can_execute (flags_of p.image) s.pc) (next_word p s);
+  alike = λ input assigned meeting.
+      traps-if (concrete p s input) (s.pc % 4 == 0) (can_execute (flags_of p.image) s.pc) (instr (next_word p s)) (next_word p s) trap
+      (λ aligned can. word-placed p input s.pc runs (search (rules, aligned)) can) refl fetched;
+}
 
 -- the byte that the image gives, or 0
 byte_case : (found : Option Page) (i : ℕ) → unwrap_or (option_map (λ (p : Page). slice_index p.bytes i) found) 0 ≡ byte_in found i

@@ -4,6 +4,7 @@ pub mod Registers
 pub mod Acting
 pub mod Fetching
 pub mod Branching
+pub mod Deciding
 pub mod Loading
 pub mod Calling
 pub mod Pages

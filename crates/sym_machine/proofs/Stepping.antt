@@ -1,5 +1,5 @@
 -- One step more of a run of the machine.
-use Rattle.std.proofs.Common.{◌≡◌, ℕ, ◌+◌, List, refl, sym, ap, subst, ◌∙◌, add-one}
+use Rattle.std.proofs.Common.{◌≡◌, ℕ, ◌+◌, List, ◌++◌, refl, sym, ap, subst, ◌∙◌, add-one}
 use Rattle.std.specs.Prelude.{None, Some, Ok, Err}
 use Rattle.elf_load.specs.Images.{Image}
 use Rattle.elf_load.specs.declared.region.Region.{Region}
@@ -7,6 +7,7 @@ use Rattle.rv_decode.specs.declared.ends.End.{End}
 use Rattle.rv_decode.specs.declared.ends.End.TheVariants.{Trapped}
 use Rattle.rv_decode.specs.declared.ends.Trap.{Trap}
 use Rattle.rv_decode.specs.declared.instr.Instr.{Instr}
+use Rattle.rv_spec.specs.Decisions.{decisions, decisions_from, run_decisions, step_decisions}
 use Rattle.rv_spec.specs.Machine.{State, Running, Ended, first_state, next, execute, execute_fetched, fetch}
 use Rattle.rv_spec.specs.Runs.{Run, IsRunOf, run, run_from, continued, after_outcome}
 
@@ -26,6 +27,14 @@ pub run_ends : (image : Image) (all : List Region) (input : List ℕ) (steps : �
 run_ends image all input steps s t end h e =
     subst (λ (r : Run). IsRunOf r (steps + 1) t.path (Some end) t.output) (sym (run_more image all input steps s h ∙ ap (λ o. after_outcome (steps + 1) o) e))
     (record { all_steps = refl; same_path = refl; same_end = refl; same_output = refl })
+
+-- What it has decided then.
+pub decisions_more : (image : Image) (all : List Region) (input : List ℕ) (steps : ℕ) (s : State) → run image all input steps ≡ record { state = s; end = None; steps = steps }
+    → decisions image all input (steps + 1) ≡ decisions image all input steps ++ step_decisions s
+unfolding decisions_from
+decisions_more image all input steps s h =
+    ap (λ k. decisions_from (first_state image all input) k) (add-one steps)
+    ∙ ap (λ (r : Run). decisions image all input steps ++ run_decisions r r.end) h
 
 pub next_executes : (s : State) (i : Instr) → fetch s.flags s.byte s.pc ≡ Ok i → next s ≡ execute s i
 unfolding next

@@ -1,13 +1,14 @@
 //! The environment call: exit, and write.
 
-ghost use Rattle.std.specs.Prelude.{◌≡◌, ◌<◌, ◌==◌, ◌||◌, ℕ, List, IfOk, OnOk};
+ghost use Rattle.std.specs.Prelude.{◌≡◌, ◌<◌, ◌==◌, ◌||◌, ℕ, List, ◌∷◌, IfOk, OnOk};
 ghost use Rattle.std.specs.List.{list_all};
+ghost use Rattle.rv_spec.specs.Decisions.{Number as Needs, call_decisions, write_decisions};
 ghost use Rattle.rv_spec.specs.Machine as machine;
 ghost use Rattle.rv_spec.specs.Machine.{addresses, call, next, x};
 ghost use Rattle.rv_spec.specs.Memory.{IsAssignment, flags_of, is_mapped};
 ghost use Rattle.sym_state.specs.Programs.{regions_of};
 ghost use Rattle.sym_state.specs.Symbolic.{IsOpen, concrete, most_steps};
-ghost use Rattle.sym_machine.specs.Steps.{Stepped};
+ghost use Rattle.sym_machine.specs.Steps.{StepDecides, Stepped};
 ghost use Rattle.sym_machine.specs.declared.outcome.Step.TheVariants.{Pin};
 ghost use Rattle.sym_machine.specs.Writing.{WritesBytes};
 
@@ -73,6 +74,7 @@ fn write(program: &Program, state: &mut State) -> Result<Step, NoMemory>
     requires few { state.old.steps < most_steps }
     requires writes { (input : List ℕ) → IsAssignment (regions_of program.now) input → next (concrete program.now state.old input)
         ≡ machine.write (concrete program.now state.old input) (x (concrete program.now state.old input) 10) (x (concrete program.now state.old input) 11) (x (concrete program.now state.old input) 12) }
+    requires decides { StepDecides program.now state.old (λ c. Needs 64 ∷ write_decisions c) }
     ensures { IfOk result (Stepped program.now state.old state.new) }
 {
     let (file_at, start_at, count_at) = (Register::new(10), Register::new(11), Register::new(12));
@@ -105,6 +107,7 @@ pub fn call(program: &Program, state: &mut State) -> Result<Step, NoMemory>
     requires few { state.old.steps < most_steps }
     requires calls { (input : List ℕ) → IsAssignment (regions_of program.now) input → next (concrete program.now state.old input)
         ≡ call (concrete program.now state.old input) (x (concrete program.now state.old input) 17) }
+    requires decides { StepDecides program.now state.old (λ c. call_decisions c) }
     ensures { IfOk result (Stepped program.now state.old state.new) }
 {
     let number_at = Register::new(17);

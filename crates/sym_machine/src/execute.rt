@@ -1,11 +1,12 @@
 //! One instruction of a symbolic run: the cases are those of the machine, over numbers and terms.
 
-ghost use Rattle.std.specs.Prelude.{◌≡◌, ◌<◌, ◌^◌, ℕ, true, List, IfOk, OnOk};
+ghost use Rattle.std.specs.Prelude.{◌≡◌, ◌<◌, ◌^◌, ℕ, true, List, [], ◌∷◌, Some, IfOk, OnOk};
 ghost use Rattle.bv_dag.specs.Graphs.{IsDag, number_of, width_of};
 ghost use Rattle.rv_decode.specs.Eight.{IsAddiOrSltiu, IsBeqOrBne, IsOneOfEight};
 ghost use Rattle.rv_decode.specs.declared.instr.Instr.TheVariants.{Branch};
 ghost use Rattle.rv_decode.specs.declared.ops.LoadWidth.TheVariants.{Lbu};
 ghost use Rattle.rv_spec.specs.Arithmetic.{one_where, passes, sum32, with_immediate};
+ghost use Rattle.rv_spec.specs.Decisions.{Side, Number as Needs, instr_decisions};
 ghost use Rattle.rv_spec.specs.Machine as machine;
 ghost use Rattle.rv_spec.specs.Machine.{next, branch, linked, to_register, x};
 ghost use Rattle.rv_spec.specs.Memory.{IsAssignment};
@@ -13,7 +14,7 @@ ghost use Rattle.sym_state.specs.Growing.{Grows};
 ghost use Rattle.sym_state.specs.Moves.{with_terms};
 ghost use Rattle.sym_state.specs.Programs.{IsRunnable, regions_of};
 ghost use Rattle.sym_state.specs.Symbolic.{IsOpen, IsWide, concrete, meets, most_steps, worth_of};
-ghost use Rattle.sym_machine.specs.Steps.{IsFetched, Stepped};
+ghost use Rattle.sym_machine.specs.Steps.{IsFetched, StepDecides, Stepped, StepsAlike};
 
 use crate::call::call;
 use crate::memory::{fetch, image_byte, is_mapped};
@@ -28,6 +29,7 @@ fn jump_and_link(program: &Program, state: &mut State, rd: Register, target: u32
     requires few { state.old.steps < most_steps }
     requires jumps { (input : List ℕ) → IsAssignment (regions_of program.now) input →
         next (concrete program.now state.old input) ≡ linked (concrete program.now state.old input) rd target }
+    requires alike { StepsAlike program.now state.old }
     ensures { Stepped program.now state.old state.new result }
 {
     if target % 4 != 0 {
@@ -45,6 +47,7 @@ fn take(program: &Program, state: &mut State, side: bool, target: u32) -> Result
     requires few { state.old.steps < most_steps }
     requires goes { (input : List ℕ) → IsAssignment (regions_of program.now) input → meets state.old input ≡ true →
         next (concrete program.now state.old input) ≡ branch (concrete program.now state.old input) side target }
+    requires alike { StepsAlike program.now state.old }
     ensures { IfOk result (Stepped program.now state.old state.new) }
 {
     if !side {
@@ -106,6 +109,7 @@ fn branch(
     requires test { IsBeqOrBne test }
     requires fetched { (input : List ℕ) → IsAssignment (regions_of program.now) input →
         IsFetched (concrete program.now state.old input) (Branch test rs1 rs2 offset) }
+    requires decides { StepDecides program.now state.old (λ c. Side (passes test (x c rs1) (x c rs2)) ∷ []) }
     ensures { IfOk result (Stepped program.now state.old state.new) }
 {
     let target = state.address(offset);
@@ -132,6 +136,7 @@ fn load(
     requires few { state.old.steps < most_steps }
     requires loads { (input : List ℕ) → IsAssignment (regions_of program.now) input → next (concrete program.now state.old input)
         ≡ machine.load (concrete program.now state.old input) Lbu rd (sum32 (x (concrete program.now state.old input) rs1) offset) }
+    requires decides { StepDecides program.now state.old (λ c. Needs (sum32 (x c rs1) offset) ∷ []) }
     ensures { IfOk result (Stepped program.now state.old state.new) }
 {
     let base = state.value(rs1);
@@ -198,6 +203,7 @@ fn immediate(
     requires op { IsAddiOrSltiu op }
     requires computes { (input : List ℕ) → IsAssignment (regions_of program.now) input → next (concrete program.now state.old input)
         ≡ to_register (concrete program.now state.old input) rd (with_immediate op (x (concrete program.now state.old input) rs1) immediate) }
+    requires alike { StepsAlike program.now state.old }
     ensures { IfOk result (Stepped program.now state.old state.new) }
 {
     let _program = program;
@@ -214,6 +220,7 @@ fn execute(program: &Program, state: &mut State, instr: Instr) -> Result<Step, N
     requires known { IsOneOfEight instr }
     requires fetched { (input : List ℕ) → IsAssignment (regions_of program.now) input →
         IsFetched (concrete program.now state.old input) instr }
+    requires decides { StepDecides program.now state.old (λ c. instr_decisions c (Some instr)) }
     ensures { IfOk result (Stepped program.now state.old state.new) }
 {
     match instr {

@@ -1,5 +1,5 @@
 -- What stays where the terms of a symbolic run grow.
-use Rattle.std.proofs.Common.{◌≡◌, ℕ, ◌<◌, ◌&&◌, List, [], ◌∷◌, get_or, length, map, take, refl, ap, ◌∙◌, arith}
+use Rattle.std.proofs.Common.{◌≡◌, ℕ, ◌<◌, ◌&&◌, List, [], ◌∷◌, get_or, length, map, refl, ap, ◌∙◌, arith}
 use Rattle.std.specs.Prelude.{◌==◌, All, Result, Ok, Err, IfOk, if◌then◌else◌, nat_lt}
 use Rattle.std.specs.List.{list_all}
 use Rattle.std.proofs.lemmas.List.Elements.{All-head, All-tail}
@@ -7,9 +7,10 @@ use Rattle.bv_dag.specs.Graphs.{Graph, number_of, width_of}
 use Rattle.bv_dag.specs.Queries.{AreBits, holds}
 use Rattle.bv_dag.proofs.TermLaws.{there}
 use Rattle.rv_spec.specs.Arithmetic.{sum32, one_where}
-use Rattle.sym_state.specs.Growing.{Grows, front_of}
+use Rattle.sym_state.specs.Growing.{Grows}
+use Rattle.sym_state.proofs.Pushes.{front_before}
 use Rattle.sym_state.specs.Moves.{IsGrown, with_terms, cut_back}
-use Rattle.sym_state.specs.Symbolic.{Symbolic, IsSmall, IsWide, worth_of}
+use Rattle.sym_state.specs.Symbolic.{Symbolic, IsWord, IsWide, worth_of}
 use Rattle.sym_state.specs.declared.value.Value.{Value}
 use Rattle.sym_state.specs.declared.value.Value.TheVariants.{Number, Term}
 
@@ -65,11 +66,6 @@ pub same_pc : (s t : Symbolic) → IsGrown s t → t.pc ≡ s.pc
 same_pc s t grown = ap (λ (r : Symbolic). r.pc) grown.same
 
 -- without them it is the run before
-pub front_before : (g h : Graph) (len : ℕ) → Grows g h → len ≡ length g.nodes → front_of h len ≡ g
-front_before g h len grows is =
-    ap {B = Graph} (λ n. record { inputs = n; nodes = take len h.nodes }) grows.same_inputs
-    ∙ ap {B = Graph} (λ ns. record { inputs = g.inputs; nodes = ns }) (ap (λ k. take k h.nodes) is ∙ grows.front)
-
 pub run_before : (s t : Symbolic) (len : ℕ) → IsGrown s t → len ≡ length s.terms.nodes → cut_back t len ≡ s
 run_before s t len grown is = ap (with_terms t) (front_before s.terms t.terms len grown.grows is) ∙ ap (λ (r : Symbolic). with_terms r s.terms) grown.same
 
@@ -91,5 +87,5 @@ below-grown f g h k left right bit n (Ok id) grows width is below same = λ inpu
     ∙ ap (λ b. one_where (nat_lt (number_of f left input) b)) (is input)
 
 -- a value that is small stays so
-pub IsSmall-grown : (g h : Graph) (input : List ℕ) (v : Value) → Grows g h → IsWide g v → IsSmall g input v → IsSmall h input v
-IsSmall-grown g h input v grows wide is = omega (arith, worth_of-grown g h input v grows wide, is)
+pub IsWord-grown : (g h : Graph) (input : List ℕ) (v : Value) → Grows g h → IsWide g v → IsWord g input v → IsWord h input v
+IsWord-grown g h input v grows wide is = omega (arith, worth_of-grown g h input v grows wide, is)

@@ -1,3 +1,4 @@
 pub mod Pushes
 pub mod Kept
 pub mod Opening
+pub mod Assigning

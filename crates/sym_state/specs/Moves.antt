@@ -2,10 +2,8 @@
 use Rattle.std.specs.Prelude.{◌≡◌, ℕ, ◌+◌, List, [], ◌∷◌, ◌++◌, None}
 use Rattle.bv_dag.specs.Graphs.{Graph}
 use Rattle.rv_decode.specs.declared.ends.PathStep.{PathStep}
-use Rattle.rv_spec.specs.Memory.{IsAssignment}
 use Rattle.tree_core.specs.declared.choice.Choice.{Choice}
 use Rattle.sym_state.specs.Growing.{Grows, front_of}
-use Rattle.sym_state.specs.Programs.{Program, regions_of}
 use Rattle.sym_state.specs.Symbolic.{Symbolic, meets}
 use Rattle.sym_state.specs.declared.value.Value.{Value}
 
@@ -46,6 +44,6 @@ narrowed s choice term sample = record s {
 }
 
 -- it is on the same side of every fork, and stands for the same assignments
-pub record IsSame (p : Program) (old new : Symbolic) : Type 0 where
+pub record IsSame (old new : Symbolic) : Type 0 where
   pub same_choices : new.choices ≡ old.choices
-  pub same_cover : (input : List ℕ) → IsAssignment (regions_of p) input → meets new input ≡ meets old input
+  pub same_cover : (input : List ℕ) → meets new input ≡ meets old input

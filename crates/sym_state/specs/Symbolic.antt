@@ -7,10 +7,12 @@ use Rattle.rv_decode.specs.declared.ends.Trap.{Trap}
 use Rattle.rv_decode.specs.declared.instr.Instr.{Instr}
 use Rattle.rv_decode.specs.declared.instr.Instr.TheVariants.{Branch}
 use Rattle.rv_spec.specs.Arithmetic.{passes}
+use Rattle.rv_spec.specs.Decisions.{Decision, decisions}
 use Rattle.rv_spec.specs.Memory.{flags_of, byte_of, placed, IsAssignment}
 use Rattle.rv_spec.specs.Machine.{State, x, fetch}
 use Rattle.rv_spec.specs.Runs.{run}
 use Rattle.tree_core.specs.declared.choice.Choice.{Choice}
+use Rattle.fork_spec.specs.Leaves.{AreBytes, IsSmall, IsSmallChoice, IsSmallStep}
 use Rattle.sym_state.specs.Programs.{Program, regions_of}
 use Rattle.sym_state.specs.declared.value.Value.{Value}
 use Rattle.sym_state.specs.declared.value.Value.TheVariants.{Number, Term}
@@ -54,16 +56,12 @@ IsWide terms (Number n) = n < 2 ^ 32
 IsWide terms (Term id) = width_of terms id ≡ 32
 
 -- it is a number of 32 bits on this assignment
-abbrev pub IsSmall : Graph → List ℕ → Value → Type 0
-IsSmall terms input v = worth_of terms input v < 2 ^ 32
+abbrev pub IsWord : Graph → List ℕ → Value → Type 0
+IsWord terms input v = worth_of terms input v < 2 ^ 32
 
 abbrev pub is_term : Value → Bool
 is_term (Number n) = false
 is_term (Term id) = true
-
--- the terms are bytes
-abbrev pub AreBytes : Graph → List ℕ → Type 0
-AreBytes graph ids = All (λ id. width_of graph id ≡ 8) ids
 
 -- the condition, as a query
 abbrev pub condition_of : Symbolic → Condition
@@ -101,23 +99,37 @@ abbrev pub IsDecided : Program → Symbolic → Option Bool → Type 0
 IsDecided p s None = Unit {0}
 IsDecided p s (Some side) = (input : List ℕ) → IsAssignment (regions_of p) input → meets s input ≡ true → Goes side (concrete p s input)
 
+-- its numbers are below 2 ^ 32: a step writes 4096 bytes at most
+pub record HasSmallNumbers (s : Symbolic) : Type 0 where
+  pub choices : All IsSmallChoice s.choices
+  pub path : All IsSmallStep s.path
+  pub few_steps : s.steps ≤ most_steps
+  pub few_terms : IsSmall (length s.terms.nodes)
+  pub few_outputs : length s.output ≤ 4096 * s.steps
+
+-- all assignments that meet the condition have made the same decisions in the steps made
+pub record DecidedAlike (p : Program) (s : Symbolic) : Type 0 where
+  pub made : List Decision
+  pub alike : (input : List ℕ) → IsAssignment (regions_of p) input → meets s input ≡ true → decisions p.image (regions_of p) input s.steps ≡ made
+
 -- all is right with a symbolic run, wherever it is
 pub record IsOpen (p : Program) (s : Symbolic) : Type 0 where
   pub dag : IsDag s.terms
   pub one_input : s.terms.inputs ≡ 1
   pub all_registers : length s.registers ≡ 32
   pub wide : All (IsWide s.terms) s.registers
-  pub small : (input : List ℕ) → IsAssignment (regions_of p) input → All (IsSmall s.terms input) s.registers
+  pub small : (input : List ℕ) → IsAssignment (regions_of p) input → All (IsWord s.terms input) s.registers
   pub zero : value_at s.registers 0 ≡ Number 0
   pub bits : AreBits s.terms s.condition
   pub bytes : AreBytes s.terms s.output
   pub in_memory : s.pc < 2 ^ 32
-  pub few : s.steps ≤ most_steps
+  pub numbers : HasSmallNumbers s
   pub sampled : (s.sample < 256) × (meets s (s.sample ∷ []) ≡ true)
   pub decided : IsDecided p s s.decided
   -- its runs have made these steps and are where it is
   pub sound : (input : List ℕ) → IsAssignment (regions_of p) input → meets s input ≡ true →
       run p.image (regions_of p) input s.steps ≡ record { state = concrete p s input; end = None; steps = s.steps }
+  pub alike : DecidedAlike p s
 
 -- the run of all assignments, before its first step, from this address on
 abbrev pub run_at : ℕ → Symbolic

@@ -1,16 +1,20 @@
 //! A symbolic run.
 
-ghost use Rattle.std.specs.Prelude.{◌≡◌, ◌==◌, ◌+◌, ◌-◌, ◌%◌, ◌<◌, ◌^◌, ℕ, true, false, List, [], ◌∷◌, ◌++◌, All, length, nat_lt, slice_index, IfOk, OnOk, Some, if◌then◌else◌};
+ghost use Rattle.std.specs.Prelude.{◌≡◌, ◌==◌, ◌+◌, ◌-◌, ◌%◌, ◌<◌, ◌^◌, ℕ, true, false, List, [], ◌∷◌, ◌++◌, All, length, nat_lt, slice_index, IfOk, IsTrue, OnErr, OnOk, Some, if◌then◌else◌};
 ghost use Rattle.bv_dag.specs.Graphs.{IsDag, width_of, number_of};
 ghost use Rattle.rv_spec.specs.Arithmetic.{sum32, one_where};
 ghost use Rattle.sym_state.specs.Growing.{Grows};
 ghost use Rattle.sym_state.specs.Moves.{with_terms, cut_back, narrowed, moved};
+ghost use Rattle.rv_spec.specs.Memory.{IsAssignment};
+ghost use Rattle.sym_state.specs.Places.{run_place};
+ghost use Rattle.sym_state.specs.Programs.{regions_of};
 ghost use Rattle.sym_state.specs.Symbolic.{set_value, value_at, worth_of, first_run, run_at, is_term, IsOpen, IsWide, most_steps};
 
 use crate::build;
 use crate::program::Program;
 use crate::value::Value;
 use bv_dag::Dag;
+use fork_tree::Placed;
 use rv_decode::{PathStep, Register};
 use std::alloc::{AllocError as NoMemory, Global};
 use std::marker::Model;
@@ -60,6 +64,12 @@ impl Model for State {
     } };
 }
 
+impl Placed for State {
+    ghost use Rattle.sym_state.specs.Places.{run_place};
+
+    ghost place = { run_place };
+}
+
 /// The run of all assignments from this address on.
 fn at_entry(alloc: Global, entry: u32) -> Result<State, NoMemory>
     ensures { IfOk result (λ state. state ≡ run_at entry) }
@@ -81,10 +91,11 @@ fn at_entry(alloc: Global, entry: u32) -> Result<State, NoMemory>
 }
 
 impl State {
-    /// The run of all assignments, before its first step.
+    /// The run of all assignments, before its first step: it stands for each list of bytes, one for each place of the regions.
     pub fn first(alloc: Global, program: &Program) -> Result<State, NoMemory>
         ensures value { IfOk result (λ state. state ≡ first_run program.now) }
         ensures open { IfOk result (IsOpen program.now) }
+        ensures whole { IfOk result (λ state. (input : List ℕ) → IsAssignment (regions_of program.now) input → IsTrue ((run_place state).covers input)) }
     {
         at_entry(alloc, program.image().entry())
     }
@@ -169,7 +180,8 @@ impl State {
 
     /// Notes an entry of the path.
     pub fn note(&mut self, entry: PathStep) -> Result<(), NoMemory>
-        ensures { OnOk result (self.new ≡ record self.old { path = self.old.path ++ entry ∷ [] }) }
+        ensures ok { OnOk result (self.new ≡ record self.old { path = self.old.path ++ entry ∷ [] }) }
+        ensures err { OnErr result (self.new ≡ self.old) }
     {
         self.path.push(entry)?;
         Ok(())
@@ -177,7 +189,8 @@ impl State {
 
     /// Puts a term of 8 bits behind the output.
     pub fn emit(&mut self, byte: usize) -> Result<(), NoMemory>
-        ensures { OnOk result (self.new ≡ record self.old { output = self.old.output ++ byte ∷ [] }) }
+        ensures ok { OnOk result (self.new ≡ record self.old { output = self.old.output ++ byte ∷ [] }) }
+        ensures err { OnErr result (self.new ≡ self.old) }
     {
         self.output.push(byte)?;
         Ok(())
@@ -187,6 +200,7 @@ impl State {
     pub fn input_byte(&mut self) -> Result<usize, NoMemory>
         requires dag { IsDag self.old.terms }
         requires one_input { self.old.terms.inputs ≡ 1 }
+        ensures err { OnErr result (self.new ≡ self.old) }
         ensures terms { self.new ≡ with_terms self.old self.new.terms }
         ensures grows { OnOk result (Grows self.old.terms self.new.terms) }
         ensures width { IfOk result (λ id. width_of self.new.terms id ≡ 8) }
@@ -198,6 +212,7 @@ impl State {
     /// A byte, as a term of 8 bits.
     pub fn byte(&mut self, byte: u8) -> Result<usize, NoMemory>
         requires dag { IsDag self.old.terms }
+        ensures err { OnErr result (self.new ≡ self.old) }
         ensures terms { self.new ≡ with_terms self.old self.new.terms }
         ensures grows { OnOk result (Grows self.old.terms self.new.terms) }
         ensures width { IfOk result (λ id. width_of self.new.terms id ≡ 8) }
@@ -210,6 +225,7 @@ impl State {
     pub fn widened(&mut self, byte: usize) -> Result<Value, NoMemory>
         requires dag { IsDag self.old.terms }
         requires width { width_of self.old.terms byte ≡ 8 }
+        ensures err { OnErr result (self.new ≡ self.old) }
         ensures terms { self.new ≡ with_terms self.old self.new.terms }
         ensures grows { OnOk result (Grows self.old.terms self.new.terms) }
         ensures wide { IfOk result (IsWide self.new.terms) }
@@ -223,6 +239,7 @@ impl State {
     pub fn sum(&mut self, value: Value, number: u32) -> Result<Value, NoMemory>
         requires dag { IsDag self.old.terms }
         requires wide { IsWide self.old.terms value }
+        ensures err { OnErr result (self.new ≡ self.old) }
         ensures terms { self.new ≡ with_terms self.old self.new.terms }
         ensures grows { OnOk result (Grows self.old.terms self.new.terms) }
         ensures wide { IfOk result (IsWide self.new.terms) }
@@ -242,6 +259,7 @@ impl State {
     pub fn is_below(&mut self, value: Value, number: u32) -> Result<Value, NoMemory>
         requires dag { IsDag self.old.terms }
         requires wide { IsWide self.old.terms value }
+        ensures err { OnErr result (self.new ≡ self.old) }
         ensures terms { self.new ≡ with_terms self.old self.new.terms }
         ensures grows { OnOk result (Grows self.old.terms self.new.terms) }
         ensures wide { IfOk result (IsWide self.new.terms) }
@@ -261,21 +279,21 @@ impl State {
         requires dag { IsDag self.old.terms }
         requires left { IsWide self.old.terms left }
         requires right { IsWide self.old.terms right }
+        ensures err { OnErr result (self.new ≡ self.old) }
         ensures terms { self.new ≡ with_terms self.old self.new.terms }
         ensures grows { OnOk result (Grows self.old.terms self.new.terms) }
         ensures width { IfOk result (λ id. width_of self.new.terms id ≡ 1) }
         ensures number { IfOk result (λ id. (input : List ℕ) → number_of self.new.terms id input
             ≡ (if worth_of self.old.terms input left == worth_of self.old.terms input right then 1 else 0)) }
     {
-        let left = build::value_term(&mut self.terms, left)?;
-        let right = build::value_term(&mut self.terms, right)?;
-        build::equality(&mut self.terms, left, right)
+        build::values_equal(&mut self.terms, left, right)
     }
 
     /// Whether a term of 32 bits is a number, as a bit.
     pub fn equals(&mut self, term: usize, number: u32) -> Result<usize, NoMemory>
         requires dag { IsDag self.old.terms }
         requires wide { width_of self.old.terms term ≡ 32 }
+        ensures err { OnErr result (self.new ≡ self.old) }
         ensures terms { self.new ≡ with_terms self.old self.new.terms }
         ensures grows { OnOk result (Grows self.old.terms self.new.terms) }
         ensures width { IfOk result (λ id. width_of self.new.terms id ≡ 1) }
@@ -289,6 +307,7 @@ impl State {
     pub fn negation(&mut self, bit: usize) -> Result<usize, NoMemory>
         requires dag { IsDag self.old.terms }
         requires bit { width_of self.old.terms bit ≡ 1 }
+        ensures err { OnErr result (self.new ≡ self.old) }
         ensures terms { self.new ≡ with_terms self.old self.new.terms }
         ensures grows { OnOk result (Grows self.old.terms self.new.terms) }
         ensures width { IfOk result (λ id. width_of self.new.terms id ≡ 1) }
@@ -301,6 +320,7 @@ impl State {
     pub fn low_byte(&mut self, value: Value) -> Result<usize, NoMemory>
         requires dag { IsDag self.old.terms }
         requires wide { IsWide self.old.terms value }
+        ensures err { OnErr result (self.new ≡ self.old) }
         ensures terms { self.new ≡ with_terms self.old self.new.terms }
         ensures grows { OnOk result (Grows self.old.terms self.new.terms) }
         ensures width { IfOk result (λ id. width_of self.new.terms id ≡ 8) }
@@ -318,7 +338,8 @@ impl State {
 
     /// Notes the side of a fork.
     pub fn choose(&mut self, choice: Choice) -> Result<(), NoMemory>
-        ensures { OnOk result (self.new ≡ record self.old { choices = self.old.choices ++ choice ∷ [] }) }
+        ensures ok { OnOk result (self.new ≡ record self.old { choices = self.old.choices ++ choice ∷ [] }) }
+        ensures err { OnErr result (self.new ≡ self.old) }
     {
         self.choices.push(choice)?;
         Ok(())
@@ -326,7 +347,8 @@ impl State {
 
     /// Asks for one more term of one bit to be 1.
     pub fn assert(&mut self, term: usize) -> Result<(), NoMemory>
-        ensures { OnOk result (self.new ≡ record self.old { condition = self.old.condition ++ term ∷ [] }) }
+        ensures ok { OnOk result (self.new ≡ record self.old { condition = self.old.condition ++ term ∷ [] }) }
+        ensures err { OnErr result (self.new ≡ self.old) }
     {
         self.condition.push(term)?;
         Ok(())
@@ -334,10 +356,12 @@ impl State {
 
     /// Narrows to one side of a fork, on which this term of one bit is 1.
     pub fn narrow(&mut self, choice: Choice, term: usize, sample: u8) -> Result<(), NoMemory>
-        ensures { OnOk result (self.new ≡ narrowed self.old choice term sample) }
+        ensures ok { OnOk result (self.new ≡ narrowed self.old choice term sample) }
+        ensures err { OnErr result (self.new ≡ self.old) }
     {
+        self.choices.reserve(1)?;
         self.condition.push(term)?;
-        self.choices.push(choice)?;
+        self.choices.push(choice).unwrap();
         self.sample = sample;
         Ok(())
     }

@@ -8,6 +8,7 @@ ghost use Rattle.test_files.specs.TestData.{regions_data};
 ghost use Rattle.test_files.specs.Tests.{end_text as text_of_end, region_text as text_of_region};
 
 use elf_load::Region;
+use itoa::Buffer;
 use rv_decode::{End, PathStep};
 use serde_json::Value;
 use smt_text::write_path;
@@ -18,8 +19,15 @@ pub fn end_text(alloc: Global, end: Option<End>) -> Result<String, NoMemory>
     ensures { IfOk result (λ text. string_bytes text ≡ text_of_end end) }
 {
     match end {
-        Some(End::Exit(status)) => format!(in alloc; "exit {status}"),
-        Some(End::Trapped(trap)) => format!(in alloc; "trap {}", trap.name()),
+        Some(End::Exit(status)) => {
+            let mut buffer = Buffer::new();
+            let status = buffer.format(status);
+            format!(in alloc; "exit {status}")
+        }
+        Some(End::Trapped(trap)) => {
+            let name = trap.name();
+            format!(in alloc; "trap {name}")
+        }
         None => String::from_str(alloc, "running"),
     }
 }
@@ -37,9 +45,10 @@ pub fn path_string(alloc: Global, path: &[PathStep]) -> Result<String, NoMemory>
 fn region_text(alloc: Global, region: Region) -> Result<String, NoMemory>
     ensures { IfOk result (λ text. string_bytes text ≡ text_of_region region) }
 {
-    let mut text = hex::encode(alloc, &region.start.to_be_bytes())?;
-    write!(text, ":{}", region.count)?;
-    Ok(text)
+    let start = hex::encode(alloc, &region.start.to_be_bytes())?;
+    let mut buffer = Buffer::new();
+    let count = buffer.format(region.count);
+    format!(in alloc; "{start}:{count}")
 }
 
 /// The regions as strings.

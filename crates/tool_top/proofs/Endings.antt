@@ -3,7 +3,7 @@ use Rattle.std.proofs.Common.{◌≡◌, ◌≢◌, ◌⊎◌, ℕ, List, [], in
 use Rattle.std.specs.Prelude.{Option, None, Some, IfSome, if◌then◌else◌, ◌==◌}
 use Rattle.tool_io.specs.Told.{Told, Seen, Put, Deeds, Gives, after, says, puts_all, IsPrefix, names_since}
 use Rattle.tool_io.specs.Causes.{Rose}
-use Rattle.report_text.specs.declared.event.Event.{Event}
+use Rattle.fork_spec.specs.Walks.{Line}
 use Rattle.tool_io.proofs.Deeds.{then_says, then_all, IsPrefix-nothing, IsPrefix-whole}
 use Rattle.tool_io.proofs.Since.{names_since-after, puts_since-after, said_since-after}
 use Rattle.elf_load.specs.declared.region.Region.{Region}
@@ -12,12 +12,12 @@ use Rattle.tool_top.specs.Lines.{no_memory}
 use Rattle.tool_top.specs.Plan.{Plan, names_of, IsPlan, IsPlanned, IsReported, Means, OnlyReads, most_bytes}
 use Rattle.elf_load.specs.Images.{Image, Loads}
 use Rattle.elf_load.proofs.OneImage.{one_image}
-use Rattle.sym_state.specs.Programs.{Program, regions_of}
 use Rattle.tree_core.specs.declared.budgets.Budgets.{Budgets}
 use Rattle.tool_top.specs.Later.{IsTaken, IsInput}
 use Rattle.replay_core.specs.Replays.{IsAsSaid}
 use Rattle.tool_top.proofs.ReplayEndings.{given_held, replay_fault, replay_kept, replay_no_job, replay_misfit, replay_no_program, replay_no_test, replay_other, replay_puts, replay_same}
-use Rattle.tool_top.specs.Reports.{Entry, IsReport, files_of, summary_of}
+use Rattle.report_text.specs.Claims.{Entry, IsReport}
+use Rattle.report_text.specs.Files.{files_of, summary_of}
 use Rattle.tool_top.specs.Answer.{Answered, status_of, IsAnswered, IsFaulted, IsWanting, IsCarriedOut, IsCutByFault, IsWritten, OnWritten, OnReplayed, HoldsProgram, HoldsNoProgram, HoldsMisfit, HoldsNoTest, HoldsOther, HoldsTest, verdict_status}
 use Rattle.tool_top.specs.declared.verdict.Verdict.{Verdict}
 use Rattle.tool_top.specs.declared.verdict.Verdict.TheVariants.{Done, Differs, NoJob, Refused, Unfit, ReadFault, TestRefused}
@@ -170,32 +170,33 @@ answered_names old new job WriteFault h = names_since-after _ _ (record { names 
 answered_names old new job NoMemory h = names_since-after _ _ (record { names = h.names; puts = h.out.puts; said = h.out.said }) _ h.out.changes h.reading
 
 -- what was written, where the plan is done and all was put and said
-written : (old new : Seen) (name out bytes : List ℕ) (asked : List Region) (budgets : Budgets) (workers : ℕ) (Claim : Program → Budgets → ℕ → List Event → List Entry → Type 0) (plan : Plan)
-    → ((p : Program) (events : List Event) (entries : List Entry) → IsReport p budgets workers events entries → Claim p budgets workers events entries) → Gives old.told name most_bytes bytes
+written : (old new : Seen) (name out bytes : List ℕ) (asked : List Region) (budgets : Budgets) (workers : ℕ) (Claim : Image → List Region → Budgets → ℕ → List Line → List Entry → Type 0) (plan : Plan)
+    → ((image : Image) (lines : List Line) (entries : List Entry) → IsReport image asked budgets workers lines entries → Claim image asked budgets workers lines entries) → Gives old.told name most_bytes bytes
     → IsReported out bytes asked budgets workers plan.verdict plan.puts plan.text → IsCarriedOut old new Done plan.puts plan.text plan.names → IsWritten old.told new.told name out asked budgets workers Claim
 written old new name out bytes asked budgets workers Claim plan claims given reported carried =
     let report = reported.report in
     let deeds : Deeds = record { names = plan.names; puts = plan.puts; said = carried.said } in
     let said : carried.said ≡ plan.text = elim carried.whole [ inl all ↦ all | inr cut ↦ absurd (cut.1 refl) ] in
     record {
-      program = reported.program;
-      events = report.events;
+      image = reported.image;
+      place = reported.place;
+      lines = report.lines;
       entries = report.entries;
       bytes = bytes;
       given = given;
       taken = reported.taken;
       fits = reported.fits;
-      files = puts_since-after old.told new.told deeds (λ puts. puts ≡ files_of out budgets workers (regions_of reported.program) report.events report.entries) carried.changes report.files;
+      files = puts_since-after old.told new.told deeds (λ puts. puts ≡ files_of out budgets workers asked report.lines report.entries) carried.changes report.files;
       summary = said_since-after old.told new.told deeds (λ said. said ≡ summary_of report.entries) carried.changes (said ∙ report.summary);
-      claim = claims reported.program report.events report.entries report.claims;
+      claim = claims reported.image report.lines report.entries report.claims;
     }
 
-pub done_written : (old new : Seen) (job : Option Job) (Claim : Program → Budgets → ℕ → List Event → List Entry → Type 0)
-    → ((p : Program) (budgets : Budgets) (workers : ℕ) (events : List Event) (entries : List Entry) → IsReport p budgets workers events entries → Claim p budgets workers events entries) → IsAnswered old new job Done → OnWritten old.told new.told job Claim
+pub done_written : (old new : Seen) (job : Option Job) (Claim : Image → List Region → Budgets → ℕ → List Line → List Entry → Type 0)
+    → ((image : Image) (regions : List Region) (budgets : Budgets) (workers : ℕ) (lines : List Line) (entries : List Entry) → IsReport image regions budgets workers lines entries → Claim image regions budgets workers lines entries) → IsAnswered old new job Done → OnWritten old.told new.told job Claim
 done_written old new None Claim claims h = none_other old new h.plan Done h.is (λ e. cc) (λ e. cc) h.planned
 done_written old new (Some (Explore program out asked budgets workers)) Claim claims h =
     let r = done_reported old new program out asked budgets workers h.plan h.is h.planned in
-    written old new program out r.0 asked budgets workers Claim h.plan (λ p. claims p budgets workers) r.1 r.2 h.out
+    written old new program out r.0 asked budgets workers Claim h.plan (λ image. claims image asked budgets workers) r.1 r.2 h.out
 done_written old new (Some (Replay program test)) Claim claims h = tt
 
 -- what was the same, and what was not
@@ -286,18 +287,18 @@ faulted_job old new (Some job) h is = cc
 -- a program that is taken is not refused
 held_not_refused : (told : Told) (job : Option Job) → HoldsProgram told job → HoldsNoProgram told job → ⊥
 held_not_refused told None holds none = holds
-held_not_refused told (Some (Explore program out asked budgets workers)) (bytes, p, held, taken, fits) (given, gives, none) =
+held_not_refused told (Some (Explore program out asked budgets workers)) (bytes, image, place, held, taken, fits) (given, gives, none) =
     let same = given_held most_bytes program bytes given told.holds held gives in
-    none p.image (subst (λ (b : List ℕ). IsTaken b p.image) (sym same) taken)
+    none image (subst (λ (b : List ℕ). IsTaken b image) (sym same) taken)
 held_not_refused told (Some (Replay program test)) holds none = holds
 
 -- nor does it not fit
 held_not_unfit : (told : Told) (job : Option Job) → HoldsProgram told job → HoldsMisfit told job → ⊥
 held_not_unfit told None holds misfit = holds
-held_not_unfit told (Some (Explore program out asked budgets workers)) (bytes, p, held, taken, fits) (given, image, gives, is, others) =
+held_not_unfit told (Some (Explore program out asked budgets workers)) (bytes, here, place, held, taken, fits) (given, image, gives, is, others) =
     let same = given_held most_bytes program bytes given told.holds held gives in
-    let one : p.image ≡ image = one_image bytes p.image image taken.loads (subst (λ (b : List ℕ). Loads b image) same is.loads) in
-    others p.place (subst (λ (i : Image). IsInput i asked p.place) one fits)
+    let one : here ≡ image = one_image bytes here image taken.loads (subst (λ (b : List ℕ). Loads b image) same is.loads) in
+    others place (subst (λ (i : Image). IsInput i asked place) one fits)
 held_not_unfit told (Some (Replay program test)) holds misfit = holds
 
 -- where it is held, and no fault was counted, it is explored to the end

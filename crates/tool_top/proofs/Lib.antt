@@ -2,8 +2,5 @@ pub mod Plans
 pub mod ReplayPlans
 pub mod ReplayEndings
 pub mod Endings
-pub mod Explored
-pub mod Entries
-pub mod SampleWords
 pub mod LaterWords
 pub mod Running

@@ -13,7 +13,7 @@ use Rattle.tool_words.specs.Job.{Job}
 use Rattle.elf_load.proofs.OneImage.{one_image}
 use Rattle.tree_core.specs.declared.budgets.Budgets.{Budgets}
 use Rattle.tool_top.specs.Later.{IsTaken, IsInput, IsDataByte, HasLaterWord}
-use Rattle.sym_state.specs.Programs.{IsRunnable, Program}
+use Rattle.sym_state.specs.Programs.{IsRunnable}
 use Rattle.tool_top.specs.Reports.{IsReportOf}
 use Rattle.tool_top.proofs.Running.{runnable}
 use Rattle.tool_top.specs.Lines.{refused_line, unfit_line, usage}
@@ -85,12 +85,13 @@ pub runs_here : (bytes : List ℕ) (image : Image) (asked slice : List Region) (
 runs_here bytes image asked slice place taken fits same byte = runnable image asked place taken.none_later (input_of image asked slice place fits same byte)
 
 -- the report of a program that is taken, for an input that is taken
-pub treats_reported : (out bytes : List ℕ) (asked slice : List Region) (budgets : Budgets) (workers : ℕ) (image : Image) (place : ℕ) (p : Program) (made : Result Made AllocError) → IsTaken bytes image → unfit image asked ≡ None → slice ≡ asked → IsDataByte image slice place → p ≡ record { image = image; place = place } → IfOk made (λ q. q.verdict ≡ Done) → IfOk made (λ q. IsReportOf out p budgets workers q.files.items q.text) → IfOk made (λ q. Treats out bytes asked budgets workers q.verdict q.files.items q.text)
-treats_reported out bytes asked slice budgets workers image place p (Err e) taken fits same byte is v r = tt
-treats_reported out bytes asked slice budgets workers image place p (Ok made) taken fits same byte is v r = inl (record {
-  program = record { image = image; place = place };
+pub treats_reported : (out bytes : List ℕ) (asked slice : List Region) (budgets : Budgets) (workers : ℕ) (image : Image) (place : ℕ) (made : Result Made AllocError) → IsTaken bytes image → unfit image asked ≡ None → slice ≡ asked → IsDataByte image slice place → IfOk made (λ q. q.verdict ≡ Done) → IfOk made (λ q. IsReportOf out image asked budgets workers q.files.items q.text) → IfOk made (λ q. Treats out bytes asked budgets workers q.verdict q.files.items q.text)
+treats_reported out bytes asked slice budgets workers image place (Err e) taken fits same byte v r = tt
+treats_reported out bytes asked slice budgets workers image place (Ok made) taken fits same byte v r = inl (record {
+  image = image;
+  place = place;
   taken = taken;
   fits = input_of image asked slice place fits same byte;
   done = v;
-  report = subst (λ (q : Program). IsReportOf out q budgets workers made.files.items made.text) is r;
+  report = r;
 })

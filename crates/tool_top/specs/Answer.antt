@@ -3,17 +3,17 @@ use Rattle.std.specs.Prelude.{◌≡◌, ◌≢◌, ℕ, ◌⊎◌, List, [], ta
 use Rattle.std.specs.Option.{option_map}
 use Rattle.tool_io.specs.Told.{Told, Seen, Put, after, Gives, IsPrefix, IsCutShort, puts_since, said_since, told_held}
 use Rattle.tool_io.specs.Causes.{Rose}
-use Rattle.report_text.specs.declared.event.Event.{Event}
+use Rattle.fork_spec.specs.Walks.{Line}
 use Rattle.elf_load.specs.declared.region.Region.{Region}
 use Rattle.tool_words.specs.Job.{Job, Explore, Replay}
 use Rattle.tool_top.specs.Lines.{no_memory}
 use Rattle.tool_top.specs.Plan.{Plan, IsPlan, names_of, most_bytes}
 use Rattle.tree_core.specs.declared.budgets.Budgets.{Budgets}
 use Rattle.elf_load.specs.Images.{Image}
-use Rattle.sym_state.specs.Programs.{Program, regions_of}
 use Rattle.tool_top.specs.Later.{IsTaken, IsInput}
 use Rattle.tool_top.specs.Replaying.{IsReplayable, IsTestInput, most_test_bytes}
-use Rattle.tool_top.specs.Reports.{Entry, files_of, summary_of}
+use Rattle.report_text.specs.Claims.{Entry}
+use Rattle.report_text.specs.Files.{files_of, summary_of}
 use Rattle.replay_core.specs.Replays.{IsAsSaid}
 use Rattle.test_files.specs.Reading.{reading}
 use Rattle.test_files.specs.Tests.{Test}
@@ -92,24 +92,25 @@ Answered old new job (Planned verdict) = IsAnswered old new job verdict
 Answered old new job WriteFault = IsFaulted old new job
 Answered old new job NoMemory = IsWanting old new job
 
--- The claims are facts of a program, budgets, a number of workers, events and entries, that is, of leaves and what stands beside them.
--- The program is that of the file that its name gave, with the input that was asked, and the budgets and the number of workers are the job's.
+-- The claims are facts of an image, the regions of its input bytes, budgets, a number of workers, events and entries, that is, of leaves and
+-- what stands beside them. The image is that of the file that the program's name gave; the regions, the budgets and the number of workers are the job's.
 -- The events and entries are those that were written: where the object tells its files, the files put are their texts, and no others;
 -- where it tells what was said, the line said is the summary. The claim holds of all of these.
-pub record IsWritten (old new : Told) (name out : List ℕ) (asked : List Region) (budgets : Budgets) (workers : ℕ) (Claim : Program → Budgets → ℕ → List Event → List Entry → Type 0) : Type 0 where
-  pub program : Program
-  pub events : List Event
+pub record IsWritten (old new : Told) (name out : List ℕ) (asked : List Region) (budgets : Budgets) (workers : ℕ) (Claim : Image → List Region → Budgets → ℕ → List Line → List Entry → Type 0) : Type 0 where
+  pub image : Image
+  pub place : ℕ
+  pub lines : List Line
   pub entries : List Entry
   pub bytes : List ℕ
   pub given : Gives old name most_bytes bytes
-  pub taken : IsTaken bytes program.image
-  pub fits : IsInput program.image asked program.place
-  pub files : IfSome (puts_since old new) (λ puts. puts ≡ files_of out budgets workers (regions_of program) events entries)
+  pub taken : IsTaken bytes image
+  pub fits : IsInput image asked place
+  pub files : IfSome (puts_since old new) (λ puts. puts ≡ files_of out budgets workers asked lines entries)
   pub summary : IfSome (said_since old new) (λ said. said ≡ summary_of entries)
-  pub claim : Claim program budgets workers events entries
+  pub claim : Claim image asked budgets workers lines entries
 
 -- there is a job, and the claim holds of what was written for it, where it is to explore
-abbrev pub OnWritten : Told → Told → Option Job → (Program → Budgets → ℕ → List Event → List Entry → Type 0) → Type 0
+abbrev pub OnWritten : Told → Told → Option Job → (Image → List Region → Budgets → ℕ → List Line → List Entry → Type 0) → Type 0
 OnWritten old new None Claim = ⊥
 OnWritten old new (Some (Explore program out asked budgets workers)) Claim = IsWritten old new program out asked budgets workers Claim
 OnWritten old new (Some (Replay program test)) Claim = Unit {0}
@@ -167,7 +168,7 @@ HoldsMisfit told (Some (Replay program test)) =
 abbrev pub HoldsProgram : Told → Option Job → Type 0
 HoldsProgram told None = ⊥
 HoldsProgram told (Some (Explore program out asked budgets workers)) =
-    (bytes : List ℕ) × (p : Program) × (option_map (take most_bytes) (told_held told program) ≡ Some bytes) × IsTaken bytes p.image × IsInput p.image asked p.place
+    (bytes : List ℕ) × (image : Image) × (place : ℕ) × (option_map (take most_bytes) (told_held told program) ≡ Some bytes) × IsTaken bytes image × IsInput image asked place
 HoldsProgram told (Some (Replay program test)) = ⊥
 
 -- there is a job to replay a test, and it is told that its names hold the files of a program that is taken and of a test whose regions are taken

@@ -4,4 +4,3 @@ pub mod Lines
 pub mod Replaying
 pub mod Plan
 pub mod Answer
-pub mod Samples

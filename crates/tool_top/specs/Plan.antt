@@ -8,7 +8,6 @@ use Rattle.elf_load.specs.Refusals.{refusal}
 use Rattle.elf_load.specs.declared.region.Region.{Region}
 use Rattle.tool_words.specs.Job.{Job, Explore, Replay}
 use Rattle.tree_core.specs.declared.budgets.Budgets.{Budgets}
-use Rattle.sym_state.specs.Programs.{Program}
 use Rattle.tool_top.specs.Later.{IsTaken, IsInput}
 use Rattle.tool_top.specs.Lines.{read_fault, refused_line, unfit_line, usage}
 use Rattle.tool_top.specs.Replaying.{IsNoTest, IsReplayed, IsTestMisfit, most_test_bytes}
@@ -39,11 +38,12 @@ says_only verdict names text = record { verdict = verdict; names = names; puts =
 
 -- the bytes are the file of a program that is taken, for the input that is asked, and its report is put into `out`
 pub record IsReported (out bytes : List ℕ) (asked : List Region) (budgets : Budgets) (workers : ℕ) (verdict : Verdict) (puts : List Put) (text : List ℕ) : Type 0 where
-  pub program : Program
-  pub taken : IsTaken bytes program.image
-  pub fits : IsInput program.image asked program.place
+  pub image : Image
+  pub place : ℕ
+  pub taken : IsTaken bytes image
+  pub fits : IsInput image asked place
   pub done : verdict ≡ Done
-  pub report : IsReportOf out program budgets workers puts text
+  pub report : IsReportOf out image asked budgets workers puts text
 
 -- the bytes are the file of no program that is taken, and why is said
 pub record IsRefusal (bytes : List ℕ) (verdict : Verdict) (puts : List Put) (text : List ℕ) : Type 0 where

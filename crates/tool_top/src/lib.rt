@@ -7,9 +7,7 @@ pub mod laws;
 mod plan;
 mod refusals;
 mod replaying;
-mod report;
 mod run;
-mod sample_test;
 mod verdict;
 
 pub use run::run_tool;

@@ -4,7 +4,7 @@ ghost use Rattle.std.specs.Prelude.{◌≡◌, ◌≤◌, None, [], Some, IfOk, 
 ghost use Rattle.tool_words.specs.Job.{Explore, job_of};
 ghost use Rattle.tool_words.specs.Limits.{IsBudgets};
 ghost use Rattle.elf_load.specs.Images.{Loads};
-ghost use Rattle.sym_state.specs.Programs.{IsRunnable};
+ghost use Rattle.sym_state.specs.Programs.{regions_of};
 ghost use Rattle.tool_top.specs.Later.{IsInput, IsTaken};
 ghost use Rattle.tool_top.specs.Lines.{refused_line, unfit_line};
 ghost use Rattle.tool_top.specs.Plan.{IsPlanned, OnlyReads, Treats};
@@ -13,17 +13,22 @@ ghost use Rattle.tool_top.specs.Reports.{IsReportOf};
 use crate::later::{data_byte, has_later_word};
 use crate::refusals::{say_refused, say_unfit};
 use crate::replaying::plan_replay;
-use crate::report::make_report;
 use crate::verdict::Verdict;
 use elf_load::{Image, LoadError, Refused, Regions, Unfit, fit, load};
-use explorer::explore;
+use fork_tree::{Tree, drain};
+use node_split::Worker;
+use report_text::make_report;
 use std::alloc::{AllocError as NoMemory, Global};
-use sym_state::Program;
+use sym_state::{Program, State};
 use tool_io::{Bytes, Fault, Files, NamedFile};
+use tree_core::Budgets;
 use tool_words::{Job, WordsError, read_words};
 
 // The most bytes of a program's file that are read.
 pub(crate) const MOST_BYTES: usize = 1_048_577;
+
+// The number of the one worker.
+const ONE_WORKER: u32 = 0;
 
 const USAGE: &[u8] =
     b"usage: rvklee explore [--steps N] [--targets N] [--conflicts N] [--workers N] PROGRAM OUT INPUT..
@@ -52,32 +57,25 @@ pub(crate) fn says_only(alloc: Global, verdict: Verdict, text: &[u8]) -> Result<
     })
 }
 
-// The budgets that the work on a run is given.
-fn budgets_of_runs(budgets: Budgets) -> node_split::Budgets
-    ensures { result ≡ record { steps = budgets.steps; targets = budgets.targets } }
-{
-    node_split::Budgets {
-        steps: budgets.steps,
-        targets: budgets.targets as usize,
-    }
-}
-
-// The report of a program, made in full.
+// The report of a program, made in full: one worker works its fork tree until nothing is left to be done.
 fn plan_report(
     alloc: Global,
     out: &str,
-    program: &Program,
-    budgets: Budgets,
+    asked: &Regions,
+    worker: Worker,
     workers: u32,
 ) -> Result<Plan, NoMemory>
-    requires runnable { IsRunnable program.now }
-    requires within { IsBudgets budgets }
+    requires asked { asked.now ≡ regions_of worker.program }
+    requires within { IsBudgets worker.budgets }
     requires some { 1 ≤ workers }
     ensures verdict { IfOk result (λ p. p.verdict ≡ Verdict.Done) }
-    ensures report { IfOk result (λ p. IsReportOf out.now program.now budgets workers p.files.items p.text) }
+    ensures report { IfOk result (λ p. IsReportOf out.now worker.program.image asked.now worker.budgets workers p.files.items p.text) }
 {
-    let found = explore(alloc, program, budgets_of_runs(budgets))?;
-    let report = make_report(alloc, out, program.place(), &budgets, workers, &found)?;
+    let budgets = worker.budgets();
+    let root = State::first(alloc, worker.program())?;
+    let mut tree = Tree::new(alloc, worker, root)?;
+    drain(alloc, &mut tree, ONE_WORKER)?;
+    let report = make_report(alloc, out, asked, &budgets, workers, &tree)?;
     Ok(Plan {
         verdict: Verdict::Done,
         files: report.files,
@@ -122,7 +120,10 @@ fn plan_taken(
         Err(why) => refuse_input(alloc, Some(why)),
         Ok(()) => match data_byte(&image, asked.as_slice()) {
             None => refuse_input(alloc, None),
-            Some(place) => plan_report(alloc, out, &Program::new(image, place), budgets, workers),
+            Some(place) => {
+                let worker = Worker::new(Program::new(image, place), budgets);
+                plan_report(alloc, out, asked, worker, workers)
+            }
         },
     }
 }

@@ -6,8 +6,8 @@ ghost use Rattle.tool_io.specs.Causes.{Rose};
 ghost use Rattle.tool_words.specs.Job.{job_of};
 ghost use Rattle.tool_top.specs.Plan.{names_of};
 ghost use Rattle.replay_core.specs.Replays.{IsAsSaid};
-ghost use Rattle.explorer.specs.Ranks.{AreRanked};
-ghost use Rattle.tool_top.specs.Reports.{IsReport, IsExactCover, AreFaithful, AreRuns, HasHistory, ShowBudgets, leaves_of};
+ghost use Rattle.fork_spec.specs.Ranks.{AreRanked};
+ghost use Rattle.report_text.specs.Claims.{AreAlike, AreFaithful, AreFull, ArePartedAll, AreRuns, HasHistory, IsExactCover, IsReport, ShowBudgets, leaves_of};
 ghost use Rattle.tool_top.specs.Answer.{Answered, IsAnswered, IsFaulted, IsWanting, OnReplayed, OnWritten, HoldsProgram, HoldsNoProgram, HoldsNoTest, HoldsMisfit, HoldsOther, HoldsTest};
 
 use crate::carry::{carry_out, say_no_memory};
@@ -72,28 +72,36 @@ pub fn run_tool<R: Threads + Wait + Sync, F: Files, G: Gate + Sync>(
     ensures names { IfSome (names_since (F.seen files.old).told (F.seen files.new).told)
         (λ names. IsPrefix names (names_of (job_of (map string_bytes words.now)))) }
 
-    // Where an exploration is done: each assignment of the input bytes meets the condition of exactly one leaf that was written,
+    // Where an exploration is done: each leaf that was written is a leaf in full,
+    ensures leaves_are_full { result ≡ 0 → OnWritten (F.seen files.old).told (F.seen files.new).told (job_of (map string_bytes words.now))
+        (λ image regions budgets workers lines entries. AreFull (leaves_of entries)) }
+    // each assignment of the input bytes meets the condition of exactly one of them,
     ensures exact_cover { result ≡ 0 → OnWritten (F.seen files.old).told (F.seen files.new).told (job_of (map string_bytes words.now))
-        (λ program budgets workers events entries. IsExactCover program (leaves_of entries)) }
+        (λ image regions budgets workers lines entries. IsExactCover regions (leaves_of entries)) }
     // and its run has the path, the end, the output and the steps of that leaf,
     ensures faithful { result ≡ 0 → OnWritten (F.seen files.old).told (F.seen files.new).told (job_of (map string_bytes words.now))
-        (λ program budgets workers events entries. AreFaithful program budgets (leaves_of entries)) }
+        (λ image regions budgets workers lines entries. AreFaithful image regions budgets (leaves_of entries)) }
+    // and makes the same decisions as all others that the leaf covers;
+    ensures alike { result ≡ 0 → OnWritten (F.seen files.old).told (F.seen files.new).told (job_of (map string_bytes words.now))
+        (λ image regions budgets workers lines entries. AreAlike image regions (leaves_of entries)) }
+    // any two leaves part by a decision of their runs, which is as their choices say,
+    ensures parted { result ≡ 0 → OnWritten (F.seen files.old).told (F.seen files.new).told (job_of (map string_bytes words.now))
+        (λ image regions budgets workers lines entries. ArePartedAll image regions budgets (leaves_of entries)) }
     // beside each leaf stands a test, which is a run of it, unless it was cut where it had spent its targets,
     ensures tests_are_runs { result ≡ 0 → OnWritten (F.seen files.old).told (F.seen files.new).told (job_of (map string_bytes words.now))
-        (λ program budgets workers events entries. AreRuns program entries) }
+        (λ image regions budgets workers lines entries. AreRuns image regions entries) }
     // each leaf that was cut has spent its budget; of targets, on the other sides of its own split,
     ensures cuts_show_their_budget { result ≡ 0 → OnWritten (F.seen files.old).told (F.seen files.new).told (job_of (map string_bytes words.now))
-        (λ program budgets workers events entries. ShowBudgets program budgets events entries) }
+        (λ image regions budgets workers lines entries. ShowBudgets regions budgets lines entries) }
     // the events are one run through the fork tree that leaves nothing to be done, and its leaves are those that were written,
     ensures history { result ≡ 0 → OnWritten (F.seen files.old).told (F.seen files.new).told (job_of (map string_bytes words.now))
-        (λ program budgets workers events entries. HasHistory budgets workers events entries) }
+        (λ image regions budgets workers lines entries. HasHistory budgets workers lines entries) }
     // the leaves stand in the order of their choices,
     ensures by_rank { result ≡ 0 → OnWritten (F.seen files.old).told (F.seen files.new).told (job_of (map string_bytes words.now))
-        (λ program budgets workers events entries. AreRanked (leaves_of entries)) }
+        (λ image regions budgets workers lines entries. AreRanked (leaves_of entries)) }
     // and all of this holds of one report, whose files are those that were put, and whose summary is the line that was said.
     ensures files_and_summary { result ≡ 0 → OnWritten (F.seen files.old).told (F.seen files.new).told (job_of (map string_bytes words.now))
         IsReport }
-
     // Where a replay is done, the run of the test has the steps, the path, the end and the output that the test says.
     ensures same { result ≡ 0 → OnReplayed (F.seen files.old).told (job_of (map string_bytes words.now)) IsAsSaid }
 

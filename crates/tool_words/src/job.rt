@@ -5,10 +5,10 @@ ghost use Rattle.clap.specs.Words.{kind_of};
 ghost use Rattle.tool_words.specs.Seen.{error_of};
 ghost use Rattle.tool_words.specs.declared.job.WordsError.TheVariants.{NoMemory};
 
-use tree_core::Budgets;
 use clap::error::ErrorKind;
 use elf_load::Regions;
 use std::alloc::{AllocError, AllocFailed};
+use tree_core::Budgets;
 
 /// What the words ask for.
 #[derive(Debug, Drop)]

@@ -1,16 +1,18 @@
 //! The text of events, byte for byte.
 
-use crate::{Deed, Event, Kid, Kids, events_name, write_events};
+use crate::{Marked, events_name, write_events};
 use std::alloc::{AllocError as NoMemory, Global};
+use std::process::Abort;
 use std::test::Fail;
-use tree_core::{Cause, Choice};
+use tool_io::Bytes;
+use tree_core::{Cause, Choice, Deed, Event, Node, Noted, Origin};
 
 /// A program with one path.
 const ONE_LEAF: &str = "claim 0 0
 finish 0 0
 ";
 
-/// Each deed, and each sort of kid.
+/// Each deed, and each sort of side.
 const EACH: &str = "claim 0 0
 split 0 0 1 N Y!conflicts
 claim 3 1
@@ -23,79 +25,37 @@ claim 0 4
 finish 0 4
 ";
 
-const SIDES: [Kid; 2] = [
-    Kid {
-        choice: Choice::No,
-        cut: None,
-    },
-    Kid {
-        choice: Choice::Yes,
-        cut: Some(Cause::Conflicts),
-    },
-];
+/// A content that says no more than why it was cut.
+#[derive(Drop)]
+struct Mark(Option<Cause>);
 
-const VALUES: [Kid; 3] = [
-    Kid {
-        choice: Choice::Value(0x0001_0020),
-        cut: None,
-    },
-    Kid {
-        choice: Choice::Value(0xffff_fff8),
-        cut: None,
-    },
-    Kid {
-        choice: Choice::Rest,
-        cut: Some(Cause::Targets),
-    },
-];
+impl Marked for Mark {
+    ghost cut = { λ m. m.0 };
 
-/// A split into these kids.
-fn split(alloc: Global, first: usize, kids: &[Kid]) -> Result<Deed, NoMemory> {
-    Ok(Deed::Split {
-        first,
-        kids: Kids::from_vec(Vec::from_slice(alloc, kids)?),
-    })
+    fn cut(&self) -> Option<Cause> {
+        self.0
+    }
+}
+
+/// A side of the fork at a node; a leaf at once where it is cut.
+fn side(parent: usize, choice: Choice, cut: Option<Cause>) -> Node<Mark> {
+    Node {
+        origin: Some(Origin { parent, choice }),
+        content: Mark(cut),
+        is_leaf: cut.is_some(),
+    }
+}
+
+/// The root.
+fn root() -> Node<Mark> {
+    Node {
+        origin: None,
+        content: Mark(None),
+        is_leaf: false,
+    }
 }
 
 /// The event of a worker and a node.
-fn event(by: u32, node: usize, deed: Deed) -> Event {
+fn event(by: u32, node: usize, deed: Deed<Mark, usize>) -> Noted<Mark> {
     Event { by, node, deed }
-}
-
-#[test]
-fn a_program_with_one_path_is_claimed_and_finished(rt: HostRuntime) -> Result<(), Fail> {
-    let mut events = Vec::new(rt.alloc());
-    events.push(event(0, 0, Deed::Claim))?;
-    events.push(event(0, 0, Deed::Finish))?;
-    assert_eq!(rt;
-        write_events(rt.alloc(), &events)?.as_slice(),
-        ONE_LEAF.as_bytes()
-    );
-    Ok(())
-}
-
-#[test]
-fn each_deed_has_its_line(rt: HostRuntime) -> Result<(), Fail> {
-    let mut events = Vec::new(rt.alloc());
-    events.push(event(0, 0, Deed::Claim))?;
-    events.push(event(0, 0, split(rt.alloc(), 1, &SIDES)?))?;
-    events.push(event(3, 1, Deed::Claim))?;
-    events.push(event(3, 1, Deed::Release))?;
-    events.push(event(11, 1, Deed::Claim))?;
-    events.push(event(11, 1, split(rt.alloc(), 3, &VALUES)?))?;
-    events.push(event(2, 3, Deed::Claim))?;
-    events.push(event(2, 3, Deed::Cut(Cause::Steps)))?;
-    events.push(event(0, 4, Deed::Claim))?;
-    events.push(event(0, 4, Deed::Finish))?;
-    assert_eq!(rt;
-        write_events(rt.alloc(), &events)?.as_slice(),
-        EACH.as_bytes()
-    );
-    Ok(())
-}
-
-#[test]
-fn the_events_have_their_name(rt: HostRuntime) -> Result<(), Fail> {
-    assert_eq!(rt; events_name(rt.alloc(), "out")?.as_str(), "out/events.txt");
-    Ok(())
 }

@@ -1,7 +1,8 @@
 //! Texts, byte for byte, of a leaf that is finished and of one that is cut.
 
-use crate::{LeafEnd, LeafText, print_leaf};
+use crate::{LeafText, print_leaf};
 use bv_dag::{BinaryOp, Comparison, Dag, Node, Query};
+use fork_spec::LeafEnd;
 use rv_decode::PathStep;
 use std::alloc::{AllocError as NoMemory, Global};
 use std::process::Abort;

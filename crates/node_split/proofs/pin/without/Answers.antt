@@ -12,6 +12,6 @@ equals-requires-clause-wide c = bit_width-grown c.args.state.terms c.loop-at.res
 
 pub loop-at-preserved : goal.loop-at-preserved
 loop-at-preserved c =
-    rw (c.in_ok-assert.ensures, c.in_ok-unequal.ensures.terms, c.in_ok-equal.ensures.terms, numbers-more c.args.found.now c.loop-at.at-index (record { value = 0; byte = 0 }) c.loop-at-test.true)
+    rw (c.in_ok-assert.ensures.ok, c.in_ok-unequal.ensures.terms, c.in_ok-equal.ensures.terms, numbers-more c.args.found.now c.loop-at.at-index (record { value = 0; byte = 0 }) c.loop-at-test.true)
     (without-more c.args.state c.loop-at.rest c.equals.new.self.terms c.negation.new.self.terms c.args.term _ c.in_ok-equal.equal c.in_ok-unequal.unequal (numbers_in (take c.loop-at.at-index c.args.found.now)) c.requires.wide c.loop-at.invariant
     c.in_ok-equal.ensures.grows c.in_ok-unequal.ensures.grows c.in_ok-unequal.ensures.width c.in_ok-equal.ensures.number c.in_ok-unequal.ensures.number)

@@ -1,7 +1,11 @@
-use Rattle.std.proofs.Common.{◌≡◌, string_bytes, take}
-use Rattle.std.specs.List.{flat_map}
-use Rattle.report_text.specs.Events.{event_text}
+use Rattle.std.proofs.Common.{◌≡◌, ◌++◌, drop, length, string_bytes}
+use Rattle.fork_spec.specs.Written.{lines_from, nodes_after}
+use Rattle.report_text.specs.Events.{events_text}
 use Rattle.report_text.proofs.event_lines.write_events.Given as goal
 
+-- what is written, and then the rest, is all of it; and the rest makes the nodes that are left
 abbrev pub invariant-loop-event : goal.invariant-loop-event
-invariant-loop-event l = string_bytes l.text ≡ flat_map event_text (take l.event-index l.events)
+invariant-loop-event g l = record {
+  written : string_bytes l.text ++ events_text (lines_from g.R.Marked.cut l.nodes l.first (drop l.event-index l.events)) ≡ events_text (lines_from g.R.Marked.cut l.nodes 1 l.events);
+  counted : nodes_after l.first (drop l.event-index l.events) ≡ length l.nodes;
+}

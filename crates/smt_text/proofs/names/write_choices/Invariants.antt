@@ -1,6 +1,6 @@
-use Rattle.std.proofs.Common.{◌≡◌, ◌++◌, string_bytes, take}
+use Rattle.std.proofs.Common.{◌≡◌, string_bytes, take}
 use Rattle.smt_text.specs.Names.{choices_text}
 use Rattle.smt_text.proofs.names.write_choices.Given as goal
 
 abbrev pub invariant-loop-choice : goal.invariant-loop-choice
-invariant-loop-choice l = string_bytes l.text ≡ string_bytes l.initial.text ++ choices_text (take l.choice-index l.choices)
+invariant-loop-choice l = string_bytes l.entries ≡ choices_text (take l.choice-index l.choices)

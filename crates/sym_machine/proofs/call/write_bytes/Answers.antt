@@ -7,5 +7,5 @@ loop-i-init c = writes_none c.args.program.now c.args.state.now c.args.start c.r
 
 pub loop-i-preserved : goal.loop-i-preserved
 loop-i-preserved c =
-    rw (c.in_ok-emit.ensures, c.in_ok-id.ensures.terms)
+    rw (c.in_ok-emit.ensures.ok, c.in_ok-id.ensures.terms)
     (writes_more c.args.program.now c.args.state.now c.loop-i.state c.byte_term.new.state.terms c.args.start c.loop-i.i c.in_ok-id.id (omega arith) c.loop-i.invariant c.in_ok-id.ensures.grows c.in_ok-id.ensures.width c.in_ok-id.ensures.number)

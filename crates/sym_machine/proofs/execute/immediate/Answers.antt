@@ -10,4 +10,4 @@ pub returns : goal.returns
 returns c =
     rw (c.write.ensures, c.in_ok-value.ensures.terms)
     (computes c.args.program.now c.args.state.now c.combined.new.state.terms c.args.rd c.args.rs1 (λ n. with_immediate c.args.op n c.args.immediate) c.value-operand.result c.in_ok-value.value c.requires.open
-    c.in_ok-value.ensures.grows c.in_ok-value.ensures.wide (λ n. immediate_small c.args.op n c.args.immediate c.requires.op) c.requires.few c.value-operand.ensures c.in_ok-value.ensures.worth c.requires.computes)
+    c.in_ok-value.ensures.grows c.in_ok-value.ensures.wide (λ n. immediate_small c.args.op n c.args.immediate c.requires.op) c.requires.few c.requires.alike c.value-operand.ensures c.in_ok-value.ensures.worth c.requires.computes)

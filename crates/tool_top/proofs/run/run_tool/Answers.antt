@@ -1,4 +1,4 @@
-use Rattle.tool_top.specs.Reports.{IsReport}
+use Rattle.report_text.specs.Claims.{IsReport}
 use Rattle.tool_top.specs.declared.verdict.Verdict.TheVariants.{Done, Differs, NoJob, ReadFault, Refused, TestRefused, Unfit}
 use Rattle.tool_top.proofs.Endings.{answered_as, answered_faulted, answered_names, complete, complete_replay, differs_other, done_same, done_written, faulted_job, no_job_none, read_rose, refused_no_program, refused_no_test, unfit_holds}
 use Rattle.tool_top.proofs.run.run_tool.Goals as goal
@@ -20,37 +20,37 @@ returns-clause-unfit_where g c = λ four.
 
 pub returns-clause-exact_cover : goal.returns-clause-exact_cover
 returns-clause-exact_cover g c = λ zero.
-    done_written _ _ _ _ (λ program budgets workers events entries report. report.exact_cover)
+    done_written _ _ _ _ (λ image regions budgets workers lines entries report. report.exact_cover)
     (answered_as _ _ _ c.run_words.result Done _ c.run_words.ensures c.status.ensures zero)
 
 pub returns-clause-faithful : goal.returns-clause-faithful
 returns-clause-faithful g c = λ zero.
-    done_written _ _ _ _ (λ program budgets workers events entries report. report.faithful)
+    done_written _ _ _ _ (λ image regions budgets workers lines entries report. report.faithful)
     (answered_as _ _ _ c.run_words.result Done _ c.run_words.ensures c.status.ensures zero)
 
 pub returns-clause-tests_are_runs : goal.returns-clause-tests_are_runs
 returns-clause-tests_are_runs g c = λ zero.
-    done_written _ _ _ _ (λ program budgets workers events entries report. report.runs)
+    done_written _ _ _ _ (λ image regions budgets workers lines entries report. report.runs)
     (answered_as _ _ _ c.run_words.result Done _ c.run_words.ensures c.status.ensures zero)
 
 pub returns-clause-cuts_show_their_budget : goal.returns-clause-cuts_show_their_budget
 returns-clause-cuts_show_their_budget g c = λ zero.
-    done_written _ _ _ _ (λ program budgets workers events entries report. report.cuts)
+    done_written _ _ _ _ (λ image regions budgets workers lines entries report. report.cuts)
     (answered_as _ _ _ c.run_words.result Done _ c.run_words.ensures c.status.ensures zero)
 
 pub returns-clause-history : goal.returns-clause-history
 returns-clause-history g c = λ zero.
-    done_written _ _ _ _ (λ program budgets workers events entries report. report.history)
+    done_written _ _ _ _ (λ image regions budgets workers lines entries report. report.history)
     (answered_as _ _ _ c.run_words.result Done _ c.run_words.ensures c.status.ensures zero)
 
 pub returns-clause-by_rank : goal.returns-clause-by_rank
 returns-clause-by_rank g c = λ zero.
-    done_written _ _ _ _ (λ program budgets workers events entries report. report.ranked)
+    done_written _ _ _ _ (λ image regions budgets workers lines entries report. report.ranked)
     (answered_as _ _ _ c.run_words.result Done _ c.run_words.ensures c.status.ensures zero)
 
 pub returns-clause-files_and_summary : goal.returns-clause-files_and_summary
 returns-clause-files_and_summary g c = λ zero.
-    done_written _ _ _ IsReport (λ program budgets workers events entries report. report)
+    done_written _ _ _ IsReport (λ image regions budgets workers lines entries report. report)
     (answered_as _ _ _ c.run_words.result Done _ c.run_words.ensures c.status.ensures zero)
 
 pub returns-clause-complete : goal.returns-clause-complete
@@ -82,3 +82,18 @@ returns-clause-no_job_where g c = λ two. no_job_none _ _ _ (answered_as _ _ _ c
 
 pub returns-clause-read_where : goal.returns-clause-read_where
 returns-clause-read_where g c = λ five. read_rose _ _ _ (answered_as _ _ _ c.run_words.result ReadFault _ c.run_words.ensures c.status.ensures five)
+
+pub returns-clause-leaves_are_full : goal.returns-clause-leaves_are_full
+returns-clause-leaves_are_full g c = λ zero.
+    done_written _ _ _ _ (λ image regions budgets workers lines entries report. report.full)
+    (answered_as _ _ _ c.run_words.result Done _ c.run_words.ensures c.status.ensures zero)
+
+pub returns-clause-alike : goal.returns-clause-alike
+returns-clause-alike g c = λ zero.
+    done_written _ _ _ _ (λ image regions budgets workers lines entries report. report.alike)
+    (answered_as _ _ _ c.run_words.result Done _ c.run_words.ensures c.status.ensures zero)
+
+pub returns-clause-parted : goal.returns-clause-parted
+returns-clause-parted g c = λ zero.
+    done_written _ _ _ _ (λ image regions budgets workers lines entries report. report.parted)
+    (answered_as _ _ _ c.run_words.result Done _ c.run_words.ensures c.status.ensures zero)

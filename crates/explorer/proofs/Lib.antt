@@ -1,5 +1,0 @@
-pub mod Ranking
-pub mod Adding
-pub mod Walking
-pub mod Telling
-pub mod Showing

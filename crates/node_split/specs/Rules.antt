@@ -1,0 +1,48 @@
+-- What is asked of the runs and leaves of a program, within its budgets.
+use Rattle.std.specs.Prelude.{ℕ, ◌<◌, refl}
+use Rattle.std.specs.Coded.{Coded, code_by, coded×, coded_ℕ}
+use Rattle.rv_spec.specs.Decisions.{decisions}
+use Rattle.tree_core.specs.declared.budgets.Budgets.{Budgets}
+use Rattle.tree_core.specs.declared.event.Kid.{Kid}
+use Rattle.fork_spec.specs.Histories.{cause_of}
+use Rattle.fork_spec.specs.Partings.{Place, place_of}
+use Rattle.fork_spec.specs.Parts.{IsRight, Part}
+use Rattle.fork_tree.specs.Contents.{place_in}
+use Rattle.fork_tree.specs.Works.{Rules}
+use Rattle.fork_tree.specs.declared.content.Content.{Content}
+use Rattle.sym_state.specs.Places.{run_place}
+use Rattle.sym_state.specs.Programs.{Program, program_code, regions_of}
+use Rattle.sym_state.specs.Symbolic.{Symbolic, IsOpen, left_to_do}
+
+-- who works the runs of a program, and what its exploration may spend
+pub record Worker : Type 0 where
+  pub program : Program
+  pub budgets : Budgets
+
+-- the code of workers, by which they are told apart
+abbrev pub worker_code : Coded Worker
+worker_code = code_by (Program × (ℕ × (ℕ × ℕ))) (coded× program_code (coded× coded_ℕ (coded× coded_ℕ coded_ℕ)))
+    (λ w. (w.program, (w.budgets.steps, (w.budgets.targets, w.budgets.conflicts))))
+    (λ c. record { program = c.0; budgets = record { steps = c.1.0; targets = c.1.1.0; conflicts = c.1.1.1 } }) (λ _. refl)
+
+-- runs are open with steps left; leaves are right as the report claims
+abbrev pub rules_of : Program → (steps targets : ℕ) → Rules Symbolic Part
+rules_of p steps targets = record {
+  left = left_to_do;
+  targets = targets;
+  decides = λ input. decisions p.image (regions_of p) input steps;
+  IsWell = λ s. IsOpen p s × (s.steps < steps);
+  IsRight = λ sides part. IsRight p.image (regions_of p) steps targets sides part;
+  cut = λ part. cause_of part.leaf.end;
+}
+
+-- one side of a fork
+abbrev pub Piece : Type 0
+Piece = Kid (Content Symbolic Part)
+
+abbrev pub leaf_place : Part → Place
+leaf_place part = place_of part.leaf
+
+-- the place of what a side holds
+abbrev pub content_place : Content Symbolic Part → Place
+content_place c = place_in run_place leaf_place c

@@ -1,0 +1,7 @@
+use Rattle.std.proofs.Common.{◌≡◌, map, string_bytes, take}
+use Rattle.fork_spec.specs.Written.{side_born}
+use Rattle.report_text.specs.Events.{sides_text}
+use Rattle.report_text.proofs.event_lines.sides_string.Given as goal
+
+abbrev pub invariant-loop-node : goal.invariant-loop-node
+invariant-loop-node g l = string_bytes l.text ≡ sides_text (map (side_born g.R.Marked.cut) (take l.node-index l.nodes))

@@ -1,5 +1,0 @@
-use Rattle.report_text.proofs.Walking.{part_into_values_and_rest}
-use Rattle.report_text.proofs.laws.a_node_may_part_into_values_and_the_rest.Goals as goal
-
-pub returns : goal.returns
-returns c = part_into_values_and_rest

@@ -1,7 +1,0 @@
-use Rattle.std.proofs.Common.{◌≡◌, ◌++◌, string_bytes, take}
-use Rattle.std.specs.List.{flat_map}
-use Rattle.report_text.specs.Spent.{found_text}
-use Rattle.report_text.proofs.spent.write_values.Given as goal
-
-abbrev pub invariant-loop-found : goal.invariant-loop-found
-invariant-loop-found l = string_bytes l.text ≡ string_bytes l.initial.text ++ flat_map found_text (take l.found-index l.values)

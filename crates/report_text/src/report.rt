@@ -1,0 +1,143 @@
+//! The report of a tree that is done: its files, and the line that is said.
+
+ghost use Rattle.std.specs.Prelude.{◌≡◌, ◌<◌, ◌++◌, ◌∷◌, [], All, IfOk, OnOk, ℕ, Some, length};
+ghost use Rattle.tree_core.specs.Stories.{content, status};
+ghost use Rattle.tree_core.specs.declared.node.Status.TheVariants.{Leaf};
+ghost use Rattle.fork_spec.specs.Written.{lines_of};
+ghost use Rattle.fork_tree.specs.Contents.{cut_in};
+ghost use Rattle.fork_tree.specs.Drains.{IsDrained};
+ghost use Rattle.fork_tree.specs.declared.content.Content.TheVariants.{Shut};
+ghost use Rattle.report_text.specs.Entries.{IsPlacedByPart, IsReportOfTree, IsReportable, beside_of, entries_of};
+ghost use Rattle.report_text.specs.Files.{beside_put, events_put, files_from, leaf_put, report_put};
+
+use crate::event_lines::write_events;
+use crate::file_names::{events_name, leaf_name, report_name, spent_name, test_name};
+use crate::leaves::{HasPart, LeafAt, by_rank};
+use crate::marked::Marked;
+use crate::report_json::write_report;
+use crate::sample_test::make_test;
+use crate::spent::write_targets;
+use crate::summary::{summarize, summary_line};
+use elf_load::Regions;
+use fork_tree::{Tree, Work};
+use smt_text::print_parts;
+use std::alloc::{AllocError as NoMemory, Global};
+use sym_state::{Evidence, LeafPart};
+use test_files::write_test;
+use tool_io::{Bytes, NamedFile};
+use tree_core::Budgets;
+
+/// What is put and said of the leaves of a program.
+#[derive(Drop)]
+pub struct Report {
+    pub files: Vec<NamedFile>,
+    pub summary: Bytes,
+}
+
+// The file of the leaf.
+fn leaf_file(alloc: Global, out: &str, rank: usize, part: &LeafPart) -> Result<NamedFile, NoMemory>
+    ensures { IfOk result (λ file. file ≡ leaf_put out.now rank part.now.leaf) }
+{
+    let text = print_parts(
+        alloc,
+        part.choices(),
+        part.path(),
+        part.steps(),
+        part.end(),
+        part.condition(),
+        part.outputs(),
+    )?;
+    Ok(NamedFile::new(leaf_name(alloc, out, rank)?, text))
+}
+
+// The file of what stands beside the leaf: its sample's test, or what was spent on it.
+fn beside_file(
+    alloc: Global,
+    out: &str,
+    regions: &Regions,
+    rank: usize,
+    part: &LeafPart,
+) -> Result<NamedFile, NoMemory>
+    requires { IsReportable part.now }
+    ensures { IfOk result (λ file. file ≡ beside_put out.now rank (beside_of regions.now rank part.now.leaf part.now.sample part.now.evidence)) }
+{
+    match (part.evidence(), part.sample()) {
+        (Some(Evidence::Targets(spent)), _) => {
+            let text = write_targets(alloc, spent)?;
+            Ok(NamedFile::new(spent_name(alloc, out, rank)?, text))
+        }
+        (None, Some(sample)) => {
+            let test = make_test(alloc, regions, rank, part, sample)?;
+            let text = write_test(alloc, &test)?;
+            Ok(NamedFile::new(test_name(alloc, out, rank)?, text))
+        }
+        (None, None) => unreachable!(),
+    }
+}
+
+// Puts the files of a leaf behind the others.
+fn push_files(
+    alloc: Global,
+    files: &mut Vec<NamedFile>,
+    out: &str,
+    regions: &Regions,
+    rank: usize,
+    part: &LeafPart,
+) -> Result<(), NoMemory>
+    requires { IsReportable part.now }
+    ensures { OnOk result (files.new.items ≡ files.old.items ++ leaf_put out.now rank part.now.leaf
+        ∷ beside_put out.now rank (beside_of regions.now rank part.now.leaf part.now.sample part.now.evidence) ∷ []) }
+{
+    files.push(leaf_file(alloc, out, rank, part)?)?;
+    files.push(beside_file(alloc, out, regions, rank, part)?)?;
+    Ok(())
+}
+
+// Puts the files of these leaves behind the others.
+fn push_leaves(
+    alloc: Global,
+    files: &mut Vec<NamedFile>,
+    out: &str,
+    regions: &Regions,
+    leaves: &[LeafAt<'_>],
+) -> Result<(), NoMemory>
+    requires { All (λ l. IsReportable l.part.now) leaves.now }
+    ensures { OnOk result (files.new.items ≡ files.old.items ++ files_from out.now 0 (entries_of regions.now 0 leaves.now)) }
+{
+    for (rank, leaf) in leaves.iter().enumerate() {
+        push_files(alloc, files, out, regions, rank, leaf.part)?;
+    }
+    Ok(())
+}
+
+/// The report of a tree that is done, in the folder `out`: of a program with its input bytes in these regions, with the budgets and the
+/// number of workers that were asked for.
+pub fn make_report<W: Work>(
+    alloc: Global,
+    out: &str,
+    regions: &Regions,
+    budgets: &Budgets,
+    workers: u32,
+    tree: &Tree<W>,
+) -> Result<Report, NoMemory>
+where
+    W::Leaf: HasPart + Marked,
+    requires placed { IsPlacedByPart W.Leaf.part W.Leaf.place }
+    requires marked { (l : W.Leaf) → W.Leaf.cut l ≡ (W.rules tree.now.worker).cut l }
+    requires done { IsDrained (W.rules tree.now.worker) W.State.place W.Leaf.place tree.now.story }
+    requires reportable { (m : ℕ) (l : W.Leaf) → m < length tree.now.story.nodes → status tree.now.story m ≡ Leaf → content tree.now.story m ≡ Some (Shut l) → IsReportable (W.Leaf.part l) }
+    ensures { IfOk result (λ report. IsReportOfTree W.Leaf.part (W.rules tree.now.worker).cut out.now regions.now budgets.now workers tree.now.story report.files.items report.summary) }
+{
+    let leaves = by_rank(alloc, tree)?;
+    let summary = summarize(&leaves);
+    let mut files = Vec::new(alloc);
+    let events = write_events(alloc, tree.nodes(), tree.events())?;
+    files.push(NamedFile::new(events_name(alloc, out)?, events))?;
+    push_leaves(alloc, &mut files, out, regions, &leaves)?;
+    let json = write_report(alloc, budgets, workers, regions, &leaves)?;
+    files.push(NamedFile::new(report_name(alloc, out)?, json))?;
+    Ok(Report {
+        files,
+        summary: summary_line(alloc, &summary)?,
+    })
+}
