@@ -104,10 +104,7 @@ where
 }
 
 // The leaves in the order of their choices.
-fn in_order<'a, W: Work>(
-    alloc: Global,
-    tree: &'a Tree<W>,
-) -> Result<Vec<RankedLeaf<'a>>, NoMemory>
+fn in_order<'a, W: Work>(alloc: Global, tree: &'a Tree<W>) -> Result<Vec<RankedLeaf<'a>>, NoMemory>
 where
     W::Leaf: HasPart,
     requires done { IsDrained (W.rules tree.now.worker) W.State.place W.Leaf.place tree.now.story }
