@@ -1,6 +1,6 @@
 -- The entries of leaves that stand by rank are those of their tree.
-use Rattle.std.proofs.Common.{◌≡◌, ℕ, zero, suc, ◌+◌, ◌<◌, true, List, [], ◌∷◌, Option, Some, None, length, map, refl, sym, ap, subst, ◌∙◌, arith}
-use Rattle.std.specs.Prelude.{All, slice_get}
+use Rattle.std.proofs.Common.{◌≡◌, ℕ, zero, suc, ◌+◌, ◌<◌, true, List, [], ◌∷◌, Option, Some, None, map, refl, sym, ap, subst, ◌∙◌, arith}
+use Rattle.std.specs.Prelude.{slice_get}
 use Rattle.std.specs.List.Sorted.{IsPermutation}
 use Rattle.elf_load.specs.Images.{Image}
 use Rattle.elf_load.specs.declared.region.Region.{Region}
@@ -16,7 +16,7 @@ use Rattle.fork_spec.specs.declared.end.LeafEnd.{LeafEnd}
 use Rattle.fork_spec.specs.declared.end.LeafEnd.TheVariants.{Exits, Traps, Cut}
 use Rattle.fork_tree.specs.declared.content.Content.{Content}
 use Rattle.report_text.specs.Claims.{Entry, leaves_of}
-use Rattle.report_text.specs.Entries.{AreByRank, AreEntries, HasBeside, IsBeside, IsEntry, IsLeafAt, IsReportable, beside_of, entries_of, entry_of, leaf_numbers}
+use Rattle.report_text.specs.Entries.{AreByRank, AreEntries, HasBeside, IsBeside, IsEntry, IsReportable, beside_of, entries_of, entry_of, leaf_numbers}
 use Rattle.report_text.specs.declared.leaves.LeafAt.{LeafAt}
 use Rattle.report_text.proofs.Claimed.{all_items, mapped_at, none_is_some, same_held}
 
