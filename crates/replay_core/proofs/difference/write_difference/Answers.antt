@@ -11,4 +11,4 @@ returns c =
     let last : string_bytes c.write.new.self ≡ string_bytes c.write_path.new.text ++ (codes ".\noutput " ++ (string_bytes c.in_ok-output.output ++ codes ".\n")) = c.in_ok-write.ensures.bytes in
     λ r is. c.from_vec.ensures ∙ ap (λ v. v.items) c.into_bytes.ensures.value
     ∙ joined ran (string_bytes c.in_ok-end.end) (string_bytes c.in_ok-output.output) (string_bytes c.in_ok-text.text) (string_bytes c.write_path.new.text) (string_bytes c.write.new.self)
-    c.in_ok-end.ensures c.in_ok-output.ensures first (c.in_ok-write_path.ensures ∙ ap (λ path. string_bytes c.in_ok-text.text ++ path_text path) c.deref.ensures.value) last ∙ of_run ran r is
+    c.in_ok-end.ensures c.in_ok-output.ensures first (c.in_ok-write_path.ensures.ok ∙ ap (λ path. string_bytes c.in_ok-text.text ++ path_text path) c.deref.ensures.value) last ∙ of_run ran r is
