@@ -1,17 +1,20 @@
 //! Runs that are changed by hand, and what their terms are worth on some input bytes.
 
-ghost use Rattle.std.specs.Prelude.{◌≡◌, length};
+ghost use Rattle.std.specs.Prelude.{◌≡◌, IfOk, length};
 ghost use Rattle.bv_dag.specs.Graphs.{IsDag, width_of};
 ghost use Rattle.sym_state.specs.Symbolic.{IsWide};
 
-use crate::{Program, State, Value};
+use crate::{LeafPart, Program, State, Value};
+use bv_dag::Query;
 use elf_load::load;
+use fork_spec::LeafEnd;
 use row_files::row_file;
 use rv_decode::{PathStep, Register};
 use std::alloc::{AllocError as NoMemory, Global};
 use std::process::Abort;
 use std::test::Fail;
-use tree_core::Choice;
+use tool_io::Bytes;
+use tree_core::{Cause, Choice};
 
 // ECALL alone.
 const CALL: [u32; 1] = [0x0000_0073];
@@ -191,5 +194,40 @@ fn a_run_and_its_share_go_apart(rt: HostRuntime) -> Result<(), Fail> {
     assert_eq!(rt; other.path.as_slice(), [PathStep::Taken].as_slice());
     assert_eq!(rt; other.choices.as_slice(), [Choice::Yes].as_slice());
     assert_eq!(rt; other.sample, 0x41);
+    Ok(())
+}
+
+// A leaf of the run of all assignments, cut before its first step.
+fn cut_at_once(alloc: Global, program: &Program) -> Result<LeafPart, NoMemory>
+    ensures { IfOk result (λ part. part.leaf.steps ≡ 0) }
+{
+    let state = State::first(alloc, program)?;
+    let condition = Query::new(state.terms, state.condition);
+    let sample = Bytes::from_slice(alloc, &[0])?;
+    Ok(LeafPart::new(
+        state.choices,
+        state.path,
+        state.steps,
+        LeafEnd::Cut(Cause::Steps),
+        condition,
+        state.output,
+        Some(sample),
+        None,
+    ))
+}
+
+#[test]
+fn a_leaf_is_what_it_was_made_of(rt: HostRuntime) -> Result<(), Fail> {
+    let alloc = rt.alloc();
+    let file = row_file(alloc, &CALL)?;
+    let image = load(alloc, file.as_slice()).ok().ok_or("the file loads")?;
+    let part = cut_at_once(alloc, &Program::new(image, 0x11000))?;
+    assert!(rt; part.choices().is_empty() && part.path().is_empty() && part.outputs().is_empty());
+    assert_eq!(rt; part.steps(), 0);
+    assert_eq!(rt; part.end(), LeafEnd::Cut(Cause::Steps));
+    assert_eq!(rt; part.condition().inputs(), 1);
+    let sample = part.sample().ok_or("a sample")?;
+    assert_eq!(rt; sample.as_slice(), [0u8].as_slice());
+    assert!(rt; part.evidence().is_none());
     Ok(())
 }
