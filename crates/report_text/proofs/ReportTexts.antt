@@ -14,13 +14,17 @@ use Rattle.fork_spec.specs.Histories.{LeafNode}
 use Rattle.report_text.specs.Reports.{budgets_text, leaf_node_text, leaves_in, report_text, totals_text, with_commas}
 use Rattle.report_text.specs.Summaries.{count}
 
-four : (a v b w c x d y last : List ℕ) → a ++ (v ++ (b ++ (w ++ (c ++ (x ++ (d ++ (y ++ last))))))) ≡ a ++ v ++ b ++ w ++ c ++ x ++ d ++ y ++ last
+four : (a v b w c x d y last : List ℕ) → a ++ (v ++ (b ++ (w ++ (c ++ (x ++ (d ++ (y ++ last)))))))
+    ≡ a ++ v ++ b ++ w ++ c ++ x ++ d ++ y ++ last
 four a v b w c x d y last = simp append_assoc
 
-five : (a v b w c x d y e z last : List ℕ) → a ++ (v ++ (b ++ (w ++ (c ++ (x ++ (d ++ (y ++ (e ++ (z ++ last))))))))) ≡ a ++ v ++ b ++ w ++ c ++ x ++ d ++ y ++ e ++ z ++ last
+five : (a v b w c x d y e z last : List ℕ) → a
+    ++ (v ++ (b ++ (w ++ (c ++ (x ++ (d ++ (y ++ (e ++ (z ++ last)))))))))
+    ≡ a ++ v ++ b ++ w ++ c ++ x ++ d ++ y ++ e ++ z ++ last
 five a v b w c x d y e z last = simp append_assoc
 
-text_of_budgets : (budgets : Budgets) (workers : ℕ) → compact_text (budgets_data budgets workers) ≡ budgets_text budgets workers
+text_of_budgets : (budgets : Budgets) (workers : ℕ) →
+    compact_text (budgets_data budgets workers) ≡ budgets_text budgets workers
 unfolding serde_json_on_literals
 text_of_budgets budgets workers =
     four (codes "{\"conflicts\":") (decimal budgets.conflicts) (codes ",\"steps\":") (decimal budgets.steps)
@@ -38,11 +42,14 @@ text_of_entry entry =
     five (codes "{\"choices\":") (quoted (choices_text entry.leaf.choices)) (codes ",\"end\":") (quoted (end_name entry.leaf.end))
     (codes ",\"kind\":") (quoted (kind_name entry.leaf.end)) (codes ",\"node\":") (decimal entry.node) (codes ",\"steps\":") (decimal entry.leaf.steps) (codes "}")
 
-behind_comma : (text others last : List ℕ) → text ++ 44 ∷ (others ++ last) ≡ (text ++ codes "," ++ others) ++ last
+behind_comma : (text others last : List ℕ) → text ++ 44 ∷ (others ++ last)
+    ≡ (text ++ codes "," ++ others) ++ last
 behind_comma text others last = simp append_assoc
 
 -- the leaves, with the closing bracket
-text_of_entries : (entries : List LeafNode) → items_text false (items_of (map leaf_node_data entries)) ≡ with_commas (map leaf_node_text entries) ++ codes "]"
+text_of_entries : (entries : List LeafNode) →
+    items_text false (items_of (map leaf_node_data entries))
+    ≡ with_commas (map leaf_node_text entries) ++ codes "]"
 text_of_entries [] = refl
 text_of_entries (entry ∷ []) = ap (λ text. text ++ codes "]") (text_of_entry entry)
 text_of_entries (entry ∷ next ∷ entries) =
@@ -51,7 +58,9 @@ text_of_entries (entry ∷ next ∷ entries) =
     ∙ behind_comma (leaf_node_text entry) (with_commas (map leaf_node_text (next ∷ entries))) (codes "]")
 
 -- the regions, likewise
-text_of_regions : (regions : List Region) → items_text false (items_of (map (λ region. string (region_text region)) regions)) ≡ quoted_all (map region_text regions) ++ codes "]"
+text_of_regions : (regions : List Region) →
+    items_text false (items_of (map (λ region. string (region_text region)) regions))
+    ≡ quoted_all (map region_text regions) ++ codes "]"
 text_of_regions [] = refl
 text_of_regions (region ∷ []) = refl
 text_of_regions (region ∷ next ∷ regions) =
@@ -64,7 +73,8 @@ object_text budgets leaves regions summary =
     codes "{\"budgets\":" ++ (budgets ++ (codes ",\"leaves\":[" ++ (leaves ++ (codes ",\"regions\":[" ++ (regions ++ (codes ",\"summary\":" ++ (summary ++ codes "}")))))))
 
 regroup : (a b c d e f budgets leaves regions summary last : List ℕ) →
-    (a ++ (budgets ++ (b ++ ((leaves ++ c) ++ (d ++ ((regions ++ c) ++ (e ++ (summary ++ f)))))))) ++ last
+    (a ++ (budgets ++ (b ++ ((leaves ++ c) ++ (d ++ ((regions ++ c) ++ (e ++ (summary ++ f))))))))
+    ++ last
     ≡ a ++ budgets ++ b ++ leaves ++ (c ++ d) ++ regions ++ (c ++ e) ++ summary ++ (f ++ last)
 regroup a b c d e f budgets leaves regions summary last = simp append_assoc
 
@@ -77,12 +87,14 @@ is_object budgets workers regions entries = refl
 
 -- the text of the object, and a line feed
 pub text_of_report : (budgets : Budgets) (workers : ℕ) (regions : List Region) (entries : List LeafNode) →
-    compact_text (report_data budgets workers regions entries) ++ codes "\n" ≡ report_text budgets workers regions entries
+    compact_text (report_data budgets workers regions entries) ++ codes "\n"
+    ≡ report_text budgets workers regions entries
 unfolding report_text
 text_of_report budgets workers regions entries =
     let totals = totals_data (count (leaves_in entries)) in
     let of_leaves = items_text false (items_of (map leaf_node_data entries)) in
-    let of_regions = items_text false (items_of (map (λ region. string (region_text region)) regions)) in
+    let of_regions =
+    items_text false (items_of (map (λ region. string (region_text region)) regions)) in
     ap (λ text. text ++ codes "\n") (is_object budgets workers regions entries
     ∙ ap (λ text. object_text text of_leaves of_regions (compact_text totals)) (text_of_budgets budgets workers)
     ∙ ap (λ text. object_text (budgets_text budgets workers) text of_regions (compact_text totals)) (text_of_entries entries)
@@ -91,11 +103,13 @@ text_of_report budgets workers regions entries =
     ∙ regroup (codes "{\"budgets\":") (codes ",\"leaves\":[") (codes "]") (codes ",\"regions\":[") (codes ",\"summary\":") (codes "}")
     (budgets_text budgets workers) (with_commas (map leaf_node_text entries)) (quoted_all (map region_text regions)) (totals_text (count (leaves_in entries))) (codes "\n")
 
-no_floats : (entries : List LeafNode) → items_have_float (items_of (map leaf_node_data entries)) ≡ false
+no_floats : (entries : List LeafNode) → items_have_float (items_of (map leaf_node_data entries))
+    ≡ false
 no_floats [] = refl
 no_floats (entry ∷ entries) = no_floats entries
 
-no_region_floats : (regions : List Region) → items_have_float (items_of (map (λ region. string (region_text region)) regions)) ≡ false
+no_region_floats : (regions : List Region) →
+    items_have_float (items_of (map (λ region. string (region_text region)) regions)) ≡ false
 no_region_floats [] = refl
 no_region_floats (region ∷ regions) = no_region_floats regions
 

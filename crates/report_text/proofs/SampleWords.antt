@@ -9,7 +9,8 @@ use Rattle.fork_spec.specs.declared.end.LeafEnd.{LeafEnd}
 use Rattle.fork_spec.specs.declared.end.LeafEnd.TheVariants.{Exits, Traps, Cut}
 use Rattle.report_text.specs.Samples.{IsByteEnd}
 
-byte_end_here : (graph : Graph) (input : List ℕ) (end : LeafEnd) → IsByteStatus graph end → IsByteEnd (values input graph.nodes) end
+byte_end_here : (graph : Graph) (input : List ℕ) (end : LeafEnd) → IsByteStatus graph end →
+    IsByteEnd (values input graph.nodes) end
 byte_end_here graph input (Exits status) h = width-val graph status input ∙ h
 byte_end_here graph input (Traps trap) h = h
 byte_end_here graph input (Cut cause) h = h
@@ -22,7 +23,8 @@ byte_end graph input end words same e e' h =
 
 -- the words of terms of eight bits are bytes
 pub byte_words : (graph : Graph) (input : List ℕ) (ids : List ℕ) (words : List BitVector) (same : List ℕ) →
-    words ≡ values input graph.nodes → same ≡ ids → AreBytes graph ids → All (λ id. (word_at words id).width ≡ 8) same
+    words ≡ values input graph.nodes → same ≡ ids → AreBytes graph ids →
+    All (λ id. (word_at words id).width ≡ 8) same
 byte_words graph input ids words same e e' h =
     subst (λ (ws : List BitVector). All (λ id. (word_at ws id).width ≡ 8) same) (sym e)
     (subst (λ (ks : List ℕ). All (λ id. (word_at (values input graph.nodes) id).width ≡ 8) ks) (sym e') (λ k d below. width-val graph (get_or ids k d) input ∙ h k d below))

@@ -31,9 +31,12 @@ actors_text by node = decimal by ++ codes " " ++ decimal node
 -- the line of what this worker does with this node
 abbrev pub deed_text : (by node : ℕ) → Deed (Option Cause) Sides → List ℕ
 deed_text by node Claim = codes "claim " ++ actors_text by node ++ codes "\n"
-deed_text by node (Split sides) = codes "split " ++ actors_text by node ++ codes " " ++ decimal sides.first ++ sides_text sides.sides ++ codes "\n"
+deed_text by node (Split sides) =
+    codes "split " ++ actors_text by node ++ codes " " ++ decimal sides.first
+    ++ sides_text sides.sides ++ codes "\n"
 deed_text by node (Finish cut) = codes "finish " ++ actors_text by node ++ codes "\n"
-deed_text by node (Cut cut) = codes "cut " ++ actors_text by node ++ codes " " ++ cut_text cut ++ codes "\n"
+deed_text by node (Cut cut) =
+    codes "cut " ++ actors_text by node ++ codes " " ++ cut_text cut ++ codes "\n"
 deed_text by node Release = codes "release " ++ actors_text by node ++ codes "\n"
 
 abbrev pub event_text : Line → List ℕ

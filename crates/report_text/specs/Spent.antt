@@ -7,7 +7,8 @@ use Rattle.fork_spec.specs.Evidence.{Found, Spent}
 
 -- a value, and the bytes of the assignment
 abbrev pub found_text : Found → List ℕ
-found_text found = codes "v " ++ eight_digits found.value ++ codes " " ++ encode_lower found.input ++ codes "\n"
+found_text found =
+    codes "v " ++ eight_digits found.value ++ codes " " ++ encode_lower found.input ++ codes "\n"
 
 -- how many values, the term's name in the text of its leaf, and a line for each value
 unfoldable pub targets_text : Spent → List ℕ

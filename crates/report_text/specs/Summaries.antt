@@ -33,7 +33,8 @@ count leaves = record {
   steps = sum_by (λ (leaf : Leaf). leaf.steps) (filter has_ended leaves);
 }
 
--- So few leaves that one more can be counted: fewer than 2 ^ 32, and none of more steps than 32 bits hold.
+-- So few leaves that one more can be counted: fewer than 2 ^ 32, and none of more steps than 32
+-- bits hold.
 pub record HasRoom (summary : Summary) : Type 0 where
   pub few : summary.leaves < 2 ^ 32
   pub finished : summary.finished ≤ summary.leaves

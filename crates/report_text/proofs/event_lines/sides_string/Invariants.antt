@@ -4,4 +4,5 @@ use Rattle.report_text.specs.Events.{sides_text}
 use Rattle.report_text.proofs.event_lines.sides_string.Given as goal
 
 abbrev pub invariant-loop-node : goal.invariant-loop-node
-invariant-loop-node g l = string_bytes l.text ≡ sides_text (map (side_born g.R.Marked.cut) (take l.node-index l.nodes))
+invariant-loop-node g l =
+    string_bytes l.text ≡ sides_text (map (side_born g.R.Marked.cut) (take l.node-index l.nodes))

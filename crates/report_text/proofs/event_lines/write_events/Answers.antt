@@ -25,17 +25,21 @@ loop-event-preserved g c =
     let i = c.loop-event.event-index in
     let d = c.event-item.result in
     let e = get_or events i d in
-    let born : c.born-first.result ≡ born_by e.deed = c.born-first.ensures ∙ ap (λ (x : Event g.row.R.Denot ℕ). born_by x.deed) c.event-item.is in
-    let line : string_bytes c.push_str.new.self ≡ string_bytes c.loop-event.text ++ deed_text e.by e.node (written cut nodes first e.deed) =
+    let born : c.born-first.result ≡ born_by e.deed =
+    c.born-first.ensures ∙ ap (λ (x : Event g.row.R.Denot ℕ). born_by x.deed) c.event-item.is in
+    let line : string_bytes c.push_str.new.self ≡ string_bytes c.loop-event.text
+    ++ deed_text e.by e.node (written cut nodes first e.deed) =
     pushed _ _ _ _ c.in_ok-push_str.ensures.bytes
     (c.deref.ensures ∙ c.in_ok-line.ensures ∙ ap (λ (x : Event g.row.R.Denot ℕ). deed_text x.by x.node (written cut nodes first x.deed)) c.event-item.is) in
     record {
       written =
           ap (λ n. string_bytes c.push_str.new.self ++ events_text (lines_from cut nodes (first + n) (drop (i + 1) events))) born
-          ∙ events_next cut nodes first i events d _ _ c.loop-event-test.true line ∙ c.loop-event.invariant.written;
+          ∙ events_next cut nodes first i events d _ _ c.loop-event-test.true line
+          ∙ c.loop-event.invariant.written;
       counted =
           ap (λ n. nodes_after (first + n) (drop (i + 1) events)) born
-          ∙ sym (nodes_next cut nodes first i events d c.loop-event-test.true) ∙ c.loop-event.invariant.counted;
+          ∙ sym (nodes_next cut nodes first i events d c.loop-event-test.true)
+          ∙ c.loop-event.invariant.counted;
     }
 
 pub returns : goal.returns

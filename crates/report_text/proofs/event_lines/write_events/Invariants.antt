@@ -6,6 +6,8 @@ use Rattle.report_text.proofs.event_lines.write_events.Given as goal
 -- what is written, and then the rest, is all of it; and the rest makes the nodes that are left
 abbrev pub invariant-loop-event : goal.invariant-loop-event
 invariant-loop-event g l = record {
-  written : string_bytes l.text ++ events_text (lines_from g.R.Marked.cut l.nodes l.first (drop l.event-index l.events)) ≡ events_text (lines_from g.R.Marked.cut l.nodes 1 l.events);
+  written : string_bytes l.text
+      ++ events_text (lines_from g.R.Marked.cut l.nodes l.first (drop l.event-index l.events))
+      ≡ events_text (lines_from g.R.Marked.cut l.nodes 1 l.events);
   counted : nodes_after l.first (drop l.event-index l.events) ≡ length l.nodes;
 }

@@ -5,7 +5,8 @@ use Rattle.report_text.proofs.Counting.{leaves_next, no_steps, room_of}
 use Rattle.report_text.proofs.summary.summarize.Goals as goal
 
 pub loop-leaf-init : goal.loop-leaf-init
-loop-leaf-init g c = record { counted = c.empty-summary.ensures; steps = no_steps _ c.empty-summary.ensures }
+loop-leaf-init g c =
+    record { counted = c.empty-summary.ensures; steps = no_steps _ c.empty-summary.ensures }
 
 pub with_leaf-summary-requires : goal.with_leaf-summary-requires
 with_leaf-summary-requires g c =
