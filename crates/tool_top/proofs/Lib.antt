@@ -4,3 +4,4 @@ pub mod ReplayEndings
 pub mod Endings
 pub mod LaterWords
 pub mod Running
+pub mod Explored

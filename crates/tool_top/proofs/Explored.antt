@@ -1,0 +1,83 @@
+-- A tree that its worker has drained gives the report of its program.
+use Rattle.std.proofs.Common.{◌≡◌, ◌∷◌, ℕ, ◌<◌, ◌≤◌, ◌++◌, IsTrue, true, [], refl, sym, ap, subst, ◌∙◌, arith}
+use Rattle.std.specs.Prelude.{List, All, Bool, Some}
+use Rattle.elf_load.specs.declared.region.Region.{Region}
+use Rattle.rv_spec.specs.Memory.{IsAssignment}
+use Rattle.tree_core.specs.Covers.{covered, root_content}
+use Rattle.tree_core.specs.Stories.{Story}
+use Rattle.tree_core.specs.declared.budgets.Budgets.{Budgets}
+use Rattle.tree_core.specs.declared.event.Event.{Event}
+use Rattle.fork_spec.specs.Histories.{cause_of}
+use Rattle.fork_spec.specs.Parts.{Part}
+use Rattle.fork_spec.specs.Written.{lines_of}
+use Rattle.fork_tree.specs.Calls.{IsOpening}
+use Rattle.fork_tree.specs.Contents.{cut_in, place_in}
+use Rattle.fork_tree.specs.Drains.{GrowsBy, IsDrained}
+use Rattle.fork_tree.specs.Nodes.{HasLeaf, IsLeafRight}
+use Rattle.fork_tree.specs.declared.content.Content.{Content}
+use Rattle.fork_tree.specs.declared.content.Content.TheVariants.{Open, Shut}
+use Rattle.node_split.specs.Rules.{leaf_place, rules_of}
+use Rattle.report_text.proofs.Claimed.{are_a_report}
+use Rattle.report_text.proofs.Entering.{are_entries, reportable}
+use Rattle.report_text.specs.Claims.{IsReport}
+use Rattle.report_text.specs.Entries.{AreEntries, AskAsClaimed, IsLeafAt, IsReportOfTree, IsReportable, entries_of}
+use Rattle.sym_state.specs.Places.{run_place}
+use Rattle.sym_state.specs.Programs.{Program, regions_of}
+use Rattle.sym_state.specs.Symbolic.{Symbolic}
+use Rattle.tool_io.specs.Told.{Put}
+use Rattle.tool_top.specs.Reports.{IsReportOf}
+
+abbrev covers_at : Content Symbolic Part → List ℕ → Bool
+covers_at c = (place_in run_place leaf_place c).covers
+
+-- a root that stands for every assignment still does when the tree has grown
+rooted : (regions : List Region) (root : Symbolic) (old new : Story (Content Symbolic Part)) → IsOpening root old
+    → ((input : List ℕ) → IsAssignment regions input → IsTrue ((run_place root).covers input))
+    → GrowsBy 0 old new → (input : List ℕ) → IsAssignment regions input → covered covers_at (root_content new) input ≡ true
+rooted regions root old new (Open a, is, same) whole grows input assigned =
+    ap (λ nodes. covered covers_at (root_content (record { nodes = nodes; events = new.events })) input) (grows.1.1.0 ∙ ap (λ (s : Story (Content Symbolic Part)). s.nodes ++ grows.0) is)
+    ∙ ap (λ (r : Symbolic). (run_place r).covers input) same ∙ whole input assigned
+rooted regions root old new (Shut l, is, same) whole grows input assigned = absurd same
+
+-- only the workers that were asked for have noted events
+by_few : (root : Symbolic) (old new : Story (Content Symbolic Part)) (workers : ℕ) → 1 ≤ workers → IsOpening root old → GrowsBy 0 old new
+    → All (λ (e : Event (Content Symbolic Part) ℕ). e.by < workers) new.events
+by_few root old new workers some opens grows =
+    subst (All (λ (e : Event (Content Symbolic Part) ℕ). e.by < workers)) (sym (grows.1.1.1.0 ∙ ap (λ (s : Story (Content Symbolic Part)). s.events ++ grows.1.0) opens.1.0))
+    (λ k d lt. let zero : _ ≡ 0 = grows.1.1.1.1 k d lt in omega (arith, zero, some))
+
+module _ (p : Program) (budgets : Budgets) where
+  -- what the worker asks of leaves is what is claimed of them
+  asks : AskAsClaimed (λ (part : Part). part) (rules_of p budgets.steps budgets.targets) leaf_place p.image (regions_of p) budgets
+  asks = record {
+    right = λ sides leaf right. right;
+    cut = λ leaf. refl;
+    place = λ leaf. refl;
+    decides = λ input. refl;
+    targets = refl;
+  }
+
+  -- the report of a tree that this worker's root has grown to is one of the program
+  pub is_report_of : (asked : List Region) → asked ≡ regions_of p → (root : Symbolic) (old new : Story (Content Symbolic Part)) → IsOpening root old
+      → ((input : List ℕ) → IsAssignment (regions_of p) input → IsTrue ((run_place root).covers input)) → GrowsBy 0 old new
+      → IsDrained (rules_of p budgets.steps budgets.targets) run_place leaf_place new → (workers : ℕ) → 1 ≤ workers → (out : List ℕ) (puts : List Put) (text : List ℕ)
+      → IsReportOfTree (λ (part : Part). part) (λ part. cause_of part.leaf.end) out asked budgets workers new puts text
+      → IsReportOf out p.image asked budgets workers puts text
+  is_report_of asked same root old new opens whole grows drained workers some out puts text made = record {
+    lines = lines_of (cut_in (λ (part : Part). cause_of part.leaf.end)) new;
+    entries = entries_of asked 0 made.leaves;
+    claims = subst (λ (rs : List Region). IsReport p.image rs budgets workers (lines_of (cut_in (λ (part : Part). cause_of part.leaf.end)) new) (entries_of rs 0 made.leaves)) (sym same)
+        (are_a_report (λ (part : Part). part) (rules_of p budgets.steps budgets.targets) run_place leaf_place p.image (regions_of p) budgets asks new drained
+            (entries_of (regions_of p) 0 made.leaves) are (rooted (regions_of p) root old new opens whole grows) workers (by_few root old new workers some opens grows));
+    files = made.files;
+    summary = made.summary;
+  }
+    where
+      right_at : (node : ℕ) (part : Part) → IsLeafAt (λ (x : Part). x) new node part → IsReportable part
+      right_at node part at = subst IsReportable at.same (reportable p.image (regions_of p) budgets.steps budgets.targets here.sides at.leaf here.right)
+        where
+          here : HasLeaf (IsLeafRight (rules_of p budgets.steps budgets.targets) new node) (Some (Shut at.leaf))
+          here = subst (HasLeaf (IsLeafRight (rules_of p budgets.steps budgets.targets) new node)) at.held (drained.leaves node at.within at.is_leaf)
+
+      are : AreEntries (λ (part : Part). part) (regions_of p) new (entries_of (regions_of p) 0 made.leaves)
+      are = are_entries (λ (part : Part). part) (regions_of p) new made.leaves made.by_rank (λ rank l at. right_at l.node l.part.now (made.by_rank.each rank l at))
