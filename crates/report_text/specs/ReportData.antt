@@ -48,4 +48,5 @@ object_data budgets leaves regions summary = object (
 
 abbrev pub report_data : Budgets → (workers : ℕ) → List Region → List LeafNode → Data
 report_data budgets workers regions leaves =
-    object_data (budgets_data budgets workers) (leaf_nodes_data leaves) (regions_data regions) (totals_data (count (leaves_in leaves)))
+    object_data (budgets_data budgets workers) (leaf_nodes_data leaves) (regions_data regions)
+    (totals_data (count (leaves_in leaves)))

@@ -24,7 +24,8 @@ use Rattle.fork_spec.specs.declared.end.LeafEnd.TheVariants.{Exits, Traps, Cut}
 use Rattle.smt_text.proofs.Fitting.{fits_here, width_here}
 
 -- a line that may stand
-reads : (r : Reading) (line : LeafLine) (rest : List LeafLine) → stands r.place r line ≡ true → read_lines r (line ∷ rest) ≡ read_lines (with_line r line) rest
+reads : (r : Reading) (line : LeafLine) (rest : List LeafLine) → stands r.place r line ≡ true →
+    read_lines r (line ∷ rest) ≡ read_lines (with_line r line) rest
 unfolding read_lines next_state
 reads r line rest h = rw h refl
 
@@ -50,7 +51,8 @@ small_choice Rest h = refl
 
 small_choices : (cs : List Choice) → All IsSmallChoice cs → list_all is_small_choice cs ≡ true
 small_choices [] h = refl
-small_choices (c ∷ cs) h = rw (small_choice c (All-head IsSmallChoice c cs h)) (small_choices cs (All-tail IsSmallChoice c cs h))
+small_choices (c ∷ cs) h =
+    rw (small_choice c (All-head IsSmallChoice c cs h)) (small_choices cs (All-tail IsSmallChoice c cs h))
 
 small_step : (s : PathStep) → IsSmallStep s → is_small_step s ≡ true
 small_step Taken h = refl
@@ -59,7 +61,8 @@ small_step (Target address) h = small address h
 
 small_path : (steps : List PathStep) → All IsSmallStep steps → list_all is_small_step steps ≡ true
 small_path [] h = refl
-small_path (s ∷ steps) h = rw (small_step s (All-head IsSmallStep s steps h)) (small_path steps (All-tail IsSmallStep s steps h))
+small_path (s ∷ steps) h =
+    rw (small_step s (All-head IsSmallStep s steps h)) (small_path steps (All-tail IsSmallStep s steps h))
 
 -- The heading, from the first line on.
 heading_read : (leaf : Leaf) (rest : List LeafLine) → IsFull leaf →
@@ -81,7 +84,8 @@ heading_read leaf rest h =
 
 -- The inputs that are left.
 inputs_read : (r : Reading) (more i : ℕ) (rest : List LeafLine) → i + more ≡ r.inputs →
-    read_lines (past_input (record r { declared = i })) (input_lines i more ++ rest) ≡ read_lines (past_input (record r { declared = r.inputs })) rest
+    read_lines (past_input (record r { declared = i })) (input_lines i more ++ rest)
+    ≡ read_lines (past_input (record r { declared = r.inputs })) rest
 inputs_read r zero i rest h =
     let all : i ≡ r.inputs = omega (arith, h) in
     ap (λ n. read_lines (past_input (record r { declared = n })) rest) all
@@ -91,15 +95,19 @@ inputs_read r (suc more) i rest h =
     ∙ inputs_read r more (i + 1) rest (omega (arith, h))
 
 -- The nodes that are left.
-nodes_read : (r : Reading) (whole before after : List Node) (rest : List LeafLine) → AllFit r.inputs whole → length whole ≡ r.node_count → before ++ after ≡ whole →
+nodes_read : (r : Reading) (whole before after : List Node) (rest : List LeafLine) →
+    AllFit r.inputs whole → length whole ≡ r.node_count → before ++ after ≡ whole →
     read_lines (past_node (record r { nodes = before })) (map (λ (id, node). NodeLine id (width_of (record { inputs = r.inputs; nodes = whole }) id) node) (enumerate_from (length before) after) ++ rest)
     ≡ read_lines (past_node (record r { nodes = whole })) rest
 nodes_read r whole before [] rest all many e =
     ap (λ (ns : List Node). read_lines (past_node (record r { nodes = ns })) rest) (sym (append-nil before) ∙ e)
 nodes_read r whole before (n ∷ after) rest all many e =
-    let next : length (before ++ n ∷ []) ≡ length before + 1 = omega (arith, length-append before (n ∷ [])) in
-    let left : (length before == r.node_count) ≡ false = below (length before) r.node_count (omega (arith, many, ap length e, length-append before (n ∷ after))) in
-    let fit : fits r.inputs (widths_of before) n ≡ true = fits_here r.inputs before n after (subst (AllFit r.inputs) (sym e) all) in
+    let next : length (before ++ n ∷ []) ≡ length before + 1 =
+    omega (arith, length-append before (n ∷ [])) in
+    let left : (length before == r.node_count) ≡ false =
+    below (length before) r.node_count (omega (arith, many, ap length e, length-append before (n ∷ after))) in
+    let fit : fits r.inputs (widths_of before) n ≡ true =
+    fits_here r.inputs before n after (subst (AllFit r.inputs) (sym e) all) in
     let wide : (width_of (record { inputs = r.inputs; nodes = whole }) (length before) == node_width (widths_of before) n) ≡ true =
     eq-eqb _ _ (ap (λ (ns : List Node). width_of (record { inputs = r.inputs; nodes = ns }) (length before)) (sym e) ∙ width_here r.inputs before n after) in
     reads (past_node (record r { nodes = before })) (NodeLine (length before) (width_of (record { inputs = r.inputs; nodes = whole }) (length before)) n) _ (rw (left, same (length before), fit) wide)
@@ -107,7 +115,8 @@ nodes_read r whole before (n ∷ after) rest all many e =
     ∙ nodes_read r whole (before ++ n ∷ []) after rest all many (append_assoc before (n ∷ []) after ∙ e)
 
 -- The status, where there is one.
-status_read : (r : Reading) (end : LeafEnd) (rest : List LeafLine) → length r.nodes ≡ r.node_count → IsByteStatus (graph_of r) end →
+status_read : (r : Reading) (end : LeafEnd) (rest : List LeafLine) → length r.nodes ≡ r.node_count →
+    IsByteStatus (graph_of r) end →
     read_lines (past_node (record r { end = end_of (kind_of end) (word_of end) })) (status_lines end ++ rest) ≡ read_lines (past_output (record r { end = end })) rest
 status_read r (Exits status) rest many wide =
     reads (past_node (record r { end = Exits 0 })) (StatusLine status) rest (rw (eq-eqb _ _ many) (eq-eqb _ _ wide))
@@ -115,27 +124,35 @@ status_read r (Traps t) rest many wide = rw (eq-eqb _ _ many) refl
 status_read r (Cut cause) rest many wide = rw (eq-eqb _ _ many) refl
 
 -- The bytes of the output that are left.
-outputs_read : (r : Reading) (before after : List ℕ) (rest : List LeafLine) → All (λ id. width_of (graph_of r) id ≡ 8) after → length before + length after ≡ r.output_count →
+outputs_read : (r : Reading) (before after : List ℕ) (rest : List LeafLine) →
+    All (λ id. width_of (graph_of r) id ≡ 8) after → length before + length after ≡ r.output_count →
     read_lines (past_output (record r { outputs = before })) (map (λ (i, id). OutputLine i id) (enumerate_from (length before) after) ++ rest)
     ≡ read_lines (past_output (record r { outputs = before ++ after })) rest
-outputs_read r before [] rest all many = ap (λ (ids : List ℕ). read_lines (past_output (record r { outputs = ids })) rest) (sym (append-nil before))
+outputs_read r before [] rest all many =
+    ap (λ (ids : List ℕ). read_lines (past_output (record r { outputs = ids })) rest) (sym (append-nil before))
 outputs_read r before (id ∷ after) rest all many =
-    let next : length (before ++ id ∷ []) ≡ length before + 1 = omega (arith, length-append before (id ∷ [])) in
-    let left : (length before == r.output_count) ≡ false = below (length before) r.output_count (omega (arith, many)) in
-    let wide : (width_of (graph_of r) id == 8) ≡ true = eq-eqb _ _ (All-head (λ i. width_of (graph_of r) i ≡ 8) id after all) in
+    let next : length (before ++ id ∷ []) ≡ length before + 1 =
+    omega (arith, length-append before (id ∷ [])) in
+    let left : (length before == r.output_count) ≡ false =
+    below (length before) r.output_count (omega (arith, many)) in
+    let wide : (width_of (graph_of r) id == 8) ≡ true =
+    eq-eqb _ _ (All-head (λ i. width_of (graph_of r) i ≡ 8) id after all) in
     reads (past_output (record r { outputs = before })) (OutputLine (length before) id) _ (rw (left, same (length before)) wide)
     ∙ ap (λ k. read_lines (past_output (record r { outputs = before ++ id ∷ [] })) (map (λ (i, id). OutputLine i id) (enumerate_from k after) ++ rest)) (sym next)
     ∙ outputs_read r (before ++ id ∷ []) after rest (All-tail (λ i. width_of (graph_of r) i ≡ 8) id after all) (omega (arith, many, next))
     ∙ ap (λ (ids : List ℕ). read_lines (past_output (record r { outputs = ids })) rest) (append_assoc before (id ∷ []) after)
 
-outputs_done : (r : Reading) → length r.outputs ≡ r.output_count → past_output r ≡ record r { place = AmongAssertions }
+outputs_done : (r : Reading) → length r.outputs ≡ r.output_count →
+    past_output r ≡ record r { place = AmongAssertions }
 outputs_done r many = rw (eq-eqb _ _ many) refl
 
 -- The assertions.
-asserts_read : (r : Reading) (before after : List ℕ) (rest : List LeafLine) → AreBits (graph_of r) after →
+asserts_read : (r : Reading) (before after : List ℕ) (rest : List LeafLine) →
+    AreBits (graph_of r) after →
     read_lines (record r { place = AmongAssertions; asserted = before }) (map AssertLine after ++ rest)
     ≡ read_lines (record r { place = AmongAssertions; asserted = before ++ after }) rest
-asserts_read r before [] rest all = ap (λ (ids : List ℕ). read_lines (record r { place = AmongAssertions; asserted = ids }) rest) (sym (append-nil before))
+asserts_read r before [] rest all =
+    ap (λ (ids : List ℕ). read_lines (record r { place = AmongAssertions; asserted = ids }) rest) (sym (append-nil before))
 asserts_read r before (id ∷ after) rest all =
     reads (record r { place = AmongAssertions; asserted = before }) (AssertLine id) _ (eq-eqb _ _ (All-head (λ i. width_of (graph_of r) i ≡ 1) id after all))
     ∙ asserts_read r (before ++ id ∷ []) after rest (All-tail (λ i. width_of (graph_of r) i ≡ 1) id after all)
@@ -143,7 +160,9 @@ asserts_read r before (id ∷ after) rest all =
 
 -- the lines in one row
 in_a_row : {X : Type 0} (heads logic inputs base nodes status outputs asserts tail : List X) →
-    ((heads ++ ((logic ++ inputs) ++ (base ++ nodes) ++ status ++ outputs)) ++ asserts) ++ tail ≡ heads ++ (logic ++ (inputs ++ (base ++ (nodes ++ (status ++ (outputs ++ (asserts ++ tail)))))))
+    ((heads ++ ((logic ++ inputs) ++ (base ++ nodes) ++ status ++ outputs)) ++ asserts) ++ tail
+    ≡ heads
+    ++ (logic ++ (inputs ++ (base ++ (nodes ++ (status ++ (outputs ++ (asserts ++ tail)))))))
 in_a_row heads logic inputs base nodes status outputs asserts tail = simp append_assoc
 
 -- the reading behind the heading
@@ -162,12 +181,15 @@ begun leaf = record start {
 
 -- the reading behind the outputs
 abbrev defined : Leaf → Reading
-defined leaf = record (begun leaf) { declared = leaf.condition.graph.inputs; nodes = leaf.condition.graph.nodes; end = leaf.end; outputs = leaf.outputs }
+defined leaf =
+    record (begun leaf) { declared = leaf.condition.graph.inputs; nodes = leaf.condition.graph.nodes; end = leaf.end; outputs = leaf.outputs }
 
 abbrev ended : Leaf → Reading
 ended leaf = record (defined leaf) { place = Closed; asserted = leaf.condition.asserted }
 
-tail_read : (leaf : Leaf) → AreBits leaf.condition.graph leaf.condition.asserted → read_lines (past_output (defined leaf)) (assertions leaf ++ (CheckLine ∷ ExitLine ∷ [])) ≡ Some (ended leaf)
+tail_read : (leaf : Leaf) → AreBits leaf.condition.graph leaf.condition.asserted →
+    read_lines (past_output (defined leaf)) (assertions leaf ++ (CheckLine ∷ ExitLine ∷ []))
+    ≡ Some (ended leaf)
 unfolding read_lines
 tail_read leaf bits =
     let r = defined leaf in

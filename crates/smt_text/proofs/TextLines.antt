@@ -6,7 +6,9 @@ use Rattle.smt_text.specs.Lines.{LeafLine, InputLine, line_text, lines_text}
 use Rattle.smt_text.specs.LeafLines.{input_lines}
 
 -- a text that was made, by another name
-pub made_text : (made : Result (String Global) AllocError) (one other : List ℕ) → IfOk made (λ text. string_bytes text ≡ one) → one ≡ other → IfOk made (λ text. string_bytes text ≡ other)
+pub made_text : (made : Result (String Global) AllocError) (one other : List ℕ) →
+    IfOk made (λ text. string_bytes text ≡ one) → one ≡ other →
+    IfOk made (λ text. string_bytes text ≡ other)
 made_text (Ok text) one other h e = h ∙ e
 made_text (Err e) one other h _ = tt
 
@@ -24,18 +26,23 @@ unfolding lines_text
 no_lines text e = e
 
 -- one line alone
-pub one_line : (text : List ℕ) (line : LeafLine) → text ≡ line_text line → text ≡ lines_text (line ∷ [])
+pub one_line : (text : List ℕ) (line : LeafLine) → text ≡ line_text line →
+    text ≡ lines_text (line ∷ [])
 unfolding lines_text
 one_line text line e = e ∙ sym (append-nil (line_text line))
 
 -- one line behind others
-pub push_line : (text new : List ℕ) (lines : List LeafLine) (line : LeafLine) → text ≡ lines_text lines → new ≡ text ++ line_text line → new ≡ lines_text (lines ++ line ∷ [])
+pub push_line : (text new : List ℕ) (lines : List LeafLine) (line : LeafLine) →
+    text ≡ lines_text lines → new ≡ text ++ line_text line → new ≡ lines_text (lines ++ line ∷ [])
 unfolding lines_text
-push_line text new lines line e more = more ∙ ap (λ t. t ++ line_text line) e ∙ flat_map_more line_text [] lines line
+push_line text new lines line e more =
+    more ∙ ap (λ t. t ++ line_text line) e ∙ flat_map_more line_text [] lines line
 
 -- the step of a loop that appends a line for each item
-pub mapped_step : {X : Type 0} (f : X → LeafLine) (xs : List X) (i : ℕ) (d : X) (before after : List ℕ) → i < length xs →
-    before ≡ lines_text (map f (take i xs)) → after ≡ before ++ line_text (f (get_or xs i d)) → after ≡ lines_text (map f (take (i + 1) xs))
+pub mapped_step : {X : Type 0} (f : X →
+    LeafLine) (xs : List X) (i : ℕ) (d : X) (before after : List ℕ) → i < length xs →
+    before ≡ lines_text (map f (take i xs)) → after ≡ before ++ line_text (f (get_or xs i d)) →
+    after ≡ lines_text (map f (take (i + 1) xs))
 mapped_step f xs i d before after h e more =
     push_line before after (map f (take i xs)) (f (get_or xs i d)) e more
     ∙ ap lines_text (sym (ap (map f) (take_more xs i d h) ∙ map-append f (take i xs) (get_or xs i d ∷ [])))
@@ -49,27 +56,33 @@ numbered_suc n (x ∷ xs) (suc i) d h =
     ap (λ ys. (n, x) ∷ ys) (numbered_suc (n + 1) xs i d (omega (arith, h)) ∙ ap (λ k. enumerate_from (n + 1) (take i xs) ++ (k, get_or xs i d) ∷ []) place)
 
 -- the first items with their places, and one item more
-numbered_next : {X : Type 0} (xs : List X) (i : ℕ) (d : X) → i < length xs → enumerate_from 0 (take (i + 1) xs) ≡ enumerate_from 0 (take i xs) ++ (i, get_or xs i d) ∷ []
+numbered_next : {X : Type 0} (xs : List X) (i : ℕ) (d : X) → i < length xs →
+    enumerate_from 0 (take (i + 1) xs) ≡ enumerate_from 0 (take i xs) ++ (i, get_or xs i d) ∷ []
 numbered_next xs i d h =
     let place : 0 + i ≡ i = omega arith in
     rw add-one (numbered_suc 0 xs i d h ∙ ap (λ k. enumerate_from 0 (take i xs) ++ (k, get_or xs i d) ∷ []) place)
 
 -- the step of a loop that appends a line for each item and its place
-pub numbered_step : {X : Type 0} (f : (ℕ × X) → LeafLine) (xs : List X) (i : ℕ) (d : X) (before after : List ℕ) → i < length xs →
-    before ≡ lines_text (map f (enumerate_from 0 (take i xs))) → after ≡ before ++ line_text (f (i, get_or xs i d)) →
+pub numbered_step : {X : Type 0} (f : (ℕ × X) →
+    LeafLine) (xs : List X) (i : ℕ) (d : X) (before after : List ℕ) → i < length xs →
+    before ≡ lines_text (map f (enumerate_from 0 (take i xs))) →
+    after ≡ before ++ line_text (f (i, get_or xs i d)) →
     after ≡ lines_text (map f (enumerate_from 0 (take (i + 1) xs)))
 numbered_step f xs i d before after h e more =
     push_line before after (map f (enumerate_from 0 (take i xs))) (f (i, get_or xs i d)) e more
     ∙ ap lines_text (sym (ap (map f) (numbered_next xs i d h) ∙ map-append f (enumerate_from 0 (take i xs)) ((i, get_or xs i d) ∷ [])))
 
 -- a line for each input that is left
-pub input_lines_next : (text new : List ℕ) (i n : ℕ) → i < n → new ≡ text ++ line_text (InputLine i) → new ++ lines_text (input_lines (i + 1) (n - (i + 1))) ≡ text ++ lines_text (input_lines i (n - i))
+pub input_lines_next : (text new : List ℕ) (i n : ℕ) → i < n →
+    new ≡ text ++ line_text (InputLine i) → new ++ lines_text (input_lines (i + 1) (n - (i + 1)))
+    ≡ text ++ lines_text (input_lines i (n - i))
 unfolding lines_text
 input_lines_next text new i n h e =
     let left : n - i ≡ suc (n - (i + 1)) = omega arith in
     rw (left, e, append_assoc) refl
 
-pub input_lines_end : (text : List ℕ) (i n : ℕ) → n ≤ i → text ≡ text ++ lines_text (input_lines i (n - i))
+pub input_lines_end : (text : List ℕ) (i n : ℕ) → n ≤ i →
+    text ≡ text ++ lines_text (input_lines i (n - i))
 unfolding lines_text
 input_lines_end text i n h =
     let left : n - i ≡ 0 = omega arith in

@@ -125,7 +125,8 @@ exits (Exits status) = true
 exits (Traps t) = false
 exits (Cut cause) = false
 
--- what is to come when so many inputs, nodes or outputs were read: one more, or what stands behind them
+-- what is to come when so many inputs, nodes or outputs were read: one more, or what stands behind
+-- them
 abbrev pub behind_inputs : Reading → Spot
 behind_inputs r = if r.declared == r.inputs then AtBase else AmongInputs
 
@@ -133,7 +134,9 @@ abbrev pub behind_outputs : Reading → Spot
 behind_outputs r = if length r.outputs == r.output_count then AmongAssertions else AmongOutputs
 
 abbrev pub behind_nodes : Reading → Spot
-behind_nodes r = if length r.nodes == r.node_count then if exits r.end then AtStatus else behind_outputs r else AmongNodes
+behind_nodes r =
+    if length r.nodes == r.node_count then (if exits r.end then AtStatus else behind_outputs r)
+    else AmongNodes
 
 -- the term is that wide
 abbrev pub is_wide : Reading → ℕ → ℕ → Bool
@@ -142,7 +145,8 @@ is_wide r id width = width_of (graph_of r) id == width
 -- the node is the next, it fits, and this is its width
 abbrev pub is_next_node : Reading → ℕ → ℕ → Node → Bool
 is_next_node r id width node =
-    (id == length r.nodes) && fits r.inputs (widths_of r.nodes) node && (width == node_width (widths_of r.nodes) node)
+    (id == length r.nodes) && fits r.inputs (widths_of r.nodes) node
+    && (width == node_width (widths_of r.nodes) node)
 
 -- Whether the line may stand at this place, after what was read.
 abbrev pub stands : Spot → Reading → LeafLine → Bool
@@ -206,7 +210,8 @@ unfoldable pub read_lines : Reading → List LeafLine → Option Reading
 read_lines r [] = Some r
 read_lines r (line ∷ lines) = option_and_then (λ next. read_lines next lines) (next_state r line)
 
--- the lines may each stand after those before it, the last is `(exit)`, and this is the leaf that they say
+-- the lines may each stand after those before it, the last is `(exit)`, and this is the leaf that
+-- they say
 pub record ReadAs (lines : List LeafLine) (leaf : Leaf) : Type 0 where
   pub reading : Reading
   pub all_stand : read_lines start lines ≡ Some reading

@@ -17,7 +17,8 @@ input_lines i (suc more) = InputLine i ∷ input_lines (i + 1) more
 
 -- each node by its place
 abbrev pub node_lines : Graph → List LeafLine
-node_lines graph = map (λ (id, node). NodeLine id (width_of graph id) node) (enumerate_from 0 graph.nodes)
+node_lines graph =
+    map (λ (id, node). NodeLine id (width_of graph id) node) (enumerate_from 0 graph.nodes)
 
 -- the status, where the runs exit
 abbrev pub status_lines : LeafEnd → List LeafLine
@@ -47,7 +48,8 @@ counts_heading inputs nodes outputs = InputsLine inputs ∷ NodesLine nodes ∷ 
 abbrev pub heading : Leaf → List LeafLine
 heading leaf =
     runs_heading leaf.choices leaf.path leaf.steps leaf.end
-    ++ counts_heading leaf.condition.graph.inputs (length leaf.condition.graph.nodes) (length leaf.outputs)
+    ++ counts_heading leaf.condition.graph.inputs (length leaf.condition.graph.nodes)
+    (length leaf.outputs)
 
 -- the inputs, and what is defined over them
 abbrev pub definitions : Graph → LeafEnd → (outputs : List ℕ) → List LeafLine
@@ -63,7 +65,9 @@ assertions leaf = map AssertLine leaf.condition.asserted
 
 -- all of them
 unfoldable pub leaf_lines : Leaf → List LeafLine
-leaf_lines leaf = heading leaf ++ definitions leaf.condition.graph leaf.end leaf.outputs ++ assertions leaf ++ (CheckLine ∷ ExitLine ∷ [])
+leaf_lines leaf =
+    heading leaf ++ definitions leaf.condition.graph leaf.end leaf.outputs ++ assertions leaf
+    ++ (CheckLine ∷ ExitLine ∷ [])
 
 -- the text
 unfoldable pub leaf_text : Leaf → List ℕ

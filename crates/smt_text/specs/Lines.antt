@@ -1,4 +1,5 @@
--- The lines of a leaf's text, in SMT-LIB's logic QF_ABV (theories FixedSizeBitVectors and ArraysEx).
+-- The lines of a leaf's text, in SMT-LIB's logic QF_ABV (theories FixedSizeBitVectors and
+-- ArraysEx).
 use Rattle.std.specs.Prelude.{ℕ, List, ◌++◌, codes, decimal}
 use Rattle.std.specs.List.{flat_map}
 use Rattle.bv_dag.specs.declared.nodes.Node.{Node}
@@ -48,9 +49,13 @@ line_text (OutputsLine outputs) = codes "; outputs " ++ decimal outputs ++ codes
 line_text LogicLine = codes "(set-logic QF_ABV)\n"
 line_text (InputLine i) = codes "(declare-fun b" ++ decimal i ++ codes " () (_ BitVec 8))\n"
 line_text BaseLine = codes "(declare-fun base () (Array (_ BitVec 8) (_ BitVec 8)))\n"
-line_text (NodeLine id width node) = codes "(define-fun n" ++ decimal id ++ codes " () (_ BitVec " ++ decimal width ++ codes ") " ++ node_text node ++ codes ")\n"
-line_text (StatusLine id) = codes "(define-fun status () (_ BitVec 8) n" ++ decimal id ++ codes ")\n"
-line_text (OutputLine i id) = codes "(define-fun out" ++ decimal i ++ codes " () (_ BitVec 8) n" ++ decimal id ++ codes ")\n"
+line_text (NodeLine id width node) =
+    codes "(define-fun n" ++ decimal id ++ codes " () (_ BitVec " ++ decimal width ++ codes ") "
+    ++ node_text node ++ codes ")\n"
+line_text (StatusLine id) =
+    codes "(define-fun status () (_ BitVec 8) n" ++ decimal id ++ codes ")\n"
+line_text (OutputLine i id) =
+    codes "(define-fun out" ++ decimal i ++ codes " () (_ BitVec 8) n" ++ decimal id ++ codes ")\n"
 line_text (AssertLine id) = codes "(assert (= n" ++ decimal id ++ codes " (_ bv1 1)))\n"
 line_text CheckLine = codes "(check-sat)\n"
 line_text ExitLine = codes "(exit)\n"

@@ -28,7 +28,8 @@ step_text (Target target) = codes "@" ++ eight_digits target
 abbrev pub path_text : List PathStep → List ℕ
 path_text path = flat_map step_text path
 
--- a choice: the side of a branch, a value of a term, or none of the values that have a side of their own
+-- a choice: the side of a branch, a value of a term, or none of the values that have a side of
+-- their own
 abbrev pub choice_text : Choice → List ℕ
 choice_text No = codes "N"
 choice_text Yes = codes "Y"

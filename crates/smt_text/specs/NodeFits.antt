@@ -21,5 +21,8 @@ fits inputs before (Binary op a b) = are_as_wide before a b
 fits inputs before (Compare op a b) = are_as_wide before a b
 fits inputs before (Ite c a b) = (slice_index before c == 1) && are_as_wide before a b
 fits inputs before (Extract high low a) = nat_le low high && nat_lt high (slice_index before a)
-fits inputs before (Extend by signed a) = is_earlier before a && nat_le 1 by && nat_le (slice_index before a + by) 64
-fits inputs before (Concat a b) = is_earlier before a && is_earlier before b && nat_le (slice_index before a + slice_index before b) 64
+fits inputs before (Extend by signed a) =
+    is_earlier before a && nat_le 1 by && nat_le (slice_index before a + by) 64
+fits inputs before (Concat a b) =
+    is_earlier before a && is_earlier before b
+    && nat_le (slice_index before a + slice_index before b) 64

@@ -32,13 +32,23 @@ extension_name false = codes "zero_extend"
 
 -- the term of a node, whose operands are named by their numbers
 abbrev pub node_text : Node → List ℕ
-node_text (Num width value) = codes "(_ bv" ++ decimal value ++ codes " " ++ decimal width ++ codes ")"
+node_text (Num width value) =
+    codes "(_ bv" ++ decimal value ++ codes " " ++ decimal width ++ codes ")"
 node_text (Input i) = codes "b" ++ decimal i
 node_text (Not a) = codes "(bvnot n" ++ decimal a ++ codes ")"
 node_text (Neg a) = codes "(bvneg n" ++ decimal a ++ codes ")"
-node_text (Binary op a b) = codes "(" ++ binary_name op ++ codes " n" ++ decimal a ++ codes " n" ++ decimal b ++ codes ")"
-node_text (Compare op a b) = codes "(ite (" ++ comparison_name op ++ codes " n" ++ decimal a ++ codes " n" ++ decimal b ++ codes ") (_ bv1 1) (_ bv0 1))"
-node_text (Ite c a b) = codes "(ite (= n" ++ decimal c ++ codes " (_ bv1 1)) n" ++ decimal a ++ codes " n" ++ decimal b ++ codes ")"
-node_text (Extract high low a) = codes "((_ extract " ++ decimal high ++ codes " " ++ decimal low ++ codes ") n" ++ decimal a ++ codes ")"
-node_text (Extend by signed a) = codes "((_ " ++ extension_name signed ++ codes " " ++ decimal by ++ codes ") n" ++ decimal a ++ codes ")"
+node_text (Binary op a b) =
+    codes "(" ++ binary_name op ++ codes " n" ++ decimal a ++ codes " n" ++ decimal b ++ codes ")"
+node_text (Compare op a b) =
+    codes "(ite (" ++ comparison_name op ++ codes " n" ++ decimal a ++ codes " n" ++ decimal b
+    ++ codes ") (_ bv1 1) (_ bv0 1))"
+node_text (Ite c a b) =
+    codes "(ite (= n" ++ decimal c ++ codes " (_ bv1 1)) n" ++ decimal a ++ codes " n" ++ decimal b
+    ++ codes ")"
+node_text (Extract high low a) =
+    codes "((_ extract " ++ decimal high ++ codes " " ++ decimal low ++ codes ") n" ++ decimal a
+    ++ codes ")"
+node_text (Extend by signed a) =
+    codes "((_ " ++ extension_name signed ++ codes " " ++ decimal by ++ codes ") n" ++ decimal a
+    ++ codes ")"
 node_text (Concat a b) = codes "(concat n" ++ decimal a ++ codes " n" ++ decimal b ++ codes ")"

@@ -3,4 +3,5 @@ use Rattle.smt_text.specs.Lines.{AssertLine, lines_text}
 use Rattle.smt_text.proofs.lines.assert_lines.Given as goal
 
 abbrev pub invariant-loop-id : goal.invariant-loop-id
-invariant-loop-id l = string_bytes l.lines ≡ lines_text (map AssertLine (take l.id-index l.asserted))
+invariant-loop-id l =
+    string_bytes l.lines ≡ lines_text (map AssertLine (take l.id-index l.asserted))

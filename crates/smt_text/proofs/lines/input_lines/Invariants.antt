@@ -4,4 +4,6 @@ use Rattle.smt_text.specs.Lines.{lines_text}
 use Rattle.smt_text.proofs.lines.input_lines.Given as goal
 
 abbrev pub invariant-loop-i : goal.invariant-loop-i
-invariant-loop-i l = string_bytes l.lines ++ lines_text (input_lines l.i (l.inputs - l.i)) ≡ lines_text (input_lines 0 l.inputs)
+invariant-loop-i l =
+    string_bytes l.lines ++ lines_text (input_lines l.i (l.inputs - l.i))
+    ≡ lines_text (input_lines 0 l.inputs)

@@ -12,10 +12,12 @@ pub loop-id-preserved : goal.loop-id-preserved
 loop-id-preserved c =
     let graph = c.args.dag.now in
     let id = c.loop-id.id in
-    let line : string_bytes c.in_ok-line.line ≡ line_text (NodeLine id (width_of graph id) (get_or graph.nodes id (Num 0 0))) =
+    let line : string_bytes c.in_ok-line.line
+    ≡ line_text (NodeLine id (width_of graph id) (get_or graph.nodes id (Num 0 0))) =
     c.in_ok-line.ensures
     ∙ ap (λ width. line_text (NodeLine id width (get_or c.nodes-node-items.result.now id (Num 0 0)))) c.width_of.ensures.value
     ∙ ap (λ nodes. line_text (NodeLine id (width_of graph id) (get_or nodes id (Num 0 0)))) c.nodes-node-items.ensures.value
     in
-    let there : id < length graph.nodes = rw c.nodes-node-items.ensures.value at c.loop-id-test.true in
+    let there : id < length graph.nodes =
+    rw c.nodes-node-items.ensures.value at c.loop-id-test.true in
     numbered_step (λ (id, node). NodeLine id (width_of graph id) node) graph.nodes id (Num 0 0) _ _ there c.loop-id.invariant (pushed _ _ _ _ c.in_ok-push_str.ensures.bytes (c.deref.ensures ∙ line))

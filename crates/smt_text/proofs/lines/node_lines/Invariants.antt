@@ -6,4 +6,5 @@ use Rattle.smt_text.proofs.lines.node_lines.Given as goal
 
 abbrev pub invariant-loop-id : goal.invariant-loop-id
 invariant-loop-id l =
-    string_bytes l.lines ≡ lines_text (map (λ (id, node). NodeLine id (width_of l.dag id) node) (enumerate_from 0 (take l.id l.dag.nodes)))
+    string_bytes l.lines
+    ≡ lines_text (map (λ (id, node). NodeLine id (width_of l.dag id) node) (enumerate_from 0 (take l.id l.dag.nodes)))

@@ -11,15 +11,22 @@ returns c =
     let condition = c.args.condition.now in
     let outputs = c.args.outputs.now in
     let graph : c.dag-dag.result.now ≡ condition.graph = c.dag-dag.ensures in
-    let inputs : c.inputs.result ≡ condition.graph.inputs = c.inputs.ensures ∙ ap (λ (g : Graph). g.inputs) graph in
-    let nodes : c.len.result ≡ length condition.graph.nodes = c.len.ensures ∙ ap (λ (g : Graph). length g.nodes) graph in
-    let counts : string_bytes c.in_ok-counts.counts ≡ lines_text (counts_heading condition.graph.inputs (length condition.graph.nodes) (length outputs)) =
+    let inputs : c.inputs.result ≡ condition.graph.inputs =
+    c.inputs.ensures ∙ ap (λ (g : Graph). g.inputs) graph in
+    let nodes : c.len.result ≡ length condition.graph.nodes =
+    c.len.ensures ∙ ap (λ (g : Graph). length g.nodes) graph in
+    let counts : string_bytes c.in_ok-counts.counts
+    ≡ lines_text (counts_heading condition.graph.inputs (length condition.graph.nodes) (length outputs)) =
     c.in_ok-counts.ensures
     ∙ ap (λ n. lines_text (counts_heading n c.len.result (length outputs))) inputs
     ∙ ap (λ n. lines_text (counts_heading condition.graph.inputs n (length outputs))) nodes in
-    let defined : string_bytes c.in_ok-defined.defined ≡ lines_text (definitions condition.graph c.args.end outputs) =
+    let defined : string_bytes c.in_ok-defined.defined
+    ≡ lines_text (definitions condition.graph c.args.end outputs) =
     c.in_ok-defined.ensures ∙ ap (λ g. lines_text (definitions g c.args.end outputs)) graph in
-    let asserted : string_bytes c.in_ok-asserted.asserted ≡ lines_text (map AssertLine condition.asserted) =
-    c.in_ok-asserted.ensures ∙ ap (λ ids. lines_text (map AssertLine ids)) c.asserted.ensures.value in
-    c.from_vec.ensures ∙ ap (λ (v : Vec ℕ Global). v.items) c.into_bytes.ensures.value ∙ c.in_ok-text.ensures.ok
+    let asserted : string_bytes c.in_ok-asserted.asserted
+    ≡ lines_text (map AssertLine condition.asserted) =
+    c.in_ok-asserted.ensures
+    ∙ ap (λ ids. lines_text (map AssertLine ids)) c.asserted.ensures.value in
+    c.from_vec.ensures ∙ ap (λ (v : Vec ℕ Global). v.items) c.into_bytes.ensures.value
+    ∙ c.in_ok-text.ensures.ok
     ∙ whole_text _ _ _ _ _ _ _ _ c.in_ok-runs.ensures counts defined asserted
