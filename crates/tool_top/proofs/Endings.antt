@@ -9,7 +9,7 @@ use Rattle.tool_io.proofs.Since.{names_since-after, puts_since-after, said_since
 use Rattle.elf_load.specs.declared.region.Region.{Region}
 use Rattle.tool_words.specs.Job.{Job, Explore, Replay}
 use Rattle.tool_top.specs.Lines.{no_memory}
-use Rattle.tool_top.specs.Plan.{Plan, names_of, IsPlan, IsPlanned, IsReported, Means, OnlyReads, most_bytes}
+use Rattle.tool_top.specs.Plan.{Plan, names_of, IsPlan, IsPlanned, IsReadFault, IsReported, IsRefusal, IsMisfit, Means, OnlyReads, most_bytes}
 use Rattle.elf_load.specs.Images.{Image, Loads}
 use Rattle.elf_load.proofs.OneImage.{one_image}
 use Rattle.tree_core.specs.declared.budgets.Budgets.{Budgets}
@@ -43,11 +43,21 @@ plan_names old new job plan (inl means) = means_names old.told job plan means
 plan_names old new job plan (inr (rose, fault)) = fault.0
 
 -- The verdict of a plan says which plan it is.
+left_of : {A B : Type 0} → A ⊎ B → (B → ⊥) → A
+left_of (inl a) not_right = a
+left_of (inr b) not_right = absurd (not_right b)
+
+not_done : (bytes : List ℕ) (asked : List Region) (verdict : Verdict) (puts : List Put) (text : List ℕ) → verdict ≡ Done → IsRefusal bytes verdict puts text ⊎ IsMisfit bytes asked verdict puts text → ⊥
+not_done bytes asked verdict puts text done (inl refusal) = let other = refusal.refused in cc
+not_done bytes asked verdict puts text done (inr misfit) = let other = misfit.is in cc
+
+not_fault : (old new : Seen) (job : Option Job) (plan : Plan) → plan.verdict ≡ Done → Rose old.reads new.reads × IsReadFault job plan → ⊥
+not_fault old new job plan done (rose, (begins, is)) = let other : plan.verdict ≡ ReadFault = ap (λ (p : Plan). p.verdict) is in cc
+
 done_reported : (old new : Seen) (program out : List ℕ) (asked : List Region) (budgets : Budgets) (workers : ℕ) (plan : Plan) → plan.verdict ≡ Done → IsPlan old new (Some (Explore program out asked budgets workers)) plan → (bytes : List ℕ) × Gives old.told program most_bytes bytes × IsReported out bytes asked budgets workers plan.verdict plan.puts plan.text
-done_reported old new program out asked budgets workers plan done (inl (bytes, given, names, inl report)) = (bytes, given, report)
-done_reported old new program out asked budgets workers plan done (inl (bytes, given, names, inr (inl refusal))) = let other = refusal.refused in cc
-done_reported old new program out asked budgets workers plan done (inl (bytes, given, names, inr (inr misfit))) = let other = misfit.is in cc
-done_reported old new program out asked budgets workers plan done (inr (rose, (begins, is))) = let other : plan.verdict ≡ ReadFault = ap (λ (p : Plan). p.verdict) is in cc
+done_reported old new program out asked budgets workers plan done planned =
+    let means : Means old.told (Some (Explore program out asked budgets workers)) plan = left_of planned (not_fault old new (Some (Explore program out asked budgets workers)) plan done) in
+    (means.0, means.1, left_of means.3 (not_done means.0 asked plan.verdict plan.puts plan.text done))
 
 refused_refusal : (old new : Seen) (program out : List ℕ) (asked : List Region) (budgets : Budgets) (workers : ℕ) (plan : Plan) → plan.verdict ≡ Refused → IsPlan old new (Some (Explore program out asked budgets workers)) plan → (bytes : List ℕ) × Gives old.told program most_bytes bytes × ((image : Image) → ¬ IsTaken bytes image)
 refused_refusal old new program out asked budgets workers plan refused (inl (bytes, given, names, inl report)) = let other = report.done in cc

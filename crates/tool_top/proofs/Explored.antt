@@ -1,6 +1,6 @@
 -- A tree that its worker has drained gives the report of its program.
-use Rattle.std.proofs.Common.{◌≡◌, ◌∷◌, ℕ, ◌<◌, ◌≤◌, ◌++◌, IsTrue, true, [], refl, sym, ap, subst, ◌∙◌, arith}
-use Rattle.std.specs.Prelude.{List, All, Bool, Some}
+use Rattle.std.proofs.Common.{◌≡◌, ℕ, ◌<◌, ◌≤◌, ◌++◌, IsTrue, true, refl, sym, ap, subst, ◌∙◌, arith}
+use Rattle.std.specs.Prelude.{List, All, Bool, Option, Some}
 use Rattle.elf_load.specs.declared.region.Region.{Region}
 use Rattle.rv_spec.specs.Memory.{IsAssignment}
 use Rattle.tree_core.specs.Covers.{covered, root_content}
@@ -35,7 +35,7 @@ rooted : (regions : List Region) (root : Symbolic) (old new : Story (Content Sym
     → ((input : List ℕ) → IsAssignment regions input → IsTrue ((run_place root).covers input))
     → GrowsBy 0 old new → (input : List ℕ) → IsAssignment regions input → covered covers_at (root_content new) input ≡ true
 rooted regions root old new (Open a, is, same) whole grows input assigned =
-    ap (λ nodes. covered covers_at (root_content (record { nodes = nodes; events = new.events })) input) (grows.1.1.0 ∙ ap (λ (s : Story (Content Symbolic Part)). s.nodes ++ grows.0) is)
+    ap (λ nodes. covered covers_at (root_content (record { nodes = nodes; events = new.events })) input) (grows.2 ∙ ap (λ (s : Story (Content Symbolic Part)). s.nodes ++ grows.0) is)
     ∙ ap (λ (r : Symbolic). (run_place r).covers input) same ∙ whole input assigned
 rooted regions root old new (Shut l, is, same) whole grows input assigned = absurd same
 
@@ -43,8 +43,8 @@ rooted regions root old new (Shut l, is, same) whole grows input assigned = absu
 by_few : (root : Symbolic) (old new : Story (Content Symbolic Part)) (workers : ℕ) → 1 ≤ workers → IsOpening root old → GrowsBy 0 old new
     → All (λ (e : Event (Content Symbolic Part) ℕ). e.by < workers) new.events
 by_few root old new workers some opens grows =
-    subst (All (λ (e : Event (Content Symbolic Part) ℕ). e.by < workers)) (sym (grows.1.1.1.0 ∙ ap (λ (s : Story (Content Symbolic Part)). s.events ++ grows.1.0) opens.1.0))
-    (λ k d lt. let zero : _ ≡ 0 = grows.1.1.1.1 k d lt in omega (arith, zero, some))
+    subst (All (λ (e : Event (Content Symbolic Part) ℕ). e.by < workers)) (sym (grows.3 ∙ ap (λ (s : Story (Content Symbolic Part)). s.events ++ grows.1) opens.1))
+    (λ k d lt. let zero : _ ≡ 0 = grows.4 k d lt in omega (arith, zero, some))
 
 module _ (p : Program) (budgets : Budgets) where
   -- what the worker asks of leaves is what is claimed of them
@@ -68,16 +68,18 @@ module _ (p : Program) (budgets : Budgets) where
     entries = entries_of asked 0 made.leaves;
     claims = subst (λ (rs : List Region). IsReport p.image rs budgets workers (lines_of (cut_in (λ (part : Part). cause_of part.leaf.end)) new) (entries_of rs 0 made.leaves)) (sym same)
         (are_a_report (λ (part : Part). part) (rules_of p budgets.steps budgets.targets) run_place leaf_place p.image (regions_of p) budgets asks new drained
-            (entries_of (regions_of p) 0 made.leaves) are (rooted (regions_of p) root old new opens whole grows) workers (by_few root old new workers some opens grows));
+        (entries_of (regions_of p) 0 made.leaves) are (rooted (regions_of p) root old new opens whole grows) workers (by_few root old new workers some opens grows));
     files = made.files;
     summary = made.summary;
   }
     where
+      HasIt : Option (Content Symbolic Part) → ℕ → Type 0
+      HasIt held node = HasLeaf {S = Symbolic} {L = Part} (IsLeafRight (rules_of p budgets.steps budgets.targets) new node) held
+
       right_at : (node : ℕ) (part : Part) → IsLeafAt (λ (x : Part). x) new node part → IsReportable part
-      right_at node part at = subst IsReportable at.same (reportable p.image (regions_of p) budgets.steps budgets.targets here.sides at.leaf here.right)
-        where
-          here : HasLeaf (IsLeafRight (rules_of p budgets.steps budgets.targets) new node) (Some (Shut at.leaf))
-          here = subst (HasLeaf (IsLeafRight (rules_of p budgets.steps budgets.targets) new node)) at.held (drained.leaves node at.within at.is_leaf)
+      right_at node part at =
+          let here : HasIt (Some (Shut at.leaf)) node = subst (λ held. HasIt held node) at.held (drained.leaves node at.within at.is_leaf) in
+          subst IsReportable at.same (reportable p.image (regions_of p) budgets.steps budgets.targets here.sides at.leaf here.right)
 
       are : AreEntries (λ (part : Part). part) (regions_of p) new (entries_of (regions_of p) 0 made.leaves)
       are = are_entries (λ (part : Part). part) (regions_of p) new made.leaves made.by_rank (λ rank l at. right_at l.node l.part.now (made.by_rank.each rank l at))

@@ -13,7 +13,7 @@ use Rattle.tool_words.specs.Job.{Job}
 use Rattle.elf_load.proofs.OneImage.{one_image}
 use Rattle.tree_core.specs.declared.budgets.Budgets.{Budgets}
 use Rattle.tool_top.specs.Later.{IsTaken, IsInput, IsDataByte, HasLaterWord}
-use Rattle.sym_state.specs.Programs.{IsRunnable}
+use Rattle.sym_state.specs.Programs.{IsRunnable, regions_of}
 use Rattle.tool_top.specs.Reports.{IsReportOf}
 use Rattle.tool_top.proofs.Running.{runnable}
 use Rattle.tool_top.specs.Lines.{refused_line, unfit_line, usage}
@@ -83,6 +83,10 @@ input_of image asked slice place fits same byte = record { fits = fits; byte = s
 -- so it can be run
 pub runs_here : (bytes : List ℕ) (image : Image) (asked slice : List Region) (place : ℕ) → IsTaken bytes image → unfit image asked ≡ None → slice ≡ asked → IsDataByte image slice place → IsRunnable (record { image = image; place = place })
 runs_here bytes image asked slice place taken fits same byte = runnable image asked place taken.none_later (input_of image asked slice place fits same byte)
+
+-- its input byte is the region that was asked
+pub asked_here : (image : Image) (asked slice : List Region) (place : ℕ) → slice ≡ asked → IsDataByte image slice place → asked ≡ regions_of (record { image = image; place = place })
+asked_here image asked slice place same byte = sym same ∙ byte.one_byte
 
 -- the report of a program that is taken, for an input that is taken
 pub treats_reported : (out bytes : List ℕ) (asked slice : List Region) (budgets : Budgets) (workers : ℕ) (image : Image) (place : ℕ) (made : Result Made AllocError) → IsTaken bytes image → unfit image asked ≡ None → slice ≡ asked → IsDataByte image slice place → IfOk made (λ q. q.verdict ≡ Done) → IfOk made (λ q. IsReportOf out image asked budgets workers q.files.items q.text) → IfOk made (λ q. Treats out bytes asked budgets workers q.verdict q.files.items q.text)

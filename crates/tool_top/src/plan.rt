@@ -21,8 +21,8 @@ use report_text::make_report;
 use std::alloc::{AllocError as NoMemory, Global};
 use sym_state::{Program, State};
 use tool_io::{Bytes, Fault, Files, NamedFile};
-use tree_core::Budgets;
 use tool_words::{Job, WordsError, read_words};
+use tree_core::Budgets;
 
 // The most bytes of a program's file that are read.
 pub(crate) const MOST_BYTES: usize = 1_048_577;

@@ -1,12 +1,20 @@
-use Rattle.std.proofs.Common.{sym, subst}
-use Rattle.sym_state.specs.Programs.{IsRunnable}
-use Rattle.tool_top.proofs.Plans.{no_data_byte, runs_here, treats_misfit, treats_reported, unfit_other}
+use Rattle.std.proofs.Common.{sym, subst, ap, ◌∙◌}
+use Rattle.std.specs.Prelude.{IfOk}
+use Rattle.sym_state.specs.Programs.{IsRunnable, regions_of}
+use Rattle.node_split.specs.Rules.{Worker}
+use Rattle.tool_top.specs.Reports.{IsReportOf}
+use Rattle.tool_top.proofs.Plans.{asked_here, no_data_byte, runs_here, treats_misfit, treats_reported, unfit_other}
 use Rattle.tool_top.proofs.plan.plan_taken.Goals as goal
 
-pub plan_report-requires-clause-runnable : goal.plan_report-requires-clause-runnable
-plan_report-requires-clause-runnable c =
+pub new-worker-requires-clause-runnable : goal.new-worker-requires-clause-runnable
+new-worker-requires-clause-runnable c =
     subst IsRunnable (sym c.new.ensures)
     (runs_here _ _ _ _ _ c.requires.taken (sym c.in-Ok.ensures) c.as_slice.ensures c.in-Some.ensures.some)
+
+pub plan_report-requires-clause-asked : goal.plan_report-requires-clause-asked
+plan_report-requires-clause-asked c =
+    asked_here _ _ _ _ c.as_slice.ensures c.in-Some.ensures.some
+    ∙ ap regions_of (sym c.new.ensures) ∙ ap (λ (w : Worker). regions_of w.program) (sym c.new-worker.ensures)
 
 pub returns-in-Err : goal.returns-in-Err
 returns-in-Err c =
@@ -20,5 +28,6 @@ returns-in-None c =
 
 pub returns-in-Some : goal.returns-in-Some
 returns-in-Some c =
-    treats_reported _ _ _ _ _ _ _ _ _ c.plan_report-in-Some.result c.requires.taken (sym c.in-Ok.ensures) c.as_slice.ensures c.in-Some.ensures.some c.new.ensures
-    c.plan_report-in-Some.ensures.verdict c.plan_report-in-Some.ensures.report
+    treats_reported _ _ _ _ _ _ _ _ c.plan_report.result c.requires.taken (sym c.in-Ok.ensures) c.as_slice.ensures c.in-Some.ensures.some c.plan_report.ensures.verdict
+    (subst (λ (w : Worker). IfOk c.plan_report.result (λ q. IsReportOf c.args.out.now w.program.image c.args.asked.now w.budgets c.args.workers q.files.items q.text))
+    (c.new-worker.ensures ∙ ap (λ p. record { program = p; budgets = c.args.budgets }) c.new.ensures) c.plan_report.ensures.report)
