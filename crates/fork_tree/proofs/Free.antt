@@ -109,27 +109,21 @@ listed-push k m ms =
 -- kid by kid
 pub born-at : {R : Type 0} (kids : List (Kid R)) (i n : ℕ) (d : Kid R) → i < length kids →
     born_free n (drop i kids) ≡ cond (get_or kids i d).is_leaf
-    (born_free (n + 1) (drop (i + 1) kids)) (n ∷ born_free (n + 1) (drop (i + 1) kids))
+    (born_free (n + 1) (drop (i + 1) kids)) (born_free (n + 1) (drop (i + 1) kids) ++ n ∷ [])
 born-at [] i n d lt = absurd (omega arith)
 born-at (x ∷ xs) zero n d lt = refl
 born-at {R} (x ∷ xs) (suc i) n d lt =
     let on : i + 1 ≡ suc i = omega arith in let more : suc (i + 1) ≡ suc i + 1 = omega arith in
     born-at xs i n d (omega arith)
     ∙ ap (λ (j : ℕ). cond (get_or xs i d).is_leaf (born_free (n + 1) (drop j (x ∷ xs)))
-    (n ∷ born_free (n + 1) (drop j (x ∷ xs)))) more
-
-pub listed-one : (free more others rest : List ℕ) (n : ℕ) → more ≡ free ++ n ∷ [] →
-    rest ≡ n ∷ others → more ++ others ≡ free ++ rest
-listed-one free more others rest n e r =
-    ap (λ l. l ++ others) e ∙ (append_assoc free (n ∷ []) others ∙ ap (λ l. free ++ l) (sym r))
+    (born_free (n + 1) (drop j (x ∷ xs)) ++ n ∷ [])) more
 
 -- kids are numbered from n on
 low_by_leaf : (n k : ℕ) (later : List ℕ) (b : Bool) → k < n → times_listed k later ≡ 0 →
-    times_listed k (cond b later (n ∷ later)) ≡ 0
+    times_listed k (cond b later (later ++ n ∷ [])) ≡ 0
 low_by_leaf n k later true lt none = none
 low_by_leaf n k later false lt none =
-    sum_by-cons (λ (x : ℕ). cond (eqb x k) 1 0) n later
-    ∙ (λ i. one_if (ne_eqb n k (λ is. omega arith) i) + none i)
+    listed-push k n later ∙ (λ i. none i + one_if (ne_eqb n k (λ is. omega arith) i))
 
 pub born-low : {R : Type 0} (kids : List (Kid R)) (n k : ℕ) → k < n →
     times_listed k (born_free n kids) ≡ 0
@@ -138,23 +132,22 @@ born-low {R} (kid ∷ kids) n k lt =
     low_by_leaf n k (born_free (n + 1) kids) kid.is_leaf lt (born-low kids (n + 1) k (omega arith))
 
 here_by_leaf : (n : ℕ) (later : List ℕ) (b : Bool) → times_listed (n + 0) later ≡ 0 →
-    times_listed (n + 0) (cond b later (n ∷ later)) ≡ one_if (not b)
+    times_listed (n + 0) (cond b later (later ++ n ∷ [])) ≡ one_if (not b)
 here_by_leaf n later true none = none
 here_by_leaf n later false none =
     let here : n ≡ n + 0 = omega arith in
-    sum_by-cons (λ (x : ℕ). cond (eqb x (n + 0)) 1 0) n later
-    ∙ (λ i. one_if (eq-eqb n (n + 0) here i) + none i)
+    listed-push (n + 0) n later ∙ (λ i. none i + one_if (eq-eqb n (n + 0) here i))
 
 later_by_leaf : (n k m : ℕ) (later : List ℕ) (b : Bool) → n < k → times_listed k later ≡ m →
-    times_listed k (cond b later (n ∷ later)) ≡ m
+    times_listed k (cond b later (later ++ n ∷ [])) ≡ m
 later_by_leaf n k m later true lt is = is
 later_by_leaf n k m later false lt is =
-    sum_by-cons (λ (x : ℕ). cond (eqb x k) 1 0) n later
-    ∙ (ap (λ b. one_if b + times_listed k later) (ne_eqb n k (λ same. omega arith))
-    ∙ (zero_left (times_listed k later) ∙ is))
+    listed-push k n later
+    ∙ (ap (λ b. times_listed k later + one_if b) (ne_eqb n k (λ same. omega arith))
+    ∙ (zero_right (times_listed k later) ∙ is))
   where
-    zero_left : (a : ℕ) → 0 + a ≡ a
-    zero_left a = omega arith
+    zero_right : (a : ℕ) → a + 0 ≡ a
+    zero_right a = omega arith
 
 pub born-listed : {R : Type 0} (kids : List (Kid R)) (n i : ℕ) →
     times_listed (n + i) (born_free n kids) ≡ one_if (kid_free (slice_get kids i))

@@ -1,5 +1,5 @@
 -- A tree as a story with room for more, and what its fields keep.
-use Rattle.std.specs.Prelude.{◌≡◌, ℕ, ◌+◌, ◌<◌, ◌==◌, ◌^◌, Bool, false, if◌then◌else◌, Option, Some, None, List, [], ◌∷◌, length, slice_get, count_by}
+use Rattle.std.specs.Prelude.{◌≡◌, ◌++◌, ℕ, ◌+◌, ◌<◌, ◌==◌, ◌^◌, Bool, false, if◌then◌else◌, Option, Some, None, List, [], ◌∷◌, length, slice_get, count_by}
 use Rattle.tree_core.specs.Stories.{Story, status}
 use Rattle.tree_core.specs.Covers.{one_if}
 use Rattle.tree_core.specs.Replays.{is_free}
@@ -48,11 +48,11 @@ module _ {R : Type 0} where
   abbrev pub stands_free : Story R → ℕ → Bool
   stands_free s m = free_if_there (slice_get s.nodes m) (status s m)
 
-  -- the numbers of the kids that are free, the first of which has this one
+  -- the numbers of the kids that are free, from the last to the first, which has this one
   abbrev pub born_free : ℕ → List (Kid R) → List ℕ
   born_free n [] = []
   born_free n (kid ∷ kids) =
-      if kid.is_leaf then born_free (n + 1) kids else (n ∷ born_free (n + 1) kids)
+      if kid.is_leaf then born_free (n + 1) kids else (born_free (n + 1) kids ++ n ∷ [])
 
 -- how often a number is in a list
 abbrev pub times_listed : ℕ → List ℕ → ℕ

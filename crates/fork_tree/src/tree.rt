@@ -256,7 +256,7 @@ fn note<R: Cover>(core: &mut Core<R>, event: Event<R>)
     }
 }
 
-// Lists the kids that are free, the first of which gets this number.
+// Lists the kids that are free, so that the first of them, which gets this number, is claimed first.
 fn list_kids<R>(free: &mut Vec<usize>, first: usize, kids: &[Kid<R>])
     requires room { vec_len free.old + length kids.now ≤ vec_capacity free.old }
     requires fits { first + length kids.now < 2 ^ 64 }
@@ -264,11 +264,9 @@ fn list_kids<R>(free: &mut Vec<usize>, first: usize, kids: &[Kid<R>])
     ensures long { vec_len free.new ≤ vec_len free.old + length kids.now }
     ensures capacity { vec_capacity free.new ≡ vec_capacity free.old }
 {
-    let mut next = first;
-    for kid in kids {
-        if !kid.is_leaf {
-            free.push_reserved(next);
+    for i in (0..kids.len()).rev() {
+        if !kids[i].is_leaf {
+            free.push_reserved(first + i);
         }
-        next += 1;
     }
 }

@@ -91,7 +91,7 @@ const ROWS: [Row; 6] = [
             (
                 0,
                 "out/events.txt",
-                "claim 0 0\nsplit 0 0 1 N Y\nclaim 0 2\nfinish 0 2\nclaim 0 1\nfinish 0 1\n",
+                "claim 0 0\nsplit 0 0 1 N Y\nclaim 0 1\nfinish 0 1\nclaim 0 2\nfinish 0 2\n",
             ),
             (
                 1,
