@@ -5,6 +5,7 @@ ghost use Rattle.rv_spec.specs.Runs.{Run};
 ghost use Rattle.replay_core.specs.Differences.{difference_text};
 ghost use Rattle.replay_core.specs.Replays.{IsWhatRan};
 
+use itoa::Buffer;
 use rv_machine::Ran;
 use smt_text::write_path;
 use std::alloc::{AllocError as NoMemory, Global};
@@ -17,7 +18,8 @@ pub fn write_difference(alloc: Global, ran: &Ran) -> Result<Bytes, NoMemory>
 {
     let end = end_text(alloc, ran.end)?;
     let output = hex::encode(alloc, &ran.output)?;
-    let steps = ran.steps;
+    let mut buffer = Buffer::new();
+    let steps = buffer.format(ran.steps);
     let mut text = format!(in alloc; "differs\nend {end}\nsteps {steps}\npath ")?;
     write_path(alloc, &mut text, &ran.path)?;
     write!(text, ".\noutput {output}.\n")?;

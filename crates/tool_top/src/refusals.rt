@@ -4,12 +4,15 @@ ghost use Rattle.std.specs.Prelude.{◌≡◌, IfOk};
 ghost use Rattle.tool_top.specs.Lines.{program_refused, inputs_refused, refused_line, test_refused, unfit_line};
 
 use elf_load::{Refused, Unfit};
+use itoa::Buffer;
 use std::alloc::{AllocError as NoMemory, Global};
 use test_files::TestRefused;
 
 fn program_refused(alloc: Global, number: u8, name: &str) -> Result<Vec<u8>, NoMemory>
     ensures { IfOk result (λ line. line.items ≡ program_refused number name.now) }
 {
+    let mut buffer = Buffer::new();
+    let number = buffer.format(number);
     let line = format!(in alloc; "program refused {number} {name}\n")?;
     Ok(line.into_bytes())
 }
@@ -17,6 +20,8 @@ fn program_refused(alloc: Global, number: u8, name: &str) -> Result<Vec<u8>, NoM
 fn inputs_refused(alloc: Global, number: u8, name: &str) -> Result<Vec<u8>, NoMemory>
     ensures { IfOk result (λ line. line.items ≡ inputs_refused number name.now) }
 {
+    let mut buffer = Buffer::new();
+    let number = buffer.format(number);
     let line = format!(in alloc; "inputs refused {number} {name}\n")?;
     Ok(line.into_bytes())
 }
@@ -45,7 +50,8 @@ pub fn say_unfit(alloc: Global, why: Option<Unfit>) -> Result<Vec<u8>, NoMemory>
 pub fn say_test_refused(alloc: Global, why: TestRefused) -> Result<Vec<u8>, NoMemory>
     ensures { IfOk result (λ line. line.items ≡ test_refused why) }
 {
-    let (number, name) = (why.number(), why.name());
+    let mut buffer = Buffer::new();
+    let (number, name) = (buffer.format(why.number()), why.name());
     let line = format!(in alloc; "test refused {number} {name}\n")?;
     Ok(line.into_bytes())
 }

@@ -7,6 +7,7 @@ pub returns : goal.returns
 returns c =
     let number = c.args.number in
     let name : List ℕ = c.args.name.now in
-    let line : string_bytes c.in_ok-line.line ≡ codes "inputs refused " ++ (decimal number ++ (codes " " ++ (name ++ codes "\n"))) = c.in_ok-line.ensures.ok in
+    let line : string_bytes c.in_ok-line.line ≡ codes "inputs refused " ++ (decimal number ++ (codes " " ++ (name ++ codes "\n"))) =
+    c.in_ok-line.ensures.ok ∙ ap (λ digits. codes "inputs refused " ++ (digits ++ (codes " " ++ (name ++ codes "\n")))) c.format-number.ensures.text in
     let flat : codes "inputs refused " ++ (decimal number ++ (codes " " ++ (name ++ codes "\n"))) ≡ inputs_refused number name = simp append_assoc in
     ap (λ (v : Vec ℕ Global). v.items) c.into_bytes.ensures.value ∙ line ∙ flat

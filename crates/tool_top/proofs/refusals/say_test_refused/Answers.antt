@@ -7,7 +7,8 @@ flat a number b name c = simp append_assoc
 
 pub returns : goal.returns
 returns c =
-    let line : string_bytes c.in_ok-line.line ≡ codes "test refused " ++ (decimal c.number-number.result ++ (codes " " ++ (c.name-name.result.now ++ codes "\n"))) = c.in_ok-line.ensures.ok in
-    ap (λ (v : Vec ℕ Global). v.items) c.into_bytes.ensures.value ∙ line ∙ flat (codes "test refused ") (decimal c.number-number.result) (codes " ") c.name-name.result.now (codes "\n")
-    ∙ ap (λ number. codes "test refused " ++ decimal number ++ codes " " ++ c.name-name.result.now ++ codes "\n") c.number-number.ensures
+    let line : string_bytes c.in_ok-line.line ≡ codes "test refused " ++ (decimal c.number.result ++ (codes " " ++ (c.name-name.result.now ++ codes "\n"))) =
+    c.in_ok-line.ensures.ok ∙ ap (λ digits. codes "test refused " ++ (digits ++ (codes " " ++ (c.name-name.result.now ++ codes "\n")))) c.format-number.ensures.text in
+    ap (λ (v : Vec ℕ Global). v.items) c.into_bytes.ensures.value ∙ line ∙ flat (codes "test refused ") (decimal c.number.result) (codes " ") c.name-name.result.now (codes "\n")
+    ∙ ap (λ number. codes "test refused " ++ decimal number ++ codes " " ++ c.name-name.result.now ++ codes "\n") c.number.ensures
     ∙ ap (λ name. codes "test refused " ++ decimal (refused_number c.args.why) ++ codes " " ++ name ++ codes "\n") c.name-name.ensures
