@@ -167,7 +167,7 @@ impl Builder {
     }
 
     /// The answer; where there is none, the first `len` terms alone are kept.
-    pub(crate) fn settled(
+    pub fn settled(
         &mut self,
         len: usize,
         answer: Result<usize, NoMemory>,

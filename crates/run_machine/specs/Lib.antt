@@ -1,0 +1,5 @@
+pub mod Steps
+pub mod Stops
+pub mod Fetching
+pub mod Calls
+pub mod Advancing

@@ -1,0 +1,6 @@
+pub mod Filling
+pub mod Forms
+pub mod Growing
+pub mod ImageBytes
+pub mod Naming
+pub mod Opening
