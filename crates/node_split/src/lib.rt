@@ -1,9 +1,11 @@
 //! Work on one symbolic run: it goes on until it forks, all its runs have ended, or its budget of steps is spent.
 #![tactic(auto)]
 
+mod asked;
 mod branch;
 mod finish;
 mod forked;
+mod leaf;
 mod pin;
 mod question;
 mod worker;

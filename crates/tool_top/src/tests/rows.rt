@@ -17,6 +17,34 @@ struct Row {
     files: &'static [(usize, &'static str, &'static str)],
 }
 
+// It exits with the low byte of 100 divided by its input byte, where both are unsigned: LUI x5, 0x11; LBU x7, 0(x5);
+// ADDI x6, x0, 100; DIVU x10, x6, x7; ADDI x17, x0, 93; ECALL. A quotient by 0 is all ones, so it exits with 255 then.
+const QUOTIENT: [u32; 6] = [
+    0x0001_12B7,
+    0x0002_C383,
+    0x0640_0313,
+    0x0273_5533,
+    0x05D0_0893,
+    0x0000_0073,
+];
+
+// It stores its input byte as a word, loads that word, and exits with 1 where it is 'A', and else with 0: LUI x5, 0x11;
+// LBU x7, 0(x5); SW x7, 16(x5); LW x6, 16(x5); ADDI x8, x0, 65; BEQ x6, x8, 12; ADDI x17, x0, 93; ECALL; ADDI x10, x0, 1;
+// ADDI x17, x0, 93; ECALL. That is 8 steps where the branch isn't taken, and 9 where it is.
+const KEPT: [u32; 11] = [
+    0x0001_12B7,
+    0x0002_C383,
+    0x0072_A823,
+    0x0102_A303,
+    0x0410_0413,
+    0x0083_0663,
+    0x05D0_0893,
+    0x0000_0073,
+    0x0010_0513,
+    0x05D0_0893,
+    0x0000_0073,
+];
+
 const ONE_WORKER: [&str; 7] = [
     "rvklee",
     "explore",
@@ -57,7 +85,7 @@ const FOUR_TARGETS: [&str; 7] = [
     "00011000:1",
 ];
 
-const ROWS: [Row; 6] = [
+const ROWS: [Row; 8] = [
     Row {
         program: &STRAIGHT,
         words: &ONE_WORKER,
@@ -213,6 +241,55 @@ const ROWS: [Row; 6] = [
                 "; rvklee leaf 1\n; kind targets\n; choices R.\n",
             ),
             (10, "out/spent-000004.txt", "; spent targets 4\n; term n"),
+        ],
+    },
+    // Nothing is decided by the input, so there is one leaf; its sample is zeros.
+    Row {
+        program: &QUOTIENT,
+        words: &EXPLORE,
+        said: "leaves 1 finished 1 cut 0 tests 1 steps 6\n",
+        puts: 4,
+        files: &[
+            (0, "out/events.txt", "claim 0 0\nfinish 0 0\n"),
+            (
+                1,
+                "out/leaf-000000.smt2",
+                "; rvklee leaf 1\n; kind finished\n; choices .\n; path .\n; steps 6\n; end exit\n",
+            ),
+            (
+                2,
+                "out/test-000000.json",
+                "{\"end\":\"exit 255\",\"format\":1,\"input\":\"00\",\"leaf\":0,\"output\":\"\",\"path\":\"\",\"regions\":[\"00011000:1\"],\"steps\":6}\n",
+            ),
+        ],
+    },
+    // The branch decides, on the byte that was stored; zeros don't take it, and 'A' alone does.
+    Row {
+        program: &KEPT,
+        words: &EXPLORE,
+        said: "leaves 2 finished 2 cut 0 tests 2 steps 17\n",
+        puts: 6,
+        files: &[
+            (
+                1,
+                "out/leaf-000000.smt2",
+                "; rvklee leaf 1\n; kind finished\n; choices N.\n; path N.\n; steps 8\n; end exit\n",
+            ),
+            (
+                2,
+                "out/test-000000.json",
+                "{\"end\":\"exit 0\",\"format\":1,\"input\":\"00\",\"leaf\":0,\"output\":\"\",\"path\":\"N\",\"regions\":[\"00011000:1\"],\"steps\":8}\n",
+            ),
+            (
+                3,
+                "out/leaf-000001.smt2",
+                "; rvklee leaf 1\n; kind finished\n; choices Y.\n; path T.\n; steps 9\n; end exit\n",
+            ),
+            (
+                4,
+                "out/test-000001.json",
+                "{\"end\":\"exit 1\",\"format\":1,\"input\":\"41\",\"leaf\":1,\"output\":\"\",\"path\":\"T\",\"regions\":[\"00011000:1\"],\"steps\":9}\n",
+            ),
         ],
     },
 ];

@@ -1,5 +1,0 @@
-pub mod Steps
-pub mod Stops
-pub mod Fetching
-pub mod Calls
-pub mod Advancing

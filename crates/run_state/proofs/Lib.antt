@@ -1,6 +1,0 @@
-pub mod Filling
-pub mod Forms
-pub mod Growing
-pub mod ImageBytes
-pub mod Naming
-pub mod Opening
