@@ -3,3 +3,4 @@ pub mod Lists
 pub mod Naming
 pub mod Searching
 pub mod Copying
+pub mod SameTrees

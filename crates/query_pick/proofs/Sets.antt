@@ -1,5 +1,5 @@
 -- Which places a set has.
-use Rattle.std.proofs.Common.{◌≡◌, ℕ, ◌+◌, ◌<◌, Bool, true, false, cond, ◌==◌, ◌↔◌, List, refl, sym, ap, ◌∙◌, inl, inr, ◌⊎◌, arith, Less, Equal, Greater}
+use Rattle.std.proofs.Common.{◌≡◌, ℕ, ◌<◌, true, cond, ◌==◌, ◌↔◌, List, sym, ap, ◌∙◌, inl, inr, ◌⊎◌, arith, Less, Equal, Greater}
 use Rattle.std.specs.Prelude.{All, Contains, IsTrue}
 use Rattle.std.specs.BTreeSet.{BTreeSet, contains, Updates, IsFromIterResult}
 use Rattle.std.specs.Ordering.{nat_cmp}

@@ -1,7 +1,8 @@
-//! A question, picked from a table of terms.
+//! Terms picked from a table, and the question that some of them ask.
 
 ghost use Rattle.std.specs.Prelude.{◌≡◌, ◌<◌, ℕ, List, All, Contains, IfOk, length, map, slice_index};
 ghost use Rattle.std.specs.List.Sorted.{IsStrictlyIncreasing};
+ghost use Rattle.bv_dag.specs.Graphs.{IsDag, val, width_of};
 ghost use Rattle.bv_dag.specs.Queries.{AreBits, holds};
 ghost use Rattle.term_trees.specs.Trees.{trees, tree_of};
 ghost use Rattle.query_pick.specs.Cones.{IsCone};
@@ -13,10 +14,19 @@ use bv_dag::{Dag, Query};
 use std::alloc::{AllocError as NoMemory, Global};
 use term_table::Terms;
 
+/// Some terms of a table in a graph of their own, over only what they stand on.
+#[derive(Debug, Drop)]
+pub struct Picked {
+    pub graph: Dag,
+    /// Where the terms stand in it, in the order in which they were asked for.
+    pub ids: Vec<usize>,
+}
+
 // The terms at these places, in a graph of their own.
 fn copied(alloc: Global, terms: &Terms, places: &[usize]) -> Result<Dag, NoMemory>
     requires { (tops : List ℕ) × IsCone terms.now tops places.now }
     ensures inputs { IfOk result (λ dag. dag.inputs ≡ terms.now.inputs) }
+    ensures dag { IfOk result (λ dag. IsDag dag) }
     ensures same { IfOk result (λ dag. trees dag.nodes ≡ map (tree_of terms.now) places.now) }
 {
     let mut dag = Dag::new(alloc, terms.inputs());
@@ -40,6 +50,30 @@ fn numbers_of(alloc: Global, places: &[usize], some: &[usize]) -> Result<Vec<usi
     Ok(numbers)
 }
 
+/// Some terms of a table in a graph of their own, over only what they stand on, renumbered.
+/// It costs in proportion to these, and not to the table.
+pub fn pick_terms(alloc: Global, terms: &Terms, ids: &[usize]) -> Result<Picked, NoMemory>
+    requires { All (λ id. id < length terms.now.nodes) ids.now }
+    ensures inputs { IfOk result (λ p. p.graph.inputs ≡ terms.now.inputs) }
+    ensures dag { IfOk result (λ p. IsDag p.graph) }
+    ensures there { IfOk result (λ p. All (λ id. id < length p.graph.nodes) p.ids.items) }
+    ensures same_trees { IfOk result (λ p.
+        map (tree_of p.graph) p.ids.items ≡ map (tree_of terms.now) ids.now) }
+    ensures same_widths { IfOk result (λ p.
+        map (width_of p.graph) p.ids.items ≡ map (width_of terms.now) ids.now) }
+    ensures same_values { IfOk result (λ p. (input : List ℕ) →
+        map (λ id. val p.graph id input) p.ids.items ≡ map (λ id. val terms.now id input) ids.now) }
+    ensures only_cone { IfOk result (λ p. IsFromCone terms.now ids.now p.graph) }
+{
+    let places = cone(alloc, terms, ids)?;
+    let graph = copied(alloc, terms, &places)?;
+    let numbers = numbers_of(alloc, &places, ids)?;
+    Ok(Picked {
+        graph,
+        ids: numbers,
+    })
+}
+
 /// The question whether terms of one bit can all be 1, over only the terms that they stand on, renumbered.
 /// It costs in proportion to these, and not to the table.
 pub fn pick(alloc: Global, terms: &Terms, conditions: &[usize]) -> Result<Query, NoMemory>
@@ -50,8 +84,6 @@ pub fn pick(alloc: Global, terms: &Terms, conditions: &[usize]) -> Result<Query,
         holds query input ≡ holds (record { graph = terms.now; asserted = conditions.now }) input) }
     ensures only_cone { IfOk result (λ query. IsFromCone terms.now conditions.now query.graph) }
 {
-    let places = cone(alloc, terms, conditions)?;
-    let dag = copied(alloc, terms, &places)?;
-    let asserted = numbers_of(alloc, &places, conditions)?;
-    Ok(Query::new(dag, asserted))
+    let picked = pick_terms(alloc, terms, conditions)?;
+    Ok(Query::new(picked.graph, picked.ids))
 }

@@ -1,10 +1,6 @@
-use Rattle.std.proofs.Common.{◌≡◌, ◌+◌, ◌*◌, ◌<◌, List, [], ℕ, length, sym, ap, ◌∙◌, arith, inl, subst}
+use Rattle.std.proofs.Common.{List, ℕ, sym, inl, subst}
 use Rattle.std.specs.Prelude.{Contains}
-use Rattle.std.specs.List.{slice_get}
-use Rattle.std.proofs.lemmas.List.Elements.{All-contains, Contains-push}
-use Rattle.std.proofs.lemmas.Option.{slice_get-get_or}
-use Rattle.bv_dag.specs.declared.nodes.Node.{Node}
-use Rattle.bv_dag.specs.declared.nodes.Node.TheVariants.{Num}
+use Rattle.std.proofs.lemmas.List.Elements.{Contains-push}
 use Rattle.query_pick.proofs.Sets.{Contains-collected, Contains-inserted, below_last}
 use Rattle.query_pick.proofs.Lists.{none_left}
 use Rattle.query_pick.proofs.Searching.{IsSearched, searched_first, searched_more, bound_of-less, searched}

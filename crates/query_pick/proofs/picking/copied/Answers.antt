@@ -1,15 +1,16 @@
-use Rattle.std.proofs.Common.{◌≡◌, ◌+◌, ◌<◌, ℕ, List, [], ◌∷◌, length, map, take, refl, sym, ap, ◌∙◌, subst}
-use Rattle.std.proofs.lemmas.List.{get_or_default}
+use Rattle.std.proofs.Common.{◌+◌, ◌<◌, length, refl, sym, ap, ◌∙◌, subst}
 use Rattle.std.proofs.lemmas.List.Elements.{All-get_or}
-use Rattle.bv_dag.specs.Graphs.{Graph, with_node}
-use Rattle.term_trees.specs.Trees.{trees, tree_of}
+use Rattle.bv_dag.specs.Graphs.{Graph, IsDag}
+use Rattle.bv_dag.proofs.TermLaws.{IsDag-none}
+use Rattle.term_trees.specs.Trees.{trees}
 use Rattle.query_pick.specs.Cones.{HasOperands}
-use Rattle.query_pick.proofs.Copying.{Fits-copied, trees-copied, trees_of_none}
+use Rattle.query_pick.proofs.Copying.{Fits-copied, IsCopied, copied_more, trees_of_none}
 use Rattle.query_pick.proofs.picking.copied.Goals as goal
 
 pub loop-id-init : goal.loop-id-init
 loop-id-init c = record {
   inputs = ap (λ (g : Graph). g.inputs) c.new-dag.ensures ∙ c.inputs.ensures;
+  dag = subst IsDag (sym c.new-dag.ensures) (IsDag-none c.inputs.result);
   same = ap (λ (g : Graph). trees g.nodes) c.new-dag.ensures ∙ trees_of_none;
 }
 
@@ -22,14 +23,16 @@ renumbered-requires-clause-there c =
 
 pub push-requires : goal.push-requires
 push-requires c =
-    Fits-copied c.args.terms.now c.loop-id.dag c.args.places.now c.loop-id.id-index _ c.renumbered.result c.node.result
-    c.node.ensures.fit c.requires.1.increasing c.loop-id-test.true refl c.node.ensures.is c.renumbered.ensures.same c.renumbered.ensures.there c.loop-id.invariant.inputs c.loop-id.invariant.same
+    Fits-copied c.args.terms.now c.loop-id.dag c.args.places.now c.loop-id.id-index _
+    c.renumbered.result c.node.result c.node.ensures.fit c.requires.1.increasing
+    c.loop-id-test.true refl c.node.ensures.is c.renumbered.ensures.same c.renumbered.ensures.there
+    c.loop-id.invariant
 
 pub loop-id-preserved : goal.loop-id-preserved
-loop-id-preserved c = record {
-  inputs = ap (λ (g : Graph). g.inputs) c.in_ok-push.ensures.ok ∙ c.loop-id.invariant.inputs;
-  same =
-      ap (λ (g : Graph). trees g.nodes) c.in_ok-push.ensures.ok
-      ∙ trees-copied c.args.terms.now c.loop-id.dag c.args.places.now c.loop-id.id-index _ c.renumbered.result c.node.result
-      c.node.ensures.fit c.requires.1.increasing c.loop-id-test.true refl c.node.ensures.is c.renumbered.ensures.same c.renumbered.ensures.there c.loop-id.invariant.inputs c.loop-id.invariant.same;
-}
+loop-id-preserved c =
+    subst (λ (copy : Graph). IsCopied c.args.terms.now copy c.args.places.now (c.loop-id.id-index + 1))
+    (sym c.in_ok-push.ensures.ok)
+    (copied_more c.args.terms.now c.loop-id.dag c.args.places.now c.loop-id.id-index _
+    c.renumbered.result c.node.result c.node.ensures.fit c.requires.1.increasing
+    c.loop-id-test.true refl c.node.ensures.is c.renumbered.ensures.same c.renumbered.ensures.there
+    c.loop-id.invariant)
