@@ -1,5 +1,5 @@
 -- Addresses that follow one another.
-use Rattle.std.proofs.Common.{◌≡◌, ℕ, zero, suc, ◌+◌, ◌%◌, ◌^◌, ◌<◌, Bool, true, false, ◌&&◌, List, [], ◌∷◌, ◌++◌, map, refl, sym, ap, ◌∙◌, arith, add-one}
+use Rattle.std.proofs.Common.{◌≡◌, ℕ, zero, suc, ◌+◌, ◌%◌, ◌^◌, ◌<◌, Bool, true, false, ◌&&◌, List, [], ◌∷◌, ◌++◌, length, map, refl, sym, ap, ◌∙◌, arith, add-one}
 use Rattle.std.specs.Prelude.{Option}
 use Rattle.std.specs.List.{list_all}
 use Rattle.std.proofs.lemmas.List.{map-append, append_assoc, append-nil}
@@ -35,14 +35,19 @@ mapped-more flags start count mapped one small is more =
     = ap (list_all (is_mapped flags)) (addresses-more start count small) ∙ list_all-append (is_mapped flags) (addresses start count) ((start + count) % 2 ^ 32 ∷ []) in
     cc (all, is, more, and-true (is_mapped flags ((start + count) % 2 ^ 32)))
 
-pub bytes_none : (byte : ℕ → ℕ) (start : ℕ) (output : List ℕ) → output ≡ output ++ map byte (addresses start 0)
+pub bytes_none : {A : Type 0} (byte : ℕ → A) (start : ℕ) (output : List A) → output ≡ output ++ map byte (addresses start 0)
 unfolding addresses
 bytes_none byte start output = sym (append-nil output)
 
-pub bytes-more : (byte : ℕ → ℕ) (start count b : ℕ) (before output : List ℕ) → start < 2 ^ 32 → output ≡ before ++ map byte (addresses start count) → b ≡ byte ((start + count) % 2 ^ 32)
+pub bytes-more : {A : Type 0} (byte : ℕ → A) (start count : ℕ) (b : A) (before output : List A) → start < 2 ^ 32 → output ≡ before ++ map byte (addresses start count) → b ≡ byte ((start + count) % 2 ^ 32)
     → output ++ b ∷ [] ≡ before ++ map byte (addresses start (count + 1))
 bytes-more byte start count b before output small is read =
     ap (λ o. o ++ b ∷ []) is
     ∙ ap (λ n. (before ++ map byte (addresses start count)) ++ n ∷ []) read
     ∙ append_assoc before (map byte (addresses start count)) (byte ((start + count) % 2 ^ 32) ∷ [])
     ∙ ap (λ xs. before ++ xs) (sym (ap (map byte) (addresses-more start count small) ∙ map-append byte (addresses start count) ((start + count) % 2 ^ 32 ∷ [])))
+
+pub length-addresses : (start count : ℕ) → length (addresses start count) ≡ count
+unfolding addresses
+length-addresses start zero = refl
+length-addresses start (suc count) = ap suc (length-addresses (sum32 start 1) count)

@@ -15,13 +15,13 @@ use rv_decode::{End, Register, Trap};
 use std::alloc::AllocError as NoMemory;
 
 /// The number of the call that exits, in a7.
-const EXIT: u32 = 93;
+pub const EXIT: u32 = 93;
 
 /// The number of the call that writes, in a7.
-const WRITE: u32 = 64;
+pub const WRITE: u32 = 64;
 
 /// The most bytes that a call writes.
-const MOST_WRITTEN: u32 = 4096;
+pub const MOST_WRITTEN: u32 = 4096;
 
 /// Whether each of so many addresses is on a mapped page.
 fn are_mapped(hart: &mut Hart, start: u32, count: u32) -> bool
@@ -36,7 +36,7 @@ fn are_mapped(hart: &mut Hart, start: u32, count: u32) -> bool
 }
 
 /// Whether a file of this number is there to be written to: standard output and standard error, which are one.
-fn is_file(file: u32) -> bool
+pub fn is_file(file: u32) -> bool
     ensures { result ≡ (file == 1 || file == 2) }
 {
     file == 1 || file == 2

@@ -13,7 +13,7 @@
 //! - `laws`: what the definitions say of runs.
 #![tactic(auto)]
 
-mod arithmetic;
+pub mod arithmetic;
 mod call;
 mod execute;
 mod filling;
@@ -25,7 +25,9 @@ mod run;
 mod step;
 mod transfer;
 
+pub use call::{EXIT, MOST_WRITTEN, WRITE, is_file};
 pub use machine::Machine;
+pub use memory::word;
 pub use run::Ran;
 pub use step::Step;
 

@@ -81,8 +81,8 @@ fn page<'a>(pages: &'a [(u32, Page)], place: &mut usize, number: u32) -> Option<
     Some(&pages[found].1)
 }
 
-/// The word at a place, low byte first.
-fn word(bytes: &[u8], at: usize) -> u32
+/// The word of the four bytes from a place on, low byte first.
+pub fn word(bytes: &[u8], at: usize) -> u32
     requires { at + 4 ≤ length bytes.now }
     ensures { result ≡ little_number 4 (drop at bytes.now) }
 {

@@ -19,3 +19,4 @@ pub mod Building
 pub mod Stepping
 pub mod MachineNumbers
 pub mod MachineBuilds
+pub mod OperationNumbers

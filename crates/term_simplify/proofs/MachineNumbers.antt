@@ -11,7 +11,7 @@ use Rattle.term_trees.specs.Trees.{IsOfWidth}
 use Rattle.term_simplify.specs.Steps.{sign_word, signed_word, magnitude_word, signed_quotient_word, or_ones_word, remainder_word, upper_word}
 use Rattle.term_simplify.proofs.Words.{tests_unequal, le_tells}
 
-abbrev word32 : ℕ → BitVector
+abbrev pub word32 : ℕ → BitVector
 word32 n = record { width = 32; number = n }
 
 -- ---- signs and magnitudes

@@ -5,7 +5,7 @@ use Rattle.std.proofs.lemmas.List.{length-take}
 use Rattle.std.specs.Prelude.{Result, Ok, Err}
 use Rattle.std.specs.Result.{IfOk, OnOk}
 use Rattle.std.specs.List.{All}
-use Rattle.bv_dag.specs.BitVectors.{BitVector, bvneg, ite, extract}
+use Rattle.bv_dag.specs.BitVectors.{BitVector, bvnot, bvneg, ite, extract, concat}
 use Rattle.bv_dag.specs.Graphs.{Graph, val, width_of}
 use Rattle.bv_dag.specs.Nodes.{binary, compare, extend}
 use Rattle.bv_dag.specs.declared.nodes.BinaryOp.{BinaryOp}
@@ -16,7 +16,7 @@ use Rattle.term_trees.specs.Growth.{Continues}
 use Rattle.term_trees.specs.Trees.{Tree, tree_of, tree_width, tree_value, IsTerm, IsOfWidth}
 use Rattle.term_trees.proofs.Ranges.{in_range}
 use Rattle.term_trees.proofs.TreeLaws.{tree-grown, width-grown, value-grown, value-tree_of, width-tree_of}
-use Rattle.term_simplify.specs.Simplified.{negative_of, binary_of, comparison_of, choice_of, part_of, extension_by}
+use Rattle.term_simplify.specs.Simplified.{complement_of, negative_of, binary_of, comparison_of, choice_of, part_of, extension_by, joined_of}
 use Rattle.term_simplify.specs.Machine.{sign_tree, signed_tree, magnitude_tree, signed_quotient_tree, or_ones_tree, quotient_tree, remainder_tree, upper_tree}
 use Rattle.term_simplify.specs.Steps.{Stands, sign_word, signed_word, magnitude_word, or_ones_word}
 
@@ -52,6 +52,17 @@ on_ok (Ok x) p = p
 on_ok (Err e) p = tt
 
 -- ---- a step, by what its operands are
+pub not_step : {g h : Graph} {a id : ℕ} {s : Tree} {w : ℕ} {F : List ℕ → BitVector} →
+    Stands g a s w F →
+    Stands h id (complement_of (tree_of g a)) (width_of g a) (λ input. bvnot (val g a input)) →
+    Stands h id (complement_of s) w (λ input. bvnot (F input))
+not_step first n = record {
+  there = n.there;
+  tree = n.tree ∙ ap complement_of first.tree;
+  width = n.width ∙ first.width;
+  value = λ input bytes. n.value input bytes ∙ ap bvnot (first.value input bytes);
+}
+
 pub neg_step : {g h : Graph} {a id : ℕ} {s : Tree} {w : ℕ} {F : List ℕ → BitVector} →
     Stands g a s w F →
     Stands h id (negative_of (tree_of g a)) (width_of g a) (λ input. bvneg (val g a input)) →
@@ -83,6 +94,19 @@ extend_step by signed first n = record {
   tree = n.tree ∙ ap (extension_by by signed) first.tree;
   width = n.width ∙ ap (λ k. k + by) first.width;
   value = λ input bytes. n.value input bytes ∙ ap (extend signed by) (first.value input bytes);
+}
+
+pub concat_step : {g h : Graph} {a b id : ℕ} {s t : Tree} {w v : ℕ} {F G : List ℕ → BitVector} →
+    Stands g a s w F → Stands g b t v G →
+    Stands h id (joined_of (tree_of g a) (tree_of g b)) (width_of g a + width_of g b)
+    (λ input. concat (val g a input) (val g b input)) →
+    Stands h id (joined_of s t) (w + v) (λ input. concat (F input) (G input))
+concat_step {g = g} {b = b} {s = s} {w = w} {F = F} first second n = record {
+  there = n.there;
+  tree = n.tree ∙ ap (λ k. joined_of k (tree_of g b)) first.tree ∙ ap (joined_of s) second.tree;
+  width = n.width ∙ ap (λ k. k + width_of g b) first.width ∙ ap (λ k. w + k) second.width;
+  value = λ input bytes. n.value input bytes ∙ ap (λ k. concat k (val g b input))
+      (first.value input bytes) ∙ ap (concat (F input)) (second.value input bytes);
 }
 
 pub binary_step : {g h : Graph} {a b id : ℕ} {s t : Tree} {w v : ℕ} {F G : List ℕ → BitVector} (op : BinaryOp) →

@@ -2,4 +2,5 @@ pub mod Simplified
 pub mod Builds
 pub mod Plans
 pub mod Machine
+pub mod Operations
 pub mod Steps

@@ -1,10 +1,13 @@
 -- Terms on the way to an answer of several nodes, and what they are worth.
-use Rattle.std.specs.Prelude.{◌≡◌, ◌<◌, ◌-◌, ◌^◌, ℕ, Bool, List, All, length}
-use Rattle.bv_dag.specs.BitVectors.{BitVector, bvneg, bvxor, bvmul, bvudiv, bvurem, equal, ite, extract}
+use Rattle.std.specs.Prelude.{◌≡◌, ◌<◌, ◌-◌, ◌^◌, ◌==◌, ℕ, Bool, List, All, length, nat_lt}
+use Rattle.bv_dag.specs.BitVectors.{BitVector, bvneg, bvand, bvxor, bvmul, bvudiv, bvurem, equal, ite, extract}
 use Rattle.bv_dag.specs.Graphs.{Graph, val, width_of, number_of}
-use Rattle.bv_dag.specs.Nodes.{extend}
+use Rattle.bv_dag.specs.Nodes.{binary, extend}
+use Rattle.bv_dag.specs.declared.nodes.BinaryOp.{BinaryOp}
+use Rattle.bv_dag.specs.declared.nodes.Comparison.{Comparison}
+use Rattle.bv_dag.specs.declared.nodes.Comparison.TheVariants.{Ult, Slt, Eq}
 use Rattle.rv_decode.specs.declared.ops.RegisterOp.{RegisterOp}
-use Rattle.rv_spec.specs.Arithmetic.{combined}
+use Rattle.rv_spec.specs.Arithmetic.{combined, is_less_signed}
 use Rattle.term_trees.specs.Trees.{Tree, tree_of}
 
 -- the term is there, is this tree, has so many bits, and is worth this
@@ -39,6 +42,16 @@ remainder_word s t = signed_word (sign_word s) (bvurem (magnitude_word s) (magni
 
 abbrev pub upper_word : (first second : Bool) → BitVector → BitVector → BitVector
 upper_word first second s t = extract 63 32 (bvmul (extend first 32 s) (extend second 32 t))
+
+-- what a shift by the low five bits is worth
+abbrev pub shift_word : BinaryOp → BitVector → BitVector → BitVector
+shift_word op s t = binary op s (bvand t (record { width = 32; number = 31 }))
+
+-- whether a comparison of two numbers below 2 ^ 32 holds
+abbrev pub holds : Comparison → ℕ → ℕ → Bool
+holds Ult a b = nat_lt a b
+holds Slt a b = is_less_signed a b
+holds Eq a b = a == b
 
 -- a term of 32 bits that is worth what the machine computes of two others
 abbrev pub StandsCombined : (old new : Graph) → RegisterOp → (a b : ℕ) → (made : Tree) →

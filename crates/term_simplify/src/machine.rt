@@ -26,7 +26,7 @@ struct Parts {
 
 impl Builder {
     /// One term on the way.
-    fn step(&mut self, node: Node) -> Result<usize, NoMemory>
+    pub(crate) fn step(&mut self, node: Node) -> Result<usize, NoMemory>
         requires { Fits self.old.inputs (widths_of self.old.nodes) node }
         ensures continues { Continues self.old self.new }
         ensures ok { IfOk result (λ id. Stands self.new id (simplified (tree_of self.old) node) (node_width (widths_of self.old.nodes) node) (λ input. node_value input (λ k. val self.old k input) node)) }
@@ -167,7 +167,11 @@ impl Builder {
     }
 
     /// The answer; where there is none, the first `len` terms alone are kept.
-    fn settled(&mut self, len: usize, answer: Result<usize, NoMemory>) -> Result<usize, NoMemory>
+    pub fn settled(
+        &mut self,
+        len: usize,
+        answer: Result<usize, NoMemory>,
+    ) -> Result<usize, NoMemory>
         ensures same { result ≡ answer }
         ensures ok { OnOk result (self.new ≡ self.old) }
         ensures err { OnErr result (self.new ≡ record { inputs = self.old.inputs; nodes = take len self.old.nodes }) }

@@ -1,7 +1,7 @@
 //! What the machine and the builder make of the same two numbers, in one table.
 
 use crate::Builder;
-use bv_dag::{BinaryOp, Comparison, Node};
+use bv_dag::Node;
 use elf_load::{Region, Regions, fit, load};
 use row_files::row_file;
 use rv_decode::{Instr, RegisterOp, decode};
@@ -15,7 +15,7 @@ use term_table::Terms;
 const DATA: u32 = 0x11000;
 
 // An instruction that makes x10 of x6 and x7, the two numbers, and the result.
-const ROWS: [(u32, u32, u32, u32); 17] = [
+const ROWS: [(u32, u32, u32, u32); 27] = [
     // MULHSU, MULHU, MULH
     (0x0273_2533, 0xFFFF_FFFF, 0xFFFF_FFFF, 0xFFFF_FFFF),
     (0x0273_3533, 0xFFFF_FFFF, 0xFFFF_FFFF, 0xFFFF_FFFE),
@@ -39,6 +39,20 @@ const ROWS: [(u32, u32, u32, u32); 17] = [
     (0x0273_5533, 0xFFFF_FFF9, 2, 0x7FFF_FFFC),
     (0x0273_7533, 0xFFFF_FFF9, 2, 1),
     (0x0273_7533, 7, 0, 7),
+    // ADD, SUB, MUL
+    (0x0073_0533, 0xFFFF_FFFF, 2, 1),
+    (0x4073_0533, 2, 3, 0xFFFF_FFFF),
+    (0x0273_0533, 0x8000_0001, 2, 2),
+    // SLL, SRL
+    (0x0073_1533, 0x8000_0001, 33, 2),
+    (0x0073_5533, 0x8000_0000, 31, 1),
+    // SLT
+    (0x0073_2533, 0x8000_0000, 0x7FFF_FFFF, 1),
+    (0x0073_2533, 0x7FFF_FFFF, 0x8000_0000, 0),
+    // XOR, OR, AND
+    (0x0073_4533, 12, 10, 6),
+    (0x0073_6533, 12, 10, 14),
+    (0x0073_7533, 12, 10, 8),
 ];
 
 // LUI and ADDI that make x6 a number; those that make x7 one have 0x80 more, and for ADDI 0x8000 too.
@@ -86,53 +100,13 @@ fn on_machine(
     Ok(ran.output)
 }
 
-fn push(rt: &impl Abort, builder: &mut Builder, node: Node) -> Result<usize, NoMemory> {
-    assert!(rt; builder.terms().fits(&node));
-    builder.build(node)
-}
-
 fn number(rt: &impl Abort, builder: &mut Builder, value: u32) -> Result<usize, NoMemory> {
     let node = Node::Num {
         width: 32,
         value: u64::from(value),
     };
-    push(rt, builder, node)
-}
-
-// A product, quotient or remainder, or what `sltu` and `sra` are made of.
-fn combine(
-    rt: &impl Abort,
-    builder: &mut Builder,
-    op: RegisterOp,
-    a: usize,
-    b: usize,
-) -> Result<usize, NoMemory> {
-    assert!(rt; a < builder.len() && builder.terms().width_of(a) == 32);
-    assert!(rt; b < builder.len() && builder.terms().width_of(b) == 32);
-    match op {
-        RegisterOp::Div => builder.div(a, b),
-        RegisterOp::Divu => builder.divu(a, b),
-        RegisterOp::Rem => builder.rem(a, b),
-        RegisterOp::Remu => builder.remu(a, b),
-        RegisterOp::Mulh => builder.mulh(a, b),
-        RegisterOp::Mulhsu => builder.mulhsu(a, b),
-        RegisterOp::Mulhu => builder.mulhu(a, b),
-        RegisterOp::Sra => {
-            let mask = number(rt, builder, 31)?;
-            let distance = push(rt, builder, Node::Binary(BinaryOp::And, b, mask))?;
-            push(rt, builder, Node::Binary(BinaryOp::Ashr, a, distance))
-        }
-        RegisterOp::Sltu => {
-            let below = push(rt, builder, Node::Compare(Comparison::Ult, a, b))?;
-            let zeros = Node::Extend {
-                by: 31,
-                signed: false,
-                operand: below,
-            };
-            push(rt, builder, zeros)
-        }
-        _ => panic!(rt; "no row has this operation"),
-    }
+    assert!(rt; builder.terms().fits(&node));
+    builder.build(node)
 }
 
 // The number that the builder makes of two.
@@ -146,7 +120,9 @@ fn on_terms(
     let mut builder = Builder::new(Terms::new(alloc, 0));
     let a = number(rt, &mut builder, left)?;
     let b = number(rt, &mut builder, right)?;
-    let id = combine(rt, &mut builder, op, a, b)?;
+    assert!(rt; a < builder.len() && builder.terms().width_of(a) == 32);
+    assert!(rt; b < builder.len() && builder.terms().width_of(b) == 32);
+    let id = builder.combined(op, a, b)?;
     assert!(rt; id < builder.len());
     match builder.terms().node(id) {
         Node::Num { value, .. } => Ok(Some(value)),

@@ -1,7 +1,11 @@
 //! Values from outside, as answers that are numbers, and what terms of an input byte are simplified to.
 
+ghost use Rattle.std.specs.Prelude.{◌≡◌, IsTrue};
+ghost use Rattle.bv_dag.specs.Graphs.{width_of};
+
 use crate::Builder;
 use bv_dag::{BinaryOp, Comparison, Node};
+use rv_decode::Test;
 use std::alloc::AllocError as NoMemory;
 use std::process::Abort;
 use std::test::Fail;
@@ -144,5 +148,92 @@ fn terms_of_an_input_byte(rt: HostRuntime) -> Result<(), Fail> {
     builder.truncate(chosen);
     assert!(rt; builder.len() == chosen && chosen < len);
     assert!(rt; copy.into_terms().len() == len);
+    Ok(())
+}
+
+// A number, which is to have so many bits.
+fn number(
+    rt: &impl Abort,
+    builder: &mut Builder,
+    width: u32,
+    value: u64,
+) -> Result<usize, NoMemory> {
+    build(rt, builder, Node::Num { width, value })
+}
+
+fn is_wide(builder: &Builder, a: usize, width: u32) -> bool
+    ensures { IsTrue result → width_of builder.now a ≡ width }
+{
+    a < builder.len() && builder.terms().width_of(a) == width
+}
+
+#[test]
+fn branches_test_as_the_manual_has_them(rt: HostRuntime) -> Result<(), Fail> {
+    for (test, left, right, want) in [
+        (Test::Beq, 7, 7, 1),
+        (Test::Bne, 7, 7, 0),
+        // -2^31 is below 0, and as a number without sign above it.
+        (Test::Blt, 0x8000_0000, 0, 1),
+        (Test::Bge, 0x8000_0000, 0, 0),
+        (Test::Bge, 7, 7, 1),
+        (Test::Bltu, 0x8000_0000, 0, 0),
+        (Test::Bgeu, 0x8000_0000, 0, 1),
+    ] {
+        let mut builder = Builder::new(Terms::new(rt.alloc(), 0));
+        let a = number(&rt, &mut builder, 32, left)?;
+        let b = number(&rt, &mut builder, 32, right)?;
+        assert!(rt; is_wide(&builder, a, 32) && is_wide(&builder, b, 32));
+        let id = builder.passes(test, a, b)?;
+        assert!(rt;
+            number_at(&rt, &builder, id) == Some(want),
+            "{test:?} of {left} and {right}"
+        );
+    }
+    Ok(())
+}
+
+#[test]
+fn bytes_are_widened_with_their_sign_or_zeros(rt: HostRuntime) -> Result<(), Fail> {
+    for (bits, signed, value, want) in [
+        (8, true, 0x7F, 0x7F),
+        (8, true, 0x80, 0xFFFF_FF80),
+        (8, false, 0x80, 0x80),
+        (16, true, 0x8000, 0xFFFF_8000),
+        (16, false, 0x8000, 0x8000),
+    ] {
+        let mut builder = Builder::new(Terms::new(rt.alloc(), 0));
+        let a = number(&rt, &mut builder, bits, value)?;
+        assert!(rt; 0 < bits && bits < 32 && is_wide(&builder, a, bits));
+        let id = builder.widened(bits, signed, a)?;
+        assert!(rt;
+            number_at(&rt, &builder, id) == Some(want),
+            "{value} of {bits} bits"
+        );
+    }
+    Ok(())
+}
+
+#[test]
+fn words_are_made_of_bytes_lowest_first(rt: HostRuntime) -> Result<(), Fail> {
+    let mut builder = Builder::new(Terms::new(rt.alloc(), 0));
+    let b0 = number(&rt, &mut builder, 8, 0x79)?;
+    let b1 = number(&rt, &mut builder, 8, 0x56)?;
+    let b2 = number(&rt, &mut builder, 8, 0x34)?;
+    let b3 = number(&rt, &mut builder, 8, 0x12)?;
+    assert!(rt; is_wide(&builder, b0, 8) && is_wide(&builder, b1, 8));
+    let half = builder.half(b0, b1)?;
+    assert!(rt; number_at(&rt, &builder, half) == Some(0x5679));
+    assert!(rt; is_wide(&builder, b0, 8) && is_wide(&builder, b1, 8));
+    assert!(rt; is_wide(&builder, b2, 8) && is_wide(&builder, b3, 8));
+    let word = builder.word(b0, b1, b2, b3)?;
+    assert!(rt; number_at(&rt, &builder, word) == Some(0x1234_5679));
+    for (at, want) in [(0, 0x79), (3, 0x12)] {
+        assert!(rt; at < 4 && is_wide(&builder, word, 32));
+        let byte = builder.byte(word, at)?;
+        assert!(rt; number_at(&rt, &builder, byte) == Some(want), "{at} up");
+    }
+    assert!(rt; is_wide(&builder, word, 32));
+    let even = builder.even(word)?;
+    assert!(rt; number_at(&rt, &builder, even) == Some(0x1234_5678));
     Ok(())
 }
