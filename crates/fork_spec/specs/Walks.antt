@@ -1,5 +1,5 @@
 -- The walk of written events: how the nodes of a fork tree stand after them, with nothing known of what the nodes hold.
-use Rattle.std.specs.Prelude.{ℕ, Bool, true, false, List, [], ◌∷◌, ◌++◌, ◌==◌, ◌&&◌, ◌||◌, if◌then◌else◌, nat_le, nat_lt, drop, length, map, slice_get, slice_set, Option, Some, None, option_and_then}
+use Rattle.std.specs.Prelude.{ℕ, Bool, true, false, List, [], ◌∷◌, ◌++◌, ◌==◌, ◌&&◌, ◌||◌, ◌^◌, if◌then◌else◌, nat_le, nat_lt, drop, length, map, slice_get, slice_set, Option, Some, None, option_and_then}
 use Rattle.std.specs.List.{list_all}
 use Rattle.tree_core.specs.Choices.{is_same}
 use Rattle.tree_core.specs.Replays.{allows}
@@ -69,6 +69,10 @@ abbrev pub is_increasing : List ℕ → Bool
 is_increasing (v ∷ w ∷ vs) = nat_lt v w && is_increasing (w ∷ vs)
 is_increasing _ = true
 
+-- each has a text of its own: a number of 32 bits
+abbrev pub are_small : List ℕ → Bool
+are_small vs = list_all (λ v. nat_lt v (2 ^ 32)) vs
+
 -- why all other values are cut: as many as there may be were found, or a question was left open
 abbrev pub is_rest_cut : (targets found : ℕ) → Option Cause → Bool
 is_rest_cut targets found (Some Targets) = found == targets
@@ -84,7 +88,7 @@ is_rest targets found _ = false
 -- values of a term in increasing order, from one to `targets`, and maybe the rest; two sides in all at least
 unfoldable pub are_values : (targets : ℕ) → List Side → Bool
 are_values targets sides =
-    is_increasing (values_first sides)
+    is_increasing (values_first sides) && are_small (values_first sides)
     && nat_le 1 (length (values_first sides)) && nat_le (length (values_first sides)) targets
     && is_rest targets (length (values_first sides)) (drop (length (values_first sides)) sides)
     && nat_le 2 (length sides)

@@ -1,6 +1,6 @@
 //! What holds of every walk and of every story, and walks that can be followed by hand.
 
-ghost use Rattle.std.specs.Prelude.{◌≡◌, ◌<◌, ◌≤◌, ◌++◌, ℕ, List, [], ◌∷◌, Option, Some, None, All, IsFalse, IsTrue, count_by, false, length, map, option_and_then, true};
+ghost use Rattle.std.specs.Prelude.{◌^◌, ◌≡◌, ◌<◌, ◌≤◌, ◌++◌, ℕ, List, [], ◌∷◌, Option, Some, None, All, IsFalse, IsTrue, count_by, false, length, map, option_and_then, true};
 ghost use Rattle.std.specs.Global.{Vec};
 ghost use Rattle.rv_spec.specs.Decisions.{Decision};
 ghost use Rattle.tree_core.specs.Covers.{count_below};
@@ -15,7 +15,7 @@ ghost use Rattle.fork_spec.specs.Written.{AreNodesOf, IsInForm, IsWalked, lines_
 ghost use Rattle.tree_core.specs.declared.cause.Cause.{Cause};
 ghost use Rattle.tree_core.specs.declared.cause.Cause.TheVariants.{Conflicts, Targets};
 ghost use Rattle.tree_core.specs.declared.event.Deed.TheVariants.{Claim, Cut, Finish};
-ghost use Rattle.fork_spec.specs.Walks.{Line, Standing, are_sides, is_increasing, is_quiet, is_rest_cut, is_settled, rest_side, value_side, walk, walk_from};
+ghost use Rattle.fork_spec.specs.Walks.{Line, Standing, are_sides, are_small, is_increasing, is_quiet, is_rest_cut, is_settled, rest_side, value_side, walk, walk_from};
 ghost use Rattle.fork_spec.specs.WorkedWalks.{branch_lines, branch_nodes, claimed_and, line, parts, value_lines, value_nodes};
 
 /// A walk goes on from where its first events lead.
@@ -27,13 +27,13 @@ pub fn a_walk_goes_on_from_its_first_events()
 
 /// A node may part into the values of a term, two at least and no more than there may be, by increasing value.
 pub fn a_node_may_part_into_values()
-    ensures { (targets : ℕ) (values : List ℕ) → IsTrue (is_increasing values) → 2 ≤ length values → length values ≤ targets
+    ensures { (targets : ℕ) (values : List ℕ) → IsTrue (is_increasing values) → IsTrue (are_small values) → 2 ≤ length values → length values ≤ targets
         → IsTrue (are_sides targets (map value_side values)) }
 {}
 
 /// It may also part into one value or more and the rest, for each cause that may cut the rest.
 pub fn a_node_may_part_into_values_and_the_rest()
-    ensures { (targets : ℕ) (values : List ℕ) (cut : Option Cause) → IsTrue (is_increasing values) → 1 ≤ length values → length values ≤ targets
+    ensures { (targets : ℕ) (values : List ℕ) (cut : Option Cause) → IsTrue (is_increasing values) → IsTrue (are_small values) → 1 ≤ length values → length values ≤ targets
         → IsTrue (is_rest_cut targets (length values) cut) → IsTrue (are_sides targets (map value_side values ++ rest_side cut ∷ [])) }
 {}
 
@@ -85,6 +85,7 @@ pub fn worked_refusals()
     ensures one_kid { walk 2 2 (claimed_and 0 (parts 1 (value_side 7 ∷ []))) ≡ None }
     ensures rest_alone { walk 2 2 (claimed_and 0 (parts 1 (rest_side (Some Conflicts) ∷ []))) ≡ None }
     ensures not_increasing { walk 2 2 (claimed_and 0 (parts 1 (value_side 9 ∷ value_side 7 ∷ []))) ≡ None }
+    ensures too_large { walk 2 2 (claimed_and 0 (parts 1 (value_side 7 ∷ value_side (2 ^ 32) ∷ []))) ≡ None }
     ensures too_many { walk 2 2 (claimed_and 0 (parts 1 (value_side 7 ∷ value_side 8 ∷ value_side 9 ∷ []))) ≡ None }
     ensures too_few { walk 2 2 (claimed_and 0 (parts 1 (value_side 7 ∷ rest_side (Some Targets) ∷ []))) ≡ None }
     ensures open_rest { walk 2 2 (claimed_and 0 (parts 1 (value_side 7 ∷ rest_side None ∷ []))) ≡ None }

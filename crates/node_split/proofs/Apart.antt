@@ -1,19 +1,18 @@
 -- The sides of a fork are apart: the runs that they stand for have decided alike before it, and
 -- there they decide as their sides say.
-use Rattle.std.proofs.Common.{◌≡◌, ◌≢◌, ℕ, zero, suc, ◌+◌, ◌<◌, ◌≤◌, inl, inr, true, List, [], ◌∷◌, ◌++◌, refl, sym, ap, ◌∙◌, subst, arith}
-use Rattle.std.specs.Prelude.{All, IsTrue, Some, slice_get}
+use Rattle.std.proofs.Common.{◌≡◌, ◌≢◌, ℕ, zero, suc, ◌+◌, ◌<◌, ◌≤◌, inl, inr, true, List, [], ◌∷◌, ◌++◌, refl, sym, ap, ◌∙◌, subst, arith, add-one}
+use Rattle.std.specs.Prelude.{All, IsTrue, None, Some, slice_get}
 use Rattle.std.proofs.lemmas.Bool.{cases_lt}
 use Rattle.std.proofs.lemmas.List.{append_assoc, append-nil}
 use Rattle.std.proofs.lemmas.List.Elements.{All-head, All-tail}
 use Rattle.rv_spec.specs.Decisions.{Decision, decisions, decisions_from, run_decisions, step_decisions}
 use Rattle.rv_spec.specs.Machine.{State, first_state}
-use Rattle.rv_spec.specs.Memory.{IsAssignment}
-use Rattle.rv_spec.specs.Runs.{run_from}
+use Rattle.rv_spec.specs.Runs.{Run, run, run_from}
 use Rattle.fork_spec.specs.Partings.{AreKidsApart, ArePlacesApart, IsOnSide}
-use Rattle.sym_machine.specs.Steps.{IsFirstOpen}
-use Rattle.sym_machine.proofs.Stepping.{decisions_more}
-use Rattle.sym_state.specs.Programs.{Program, regions_of}
-use Rattle.sym_state.specs.Symbolic.{Symbolic, IsOpen, concrete, meets}
+use Rattle.sym_machine.specs.Stops.{StandsAt}
+use Rattle.sym_state.specs.Programs.{Program}
+use Rattle.sym_state.specs.Runs.{IsOpen}
+use Rattle.sym_state.specs.Symbolic.{Symbolic, concrete, stands_for}
 use Rattle.node_split.specs.Rules.{Piece, content_place}
 
 -- a list that goes on from another
@@ -41,6 +40,15 @@ decisions_on first few (suc most) within = elim (cases_lt few (suc most)) [
       record { more = []; is = ap (decisions_from first) (sym same) ∙ sym (append-nil (decisions_from first few)) }
 ]
 
+-- of a run that has not ended
+decisions_more : (p : Program) (input : List ℕ) (steps : ℕ) (c : State)
+    → run p.image p.regions input steps ≡ record { state = c; end = None; steps = steps }
+    → decisions p.image p.regions input (steps + 1) ≡ decisions p.image p.regions input steps ++ step_decisions c
+unfolding decisions_from
+decisions_more p input steps c is =
+    ap (λ k. decisions_from (first_state p.image p.regions input) k) (add-one steps)
+    ∙ ap (λ (r : Run). decisions p.image p.regions input steps ++ run_decisions r r.end) is
+
 -- these decisions, then this one, then more
 record HasDecision (front : List Decision) (decision : Decision) (whole : List Decision)
     : Type 0 where
@@ -55,16 +63,16 @@ move_front made front back more decision =
     ∙ sym (append_assoc made front (decision ∷ (back ++ more)))
 
 -- what a run decides at a fork
-decides_there : (p : Program) (s : Symbolic) (most : ℕ) (decision : List ℕ → Decision)
-    → (was : IsOpen p s) → s.steps < most → (next : IsFirstOpen p s decision)
-    → (input : List ℕ) → IsAssignment (regions_of p) input → meets s input ≡ true
-    → HasDecision (was.alike.made ++ next.front) (decision input) (decisions p.image (regions_of p) input most)
-decides_there p s most decision was few next input assigned meeting =
-    let on = decisions_on (first_state p.image (regions_of p) input) (s.steps + 1) most (omega (arith, few)) in
-    let so_far : decisions p.image (regions_of p) input (s.steps + 1) ≡ was.alike.made ++ (next.front ++ decision input ∷ next.back input)
-    = decisions_more p.image (regions_of p) input s.steps (concrete p s input) (was.sound input assigned meeting)
-    ∙ ap (λ ds. ds ++ step_decisions (concrete p s input)) (was.alike.alike input assigned meeting)
-    ∙ ap (λ ds. was.alike.made ++ ds) (next.is input assigned meeting) in
+decides_there : (p : Program) (s : Symbolic) (most place : ℕ) (decision : List ℕ → Decision)
+    → (was : IsOpen p s) → s.steps < most → (next : StandsAt s place decision)
+    → (input : List ℕ) → stands_for s input ≡ true
+    → HasDecision (was.alike.made ++ next.front) (decision input) (decisions p.image p.regions input most)
+decides_there p s most place decision was few next input stands =
+    let on = decisions_on (first_state p.image p.regions input) (s.steps + 1) most (omega (arith, few)) in
+    let so_far : decisions p.image p.regions input (s.steps + 1) ≡ was.alike.made ++ (next.front ++ decision input ∷ next.back input)
+    = decisions_more p input s.steps (concrete s input) (was.sound input stands)
+    ∙ ap (λ ds. ds ++ step_decisions (concrete s input)) (was.alike.alike input stands)
+    ∙ ap (λ ds. was.alike.made ++ ds) (next.is input stands) in
     record {
       back = next.back input ++ on.more;
       is = on.is ∙ ap (λ ds. ds ++ on.more) so_far ∙ move_front was.alike.made next.front (next.back input) on.more (decision input);
@@ -72,13 +80,11 @@ decides_there p s most decision was few next input assigned meeting =
 
 -- a side of a fork: what it stands for is some of what the run stands for, and decides as the side
 -- says
-pub record IsOnFork (p : Program) (s : Symbolic) (decision : List ℕ → Decision) (kid : Piece)
+pub record IsOnFork (s : Symbolic) (decision : List ℕ → Decision) (kid : Piece)
     : Type 0 where
   pub choices : (content_place kid.content).choices ≡ s.choices ++ kid.choice ∷ []
-  pub assigned : (input : List ℕ) → IsTrue ((content_place kid.content).covers input)
-      → IsAssignment (regions_of p) input
-  pub meeting : (input : List ℕ) → IsTrue ((content_place kid.content).covers input)
-      → meets s input ≡ true
+  pub stands : (input : List ℕ) → IsTrue ((content_place kid.content).covers input)
+      → stands_for s input ≡ true
   pub on_side : (input : List ℕ) → IsTrue ((content_place kid.content).covers input)
       → IsOnSide kid.choice (decision input)
 
@@ -95,17 +101,17 @@ swapped decision one other are = record {
   decisions = λ a b on_a on_b is. are.decisions b a on_b on_a (sym is);
 }
 
-module _ (p : Program) (s : Symbolic) (most : ℕ) (decision : List ℕ → Decision) (was : IsOpen p s) (few : s.steps < most) (next : IsFirstOpen p s decision) where
-  sides_apart : (one other : Piece) → IsOnFork p s decision one → IsOnFork p s decision other
+module _ (p : Program) (s : Symbolic) (most place : ℕ) (decision : List ℕ → Decision) (was : IsOpen p s) (few : s.steps < most) (next : StandsAt s place decision) where
+  sides_apart : (one other : Piece) → IsOnFork s decision one → IsOnFork s decision other
       → AreTwoSides decision one other
-      → ArePlacesApart (λ input. decisions p.image (regions_of p) input most) (content_place one.content) (content_place other.content)
+      → ArePlacesApart (λ input. decisions p.image p.regions input most) (content_place one.content) (content_place other.content)
   sides_apart one other is_one is_other are = record {
     c = one.choice;
     d = other.choice;
     first = record { front = s.choices; one_back = []; other_back = []; one = is_one.choices; other = is_other.choices; differ = are.choices };
     part = λ a b on_a on_b.
-        let there_a = decides_there p s most decision was few next a (is_one.assigned a on_a) (is_one.meeting a on_a) in
-        let there_b = decides_there p s most decision was few next b (is_other.assigned b on_b) (is_other.meeting b on_b) in
+        let there_a = decides_there p s most place decision was few next a (is_one.stands a on_a) in
+        let there_b = decides_there p s most place decision was few next b (is_other.stands b on_b) in
         record {
           front = was.alike.made ++ next.front;
           one_decision = decision a;
@@ -147,10 +153,10 @@ two_of decision (k ∷ ks) (suc i) (suc j) a b (first, rest) apart at_i at_j =
     two_of decision ks i j a b rest (λ is. apart (ap suc is)) at_i at_j
 
 -- any two sides of a fork are apart
-pub kids_apart : (p : Program) (s : Symbolic) (most : ℕ) (decision : List ℕ → Decision)
-    (kids : List Piece) → IsOpen p s → s.steps < most → IsFirstOpen p s decision
-    → All (IsOnFork p s decision) kids → AreOtherSides decision kids
-    → AreKidsApart content_place (λ input. decisions p.image (regions_of p) input most) kids
-kids_apart p s most decision kids was few next each are = λ i j a b apart at_i at_j.
-    sides_apart p s most decision was few next a b
-    (at_index (IsOnFork p s decision) kids i a each at_i) (at_index (IsOnFork p s decision) kids j b each at_j) (two_of decision kids i j a b are apart at_i at_j)
+pub kids_apart : (p : Program) (s : Symbolic) (most place : ℕ) (decision : List ℕ → Decision)
+    (kids : List Piece) → IsOpen p s → s.steps < most → StandsAt s place decision
+    → All (IsOnFork s decision) kids → AreOtherSides decision kids
+    → AreKidsApart content_place (λ input. decisions p.image p.regions input most) kids
+kids_apart p s most place decision kids was few next each are = λ i j a b apart at_i at_j.
+    sides_apart p s most place decision was few next a b
+    (at_index (IsOnFork s decision) kids i a each at_i) (at_index (IsOnFork s decision) kids j b each at_j) (two_of decision kids i j a b are apart at_i at_j)

@@ -1,24 +1,15 @@
--- Assignments of one byte, and what answers to questions over them say.
-use Rattle.std.proofs.Common.{◌≡◌, ℕ, zero, suc, ◌-◌, ◌<◌, ◌≤◌, Bool, true, false, ◌&&◌, List, [], ◌∷◌, length, refl, sym, ap, ◌∙◌, arith, rules}
-use Rattle.std.specs.Prelude.{◌==◌, not}
+-- Inputs of bytes, and tests of both kinds.
+use Rattle.std.proofs.Common.{◌≡◌, ℕ, zero, suc, ◌<◌, Bool, true, false, ◌&&◌, List, [], ◌∷◌, length, refl, sym, ap, ◌∙◌, arith, rules}
+use Rattle.std.specs.Prelude.{All, ◌==◌, nat_lt, not}
 use Rattle.std.proofs.lemmas.Bool.Decides.{nat_tests}
-use Rattle.bv_dag.specs.Graphs.{number_of}
+use Rattle.std.proofs.lemmas.List.Elements.{All-nil, All-cons, All-head, All-tail}
 use Rattle.fork_spec.specs.Leaves.{are_bytes}
-use Rattle.rv_spec.specs.Memory.{IsAssignment}
-use Rattle.sym_state.specs.Programs.{Program, regions_of}
-use Rattle.sym_state.specs.Symbolic.{Symbolic, meets}
-use Rattle.sym_state.proofs.Assigning.{both_true, bytes_of}
-use Rattle.node_split.specs.Narrowing.{answers, is_side}
+use Rattle.rv_spec.specs.Arithmetic.{one_where}
+use Rattle.node_split.specs.Narrowing.{is_side}
 
-pub record IsByte (input : List ℕ) : Type 0 where
-  pub byte : ℕ
-  pub is : input ≡ byte ∷ []
-  pub small : byte < 256
-
-pub one_byte : (p : Program) (input : List ℕ) → IsAssignment (regions_of p) input → IsByte input
-one_byte p [] assigned = absurd (omega (arith, assigned.0))
-one_byte p (b ∷ []) assigned = record { byte = b; is = refl; small = assigned.1 0 0 (omega arith) }
-one_byte p (b ∷ c ∷ rest) assigned = absurd (omega (arith, assigned.0))
+pub both_true : (a b : Bool) → (a && b) ≡ true → (a ≡ true) × (b ≡ true)
+both_true true b h = (refl, h)
+both_true false b h = cc
 
 pub all_true : (a b : Bool) → a ≡ true → b ≡ true → (a && b) ≡ true
 all_true a b h k = cc (h, k)
@@ -31,38 +22,61 @@ pub not_true : (b : Bool) → not b ≡ true → b ≡ false
 not_true true h = cc
 not_true false h = refl
 
-pub is_one : (n : ℕ) → (n == 1) ≡ true → n ≡ 1
-is_one n h = grind (arith, nat_tests)
+pub not_false : (b : Bool) → not b ≡ false → b ≡ true
+not_false true h = refl
+not_false false h = cc
 
-pub other_one : (n : ℕ) → n ≤ 1 → (n == 1) ≡ false → 1 - n ≡ 1
-other_one n small h = grind (arith, nat_tests)
+pub and-assoc : (a b c : Bool) → (a && (b && c)) ≡ ((a && b) && c)
+and-assoc true b c = refl
+and-assoc false b c = refl
 
-pub turned : (n : ℕ) → n ≤ 1 → (1 - n == 1) ≡ not (n == 1)
-turned zero small = refl
-turned (suc zero) small = refl
-turned (suc (suc n)) small = absurd (omega arith)
+-- one more that is to be true
+pub and_last : (a b c : Bool) → (a && (b && (c && true))) ≡ ((a && b) && c)
+and_last true true true = refl
+and_last true true false = refl
+and_last true false c = refl
+and_last false b c = refl
 
-other_side : (side : Bool) (n : ℕ) → is_side (not side) n ≡ false → (n == 1) ≡ side
-other_side true n h = not_false (n == 1) h where
-  not_false : (b : Bool) → not b ≡ false → b ≡ true
-  not_false true h = refl
-  not_false false h = cc
+-- what is the same where there are bytes
+pub by_bytes : (b h one test : Bool) → (b ≡ true → one ≡ test) → (b && (h && one)) ≡ ((b && h) && test)
+by_bytes true h one test is = ap (λ x. h && x) (is refl)
+by_bytes false h one test is = refl
+
+pub one_is : (b : Bool) → (one_where b == 1) ≡ b
+one_is true = refl
+one_is false = refl
+
+below_true : (n m : ℕ) → n < m → nat_lt n m ≡ true
+below_true n m less = grind (arith, nat_tests)
+
+below_of : (n m : ℕ) → nat_lt n m ≡ true → n < m
+below_of n m is = grind (arith, nat_tests)
+
+pub bytes_true : (input : List ℕ) → All (λ b. b < 256) input → are_bytes input ≡ true
+bytes_true [] all = refl
+bytes_true (b ∷ bs) all =
+    ap (λ t. t && are_bytes bs) (below_true b 256 (All-head (λ n. n < 256) b bs all)) ∙ bytes_true bs (All-tail (λ n. n < 256) b bs all)
+
+pub bytes_of : (input : List ℕ) → are_bytes input ≡ true → All (λ b. b < 256) input
+bytes_of [] is = All-nil (λ b. b < 256)
+bytes_of (b ∷ bs) is =
+    let parts = both_true (nat_lt b 256) (are_bytes bs) is in
+    All-cons (λ n. n < 256) b bs (below_of b 256 parts.0) (bytes_of bs parts.1)
+
+pub one_byte : (byte : ℕ) → byte < 256 → are_bytes (byte ∷ []) ≡ true
+one_byte byte small = bytes_true (byte ∷ []) (All-cons (λ b. b < 256) byte [] small (All-nil (λ b. b < 256)))
+
+-- an input of one byte
+pub record IsByte (input : List ℕ) : Type 0 where
+  pub byte : ℕ
+  pub is : input ≡ byte ∷ []
+  pub small : byte < 256
+
+pub is_byte : (input : List ℕ) → length input ≡ 1 → All (λ b. b < 256) input → IsByte input
+is_byte [] long all = absurd (omega (arith, long))
+is_byte (b ∷ []) long all = record { byte = b; is = refl; small = all 0 0 (omega arith) }
+is_byte (b ∷ c ∷ rest) long all = absurd (omega (arith, long))
+
+pub other_side : (side : Bool) (n : ℕ) → is_side (not side) n ≡ false → (n == 1) ≡ side
+other_side true n h = not_false (n == 1) h
 other_side false n h = h
-
--- where no byte is on the other side, all that meets the condition is on this one
-pub one_side : (p : Program) (s : Symbolic) (term : ℕ) (side : Bool)
-    → ((byte : ℕ) → byte < 256 → answers s.terms s.condition term (not side) (byte ∷ []) ≡ false)
-    → (input : List ℕ) → IsAssignment (regions_of p) input → meets s input ≡ true
-    → (number_of s.terms term input == 1) ≡ side
-one_side p s term side none input assigned meeting =
-    let one : IsByte input = one_byte p input assigned in
-    let met : meets s (one.byte ∷ []) ≡ true = ap (meets s) (sym one.is) ∙ meeting in
-    ap (λ i. number_of s.terms term i == 1) one.is ∙ other_side side (number_of s.terms term (one.byte ∷ [])) (second_false (meets s (one.byte ∷ [])) _ (none one.byte one.small) met)
-
--- bytes that meet the condition are an assignment
-pub assigned : (p : Program) (s : Symbolic) (input : List ℕ) → s.terms.inputs ≡ 1
-    → are_bytes input ≡ true → meets s input ≡ true → IsAssignment (regions_of p) input
-assigned p s input one bytes met =
-    let long : (length input == s.terms.inputs) ≡ true = (both_true (length input == s.terms.inputs) _ met).0 in
-    let same : length input ≡ s.terms.inputs = search (rules, long) in
-    (omega (arith, same, one), bytes_of input bytes)

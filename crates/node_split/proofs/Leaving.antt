@@ -1,298 +1,385 @@
--- Leaves: what a symbolic run is when it is left.
-use Rattle.std.proofs.Common.{◌≡◌, ℕ, ◌-◌, ◌^◌, ◌<◌, ◌≤◌, true, false, ◌&&◌, List, [], ◌∷◌, ◌++◌, get_or, length, map, take, refl, sym, ap, subst, ◌∙◌, arith}
-use Rattle.std.specs.Prelude.{All, Option, None, Some, ◌==◌, not, IsTrue}
-use Rattle.std.specs.List.{list_all}
-use Rattle.std.proofs.lemmas.List.{length-append, length-map}
-use Rattle.std.proofs.lemmas.List.Elements.{All-append, All-nil, All-cons, All-map, All-push}
-use Rattle.std.proofs.lemmas.List.Folds.{list_all-append}
-use Rattle.std.proofs.Math.Seq.{take-append_seam}
-use Rattle.bv_dag.specs.Graphs.{Graph, IsDag, number_of, width_of}
-use Rattle.bv_dag.specs.Queries.{AreBits, holds}
+-- Leaves: what a symbolic run is where it is left, over only the terms that it stands on.
+use Rattle.std.proofs.Common.{◌≡◌, ℕ, ◌*◌, ◌/◌, ◌^◌, ◌%◌, ◌<◌, ◌≤◌, true, ◌&&◌, List, [], ◌∷◌, ◌++◌, drop, get_or, length, map, take, refl, sym, ap, subst, ◌∙◌, arith}
+use Rattle.std.specs.Prelude.{All, IfOk, IsTrue, Option, None, Some, Result, Ok, Err}
+use Rattle.std.proofs.lemmas.List.{length-map, map-append}
+use Rattle.std.proofs.lemmas.List.Elements.{All-append, All-nil, All-cons, All-head, All-push, All-tail}
+use Rattle.bv_dag.specs.BitVectors.{BitVector}
+use Rattle.bv_dag.specs.Graphs.{Graph, number_of, width_of}
+use Rattle.bv_dag.specs.Queries.{holds}
+use Rattle.bv_dag.proofs.TermLaws.{there}
+use Rattle.cow_pages.specs.declared.byte.Byte.{Byte}
+use Rattle.elf_load.specs.declared.region.Region.{Region}
 use Rattle.rv_decode.specs.declared.ends.End.{End}
+use Rattle.rv_decode.specs.declared.ends.End.TheVariants.{Exit, Trapped}
+use Rattle.rv_decode.specs.declared.ends.Trap.{Trap}
 use Rattle.rv_spec.specs.Memory.{IsAssignment}
 use Rattle.rv_spec.specs.Runs.{Run, IsRunOf, run}
-use Rattle.fork_spec.specs.Leaves.{AreBytes, IsByteStatus, IsFull, IsSmallChoice, Leaf, are_bytes, covers}
-use Rattle.fork_spec.specs.Parts.{OnTargets, Part}
+use Rattle.term_trees.specs.Growth.{Continues}
+use Rattle.term_trees.proofs.TreeLaws.{value-grown, width-grown}
+use Rattle.tree_core.specs.declared.cause.Cause.{Cause}
+use Rattle.tree_core.specs.declared.cause.Cause.TheVariants.{Steps}
+use Rattle.fork_spec.specs.Evidence.{IsSample}
+use Rattle.fork_spec.specs.Leaves.{AreBytes, IsByteStatus, IsFull, are_bytes, covers, worth}
 use Rattle.fork_spec.specs.Partings.{DecidesAlike}
-use Rattle.fork_spec.specs.Runs.{IsFaithful}
+use Rattle.fork_spec.specs.Parts.{Part}
+use Rattle.fork_spec.specs.Runs.{IsFaithful, end_on}
 use Rattle.fork_spec.specs.declared.end.LeafEnd.{LeafEnd}
 use Rattle.fork_spec.specs.declared.end.LeafEnd.TheVariants.{Exits as LeafExits, Traps as LeafTraps, Cut}
 use Rattle.fork_tree.specs.Works.{EndsAs}
-use Rattle.rv_decode.specs.declared.ends.End.TheVariants.{Exit, Trapped}
-use Rattle.rv_decode.specs.declared.ends.Trap.{Trap}
-use Rattle.sym_machine.specs.Steps.{IsEnding, IsPin, end_on as ends_on}
-use Rattle.sym_machine.specs.declared.outcome.RunEnd.{RunEnd}
+use Rattle.sym_machine.specs.Advancing.{IsEnded}
 use Rattle.sym_machine.specs.declared.outcome.RunEnd.TheVariants.{Exits, Traps}
-use Rattle.sym_machine.proofs.Moving.{AreBytes-grown, numbers-grown}
-use Rattle.sym_state.specs.Growing.{Grows}
-use Rattle.sym_state.specs.Moves.{with_terms}
+use Rattle.sym_state.specs.Moves.{IsGrown, MakesByte, MakesTerm, with_terms}
 use Rattle.sym_state.specs.Places.{run_place}
-use Rattle.sym_state.specs.Programs.{Program, regions_of}
-use Rattle.sym_state.specs.Symbolic.{Symbolic, DecidedAlike, HasSmallNumbers, IsOpen, meets, numbers_of}
-use Rattle.sym_state.proofs.Pushes.{Grows-none}
-use Rattle.sym_state.proofs.Kept.{AreBits-grown, bit_width-grown, holds-grown, number_of-grown}
-use Rattle.tree_core.specs.declared.cause.Cause.TheVariants.{Steps, Targets}
-use Rattle.tree_core.specs.declared.choice.Choice.{Choice}
-use Rattle.tree_core.specs.declared.choice.Choice.TheVariants.{Rest, Value}
-use Rattle.fork_spec.specs.Evidence.{AreIncreasing, Found, IsReached, IsSample, SpendsTargets, is_among, values_of}
-use Rattle.node_split.specs.Ends.{EndsLike, left_as}
+use Rattle.sym_state.specs.Programs.{Program}
+use Rattle.sym_state.specs.Runs.{DecidedAlike, IsOpen}
+use Rattle.sym_state.specs.Symbolic.{Symbolic, IsFormed, concrete, condition_of, stands_for, value_at}
+use Rattle.sym_state.specs.Values.{GivesTerm, IsByte, byte_worth, worth_of}
+use Rattle.sym_state.proofs.Growing.{Continues-trans, byte_worth-grown, number-grown, width-kept}
+use Rattle.sym_state.specs.declared.value.Value.{Value}
+use Rattle.sym_machine.proofs.Standing.{IsGrown-trans}
+use Rattle.node_split.specs.Copies.{AreCopies}
+use Rattle.node_split.specs.Leaving.{AreTermsOf, HasTerms, IsPicked, IsWritable, left_as}
 use Rattle.node_split.specs.Rules.{leaf_place, rules_of}
-use Rattle.node_split.specs.Resting.{IsRest, IsWithout, founds_of}
-use Rattle.node_split.specs.Values.{AreValues, HasValue, numbers_in}
-use Rattle.node_split.specs.declared.question.ValueAt.{ValueAt}
-use Rattle.sym_state.proofs.Assigning.{both_true}
-use Rattle.node_split.proofs.Bytes.{all_true}
-use Rattle.node_split.proofs.Sharing.{and-assoc}
+use Rattle.node_split.specs.declared.leaf.LeafTerms.{LeafTerms}
+use Rattle.node_split.proofs.Bytes.{all_true, both_true, bytes_true}
+use Rattle.node_split.proofs.Copying.{all-copied, copies-back, copies-front, holds-copied}
+use Rattle.node_split.proofs.Grown.{Continues-none, bytes-grown}
 
--- the run of an assignment, where the symbolic run is
-pub still_runs : (p : Program) (s : Symbolic) (g : Graph) (input : List ℕ) → IsOpen p s
-    → Grows s.terms g → IsAssignment (regions_of p) input → meets s input ≡ true
-    → IsRunOf (run p.image (regions_of p) input s.steps) s.steps s.path None (numbers_of g input s.output)
-still_runs p s g input was grows assigned meeting =
-    subst (λ (r : Run). IsRunOf r s.steps s.path None (numbers_of g input s.output)) (sym (was.sound input assigned meeting))
-    (record { all_steps = refl; same_path = refl; same_end = refl; same_output = sym (numbers-grown s.terms g input s.output grows was.bytes) })
+-- ---- Copies of terms that were there before others were added.
+same-each : (P : ℕ → Type 0) (f g : ℕ → ℕ) (ids : List ℕ) → All P ids → ((id : ℕ) → P id → f id ≡ g id)
+    → map f ids ≡ map g ids
+same-each P f g [] all same = refl
+same-each P f g (id ∷ ids) all same =
+    cc (same id (All-head P id ids all), same-each P f g ids (All-tail P id ids all) same)
 
--- A leaf in full.
-pub full_leaf : (s : Symbolic) (g : Graph) (condition : List ℕ) (choices : List Choice)
-    (end : LeafEnd) → HasSmallNumbers s → IsDag g → g.inputs ≡ 1 → length g.nodes < 2 ^ 32
-    → AreBits g condition → IsByteStatus g end → AreBytes g s.output → All IsSmallChoice choices
-    → IsFull (record { choices = choices; path = s.path; steps = s.steps; end = end; condition = record { graph = g; asserted = condition }; outputs = s.output })
-full_leaf s g condition choices end numbers dag one few bits status bytes small = record {
-  is_dag = dag;
-  bits = bits;
-  status = status;
-  bytes = bytes;
-  small_choices = small;
-  small_path = numbers.path;
-  few_steps = omega (arith, numbers.few_steps);
-  few_inputs = omega (arith, one);
-  few_nodes = few;
-  few_outputs = omega (arith, numbers.few_steps, numbers.few_outputs);
+pub copies-before : (f g h : Graph) (ids copies : List ℕ) → Continues f g → All (λ id. id < length f.nodes) ids
+    → AreCopies g ids h copies → AreCopies f ids h copies
+copies-before f g h ids copies grown within is = record {
+  inputs = is.inputs ∙ grown.inputs;
+  widths = is.widths ∙ same-each (λ id. id < length f.nodes) (width_of g) (width_of f) ids within (λ id below. width-grown f g id grown below);
+  numbers = λ input. is.numbers input
+      ∙ same-each (λ id. id < length f.nodes) (λ id. number_of g id input) (λ id. number_of f id input) ids within
+      (λ id below. ap (λ (x : BitVector). x.number) (value-grown f g id input grown below));
 }
 
-holds-append : (g : Graph) (xs ys input : List ℕ)
-    → holds (record { graph = g; asserted = xs ++ ys }) input ≡ (holds (record { graph = g; asserted = xs }) input && list_all (λ id. number_of g id input == 1) ys)
-holds-append g xs ys input = ap (λ b. (length input == g.inputs) && b) (list_all-append (λ id. number_of g id input == 1) xs ys) ∙ and-assoc (length input == g.inputs) _ _
+conditions_there : (s : Symbolic) → IsFormed s → All (λ id. id < length s.terms.nodes) s.condition
+conditions_there s formed = λ k d below. there s.terms _ 1 (formed.bits k d below) (omega arith)
 
--- the leaf of what is left beside these values
-abbrev pub left_leaf : Symbolic → Graph → List ℕ → Leaf
-left_leaf s g ids = record { choices = s.choices ++ Rest ∷ []; path = s.path; steps = s.steps; end = Cut Targets; condition = record { graph = g; asserted = s.condition ++ ids }; outputs = s.output }
-
--- and what shows it
-abbrev pub left_part : Leaf → ℕ → List ValueAt → ℕ → Part
-left_part leaf term found other = record {
-  leaf = leaf;
-  sample = Some (other ∷ []);
-  evidence = Some (OnTargets (record { term = term; found = founds_of found }));
+terms-before : (s : Symbolic) (g : Graph) (t : LeafTerms) → IsFormed s → Continues s.terms g → HasTerms (with_terms s g) t
+    → HasTerms s t
+terms-before s g t formed grown has = record {
+  is_dag = has.is_dag;
+  few_nodes = has.few_nodes;
+  condition = copies-before s.terms g t.condition.graph s.condition t.condition.asserted grown (conditions_there s formed) has.condition;
+  outputs = record {
+    eight_bits = has.outputs.eight_bits;
+    worth = λ input bytes. has.outputs.worth input bytes ∙ bytes-grown s.terms g input s.output grown formed.bytes;
+  };
 }
 
-values-founds : (found : List ValueAt) → values_of (founds_of found) ≡ numbers_in found
-values-founds [] = refl
-values-founds (f ∷ fs) = ap (λ vs. f.value ∷ vs) (values-founds fs)
+-- a leaf has the terms of the run before more of them were made
+pub terms_before : (s new : Symbolic) (t : LeafTerms) → IsGrown s new → HasTerms new t → HasTerms s t
+terms_before s new t grown has =
+    terms-before s new.terms t grown.before grown.continues (subst (λ (r : Symbolic). HasTerms r t) grown.same has)
 
-front : (xs ids : List ℕ) (count : ℕ) → length ids ≡ count
-    → take (length (xs ++ ids) - count) (xs ++ ids) ≡ xs
-front xs ids count each =
-    let long : length (xs ++ ids) - count ≡ length xs = omega (arith, each, length-append xs ids) in
-    ap (λ k. take k (xs ++ ids)) long ∙ take-append_seam xs ids
+copied-outputs : (s : Symbolic) (g : Graph) (ids : List ℕ) (t : LeafTerms) → AreTermsOf s.terms s.output g ids
+    → AreCopies g ids t.condition.graph t.outputs.items → AreTermsOf s.terms s.output t.condition.graph t.outputs.items
+copied-outputs s g ids t are copies = record {
+  eight_bits = all-copied g t.condition.graph 8 ids t.outputs.items copies.widths are.eight_bits;
+  worth = λ input bytes. copies.numbers input ∙ are.worth input bytes;
+}
 
-one_assigned : (p : Program) (byte : ℕ) → byte < 256 → IsAssignment (regions_of p) (byte ∷ [])
-one_assigned p byte small = (refl, All-cons (λ b. b < 256) byte [] small (All-nil (λ b. b < 256)))
+-- what was picked once the terms of its output were made
+pub picked_terms : (s new : Symbolic) (ids besides : List ℕ) (t : LeafTerms) → IsGrown s new → AreTermsOf s.terms s.output new.terms ids
+    → IsPicked new ids besides t → HasTerms s t
+picked_terms s new ids besides t grown are picked = record {
+  is_dag = picked.is_dag;
+  few_nodes = picked.few_nodes;
+  condition = copies-before s.terms new.terms t.condition.graph s.condition t.condition.asserted grown.continues
+      (conditions_there s grown.before)
+      (subst (λ (r : Symbolic). AreCopies new.terms r.condition t.condition.graph t.condition.asserted) grown.same picked.condition);
+  outputs = copied-outputs s new.terms ids t are picked.outputs;
+}
 
-all-bytes : (P : ValueAt → Type 0) (Q : Found → Type 0) (found : List ValueAt) → All P found
-    → ((f : ValueAt) → P f → Q (record { value = f.value; input = f.byte ∷ [] }))
-    → All Q (founds_of found)
-all-bytes P Q found each turn = All-map Q (λ (f : ValueAt). record { value = f.value; input = f.byte ∷ [] }) found (λ k d within. turn (get_or found k d) (each k d within))
+-- ---- What such a leaf is.
+same-lengths : {A B : Type 0} (f : A → ℕ) (g : B → ℕ) (xs : List A) (ys : List B) → map f xs ≡ map g ys → length xs ≡ length ys
+same-lengths f g xs ys is = sym (length-map xs f) ∙ ap length is ∙ length-map ys g
 
-module _ (p : Program) (steps targets : ℕ) (s : Symbolic) (g : Graph) (ids : List ℕ) (r offset term : ℕ) (found : List ValueAt) (other : ℕ) (was : IsOpen p s) (at : IsPin p s r offset term) (grows : Grows s.terms g)
-    (values : AreValues s.terms s.condition term targets 256 found (Some other)) (each : length ids ≡ length (numbers_in found))
-    (bits : AreBits g ids) (tells : (input : List ℕ)
-    → list_all (λ id. number_of g id input == 1) ids ≡ not (is_among (numbers_in found) (number_of s.terms term input))) where
-  covers-left : (input : List ℕ)
-      → covers (left_leaf s g ids) input ≡ (meets s input && not (is_among (numbers_in found) (number_of s.terms term input)))
-  covers-left input = holds-append g s.condition ids input ∙ ap (λ b. b && list_all (λ id. number_of g id input == 1) ids) (holds-grown s.terms g s.condition input grows was.bits) ∙ ap (λ b. meets s input && b) (tells input)
+module _ (s : Symbolic) (t : LeafTerms) (has : HasTerms s t) where
+  pub holds-left : (input : List ℕ) → holds t.condition input ≡ holds (condition_of s) input
+  holds-left input = holds-copied s.terms t.condition.graph s.condition t.condition.asserted input has.condition
 
-  count-left : length ids ≡ targets
-  count-left = each ∙ length-map found (λ (f : ValueAt). f.value) ∙ (values.others other refl).0
+  stands : (regions : List Region) (input : List ℕ) → IsAssignment regions input → holds t.condition input ≡ true
+      → stands_for s input ≡ true
+  stands regions input assigned covered = all_true _ _ (bytes_true input assigned.1) (sym (holds-left input) ∙ covered)
 
-  others-left : (input : List ℕ)
-      → holds (record { graph = g; asserted = take (length (s.condition ++ ids) - targets) (s.condition ++ ids) }) input ≡ meets s input
-  others-left input = ap (λ xs. holds (record { graph = g; asserted = xs }) input) (front s.condition ids targets count-left) ∙ holds-grown s.terms g s.condition input grows was.bits
+  as_many : length t.outputs.items ≡ length s.output
+  as_many =
+      same-lengths (λ id. number_of t.condition.graph id []) (byte_worth s.terms []) t.outputs.items s.output
+      (has.outputs.worth [] (All-nil (λ b. b < 256)))
 
-  term-left : (input : List ℕ) → number_of g term input ≡ number_of s.terms term input
-  term-left input = number_of-grown s.terms g term 32 input grows at.wide (omega arith)
-
-  reached-left : (f : ValueAt) → HasValue s.terms s.condition term f
-      → IsReached (regions_of p) (left_leaf s g ids) targets term (record { value = f.value; input = f.byte ∷ [] })
-  reached-left f (small, holding, has) = record {
-    assignment = one_assigned p f.byte small;
-    holds_others = others-left (f.byte ∷ []) ∙ holding;
-    has_value = term-left (f.byte ∷ []) ∙ has;
+  pub full-left : (end : LeafEnd) → IsFormed s → IsWritable s → IsByteStatus t.condition.graph end → IsFull (left_as s t end)
+  full-left end formed writable status = record {
+    is_dag = has.is_dag;
+    bits = all-copied s.terms t.condition.graph 1 s.condition t.condition.asserted has.condition.widths formed.bits;
+    status = status;
+    bytes = has.outputs.eight_bits;
+    small_choices = formed.choices;
+    small_path = formed.path;
+    few_steps = omega (arith, formed.few_steps);
+    few_inputs = omega (arith, has.condition.inputs, writable.few_inputs);
+    few_nodes = has.few_nodes;
+    few_outputs = omega (arith, as_many, writable.few_outputs);
   }
 
-  covered-left : (byte : ℕ)
-      → holds (record { graph = s.terms; asserted = s.condition }) (byte ∷ []) ≡ true
-      → is_among (numbers_in found) (number_of s.terms term (byte ∷ [])) ≡ false
-      → IsTrue (covers (left_leaf s g ids) (byte ∷ []))
-  covered-left byte holding other = covers-left (byte ∷ []) ∙ all_true _ _ holding (ap not other)
+  -- the run of each assignment is as the leaf says
+  pub runs-left : (p : Program) (end : LeafEnd)
+      → ((input : List ℕ) → All (λ b. b < 256) input → stands_for s input ≡ true
+      → IsRunOf (run p.image p.regions input s.steps) s.steps s.path (end_on (left_as s t end) input end) (map (byte_worth s.terms input) s.output))
+      → (input : List ℕ) → IsAssignment p.regions input → IsTrue (covers (left_as s t end) input)
+      → IsRunOf (run p.image p.regions input s.steps) s.steps s.path (end_on (left_as s t end) input end) (map (worth (left_as s t end) input) t.outputs.items)
+  runs-left p end runs input assigned covered =
+      subst (λ ns. IsRunOf (run p.image p.regions input s.steps) s.steps s.path (end_on (left_as s t end) input end) ns)
+      (sym (has.outputs.worth input assigned.1)) (runs input assigned.1 (stands p.regions input assigned covered))
 
-  sample-left : IsSample (regions_of p) (left_leaf s g ids) (other ∷ [])
-  sample-left = let is = (values.others other refl).1 in (one_assigned p other is.0, covered-left other is.1 is.2)
+  pub alike-left : (p : Program) (end : LeafEnd) → DecidedAlike p s → DecidesAlike p.image p.regions (left_as s t end)
+  alike-left p end was = λ a b assigned_a on_a assigned_b on_b.
+      was.alike a (stands p.regions a assigned_a on_a) ∙ sym (was.alike b (stands p.regions b assigned_b on_b))
 
-  pub spends-left : SpendsTargets (regions_of p) targets (map Value (numbers_in found) ++ Rest ∷ []) (left_leaf s g ids) (record { term = term; found = founds_of found })
-  spends-left = record {
-    wide = bit_width-grown s.terms g term 32 grows at.wide (omega arith);
-    each = length-map found (λ (f : ValueAt). record { value = f.value; input = f.byte ∷ [] }) ∙ (values.others other refl).0;
-    increasing = subst AreIncreasing (sym (values-founds found)) values.increasing;
-    reached = all-bytes (HasValue s.terms s.condition term) (IsReached (regions_of p) (left_leaf s g ids) targets term) found values.each reached-left;
-    rest = λ input assigned. covers-left input
-        ∙ ap (λ b. b && not (is_among (numbers_in found) (number_of s.terms term input))) (sym (others-left input))
-        ∙ cc (values-founds found, term-left input);
-    some = (other ∷ [], sample-left.0, sample-left.1);
-    others = ap (λ vs. map Value vs ++ Rest ∷ []) (sym (values-founds found));
-  }
+  pub sample-left : (regions : List Region) (end : LeafEnd) → IsFormed s → IsAssignment regions s.sample → stands_for s s.sample ≡ true
+      → IsSample regions (left_as s t end) s.sample
+  sample-left regions end formed assigned sampled =
+      (assigned, holds-left s.sample ∙ (both_true (are_bytes s.sample) _ sampled).1)
 
-  faithful-left : s.steps < steps → IsFaithful p.image (regions_of p) steps (left_leaf s g ids)
-  faithful-left few = record {
-    within = few;
-    runs = λ input assigned covered. still_runs p s g input was grows assigned (both_true (meets s input) _ (sym (covers-left input) ∙ covered)).0;
-  }
+  assigned : (p : Program) (count : ℕ) → IsFormed s → s.terms.inputs ≡ count → length s.sample ≡ count
+  assigned p count formed inputs = formed.each_input ∙ inputs
 
-  full-left : IsFull (left_leaf s g ids)
-  full-left =
-      full_leaf s g (s.condition ++ ids) (s.choices ++ Rest ∷ []) (Cut Targets) was.numbers grows.dag (grows.same_inputs ∙ was.one_input) (grows.few was.numbers.few_terms)
-      (All-append (λ id. width_of g id ≡ 1) s.condition ids (AreBits-grown s.terms g s.condition grows was.bits) bits) tt (AreBytes-grown s.terms g s.output grows was.bytes)
-      (All-push IsSmallChoice s.choices Rest was.numbers.choices tt)
+-- the leaf with its sample, as it is made
+abbrev pub left_part : Symbolic → LeafTerms → LeafEnd → Part
+left_part s t end = record { leaf = left_as s t end; sample = Some s.sample; evidence = None }
 
-  alike-left : DecidesAlike p.image (regions_of p) (left_leaf s g ids)
-  alike-left = λ a b assigned_a on_a assigned_b on_b.
-      was.alike.alike a assigned_a (both_true (meets s a) _ (sym (covers-left a) ∙ on_a)).0
-      ∙ sym (was.alike.alike b assigned_b (both_true (meets s b) _ (sym (covers-left b) ∙ on_b)).0)
+-- terms are all that was added
+left-same : (s new : Symbolic) (t : LeafTerms) (end : LeafEnd) → IsGrown s new → left_part new t end ≡ left_part s t end
+left-same s new t end grown = ap (λ (r : Symbolic). left_part r t end) grown.same
 
-  pub rest-left : s.steps < steps
-      → IsRest p steps targets s term found (left_part (left_leaf s g ids) term found other)
-  rest-left few = record {
-    choices = refl;
-    cut = refl;
-    covers = covers-left;
-    right = record {
-      full = full-left;
-      inputs = grows.same_inputs ∙ was.one_input;
-      faithful = faithful-left few;
-      alike = alike-left;
-      shown = (sample-left, spends-left);
-    };
-  }
+pub full_as : (s new : Symbolic) (t : LeafTerms) (end : LeafEnd) → IsGrown s new → IsFull (left_as s t end)
+    → IsFull (left_as new t end)
+full_as s new t end grown full = subst (λ (part : Part). IsFull part.leaf) (sym (left-same s new t end grown)) full
 
--- the bits of what is left
-pub bits-left : (s rest : Symbolic) (term : ℕ) (values : List ℕ) → AreBits s.terms s.condition
-    → IsWithout s term values rest → AreBits rest.terms rest.condition
-bits-left s rest term values bits is =
-    subst (AreBits rest.terms) (sym (ap (λ (r : Symbolic). r.condition) is.same)) (All-append (λ id. width_of rest.terms id ≡ 1) s.condition is.ids (AreBits-grown s.terms rest.terms s.condition is.grows bits) is.bits)
+pub ends_as : (p : Program) (steps targets : ℕ) (cut : Option Cause) (s new : Symbolic) (t : LeafTerms) (end : LeafEnd) → IsGrown s new
+    → EndsAs (rules_of p steps targets) run_place leaf_place cut s (left_part s t end)
+    → EndsAs (rules_of p steps targets) run_place leaf_place cut s (left_part new t end)
+ends_as p steps targets cut s new t end grown is =
+    subst (λ (part : Part). EndsAs (rules_of p steps targets) run_place leaf_place cut s part) (sym (left-same s new t end grown)) is
 
--- the leaf of what is left, as it is made
-abbrev pub with_rest : Symbolic → Symbolic
-with_rest s = record s { choices = s.choices ++ Rest ∷ [] }
+-- ---- A run that has spent its steps.
+pub still_runs : (p : Program) (s : Symbolic) (input : List ℕ) → IsOpen p s → stands_for s input ≡ true
+    → IsRunOf (run p.image p.regions input s.steps) s.steps s.path None (map (byte_worth s.terms input) s.output)
+still_runs p s input was stood =
+    subst (λ (r : Run). IsRunOf r s.steps s.path None (map (byte_worth s.terms input) s.output)) (sym (was.sound input stood))
+    (record { all_steps = refl; same_path = refl; same_end = refl; same_output = refl })
 
-module _ (p : Program) (steps targets : ℕ) (s rest : Symbolic) (r offset term : ℕ) (found : List ValueAt) (other : ℕ) (was : IsOpen p s) (at : IsPin p s r offset term)
-    (values : AreValues s.terms s.condition term targets 256 found (Some other)) (is : IsWithout s term (numbers_in found) rest) where
-  pub rest_full : IsFull (left_as (with_rest rest) (Cut Targets))
-  rest_full =
-      subst (λ (t : Symbolic). IsFull (left_as (with_rest t) (Cut Targets))) (sym is.same)
-      (full-left p steps targets s rest.terms is.ids r offset term found other was at is.grows values is.each is.bits is.tells)
+pub still_left : (p : Program) (s : Symbolic) (t : LeafTerms) (end : LeafEnd) → HasTerms s t → IsOpen p s
+    → ((input : List ℕ) → end_on (left_as s t end) input end ≡ None)
+    → (input : List ℕ) → IsAssignment p.regions input → IsTrue (covers (left_as s t end) input)
+    → IsRunOf (run p.image p.regions input s.steps) s.steps s.path (end_on (left_as s t end) input end) (map (worth (left_as s t end) input) t.outputs.items)
+still_left p s t end has was none =
+    runs-left s t has p end (λ input bytes stood.
+    subst (λ e. IsRunOf (run p.image p.regions input s.steps) s.steps s.path e (map (byte_worth s.terms input) s.output)) (sym (none input))
+    (still_runs p s input was stood))
 
-  pub rest_made : s.steps < steps
-      → IsRest p steps targets s term found (left_part (left_as (with_rest rest) (Cut Targets)) term found other)
-  rest_made few =
-      subst (λ (t : Symbolic). IsRest p steps targets s term found (left_part (left_as (with_rest t) (Cut Targets)) term found other)) (sym is.same)
-      (rest-left p steps targets s rest.terms is.ids r offset term found other was at is.grows values is.each is.bits is.tells few)
-
--- A run that has spent its steps.
-pub cut_full : (p : Program) (s : Symbolic) → IsOpen p s → IsFull (left_as s (Cut Steps))
-cut_full p s was = full_leaf s s.terms s.condition s.choices (Cut Steps) was.numbers was.dag was.one_input was.numbers.few_terms was.bits tt was.bytes was.numbers.choices
-
--- all that meets its condition has decided alike
-alike_as : (p : Program) (s : Symbolic) (g : Graph) (end : LeafEnd) → DecidedAlike p s
-    → ((input : List ℕ) → holds (record { graph = g; asserted = s.condition }) input ≡ meets s input)
-    → DecidesAlike p.image (regions_of p) (left_as (with_terms s g) end)
-alike_as p s g end was same = λ a b assigned_a on_a assigned_b on_b.
-    was.alike a assigned_a (sym (same a) ∙ on_a) ∙ sym (was.alike b assigned_b (sym (same b) ∙ on_b))
-
-pub cut_whole : (p : Program) (steps targets : ℕ) (s : Symbolic) → IsOpen p s → s.steps ≡ steps
-    → EndsAs (rules_of p steps targets) run_place leaf_place (Some Steps) s (record { leaf = left_as s (Cut Steps); sample = Some (s.sample ∷ []); evidence = None })
-cut_whole p steps targets s was spent = record {
+pub cut_whole : (p : Program) (targets : ℕ) (s : Symbolic) (t : LeafTerms) → HasTerms s t → IsFormed s → IsWritable s → IsOpen p s
+    → EndsAs (rules_of p s.steps targets) run_place leaf_place (Some Steps) s (left_part s t (Cut Steps))
+cut_whole p targets s t has formed writable was = record {
   same_choices = refl;
-  same_cover = λ input. refl;
+  same_cover = λ input. ap (λ b. are_bytes input && b) (holds-left s t has input);
   right = record {
-    full = cut_full p s was;
-    inputs = was.one_input;
-    faithful = record { within = spent; runs = λ input assigned covered. still_runs p s s.terms input was (Grows-none s.terms was.dag) assigned covered };
-    alike = alike_as p s s.terms (Cut Steps) was.alike (λ input. refl);
-    shown = (one_assigned p s.sample was.sampled.0, was.sampled.1);
+    full = full-left s t has (Cut Steps) formed writable tt;
+    inputs = has.condition.inputs ∙ was.inputs;
+    faithful = record { within = refl; runs = still_left p s t (Cut Steps) has was (λ input. refl) };
+    alike = alike-left s t has p (Cut Steps) was.alike;
+    shown = sample-left s t has p.regions (Cut Steps) formed (formed.each_input ∙ was.inputs, formed.sample_bytes) was.ready.sampled;
   };
   cause = refl;
 }
 
--- A run whose runs have all ended.
-ended_runs : (p : Program) (s : Symbolic) (g : Graph) (end : RunEnd) (said : Option End)
-    (input : List ℕ) → IsEnding p s end → Grows s.terms g → said ≡ Some (ends_on s input end)
-    → IsAssignment (regions_of p) input → meets s input ≡ true
-    → IsRunOf (run p.image (regions_of p) input s.steps) s.steps s.path said (numbers_of g input s.output)
-ended_runs p s g end said input ending grows is assigned meeting =
-    subst (λ (e : Option End). IsRunOf (run p.image (regions_of p) input s.steps) s.steps s.path e (numbers_of g input s.output)) (sym is)
-    (subst (λ ns. IsRunOf (run p.image (regions_of p) input s.steps) s.steps s.path (Some (ends_on s input end)) ns) (sym (numbers-grown s.terms g input s.output grows ending.bytes)) (ending.ends input assigned meeting))
+-- ---- A run whose runs have all ended.
+pub trapped_whole : (p : Program) (steps targets : ℕ) (s : Symbolic) (t : LeafTerms) (trap : Trap) → HasTerms s t → IsFormed s
+    → IsWritable s → IsEnded p s (Traps trap) → s.steps ≤ steps
+    → EndsAs (rules_of p steps targets) run_place leaf_place None s (left_part s t (LeafTraps trap))
+trapped_whole p steps targets s t trap has formed writable was within = record {
+  same_choices = refl;
+  same_cover = λ input. ap (λ b. are_bytes input && b) (holds-left s t has input);
+  right = record {
+    full = full-left s t has (LeafTraps trap) formed writable tt;
+    inputs = has.condition.inputs ∙ was.inputs;
+    faithful = record {
+      within = within;
+      runs = runs-left s t has p (LeafTraps trap) (λ input bytes stood. was.ends input stood);
+    };
+    alike = alike-left s t has p (LeafTraps trap) was.alike;
+    shown = sample-left s t has p.regions (LeafTraps trap) formed (formed.each_input ∙ was.inputs, formed.sample_bytes) was.sampled;
+  };
+  cause = refl;
+}
 
-abbrev pub ended_part : Symbolic → LeafEnd → Part
-ended_part s end = record { leaf = left_as s end; sample = Some (s.sample ∷ []); evidence = None }
+-- the term is the status on every assignment
+pub record IsStatus (s : Symbolic) (g : Graph) (status : ℕ) : Type 0 where
+  pub byte : width_of g status ≡ 8
+  pub worth : (input : List ℕ) → All (λ b. b < 256) input → number_of g status input ≡ worth_of s.terms input (value_at s.registers 10) % 256
 
--- its status is a byte
-ended_status : (s : Symbolic) (g : Graph) (end : RunEnd) (leaf_end : LeafEnd)
-    → EndsLike s g end leaf_end → IsByteStatus g leaf_end
-ended_status s g Exits (LeafExits status) (byte, number) = byte
-ended_status s g Exits (LeafTraps other) is = absurd is
-ended_status s g Exits (Cut cause) is = absurd is
-ended_status s g (Traps trap) (LeafExits status) is = absurd is
-ended_status s g (Traps trap) (LeafTraps other) is = tt
-ended_status s g (Traps trap) (Cut cause) is = absurd is
+pub exited_whole : (p : Program) (steps targets : ℕ) (s : Symbolic) (t : LeafTerms) (status : ℕ) → HasTerms s t → IsFormed s
+    → IsWritable s → IsEnded p s Exits → IsStatus s t.condition.graph status → s.steps ≤ steps
+    → EndsAs (rules_of p steps targets) run_place leaf_place None s (left_part s t (LeafExits status))
+exited_whole p steps targets s t status has formed writable was is within = record {
+  same_choices = refl;
+  same_cover = λ input. ap (λ b. are_bytes input && b) (holds-left s t has input);
+  right = record {
+    full = full-left s t has (LeafExits status) formed writable is.byte;
+    inputs = has.condition.inputs ∙ was.inputs;
+    faithful = record {
+      within = within;
+      runs = runs-left s t has p (LeafExits status) (λ input bytes stood.
+          subst (λ (e : Option End). IsRunOf (run p.image p.regions input s.steps) s.steps s.path e (map (byte_worth s.terms input) s.output))
+          (ap (λ n. Some (Exit n)) (sym (is.worth input bytes))) (was.ends input stood));
+    };
+    alike = alike-left s t has p (LeafExits status) was.alike;
+    shown = sample-left s t has p.regions (LeafExits status) formed (formed.each_input ∙ was.inputs, formed.sample_bytes) was.sampled;
+  };
+  cause = refl;
+}
 
-pub ended_full : (p : Program) (s : Symbolic) (g : Graph) (end : RunEnd) (leaf_end : LeafEnd)
-    → IsEnding p s end → Grows s.terms g → EndsLike s g end leaf_end
-    → IsFull (left_as (with_terms s g) leaf_end)
-ended_full p s g end leaf_end ending grows like =
-    full_leaf s g s.condition s.choices leaf_end ending.numbers grows.dag (grows.same_inputs ∙ ending.one_input) (grows.few ending.numbers.few_terms)
-    (AreBits-grown s.terms g s.condition grows ending.bits) (ended_status s g end leaf_end like) (AreBytes-grown s.terms g s.output grows ending.bytes) ending.numbers.choices
+-- ---- The one term that was picked besides.
+pub first_width : (old new : Graph) (term d : ℕ) (copies : List ℕ) → AreCopies old (term ∷ []) new copies
+    → width_of new (get_or copies 0 d) ≡ width_of old term
+first_width old new term d [] is = absurd (cc is.widths)
+first_width old new term d (c ∷ cs) is = let first : width_of new c ≡ width_of old term = cc is.widths in first
 
-pub ended_whole : (p : Program) (steps targets : ℕ) (s : Symbolic) (g : Graph) (end : RunEnd)
-    (leaf_end : LeafEnd) → IsEnding p s end → Grows s.terms g → EndsLike s g end leaf_end
-    → s.steps ≤ steps
-    → EndsAs (rules_of p steps targets) run_place leaf_place None s (ended_part (with_terms s g) leaf_end)
-ended_whole p steps targets s g Exits (LeafExits status) ending grows (byte, number) within =
-    let same : (input : List ℕ) → holds (record { graph = g; asserted = s.condition }) input ≡ meets s input = λ input. holds-grown s.terms g s.condition input grows ending.bits in record {
-      same_choices = refl;
-      same_cover = λ input. ap (λ b. are_bytes input && b) (same input);
-      right = record {
-        full = ended_full p s g Exits (LeafExits status) ending grows (byte, number);
-        inputs = grows.same_inputs ∙ ending.one_input;
-        faithful = record { within = within; runs = λ input assigned covered. ended_runs p s g Exits _ input ending grows (ap (λ n. Some (Exit n)) (number input)) assigned (sym (same input) ∙ covered) };
-        alike = alike_as p s g (LeafExits status) ending.alike same;
-        shown = (one_assigned p s.sample ending.sampled.0, same (s.sample ∷ []) ∙ ending.sampled.1);
-      };
-      cause = refl;
+pub first_number : (old new : Graph) (term d : ℕ) (copies input : List ℕ) → AreCopies old (term ∷ []) new copies
+    → number_of new (get_or copies 0 d) input ≡ number_of old term input
+first_number old new term d [] input is = absurd (cc is.widths)
+first_number old new term d (c ∷ cs) input is =
+    let first : number_of new c input ≡ number_of old term input = cc (is.numbers input) in first
+
+pub first_there : (old new : Graph) (term : ℕ) (copies : List ℕ) → AreCopies old (term ∷ []) new copies → 0 < length copies
+first_there old new term [] is = absurd (cc is.widths)
+first_there old new term (c ∷ cs) is = omega arith
+
+-- the status that was made, where it was picked
+pub status_picked : (s : Symbolic) (made : Symbolic) (g : Graph) (status d : ℕ) (copies : List ℕ)
+    → MakesTerm s made 8 status (λ input. worth_of s.terms input (value_at s.registers 10) % 256)
+    → AreCopies made.terms (status ∷ []) g copies → IsStatus s g (get_or copies 0 d)
+status_picked s made g status d copies makes is = record {
+  byte = first_width made.terms g status d copies is ∙ makes.gives.width;
+  worth = λ input bytes. first_number made.terms g status d copies input is ∙ makes.gives.worth input bytes;
+}
+
+-- ---- What was picked for a leaf, apart.
+pub picked_there : (s : Symbolic) (outputs more : List ℕ) → IsFormed s → AreBytes s.terms outputs → All (λ id. id < length s.terms.nodes) more
+    → All (λ id. id < length s.terms.nodes) ((s.condition ++ outputs) ++ more)
+picked_there s outputs more formed bytes within =
+    All-append (λ id. id < length s.terms.nodes) (s.condition ++ outputs) more
+    (All-append (λ id. id < length s.terms.nodes) s.condition outputs (conditions_there s formed)
+    (λ k d below. there s.terms _ 8 (bytes k d below) (omega arith))) within
+
+-- copies of the condition, of the outputs and of what is behind them
+pub record ArePartsOf (s : Symbolic) (outputs more : List ℕ) (g : Graph) (one two three : List ℕ) : Type 0 where
+  pub asserted : AreCopies s.terms s.condition g one
+  pub written : AreCopies s.terms outputs g two
+  pub besides : AreCopies s.terms more g three
+
+pub parts_picked : (s : Symbolic) (outputs more : List ℕ) (g : Graph) (ids : List ℕ) (at end : ℕ)
+    → at ≡ length s.condition → end ≡ length (s.condition ++ outputs) → AreCopies s.terms ((s.condition ++ outputs) ++ more) g ids
+    → ArePartsOf s outputs more g (take at (take end ids)) (drop at (take end ids)) (drop end ids)
+parts_picked s outputs more g ids at end is_at is_end is =
+    let front : AreCopies s.terms (s.condition ++ outputs) g (take end ids)
+    = subst (λ n. AreCopies s.terms (s.condition ++ outputs) g (take n ids)) (sym is_end) (copies-front s.terms g (s.condition ++ outputs) more ids is) in record {
+      asserted = subst (λ n. AreCopies s.terms s.condition g (take n (take end ids))) (sym is_at) (copies-front s.terms g s.condition outputs (take end ids) front);
+      written = subst (λ n. AreCopies s.terms outputs g (drop n (take end ids))) (sym is_at) (copies-back s.terms g s.condition outputs (take end ids) front);
+      besides = subst (λ n. AreCopies s.terms more g (drop n ids)) (sym is_end) (copies-back s.terms g (s.condition ++ outputs) more ids is);
     }
-ended_whole p steps targets s g (Traps trap) (LeafTraps other) ending grows is within =
-    let same : (input : List ℕ) → holds (record { graph = g; asserted = s.condition }) input ≡ meets s input = λ input. holds-grown s.terms g s.condition input grows ending.bits in record {
-      same_choices = refl;
-      same_cover = λ input. ap (λ b. are_bytes input && b) (same input);
-      right = record {
-        full = ended_full p s g (Traps trap) (LeafTraps other) ending grows is;
-        inputs = grows.same_inputs ∙ ending.one_input;
-        faithful = record { within = within; runs = λ input assigned covered. ended_runs p s g (Traps trap) _ input ending grows (ap (λ (t : Trap). Some (Trapped t)) (sym is)) assigned (sym (same input) ∙ covered) };
-        alike = alike_as p s g (LeafTraps other) ending.alike same;
-        shown = (one_assigned p s.sample ending.sampled.0, same (s.sample ∷ []) ∙ ending.sampled.1);
-      };
-      cause = refl;
-    }
-ended_whole p steps targets s g Exits (LeafTraps other) ending grows is within = absurd is
-ended_whole p steps targets s g Exits (Cut cause) ending grows is within = absurd is
-ended_whole p steps targets s g (Traps trap) (LeafExits status) ending grows is within = absurd is
-ended_whole p steps targets s g (Traps trap) (Cut cause) ending grows is within = absurd is
+
+-- ---- The terms of the bytes written, one after the other.
+pub grown_none : (s : Symbolic) → IsFormed s → IsGrown s s
+grown_none s formed = record { before = formed; same = refl; continues = Continues-none s.terms; formed = formed }
+
+pub no_terms : (g : Graph) → AreTermsOf g [] g []
+no_terms g = record { eight_bits = All-nil (λ id. width_of g id ≡ 8); worth = λ input bytes. refl }
+
+bytes-kept : (g h : Graph) (ids : List ℕ) → Continues g h → AreBytes g ids → AreBytes h ids
+bytes-kept g h ids grown bytes = λ k d below. width-kept g h _ 8 grown (bytes k d below) (omega arith)
+
+numbers-kept : (g h : Graph) (ids input : List ℕ) → Continues g h → AreBytes g ids
+    → map (λ id. number_of h id input) ids ≡ map (λ id. number_of g id input) ids
+numbers-kept g h ids input grown bytes =
+    same-each (λ id. width_of g id ≡ 8) (λ id. number_of h id input) (λ id. number_of g id input) ids bytes
+    (λ id wide. number-grown g h id 8 input grown wide (omega arith))
+
+-- one byte more
+pub terms-more : (f g h : Graph) (bytes : List Byte) (byte : Byte) (ids : List ℕ) (id : ℕ) → Continues f g → IsByte f byte
+    → AreTermsOf f bytes g ids → GivesTerm g h 8 id (λ input. byte_worth g input byte)
+    → AreTermsOf f (bytes ++ byte ∷ []) h (ids ++ id ∷ [])
+terms-more f g h bytes byte ids id grown is are gives = record {
+  eight_bits = All-push (λ i. width_of h i ≡ 8) ids id (bytes-kept g h ids gives.continues are.eight_bits) gives.width;
+  worth = λ input small.
+      map-append (λ i. number_of h i input) ids (id ∷ [])
+      ∙ cc (
+        numbers-kept g h ids input gives.continues are.eight_bits ∙ are.worth input small,
+        gives.worth input small ∙ byte_worth-grown f g input byte grown is,
+      )
+      ∙ sym (map-append (byte_worth f input) bytes (byte ∷ []));
+}
+
+-- what holds of a leaf holds of what was answered
+pub leaf_ok : {E : Type 0} (r : Result Part E) (part : Part) (Q : Part → Type 0) → IfOk r (λ made. made ≡ part) → Q part → IfOk r Q
+leaf_ok (Ok made) part Q is holds = subst Q (sym is) holds
+leaf_ok (Err e) part Q is holds = tt
+
+pub picked_terms_ok : {E : Type 0} (r : Result LeafTerms E) (s new : Symbolic) (ids besides : List ℕ) → IsGrown s new
+    → AreTermsOf s.terms s.output new.terms ids → IfOk r (IsPicked new ids besides) → IfOk r (HasTerms s)
+picked_terms_ok (Ok t) s new ids besides grown are is = picked_terms s new ids besides t grown are is
+picked_terms_ok (Err e) s new ids besides grown are is = tt
+
+pub picked_more_ok : {E : Type 0} (r : Result LeafTerms E) (s new : Symbolic) (ids besides : List ℕ) → IsGrown s new
+    → All (λ id. id < length s.terms.nodes) besides → IfOk r (IsPicked new ids besides)
+    → IfOk r (λ t. AreCopies s.terms besides t.condition.graph t.more.items)
+picked_more_ok (Ok t) s new ids besides grown within is =
+    copies-before s.terms new.terms t.condition.graph besides t.more.items grown.continues within is.more
+picked_more_ok (Err e) s new ids besides grown within is = tt
+
+-- ---- The status of an exit.
+low : (n : ℕ) → n / 2 ^ (8 * 0) % 2 ^ 8 ≡ n % 256
+low n = omega arith
+
+pub status_made : {E : Type 0} (r : Result ℕ E) (s mid new : Symbolic) (v : Value) (byte : Byte) → v ≡ value_at s.registers 10
+    → MakesByte s mid byte (λ input. worth_of s.terms input v / 2 ^ (8 * 0) % 2 ^ 8)
+    → IfOk r (λ id. MakesTerm mid new 8 id (λ input. byte_worth mid.terms input byte))
+    → IfOk r (λ id. MakesTerm s new 8 id (λ input. worth_of s.terms input (value_at s.registers 10) % 256))
+status_made (Err e) s mid new v byte is made term = tt
+status_made (Ok id) s mid new v byte is made term = record {
+  grown = IsGrown-trans s mid new made.grown term.grown;
+  gives = record {
+    continues = Continues-trans made.gives.continues term.gives.continues;
+    width = term.gives.width;
+    worth = λ input bytes. term.gives.worth input bytes ∙ made.gives.worth input bytes
+        ∙ ap (λ x. worth_of s.terms input x / 2 ^ (8 * 0) % 2 ^ 8) is ∙ low (worth_of s.terms input (value_at s.registers 10));
+  };
+}
+
+pub status_there : (s made : Symbolic) (status : ℕ)
+    → MakesTerm s made 8 status (λ input. worth_of s.terms input (value_at s.registers 10) % 256)
+    → All (λ id. id < length made.terms.nodes) (status ∷ [])
+status_there s made status is =
+    All-cons (λ id. id < length made.terms.nodes) status [] (there made.terms status 8 is.gives.width (omega arith)) (All-nil (λ id. id < length made.terms.nodes))
+
+-- ---- Parts of a list that was split twice.
+pub parts_split : (s : Symbolic) (outputs more : List ℕ) (g : Graph) (ids same front again one two three : List ℕ) (at end : ℕ)
+    → at ≡ length s.condition → end ≡ length (s.condition ++ outputs) → AreCopies s.terms ((s.condition ++ outputs) ++ more) g ids
+    → same ≡ ids → front ≡ take end same → three ≡ drop end same → again ≡ front → one ≡ take at again → two ≡ drop at again
+    → ArePartsOf s outputs more g one two three
+parts_split s outputs more g ids same front again one two three at end is_at is_end is same_is front_is three_is again_is one_is two_is =
+    let first = again_is ∙ front_is ∙ ap (take end) same_is in
+    subst (λ xs. ArePartsOf s outputs more g xs two three) (sym (one_is ∙ ap (take at) first))
+    (subst (λ xs. ArePartsOf s outputs more g (take at (take end ids)) xs three) (sym (two_is ∙ ap (drop at) first))
+    (subst (λ xs. ArePartsOf s outputs more g (take at (take end ids)) (drop at (take end ids)) xs) (sym (three_is ∙ ap (drop end) same_is))
+    (parts_picked s outputs more g ids at end is_at is_end is)))

@@ -11,10 +11,11 @@ use Rattle.fork_spec.specs.Walks.{Side, are_sides}
 use Rattle.fork_spec.specs.Written.{side_of_kid}
 use Rattle.fork_tree.specs.Contents.{choices_in, cut_in}
 use Rattle.fork_tree.specs.Works.{IsPart}
-use Rattle.sym_machine.specs.Steps.{IsBranch}
+use Rattle.sym_machine.specs.Stops.{IsBranch}
 use Rattle.sym_state.specs.Places.{run_place}
 use Rattle.sym_state.specs.Programs.{Program}
-use Rattle.sym_state.specs.Symbolic.{Symbolic, IsOpen, left_to_do}
+use Rattle.sym_state.specs.Runs.{IsOpen, left_to_do}
+use Rattle.sym_state.specs.Symbolic.{Symbolic, stands_for}
 use Rattle.node_split.specs.Narrowing.{is_side}
 use Rattle.node_split.specs.Rules.{Piece, content_place, rules_of}
 use Rattle.node_split.specs.Splits.{IsForkOf, IsSide}
@@ -50,8 +51,8 @@ branch_form : (targets : ℕ)
 branch_form targets = refl
 
 forms_are : (p : Program) (steps targets : ℕ) (s : Symbolic) (no_test yes_test : List ℕ → Bool)
-    (left_kid right_kid : Piece) → IsSide p s No no_test left_kid
-    → IsSide p s Yes yes_test right_kid
+    (left_kid right_kid : Piece) → IsSide s No no_test left_kid
+    → IsSide s Yes yes_test right_kid
     → map (side_of_kid (cut_in (rules_of p steps targets).cut)) (left_kid ∷ right_kid ∷ []) ≡ record { choice = No; cut = None } ∷ record { choice = Yes; cut = None } ∷ []
 forms_are p steps targets s no_test yes_test left_kid right_kid left right = cc (side_form p steps targets s No no_test left_kid left, side_form p steps targets s Yes yes_test right_kid right)
 
@@ -60,9 +61,9 @@ abbrev StandsOnSide : Symbolic → Piece → Type 0
 StandsOnSide s k = (content_place k.content).choices ≡ s.choices ++ k.choice ∷ []
 
 pub two_sides : (p : Program) (steps targets : ℕ) (s : Symbolic) (left_kid right_kid : Piece)
-    (term : ℕ) → IsOpen p s → IsBranch p s term → s.steps < steps → 1 ≤ targets
-    → IsSide p s No (λ input. is_side false (number_of s.terms term input)) left_kid
-    → IsSide p s Yes (λ input. is_side true (number_of s.terms term input)) right_kid
+    (term : ℕ) → IsOpen p s → IsBranch s term → s.steps < steps → 1 ≤ targets
+    → IsSide s No (λ input. is_side false (number_of s.terms term input)) left_kid
+    → IsSide s Yes (λ input. is_side true (number_of s.terms term input)) right_kid
     → IsForkOf p steps targets s (left_kid ∷ right_kid ∷ [])
 two_sides p steps targets s left_kid right_kid term was at few some left right =
     let no_test = λ (input : List ℕ). is_side false (number_of s.terms term input) in
@@ -72,19 +73,19 @@ two_sides p steps targets s left_kid right_kid term was at few some left right =
       shared = λ input.
           count-cons input left_kid (right_kid ∷ [])
           ∙ ap (λ n. one_if ((content_place left_kid.content).covers input) + n) (count-cons input right_kid [])
-          ∙ ap (λ b. one_if b + (one_if ((content_place right_kid.content).covers input) + 0)) (side-covers p s No no_test left_kid left input)
-          ∙ ap (λ b. one_if ((run_place s).covers input && not (number_of s.terms term input == 1)) + (one_if b + 0)) (side-covers p s Yes yes_test right_kid right input)
-          ∙ one_of_two ((run_place s).covers input) (number_of s.terms term input == 1);
-      choices = All-cons (StandsOnSide s) left_kid (right_kid ∷ []) (side-choices p s No no_test left_kid left) (All-cons (StandsOnSide s) right_kid [] (side-choices p s Yes yes_test right_kid right) (All-nil (StandsOnSide s)));
-      parts = All-cons Part left_kid (right_kid ∷ []) (side_part p steps targets (choices_in (left_kid ∷ right_kid ∷ [])) s No no_test left_kid few left)
-          (All-cons Part right_kid [] (side_part p steps targets (choices_in (left_kid ∷ right_kid ∷ [])) s Yes yes_test right_kid few right) (All-nil Part));
+          ∙ ap (λ b. one_if b + (one_if ((content_place right_kid.content).covers input) + 0)) (side-covers s No no_test left_kid left input)
+          ∙ ap (λ b. one_if (stands_for s input && not (number_of s.terms term input == 1)) + (one_if b + 0)) (side-covers s Yes yes_test right_kid right input)
+          ∙ one_of_two (stands_for s input) (number_of s.terms term input == 1);
+      choices = All-cons (StandsOnSide s) left_kid (right_kid ∷ []) (side-choices s No no_test left_kid left) (All-cons (StandsOnSide s) right_kid [] (side-choices s Yes yes_test right_kid right) (All-nil (StandsOnSide s)));
+      parts = All-cons Part left_kid (right_kid ∷ []) (side_part p steps targets (choices_in (left_kid ∷ right_kid ∷ [])) s No no_test left_kid was few left)
+          (All-cons Part right_kid [] (side_part p steps targets (choices_in (left_kid ∷ right_kid ∷ [])) s Yes yes_test right_kid was few right) (All-nil Part));
       sides = subst (λ (sides : List Side). IsTrue (are_sides targets sides))
           (sym (forms_are p steps targets s no_test yes_test left_kid right_kid left right)) (branch_form targets);
       few = omega (arith, some);
-      apart = kids_apart p s steps decision (left_kid ∷ right_kid ∷ []) was few at.decides
-          (All-cons (IsOnFork p s decision) left_kid (right_kid ∷ []) (side_on_fork p s No no_test decision left_kid was left (λ input is. on_no _ is))
-          (All-cons (IsOnFork p s decision) right_kid [] (side_on_fork p s Yes yes_test decision right_kid was right (λ input is. on_yes _ is)) (All-nil (IsOnFork p s decision)))) (
-            All-cons (AreTwoSides decision left_kid) right_kid [] (two_runs p s decision No Yes no_test yes_test left_kid right_kid left right two_choices (λ a b. two_decisions _ _)) (All-nil (AreTwoSides decision left_kid)),
+      apart = kids_apart p s steps 1 decision (left_kid ∷ right_kid ∷ []) was few at.stands
+          (All-cons (IsOnFork s decision) left_kid (right_kid ∷ []) (side_on_fork s No no_test decision left_kid left (λ input is. on_no _ is))
+          (All-cons (IsOnFork s decision) right_kid [] (side_on_fork s Yes yes_test decision right_kid right (λ input is. on_yes _ is)) (All-nil (IsOnFork s decision)))) (
+            All-cons (AreTwoSides decision left_kid) right_kid [] (two_runs s decision No Yes no_test yes_test left_kid right_kid left right two_choices (λ a b. two_decisions _ _)) (All-nil (AreTwoSides decision left_kid)),
             (All-nil (AreTwoSides decision right_kid), tt),
           );
     }

@@ -1,156 +1,159 @@
--- Symbolic runs on one side of a fork.
-use Rattle.std.proofs.Common.{◌≡◌, ℕ, ◌+◌, ◌-◌, ◌*◌, ◌<◌, Bool, true, false, ◌&&◌, List, [], ◌∷◌, length, refl, sym, ap, subst, ◌∙◌, arith}
-use Rattle.std.specs.Prelude.{Option, None, Some, ◌==◌, not, count_by}
+-- A run of whose next step one decision more is known: as it is, or on one side of a fork.
+use Rattle.std.proofs.Common.{◌≡◌, ◌≢◌, ℕ, zero, suc, ◌+◌, ◌-◌, ◌*◌, ◌<◌, ◌≤◌, inl, inr, Bool, true, false, ◌&&◌, cond, List, [], ◌∷◌, ◌++◌, get_or, set, length, refl, sym, ap, subst, ◌∙◌, arith}
+use Rattle.std.specs.Prelude.{All, Option, None, Some, ◌==◌, count_by, is_none, slice_get, slice_set}
 use Rattle.std.specs.List.{list_all}
-use Rattle.std.proofs.lemmas.List.Elements.{All-push}
+use Rattle.std.proofs.lemmas.Bool.{cases_eq}
+use Rattle.std.proofs.lemmas.List.{get_or-set_same, get_or-set_other, length-set}
 use Rattle.std.proofs.lemmas.List.Folds.{list_all-append}
-use Rattle.bv_dag.specs.Graphs.{Graph, number_of, width_of}
-use Rattle.fork_spec.specs.Leaves.{IsSmallChoice}
+use Rattle.std.proofs.lemmas.List.Sums.{sum_by-set}
+use Rattle.bv_dag.specs.Graphs.{Graph, number_of}
+use Rattle.bv_dag.specs.Queries.{holds}
+use Rattle.fork_spec.specs.Leaves.{are_bytes}
+use Rattle.rv_spec.specs.Decisions.{Decision, decisions, step_decisions}
 use Rattle.rv_spec.specs.Machine.{State}
-use Rattle.sym_machine.specs.Steps.{IsBranch}
-use Rattle.sym_machine.proofs.Moving.{concrete-grown, open_grown}
-use Rattle.sym_state.specs.Growing.{Grows}
-use Rattle.sym_state.specs.Moves.{narrowed, with_terms}
+use Rattle.rv_spec.specs.Runs.{Run, run}
+use Rattle.sym_machine.specs.Stops.{IsOpenAt, StandsAt}
+use Rattle.sym_state.specs.Moves.{informed, narrowed, with_terms}
 use Rattle.sym_state.specs.Programs.{Program}
-use Rattle.sym_state.specs.Symbolic.{Symbolic, Goes, IsDecided, IsOpen, concrete, is_term, meets, most_steps, undecided}
-use Rattle.sym_state.specs.declared.value.Value.{Value}
-use Rattle.sym_state.proofs.Kept.{holds-grown}
+use Rattle.sym_state.specs.Runs.{DecidedAlike, IsOpen, IsReady, left_to_do}
+use Rattle.sym_state.specs.Symbolic.{Symbolic, IsFormed, IsTrulyKnown, KnowsTruth, concrete, decision_of, known_at, most_decisions, most_steps, stands_for}
+use Rattle.sym_state.specs.declared.decided.Decided.{Decided}
+use Rattle.term_trees.specs.Growth.{Continues}
 use Rattle.tree_core.specs.declared.choice.Choice.{Choice}
-use Rattle.tree_core.specs.declared.choice.Choice.TheVariants.{No, Yes}
-use Rattle.node_split.specs.Narrowing.{GoesOn, IsNarrower, answers, is_side}
-use Rattle.sym_state.proofs.Assigning.{both_true}
-use Rattle.node_split.proofs.Bytes.{all_true, not_true, one_side, turned}
+use Rattle.node_split.specs.Narrowing.{GoesOn, IsNarrower, IsSettled}
+use Rattle.node_split.proofs.Bytes.{IsByte, all_true, and_last, both_true, by_bytes, bytes_of, is_byte}
+use Rattle.node_split.proofs.Increasing.{equals}
+use Rattle.node_split.proofs.Grown.{concrete-grown, stands-grown}
 
--- one more term that is to be 1
-and_last : (a b c : Bool) → (a && (b && (c && true))) ≡ ((a && b) && c)
-and_last true true true = refl
-and_last true true false = refl
-and_last true false c = refl
-and_last false b c = refl
+-- an assignment of a run over one input is a byte
+pub stood_byte : (s : Symbolic) (input : List ℕ) → s.terms.inputs ≡ 1 → stands_for s input ≡ true → IsByte input
+stood_byte s input one stands =
+    let parts = both_true (are_bytes input) (holds (record { graph = s.terms; asserted = s.condition }) input) stands in
+    let long = equals (length input) s.terms.inputs (both_true (length input == s.terms.inputs) _ parts.1).0 in
+    is_byte input (long ∙ one) (bytes_of input parts.0)
 
-pub meets-narrowed : (s : Symbolic) (choice : Choice) (term sample : ℕ) (input : List ℕ)
-    → meets (narrowed s choice term sample) input ≡ (meets s input && (number_of s.terms term input == 1))
-meets-narrowed s choice term sample input =
-    ap (λ b. (length input == s.terms.inputs) && b) (list_all-append (λ id. number_of s.terms id input == 1) s.condition (term ∷ []))
-    ∙ and_last (length input == s.terms.inputs) (list_all (λ id. number_of s.terms id input == 1) s.condition) (number_of s.terms term input == 1)
+-- the decision at its place
+get-seam : (front back : List Decision) (d : Decision) (place : ℕ) → length front ≡ place
+    → slice_get (front ++ d ∷ back) place ≡ Some d
+get-seam [] back d zero is = refl
+get-seam [] back d (suc n) is = absurd (omega (arith, is))
+get-seam (x ∷ xs) back d zero is = absurd (omega (arith, is))
+get-seam (x ∷ xs) back d (suc n) is = get-seam xs back d n (omega (arith, is))
 
-pub met_before : (s : Symbolic) (choice : Choice) (term sample : ℕ) (input : List ℕ)
-    → meets (narrowed s choice term sample) input ≡ true → meets s input ≡ true
-met_before s choice term sample input h = (both_true (meets s input) (number_of s.terms term input == 1) (sym (meets-narrowed s choice term sample input) ∙ h)).0
+pub decision_there : (s : Symbolic) (place : ℕ) (decision : List ℕ → Decision) → StandsAt s place decision
+    → (input : List ℕ) → stands_for s input ≡ true
+    → slice_get (step_decisions (concrete s input)) place ≡ Some (decision input)
+decision_there s place decision at input stands =
+    ap (λ ds. slice_get ds place) (at.is input stands) ∙ get-seam at.front (at.back input) (decision input) place at.before
 
-renamed : (p : Program) (s : Symbolic) (d e : Option Bool) → IsDecided p s e
-    → IsDecided p (record s { decided = d }) e
-renamed p s d None is = tt
-renamed p s d (Some side) is = is
+-- it stands for some of the assignments, and is where it was
+record IsWithin (s u : Symbolic) : Type 0 where
+  pub some : (input : List ℕ) → stands_for u input ≡ true → stands_for s input ≡ true
+  pub same : (input : List ℕ) → stands_for u input ≡ true → concrete u input ≡ concrete s input
 
--- a run whose next branch goes one way, and nothing else changes
-pub open_decided : (p : Program) (s : Symbolic) (d : Option Bool) → IsOpen p s → IsDecided p s d
-    → IsOpen p (record s { decided = d })
-open_decided p s d was is = record {
-  dag = was.dag;
-  one_input = was.one_input;
-  all_registers = was.all_registers;
-  wide = was.wide;
-  small = was.small;
-  zero = was.zero;
-  bits = was.bits;
-  bytes = was.bytes;
-  in_memory = was.in_memory;
-  numbers = record { choices = was.numbers.choices; path = was.numbers.path; few_steps = was.numbers.few_steps; few_terms = was.numbers.few_terms; few_outputs = was.numbers.few_outputs };
-  sampled = was.sampled;
-  decided = renamed p s d d is;
-  sound = was.sound;
-  alike = record { made = was.alike.made; alike = was.alike.alike };
-}
+truly_kept : (s u : Symbolic) (q : ℕ) (known : Option Decided) → IsWithin s u → IsTrulyKnown s q known
+    → IsTrulyKnown u q known
+truly_kept s u q None within is = tt
+truly_kept s u q (Some d) within is =
+    λ input stands. ap (λ (c : State). slice_get (step_decisions c) q) (within.same input stands) ∙ is input (within.some input stands)
 
-narrower_decided : (p : Program) (s : Symbolic) (choice : Choice) (term sample : ℕ)
-    (d : Option Bool) → IsDecided p s d → IsDecided p (narrowed s choice term sample) d
-narrower_decided p s choice term sample None is = tt
-narrower_decided p s choice term sample (Some side) is =
-    λ input assigned meeting. is input assigned (met_before s choice term sample input meeting)
+knows_more : (s u : Symbolic) (place : ℕ) (d : Decided) → length s.known ≡ most_decisions → place < most_decisions
+    → u.known ≡ slice_set s.known place (Some d) → IsWithin s u → IsTrulyKnown u place (Some d) → KnowsTruth s
+    → KnowsTruth u
+knows_more s u place d places in_range is within new was q = elim (cases_eq q place) [
+  | inl same ↦
+      let here : known_at u q ≡ Some d
+      = ap (λ ks. get_or ks q None) is ∙ ap (λ k. get_or (set s.known place (Some d)) k None) same
+      ∙ get_or-set_same s.known place (Some d) None (omega (arith, in_range, places)) in
+      subst (IsTrulyKnown u q) (sym here) (subst (λ k. IsTrulyKnown u k (Some d)) (sym same) new)
+  | inr other ↦
+      let here : known_at u q ≡ known_at s q = ap (λ ks. get_or ks q None) is ∙ get_or-set_other s.known place q (Some d) None other in
+      subst (IsTrulyKnown u q) (sym here) (truly_kept s u q (known_at s q) within (was q))
+]
 
-pub open_narrowed : (p : Program) (s : Symbolic) (choice : Choice) (term sample : ℕ) → IsOpen p s
-    → IsSmallChoice choice → width_of s.terms term ≡ 1 → sample < 256 → meets s (sample ∷ []) ≡ true
-    → (number_of s.terms term (sample ∷ []) == 1) ≡ true → IsOpen p (narrowed s choice term sample)
-open_narrowed p s choice term sample was small bit below met one = record {
-  dag = was.dag;
-  one_input = was.one_input;
-  all_registers = was.all_registers;
-  wide = was.wide;
-  small = was.small;
-  zero = was.zero;
-  bits = All-push (λ id. width_of s.terms id ≡ 1) s.condition term was.bits bit;
-  bytes = was.bytes;
-  in_memory = was.in_memory;
-  numbers = record {
-    choices = All-push IsSmallChoice s.choices choice was.numbers.choices small;
-    path = was.numbers.path;
-    few_steps = was.numbers.few_steps;
-    few_terms = was.numbers.few_terms;
-    few_outputs = was.numbers.few_outputs;
+-- it is a run of each program that it was one of
+open_within : (p : Program) (s u : Symbolic) → IsOpen p s → IsWithin s u → u.terms.inputs ≡ s.terms.inputs
+    → u.output ≡ s.output → u.steps ≡ s.steps → IsReady u → IsOpen p u
+open_within p s u was within inputs output steps ready = record {
+  inputs = inputs ∙ was.inputs;
+  ready = ready;
+  few_outputs = let long = ap length output in omega (arith, was.few_outputs, long, steps);
+  sound = λ input stands.
+      ap (run p.image p.regions input) steps ∙ was.sound input (within.some input stands)
+      ∙ ap {B = Run} (λ (c : State). record { state = c; end = None; steps = s.steps }) (sym (within.same input stands))
+      ∙ ap {B = Run} (λ k. record { state = concrete u input; end = None; steps = k }) (sym steps);
+  alike = record {
+    made = was.alike.made;
+    alike = λ input stands. ap (λ k. decisions p.image p.regions input k) steps ∙ was.alike.alike input (within.some input stands);
   };
-  sampled = (below, meets-narrowed s choice term sample (sample ∷ []) ∙ all_true _ _ met one);
-  decided = narrower_decided p s choice term sample s.decided was.decided;
-  sound = λ input assigned meeting. was.sound input assigned (met_before s choice term sample input meeting);
-  alike = record { made = was.alike.made; alike = λ input assigned meeting. was.alike.alike input assigned (met_before s choice term sample input meeting) };
 }
 
--- choosing the side of a branch leaves less to do
-pub less-decided : (steps : ℕ) (rs : List Value) (d : Option Bool) → d ≡ None
-    → 34 * (most_steps - steps) + count_by is_term rs + 0 < 34 * (most_steps - steps) + count_by is_term rs + undecided d
-less-decided steps rs d none = let one : undecided d ≡ 1 = ap undecided none in omega (arith, one)
+-- with one decision more known there is less to do
+less_known : (s : Symbolic) (place : ℕ) (d : Decided) → length s.known ≡ most_decisions → place < most_decisions
+    → known_at s place ≡ None → left_to_do (informed s place d) < left_to_do s
+less_known s place d places in_range unknown =
+    let there : ◌≡◌ {A = ℕ} (cond (is_none (known_at s place)) 1 0) 1 = ap (λ (k : Option Decided). cond (is_none k) 1 0) unknown in
+    let counted = sum_by-set (λ (k : Option Decided). cond (is_none k) 1 0) s.known place (Some d) None (omega (arith, in_range, places)) in
+    omega (arith, there, counted)
 
--- the side on which the branch is taken
-pub yes_narrower : (p : Program) (s : Symbolic) (term sample : ℕ) → IsOpen p s → IsBranch p s term
-    → sample < 256 → answers s.terms s.condition term true (sample ∷ []) ≡ true
-    → IsNarrower p s (record (narrowed s Yes term sample) { decided = Some true }) Yes (λ input. is_side true (number_of s.terms term input))
-yes_narrower p s term sample was at small answer =
-    let parts = both_true (meets s (sample ∷ [])) (number_of s.terms term (sample ∷ []) == 1) answer in record {
-      is_open = open_decided p (narrowed s Yes term sample) (Some true) (open_narrowed p s Yes term sample was tt at.bit small parts.0 parts.1)
-          (λ input assigned meeting.
-          let met = both_true (meets s input) (number_of s.terms term input == 1) (sym (meets-narrowed s Yes term sample input) ∙ meeting) in
-          subst (λ (b : Bool). Goes b (concrete p s input)) met.1 (at.goes input assigned met.0));
+-- a run that goes on where the decision is one on all assignments
+pub goes_settled : (s : Symbolic) (place : ℕ) (d : Decided) → IsFormed (informed s place d) → IsSettled s place d
+    → GoesOn s (informed s place d)
+goes_settled s place d formed settled =
+    let places : length s.known ≡ most_decisions = sym (length-set s.known place (Some d)) ∙ formed.places in
+    let within : IsWithin s (informed s place d) = record { some = λ input stands. stands; same = λ input stands. refl } in record {
+      is_open = λ p was. open_within p s (informed s place d) was within refl refl refl (record {
+        sampled = was.ready.sampled;
+        knows = knows_more s (informed s place d) place d places settled.in_range refl within settled.settled was.ready.knows;
+      });
       choices = refl;
       steps = refl;
-      less = less-decided s.steps s.registers s.decided at.undecided;
-      covers = λ input. meets-narrowed s Yes term sample input;
+      less = less_known s place d places settled.in_range settled.unknown;
+      covers = λ input. refl;
     }
 
--- and the side on which it isn't, where the term's negation is 1
-pub no_narrower : (p : Program) (s : Symbolic) (g : Graph) (term negated sample : ℕ) → IsOpen p s
-    → IsBranch p s term → Grows s.terms g → width_of g negated ≡ 1
-    → ((input : List ℕ) → number_of g negated input ≡ 1 - number_of s.terms term input)
-    → sample < 256 → answers s.terms s.condition term false (sample ∷ []) ≡ true
-    → IsNarrower p s (record (narrowed (with_terms s g) No negated sample) { decided = Some false }) No (λ input. is_side false (number_of s.terms term input))
-no_narrower p s g term negated sample was at grows bit tells small answer =
-    let parts = both_true (meets s (sample ∷ [])) (not (number_of s.terms term (sample ∷ []) == 1)) answer in
-    let same : (input : List ℕ) → meets (with_terms s g) input ≡ meets s input = λ input. holds-grown s.terms g s.condition input grows was.bits in
-    let test : (input : List ℕ) → (number_of g negated input == 1) ≡ not (number_of s.terms term input == 1) = λ input. ap (λ n. n == 1) (tells input) ∙ turned (number_of s.terms term input) (at.small input) in record {
-      is_open = open_decided p (narrowed (with_terms s g) No negated sample) (Some false)
-          (open_narrowed p (with_terms s g) No negated sample (open_grown p s g was grows) tt bit small (same (sample ∷ []) ∙ parts.0) (test (sample ∷ []) ∙ parts.1))
-          (λ input assigned meeting.
-          let met = both_true (meets (with_terms s g) input) (number_of g negated input == 1) (sym (meets-narrowed (with_terms s g) No negated sample input) ∙ meeting) in
-          let none : (number_of s.terms term input == 1) ≡ false = not_true _ (sym (test input) ∙ met.1) in
-          subst (λ (c : State). Goes false c) (sym (concrete-grown p s g input was grows))
-          (subst (λ (b : Bool). Goes b (concrete p s input)) none (at.goes input assigned (sym (same input) ∙ met.0))));
+-- a run on one side of a fork
+abbrev pub side_run : Symbolic → Graph → ℕ → Decided → Choice → ℕ → List ℕ → Symbolic
+side_run s g place d choice term sample = informed (narrowed (with_terms s g) choice term sample) place d
+
+pub holds-last : (g : Graph) (ids : List ℕ) (term : ℕ) (input : List ℕ)
+    → holds (record { graph = g; asserted = ids ++ term ∷ [] }) input ≡ (holds (record { graph = g; asserted = ids }) input && (number_of g term input == 1))
+holds-last g ids term input =
+    ap (λ b. (length input == g.inputs) && b) (list_all-append (λ id. number_of g id input == 1) ids (term ∷ []))
+    ∙ and_last (length input == g.inputs) (list_all (λ id. number_of g id input == 1) ids) (number_of g term input == 1)
+
+stands-narrowed : (s : Symbolic) (g : Graph) (place : ℕ) (d : Decided) (choice : Choice) (term : ℕ) (sample : List ℕ)
+    (test : List ℕ → Bool) → IsFormed s → Continues s.terms g
+    → ((input : List ℕ) → All (λ b. b < 256) input → (number_of g term input == 1) ≡ test input)
+    → (input : List ℕ) → stands_for (side_run s g place d choice term sample) input ≡ (stands_for s input && test input)
+stands-narrowed s g place d choice term sample test formed grown tells input =
+    ap (λ b. are_bytes input && b) (holds-last g s.condition term input)
+    ∙ by_bytes (are_bytes input) (holds (record { graph = g; asserted = s.condition }) input) (number_of g term input == 1) (test input) (λ bytes. tells input (bytes_of input bytes))
+    ∙ ap (λ b. b && test input) (stands-grown s g input formed grown)
+
+pub narrower : (s : Symbolic) (g : Graph) (place bits x : ℕ) (d : Decided) (choice : Choice) (term : ℕ)
+    (sample : List ℕ) (test : List ℕ → Bool) (decision : List ℕ → Decision) → IsFormed s → Continues s.terms g
+    → IsOpenAt s place bits x decision
+    → ((input : List ℕ) → All (λ b. b < 256) input → (number_of g term input == 1) ≡ test input)
+    → ((input : List ℕ) → test input ≡ true → decision input ≡ decision_of d)
+    → stands_for s sample ≡ true → test sample ≡ true
+    → IsNarrower s (side_run s g place d choice term sample) choice test
+narrower s g place bits x d choice term sample test decision formed grown at tells decides stands passes =
+    let u = side_run s g place d choice term sample in
+    let covers : (input : List ℕ) → stands_for u input ≡ (stands_for s input && test input)
+    = stands-narrowed s g place d choice term sample test formed grown tells in
+    let parts : (input : List ℕ) → stands_for u input ≡ true → (stands_for s input ≡ true) × (test input ≡ true)
+    = λ input on. both_true (stands_for s input) (test input) (sym (covers input) ∙ on) in
+    let within : IsWithin s u = record { some = λ input on. (parts input on).0; same = λ input on. concrete-grown s g input formed grown } in
+    let new : IsTrulyKnown u place (Some d) = λ input on.
+    ap (λ (c : State). slice_get (step_decisions c) place) (within.same input on)
+    ∙ decision_there s place decision at.stands input (parts input on).0 ∙ ap Some (decides input (parts input on).1) in record {
+      is_open = λ p was. open_within p s u was within grown.inputs refl refl (record {
+        sampled = covers sample ∙ all_true _ _ stands passes;
+        knows = knows_more s u place d formed.places at.in_range refl within new was.ready.knows;
+      });
       choices = refl;
       steps = refl;
-      less = less-decided s.steps s.registers s.decided at.undecided;
-      covers = λ input. meets-narrowed (with_terms s g) No negated sample input ∙ ap (λ b. b && (number_of g negated input == 1)) (same input) ∙ ap (λ b. meets s input && b) (test input);
+      less = less_known s place d formed.places at.in_range at.unknown;
+      covers = covers;
     }
-
--- along one side, without the terms that were made to ask
-pub goes_one : (p : Program) (s : Symbolic) (g : Graph) (term : ℕ) (side : Bool) → IsOpen p s
-    → Grows s.terms g → IsBranch p (with_terms s g) term
-    → ((byte : ℕ) → byte < 256 → answers g s.condition term (not side) (byte ∷ []) ≡ false)
-    → GoesOn p (with_terms s g) (record s { decided = Some side })
-goes_one p s g term side was grows at none = record {
-  is_open = open_decided p s (Some side) was (λ input assigned meeting.
-      let met : meets (with_terms s g) input ≡ true = holds-grown s.terms g s.condition input grows was.bits ∙ meeting in
-      subst (λ (c : State). Goes side c) (concrete-grown p s g input was grows)
-      (subst (λ (b : Bool). Goes b (concrete p (with_terms s g) input)) (one_side p (with_terms s g) term side none input assigned met) (at.goes input assigned met)));
-  choices = refl;
-  steps = refl;
-  less = less-decided s.steps s.registers s.decided at.undecided;
-  covers = λ input. sym (holds-grown s.terms g s.condition input grows was.bits);
-}

@@ -1,7 +1,8 @@
 pub mod Values
 pub mod Rules
 pub mod Narrowing
-pub mod Ends
+pub mod Copies
+pub mod Leaving
 pub mod Splits
 pub mod Resting
 pub mod Working

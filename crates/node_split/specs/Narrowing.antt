@@ -1,10 +1,11 @@
 -- Symbolic runs on one side of a fork.
-use Rattle.std.specs.Prelude.{◌≡◌, ℕ, ◌==◌, ◌&&◌, ◌<◌, Bool, true, false, not, List, [], ◌∷◌, ◌++◌}
-use Rattle.bv_dag.specs.Graphs.{number_of}
+use Rattle.std.specs.Prelude.{◌≡◌, ℕ, ◌==◌, ◌&&◌, ◌<◌, Bool, true, false, not, List, [], ◌∷◌, ◌++◌, None, Some}
+use Rattle.bv_dag.specs.Graphs.{Graph, number_of}
 use Rattle.bv_dag.specs.Queries.{holds}
-use Rattle.bv_dag.specs.Graphs.{Graph}
 use Rattle.sym_state.specs.Programs.{Program}
-use Rattle.sym_state.specs.Symbolic.{Symbolic, IsOpen, left_to_do, meets}
+use Rattle.sym_state.specs.Runs.{IsOpen, left_to_do}
+use Rattle.sym_state.specs.Symbolic.{Symbolic, IsTrulyKnown, known_at, most_decisions, stands_for}
+use Rattle.sym_state.specs.declared.decided.Decided.{Decided}
 use Rattle.tree_core.specs.declared.choice.Choice.{Choice}
 
 -- the term is 1, or it isn't
@@ -18,19 +19,24 @@ answers terms condition term side input =
     holds (record { graph = terms; asserted = condition }) input && is_side side (number_of terms term input)
 
 -- A run on one side of a fork: it stands for those assignments of the run before it that pass a
--- test, and has less to do.
-pub record IsNarrower (p : Program) (old new : Symbolic) (choice : Choice) (test : List ℕ → Bool)
-    : Type 0 where
-  pub is_open : IsOpen p new
+-- test, is a run of each program that the run before it is one of, and has less to do.
+pub record IsNarrower (old new : Symbolic) (choice : Choice) (test : List ℕ → Bool) : Type 0 where
+  pub is_open : (p : Program) → IsOpen p old → IsOpen p new
   pub choices : new.choices ≡ old.choices ++ choice ∷ []
   pub steps : new.steps ≡ old.steps
   pub less : left_to_do new < left_to_do old
-  pub covers : (input : List ℕ) → meets new input ≡ (meets old input && test input)
+  pub covers : (input : List ℕ) → stands_for new input ≡ (stands_for old input && test input)
 
 -- A run that goes on: it stands for the same assignments, and has less to do.
-pub record GoesOn (p : Program) (old new : Symbolic) : Type 0 where
-  pub is_open : IsOpen p new
+pub record GoesOn (old new : Symbolic) : Type 0 where
+  pub is_open : (p : Program) → IsOpen p old → IsOpen p new
   pub choices : new.choices ≡ old.choices
   pub steps : new.steps ≡ old.steps
   pub less : left_to_do new < left_to_do old
-  pub covers : (input : List ℕ) → meets new input ≡ meets old input
+  pub covers : (input : List ℕ) → stands_for new input ≡ stands_for old input
+
+-- This decision of the step that comes next is not known yet, and is this one on all assignments.
+pub record IsSettled (s : Symbolic) (place : ℕ) (d : Decided) : Type 0 where
+  pub in_range : place < most_decisions
+  pub unknown : known_at s place ≡ None
+  pub settled : IsTrulyKnown s place (Some d)

@@ -11,8 +11,9 @@ use Rattle.fork_tree.specs.Contents.{place_in}
 use Rattle.fork_tree.specs.Works.{Rules}
 use Rattle.fork_tree.specs.declared.content.Content.{Content}
 use Rattle.sym_state.specs.Places.{run_place}
-use Rattle.sym_state.specs.Programs.{Program, program_code, regions_of}
-use Rattle.sym_state.specs.Symbolic.{Symbolic, IsOpen, left_to_do}
+use Rattle.sym_state.specs.Programs.{Program, program_code}
+use Rattle.sym_state.specs.Runs.{IsOpen, left_to_do}
+use Rattle.sym_state.specs.Symbolic.{Symbolic}
 
 -- who works the runs of a program, and what its exploration may spend
 pub record Worker : Type 0 where
@@ -30,9 +31,9 @@ abbrev pub rules_of : Program → (steps targets : ℕ) → Rules Symbolic Part
 rules_of p steps targets = record {
   left = left_to_do;
   targets = targets;
-  decides = λ input. decisions p.image (regions_of p) input steps;
+  decides = λ input. decisions p.image p.regions input steps;
   IsWell = λ s. IsOpen p s × (s.steps < steps);
-  IsRight = λ sides part. IsRight p.image (regions_of p) steps targets sides part;
+  IsRight = λ sides part. IsRight p.image p.regions steps targets sides part;
   cut = λ part. cause_of part.leaf.end;
 }
 

@@ -1,87 +1,66 @@
 //! Terms that have to be numbers: the run goes on where one has one value, and else parts by its values, up to the budget of targets.
 
-ghost use Rattle.std.specs.Prelude.{◌≡◌, ◌==◌, ◌<◌, ◌≤◌, ℕ, List, All, IfOk, length, true, None, Some};
-ghost use Rattle.bv_dag.specs.Graphs.{IsDag, number_of, width_of};
-ghost use Rattle.rv_spec.specs.Memory.{IsAssignment};
-ghost use Rattle.sym_machine.specs.Steps.{IsPin};
-ghost use Rattle.sym_state.specs.Growing.{Grows, front_of};
-ghost use Rattle.sym_state.specs.Moves.{cut_back};
-ghost use Rattle.sym_state.specs.Programs.{regions_of};
-ghost use Rattle.sym_state.specs.Symbolic.{IsOpen, meets};
+ghost use Rattle.std.specs.Prelude.{◌≡◌, ◌==◌, ◌<◌, ◌≤◌, ℕ, List, All, IfOk, length, None, Some};
+ghost use Rattle.bv_dag.specs.Graphs.{number_of};
+ghost use Rattle.sym_machine.specs.Stops.{IsPin};
+ghost use Rattle.sym_state.specs.Programs.{Program};
+ghost use Rattle.sym_state.specs.Runs.{IsOpen, IsReady};
+ghost use Rattle.sym_state.specs.Values.{IsUnknown};
 ghost use Rattle.tree_core.specs.declared.choice.Choice.TheVariants.{Value as OfValue};
-ghost use Rattle.node_split.specs.Narrowing.{GoesOn, IsNarrower};
+ghost use Rattle.node_split.specs.Leaving.{IsWritable};
+ghost use Rattle.node_split.specs.Narrowing.{IsNarrower};
 ghost use Rattle.node_split.specs.Splits.{IsForked};
 ghost use Rattle.node_split.specs.Resting.{AreSidesOf, IsRest, IsWithout, founds_of};
 ghost use Rattle.node_split.specs.Values.{AreValues, HasValue, numbers_in};
 
-use crate::finish::leaf_of;
-use crate::forked::{Forked, run_kid};
+use crate::asked::{ask, sample_byte};
+use crate::forked::{Forked, along, narrow, run_kid};
+use crate::leaf::{leaf_of, leaf_terms};
 use crate::question::{ValueAt, Values, find_values};
 use fork_spec::LeafEnd;
 use fork_tree::Content;
-use rv_decode::Register;
+use rv_decode::Test;
 use std::alloc::{AllocError as NoMemory, Global};
-use sym_state::{Evidence, Found, LeafPart, Program, Spent, State, Value};
+use sym_state::{Decided, Evidence, Found, LeafPart, Spent, State, Value};
 use tool_io::Bytes;
-use tree_core::{Budgets, Cause, Choice, Kid};
+use tree_core::{Cause, Choice, Kid};
 
-/// A term that has to be a number: the sum of a register and an offset.
+/// A term that has to be a number, and where that number stands among the decisions of the step that needs it.
 #[derive(Clone, Copy, Debug)]
 pub struct Pin {
-    pub register: Register,
-    pub offset: u32,
+    pub place: usize,
     pub term: usize,
 }
 
-// The side on which the term has this value: the register is a number there.
-fn value_side(program: &Program, state: &State, pin: &Pin, at: ValueAt) -> Result<State, NoMemory>
-    requires open { IsOpen program.now state.now }
-    requires at { IsPin program.now state.now pin.now.register pin.now.offset pin.now.term }
+// The side on which the term has this value: the step knows it there.
+fn value_side(alloc: Global, state: &State, pin: &Pin, at: ValueAt) -> Result<State, NoMemory>
+    requires one_input { state.now.terms.inputs ≡ 1 }
+    requires at { IsPin state.now pin.now.place pin.now.term }
     requires has { HasValue state.now.terms state.now.condition pin.now.term at }
-    ensures { IfOk result (λ side. IsNarrower program.now state.now side (OfValue at.value) (λ input. number_of state.now.terms pin.now.term input == at.value)) }
+    ensures { IfOk result (λ side. IsNarrower state.now side (OfValue at.value) (λ input. number_of state.now.terms pin.now.term input == at.value)) }
 {
-    let _program = program;
     let mut side = state.share()?;
-    let equal = side.equals(pin.term, at.value)?;
-    side.narrow(Choice::Value(at.value), equal, at.byte)?;
-    side.set(
-        pin.register,
-        Value::Number(at.value.wrapping_sub(pin.offset)),
-    );
+    let equal = side.tested(Test::Beq, Value::Term(pin.term), Value::Number(at.value))?;
+    narrow(alloc, &mut side, Choice::Value(at.value), equal, at.byte)?;
+    side.know(pin.place, Decided::Number(at.value));
     Ok(side)
-}
-
-// Goes on where the term has this one value, and leaves the terms behind that were made to ask for it.
-fn go_on(program: &Program, state: State, before: usize, pin: &Pin, value: u32) -> State
-    requires open { IsOpen program.now (cut_back state before) }
-    requires grows { Grows (front_of state.terms before) state.terms }
-    requires at { IsPin program.now state pin.now.register pin.now.offset pin.now.term }
-    requires one { (input : List ℕ) → IsAssignment (regions_of program.now) input → meets state input ≡ true → number_of state.terms pin.now.term input ≡ value }
-    ensures { GoesOn program.now state result }
-{
-    let _program = program;
-    let mut onward = state;
-    onward.cut_back(before);
-    onward.set(pin.register, Value::Number(value.wrapping_sub(pin.offset)));
-    onward
 }
 
 // A side for each value.
 fn value_sides(
     alloc: Global,
-    program: &Program,
     state: &State,
     pin: &Pin,
     found: &[ValueAt],
 ) -> Result<Vec<Kid<Content<State, LeafPart>>>, NoMemory>
-    requires open { IsOpen program.now state.now }
-    requires at { IsPin program.now state.now pin.now.register pin.now.offset pin.now.term }
+    requires one_input { state.now.terms.inputs ≡ 1 }
+    requires at { IsPin state.now pin.now.place pin.now.term }
     requires each { All (HasValue state.now.terms state.now.condition pin.now.term) found.now }
-    ensures { IfOk result (λ kids. AreSidesOf program.now state.now pin.now.term found.now kids.items) }
+    ensures { IfOk result (λ kids. AreSidesOf state.now pin.now.term found.now kids.items) }
 {
     let mut kids = Vec::new(alloc);
     for at in found {
-        let side = value_side(program, state, pin, *at)?;
+        let side = value_side(alloc, state, pin, *at)?;
         kids.push(run_kid(alloc, Choice::Value(at.value), side)?)?;
     }
     Ok(kids)
@@ -104,66 +83,60 @@ fn spent_of(alloc: Global, term: usize, found: &[ValueAt]) -> Result<Spent, NoMe
 
 // Narrows to what is left beside these values.
 fn without(state: State, term: usize, found: &[ValueAt]) -> Result<State, NoMemory>
-    requires dag { IsDag state.terms }
-    requires wide { width_of state.terms term ≡ 32 }
+    requires unknown { IsUnknown state.terms 32 term }
+    requires each { All (HasValue state.terms state.condition term) found.now }
     ensures { IfOk result (IsWithout state term (numbers_in found.now)) }
 {
     let mut rest = state;
     for at in found {
-        let equal = rest.equals(term, at.value)?;
-        let unequal = rest.negation(equal)?;
-        rest.assert(unequal)?;
+        let differs = rest.tested(Test::Bne, Value::Term(term), Value::Number(at.value))?;
+        rest.assert(differs)?;
     }
     Ok(rest)
 }
 
-// The leaf of what is left beside these values.
+// The leaf of what is left beside these values, with a byte that is.
 fn rest_leaf(
     alloc: Global,
-    program: &Program,
-    state: State,
-    pin: &Pin,
+    state: &State,
+    term: usize,
     found: &[ValueAt],
     other: u8,
-    budgets: Budgets,
 ) -> Result<LeafPart, NoMemory>
-    requires open { IsOpen program.now state }
-    requires at { IsPin program.now state pin.now.register pin.now.offset pin.now.term }
-    requires few { state.steps < budgets.steps }
-    requires values { AreValues state.terms state.condition pin.now.term budgets.targets 256 found.now (Some other) }
-    ensures { IfOk result (IsRest program.now budgets.steps budgets.targets state pin.now.term found.now) }
+    requires one_input { state.now.terms.inputs ≡ 1 }
+    requires writable { IsWritable state.now }
+    requires unknown { IsUnknown state.now.terms 32 term }
+    requires each { All (HasValue state.now.terms state.now.condition term) found.now }
+    ensures { IfOk result (λ part. (p : Program) (steps targets : ℕ) → IsOpen p state.now → state.now.steps < steps
+        → AreValues state.now.terms state.now.condition term targets 256 found.now (Some other)
+        → IsRest p steps targets state.now term found.now part) }
 {
-    let _program = program;
-    let _budgets = budgets;
-    let mut rest = without(state, pin.term, found)?;
+    let side = state.share()?;
+    let mut rest = without(side, term, found)?;
     rest.choose(Choice::Rest)?;
-    let sample = Bytes::from_slice(alloc, &[other])?;
-    let spent = spent_of(alloc, pin.term, found)?;
+    rest.sample_by(Bytes::from_slice(alloc, &[other])?);
+    let terms = leaf_terms(alloc, &mut rest, &[term])?;
+    let spent = spent_of(alloc, terms.more[0], found)?;
     let evidence = Some(Evidence::Targets(spent));
-    Ok(leaf_of(rest, LeafEnd::Cut(Cause::Targets), sample, evidence))
+    leaf_of(alloc, &rest, terms, LeafEnd::Cut(Cause::Targets), evidence)
 }
 
 // Parts by the values, and what is left where there are more.
-fn part(
-    alloc: Global,
-    program: &Program,
-    state: State,
-    pin: &Pin,
-    values: Values,
-    budgets: Budgets,
-) -> Result<Forked, NoMemory>
-    requires open { IsOpen program.now state }
-    requires at { IsPin program.now state pin.now.register pin.now.offset pin.now.term }
-    requires few { state.steps < budgets.steps }
-    requires values { AreValues state.terms state.condition pin.now.term budgets.targets 256 values.found.items values.other }
+fn part(alloc: Global, state: State, pin: &Pin, values: Values) -> Result<Forked, NoMemory>
+    requires one_input { state.terms.inputs ≡ 1 }
+    requires writable { IsWritable state }
+    requires at { IsPin state pin.now.place pin.now.term }
+    requires each { All (HasValue state.terms state.condition pin.now.term) values.found.items }
     requires several { values.other ≡ None → 2 ≤ length values.found.items }
-    ensures { IfOk result (IsForked program.now budgets.steps budgets.targets state) }
+    ensures { IfOk result (λ forked. (targets : ℕ)
+        → AreValues state.terms state.condition pin.now.term targets 256 values.found.items values.other
+        → IsForked targets state forked) }
 {
-    let mut kids = value_sides(alloc, program, &state, pin, &values.found)?;
+    let mut kids = value_sides(alloc, &state, pin, &values.found)?;
     let Some(other) = values.other else {
         return Ok(Forked::Split(kids));
     };
-    let rest = rest_leaf(alloc, program, state, pin, &values.found, other, budgets)?;
+    let rest = rest_leaf(alloc, &state, pin.term, &values.found, other)?;
     kids.push(Kid {
         choice: Choice::Rest,
         content: Content::Shut(rest),
@@ -172,30 +145,29 @@ fn part(
     Ok(Forked::Split(kids))
 }
 
-/// Goes on from a term that has to be a number: with its value where it has one, and else along its values.
-/// `before` is how many terms there were before it was met; where the run doesn't fork it has no others.
-pub fn at_pin(
-    alloc: Global,
-    program: &Program,
-    state: State,
-    before: usize,
-    pin: &Pin,
-    budgets: Budgets,
-) -> Result<Forked, NoMemory>
-    requires open { IsOpen program.now state }
-    requires open_before { IsOpen program.now (cut_back state before) }
-    requires grows { Grows (front_of state.terms before) state.terms }
-    requires at { IsPin program.now state pin.now.register pin.now.offset pin.now.term }
-    requires few { state.steps < budgets.steps }
-    requires some { 1 ≤ budgets.targets }
-    ensures { IfOk result (IsForked program.now budgets.steps budgets.targets state) }
+/// Goes on from a term that has to be a number: with its value where it has one, and else along its values, so many at most.
+pub fn at_pin(alloc: Global, state: State, pin: &Pin, targets: u32) -> Result<Forked, NoMemory>
+    requires one_input { state.terms.inputs ≡ 1 }
+    requires ready { IsReady state }
+    requires writable { IsWritable state }
+    requires at { IsPin state pin.now.place pin.now.term }
+    requires some { 1 ≤ targets }
+    ensures { IfOk result (IsForked targets state) }
 {
-    let (term, sample) = (pin.term, state.sample);
-    let most = budgets.targets as usize;
-    let values = find_values(alloc, &state.terms, &state.condition, term, sample, most)?;
+    let asked = ask(alloc, &state, pin.term)?;
+    let sample = sample_byte(&state);
+    let most = targets as usize;
+    let values = find_values(
+        alloc,
+        &asked.graph,
+        &asked.condition,
+        asked.term,
+        sample,
+        most,
+    )?;
     if values.other.is_some() || values.found.len() > 1 {
-        return part(alloc, program, state, pin, values, budgets);
+        return part(alloc, state, pin, values);
     }
     let value = values.found[0].value;
-    Ok(Forked::One(go_on(program, state, before, pin, value)))
+    Ok(Forked::One(along(state, pin.place, Decided::Number(value))))
 }

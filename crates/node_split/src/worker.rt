@@ -3,8 +3,9 @@
 ghost use Rattle.std.specs.Prelude.{◌≡◌, ◌≤◌, IfOk};
 ghost use Rattle.fork_tree.specs.Works.{IsWorked};
 ghost use Rattle.sym_state.specs.Places.{run_place};
-ghost use Rattle.sym_state.specs.Programs.{IsRunnable};
-ghost use Rattle.sym_state.specs.Symbolic.{IsOpen, most_steps};
+ghost use Rattle.rv_spec.specs.Memory.{count_of};
+ghost use Rattle.sym_state.specs.Runs.{IsOpen};
+ghost use Rattle.sym_state.specs.Symbolic.{most_steps};
 ghost use Rattle.node_split.specs.Rules.{leaf_place, rules_of};
 
 use crate::branch::at_branch;
@@ -14,11 +15,11 @@ use crate::pin::{Pin, at_pin};
 use fork_tree::{Parts, Work};
 use std::alloc::{AllocError as NoMemory, Global};
 use std::marker::Model;
-use sym_machine::{Step, step};
+use sym_machine::{Stop, advance};
 use sym_state::{LeafPart, Program, State};
 use tree_core::Budgets;
 
-/// Works the runs of a program, within budgets. The program can be run, a run may make 1,000,000 steps at most, and one value of
+/// Works the runs of a program, within budgets. The program has one input byte, a run may make 1,000,000 steps at most, and one value of
 /// a term at least becomes a side of its own.
 #[derive(Debug, Drop)]
 pub struct Worker {
@@ -27,8 +28,8 @@ pub struct Worker {
 }
 
 impl Model for Worker {
-    ghost use Rattle.std.specs.Prelude.{◌≤◌};
-    ghost use Rattle.sym_state.specs.Programs.{IsRunnable};
+    ghost use Rattle.std.specs.Prelude.{◌≡◌, ◌≤◌};
+    ghost use Rattle.rv_spec.specs.Memory.{count_of};
     ghost use Rattle.sym_state.specs.Symbolic.{most_steps};
     ghost use Rattle.node_split.specs.Rules as spec;
 
@@ -38,13 +39,13 @@ impl Model for Worker {
 
     ghost view = { λ w. record { program = w.program; budgets = w.budgets } };
 
-    ghost invariant = { λ w. IsRunnable w.program × (w.budgets.steps ≤ most_steps) × (1 ≤ w.budgets.targets) };
+    ghost invariant = { λ w. (count_of w.program.regions ≡ 1) × (w.budgets.steps ≤ most_steps) × (1 ≤ w.budgets.targets) };
 }
 
 impl Worker {
     /// The worker of a program within these budgets.
     pub fn new(program: Program, budgets: Budgets) -> Worker
-        requires runnable { IsRunnable program }
+        requires one_input { count_of program.regions ≡ 1 }
         requires steps { budgets.steps ≤ most_steps }
         requires targets { 1 ≤ budgets.targets }
         ensures { result ≡ record { program = program; budgets = budgets } }
@@ -55,7 +56,7 @@ impl Worker {
     /// What it runs.
     pub fn program(&self) -> &Program
         ensures value { result.now ≡ self.now.program }
-        ensures runnable { IsRunnable self.now.program }
+        ensures one_input { count_of self.now.program.regions ≡ 1 }
     {
         &self.program
     }
@@ -68,53 +69,26 @@ impl Worker {
     {
         self.budgets
     }
-}
 
-/// Goes on until the run forks, all its runs have ended, or its budget of steps is spent.
-fn follow(
-    alloc: Global,
-    program: &Program,
-    state: State,
-    budgets: Budgets,
-) -> Result<Parts<State, LeafPart>, NoMemory>
-    requires runnable { IsRunnable program.now }
-    requires open { IsOpen program.now state }
-    requires within { state.steps ≤ budgets.steps }
-    requires steps { budgets.steps ≤ most_steps }
-    requires targets { 1 ≤ budgets.targets }
-    ensures { IfOk result (IsWorked (rules_of program.now budgets.steps budgets.targets) run_place leaf_place state) }
-{
-    let mut state = state;
-    loop {
-        if state.steps >= budgets.steps {
-            return Ok(Parts::CutSteps(cut_steps(alloc, program, state, budgets)?));
-        }
-        let before = state.terms.len();
-        match step(program, &mut state)? {
-            Step::Running => {}
-            Step::Ended(end) => {
-                return Ok(Parts::Finished(finish(alloc, program, state, end, budgets)?));
-            }
-            Step::Branch { condition } => {
-                match at_branch(alloc, program, state, before, condition, budgets)? {
-                    Forked::One(onward) => state = onward,
-                    Forked::Split(kids) => return Ok(Parts::Kids(kids)),
+    /// Goes on until the run forks, all its runs have ended, or its budget of steps is spent.
+    fn follow(&self, alloc: Global, state: State) -> Result<Parts<State, LeafPart>, NoMemory>
+        requires open { IsOpen self.now.program state }
+        requires within { state.steps ≤ self.now.budgets.steps }
+        ensures { IfOk result (IsWorked (rules_of self.now.program self.now.budgets.steps self.now.budgets.targets) run_place leaf_place state) }
+    {
+        let mut state = state;
+        loop {
+            let forked = match advance(&mut state, self.budgets.steps)? {
+                Stop::Steps => return Ok(Parts::CutSteps(cut_steps(alloc, state)?)),
+                Stop::Ended(end) => return Ok(Parts::Finished(finish(alloc, state, end)?)),
+                Stop::Branch { term } => at_branch(alloc, state, term)?,
+                Stop::Pin { place, term } => {
+                    at_pin(alloc, state, &Pin { place, term }, self.budgets.targets)?
                 }
-            }
-            Step::Pin {
-                register,
-                offset,
-                term,
-            } => {
-                let pin = Pin {
-                    register,
-                    offset,
-                    term,
-                };
-                match at_pin(alloc, program, state, before, &pin, budgets)? {
-                    Forked::One(onward) => state = onward,
-                    Forked::Split(kids) => return Ok(Parts::Kids(kids)),
-                }
+            };
+            match forked {
+                Forked::One(onward) => state = onward,
+                Forked::Split(kids) => return Ok(Parts::Kids(kids)),
             }
         }
     }
@@ -131,6 +105,6 @@ impl Work for Worker {
 
     fn work(&self, alloc: Global, state: &State) -> Result<Parts<State, LeafPart>, NoMemory> {
         let state = state.share()?;
-        follow(alloc, &self.program, state, self.budgets)
+        self.follow(alloc, state)
     }
 }

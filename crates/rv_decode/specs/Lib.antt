@@ -1,5 +1,4 @@
 pub mod Fields
 pub mod Ops
 pub mod Instructions
-pub mod Eight
 pub mod Ends

@@ -1,12 +1,10 @@
 //! From words to instructions.
 
-ghost use Rattle.std.specs.Prelude.{◌≡◌, ◌↔◌, IsTrue, IsSome, IfSome};
+ghost use Rattle.std.specs.Prelude.{◌≡◌, IfSome};
 ghost use Rattle.rv_decode.specs.Instructions.{instr, jalr, branch, load, store, immediate, shift_immediate, register_immediate, binary, fence, system, ShiftsBelow32};
-ghost use Rattle.rv_decode.specs.Eight.{IsEight, IsOneOfEight};
 
-use crate::fields;
 use crate::instr::Instr;
-use crate::ops::{self, ImmediateOp, LoadWidth, Test};
+use crate::{fields, ops};
 
 /// A JALR.
 fn jalr(word: u32) -> Option<Instr>
@@ -151,35 +149,5 @@ pub fn decode(word: u32) -> Option<Instr>
         0b000_1111 => fence(word),
         0b111_0011 => system(word),
         _ => None,
-    }
-}
-
-/// Whether a word is an instruction.
-pub fn listed(word: u32) -> bool
-    ensures { IsTrue result ↔ IsSome (instr word) }
-{
-    decode(word).is_some()
-}
-
-/// Whether an instruction is one of LUI, JAL, BEQ, BNE, LBU, ADDI, SLTIU and ECALL.
-fn is_one_of_eight(instr: Instr) -> bool
-    ensures { IsTrue result ↔ IsOneOfEight instr }
-{
-    match instr {
-        Instr::Lui { .. } | Instr::Jal { .. } | Instr::Ecall => true,
-        Instr::Branch { test, .. } => matches!(test, Test::Beq | Test::Bne),
-        Instr::Load { width, .. } => matches!(width, LoadWidth::Lbu),
-        Instr::Immediate { op, .. } => matches!(op, ImmediateOp::Addi | ImmediateOp::Sltiu),
-        _ => false,
-    }
-}
-
-/// Whether a word is one of LUI, JAL, BEQ, BNE, LBU, ADDI, SLTIU and ECALL.
-pub fn eight(word: u32) -> bool
-    ensures { IsTrue result ↔ IsEight (instr word) }
-{
-    match decode(word) {
-        Some(instr) => is_one_of_eight(instr),
-        None => false,
     }
 }

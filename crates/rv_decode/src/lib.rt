@@ -10,7 +10,7 @@ mod register;
 #[cfg(test)]
 mod tests;
 
-pub use decoder::{decode, eight, listed};
+pub use decoder::decode;
 pub use ends::{End, PathStep, Trap};
 pub use instr::Instr;
 pub use ops::{ImmediateOp, LoadWidth, RegisterOp, ShiftOp, StoreWidth, Test};

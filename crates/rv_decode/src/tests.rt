@@ -2,7 +2,7 @@
 
 use crate::{
     End, ImmediateOp, Instr, LoadWidth, PathStep, Register, RegisterOp, ShiftOp, StoreWidth, Test,
-    Trap, decode, eight, listed,
+    Trap, decode,
 };
 
 /// The register of this number, which is below 32.
@@ -220,37 +220,6 @@ fn finds_no_instruction(rt: HostRuntime) {
         0x0000_003B,
     ] {
         assert_eq!(rt; decode(word), None, "{word:#010X}");
-        assert!(rt; !listed(word), "{word:#010X}");
-    }
-}
-
-#[test]
-fn tells_the_eight(rt: HostRuntime) {
-    for word in [
-        0x0001_12B7,
-        0xFF9F_F06F,
-        0x0063_8663,
-        0x0004_1463,
-        0x0002_C383,
-        0x0410_0313,
-        0x0153_B413,
-        0x0000_0073,
-    ] {
-        assert!(rt; eight(word) && listed(word), "{word:#010X}");
-    }
-    for word in [
-        0,
-        0x0000_1097,
-        0x00C4_0067,
-        0xFE20_CEE3,
-        0xFFF1_0083,
-        0x0062_8823,
-        0xFFF1_2093,
-        0x4083_8933,
-        0x0FF0_000F,
-        0x0010_0073,
-    ] {
-        assert!(rt; !eight(word), "{word:#010X}");
     }
 }
 

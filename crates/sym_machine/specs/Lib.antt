@@ -1,2 +1,5 @@
 pub mod Steps
-pub mod Writing
+pub mod Stops
+pub mod Fetching
+pub mod Calls
+pub mod Advancing

@@ -1,110 +1,77 @@
--- What one instruction leads a symbolic run to.
-use Rattle.std.specs.Prelude.{◌≡◌, ℕ, ◌+◌, ◌%◌, ◌^◌, ◌<◌, ◌≤◌, ◌==◌, ◌||◌, true, List, [], ◌∷◌, ◌++◌, All, length, None, Some, Ok}
-use Rattle.bv_dag.specs.Graphs.{IsDag, number_of, width_of}
-use Rattle.bv_dag.specs.Queries.{AreBits}
+-- What an instruction makes of a symbolic run: what the machine makes of each of its states.
+use Rattle.std.specs.Prelude.{◌≡◌, ℕ, ◌+◌, ◌%◌, ◌≤◌, true, List, length, Some}
+use Rattle.cow_pages.specs.SymbolicMemory.{memory_flags}
 use Rattle.rv_decode.specs.declared.ends.End.{End}
 use Rattle.rv_decode.specs.declared.ends.End.TheVariants.{Exit, Trapped}
 use Rattle.rv_decode.specs.declared.instr.Instr.{Instr}
-use Rattle.rv_decode.specs.declared.instr.Instr.TheVariants.{Branch as Branches}
-use Rattle.rv_decode.specs.declared.ops.Test.{Test}
-use Rattle.rv_spec.specs.Arithmetic.{sum32}
-use Rattle.rv_spec.specs.Decisions.{Decision, Side, Number, step_decisions}
-use Rattle.rv_spec.specs.Machine.{State, fetch}
-use Rattle.rv_spec.specs.Memory.{IsAssignment, byte_of, word_at}
-use Rattle.rv_spec.specs.Runs.{run, IsRunOf}
-use Rattle.fork_spec.specs.Leaves.{AreBytes}
-use Rattle.sym_state.specs.Moves.{IsGrown, IsSame}
-use Rattle.sym_state.specs.Programs.{Program, regions_of}
-use Rattle.sym_state.specs.Symbolic.{Symbolic, DecidedAlike, HasSmallNumbers, IsOpen, IsWide, Goes, concrete, is_term, meets, numbers_of, value_at, worth_of}
+use Rattle.rv_spec.specs.Decisions.{Decision, instr_decisions, step_decisions}
+use Rattle.rv_spec.specs.Machine.{State, Outcome, next}
+use Rattle.rv_spec.specs.Machine as machine
+use Rattle.rv_spec.specs.Memory.{with_bytes}
+use Rattle.term_trees.specs.Growth.{Continues}
+use Rattle.sym_state.specs.Moves.{IsSame}
+use Rattle.sym_state.specs.Symbolic.{Symbolic, IsFormed, concrete, nothing_known, stands_for, value_at}
+use Rattle.sym_state.specs.Values.{worth_of}
 use Rattle.sym_machine.specs.declared.outcome.RunEnd.{RunEnd}
 use Rattle.sym_machine.specs.declared.outcome.RunEnd.TheVariants.{Exits, Traps}
 use Rattle.sym_machine.specs.declared.outcome.Step.{Step}
-use Rattle.sym_machine.specs.declared.outcome.Step.TheVariants.{Running, Branch, Pin, Ended}
-
--- the instruction that comes next
-abbrev pub IsFetched : State → Instr → Type 0
-IsFetched c i = fetch c.flags c.byte c.pc ≡ Ok i
-
--- the word that comes next
-abbrev pub next_word : Program → Symbolic → ℕ
-next_word p s = word_at (byte_of p.image) s.pc
-
--- the step decides this word, and then more
-abbrev pub StepDecides : Program → Symbolic → (State → List Decision) → Type 0
-StepDecides p s more = (input : List ℕ) → IsAssignment (regions_of p) input → meets s input ≡ true →
-    step_decisions (concrete p s input) ≡ Number (next_word p s) ∷ more (concrete p s input)
-
--- the step decides the same on all assignments that meet the condition
-pub record StepsAlike (p : Program) (s : Symbolic) : Type 0 where
-  pub made : List Decision
-  pub alike : (input : List ℕ) → IsAssignment (regions_of p) input → meets s input ≡ true
-      → step_decisions (concrete p s input) ≡ made
-
--- This is the first of the step's decisions that may differ: those before it are the same on all
--- assignments that meet the condition.
-pub record IsFirstOpen (p : Program) (s : Symbolic) (decision : List ℕ → Decision) : Type 0 where
-  pub front : List Decision
-  pub back : List ℕ → List Decision
-  pub is : (input : List ℕ) → IsAssignment (regions_of p) input → meets s input ≡ true →
-      step_decisions (concrete p s input) ≡ front ++ decision input ∷ back input
+use Rattle.sym_machine.specs.declared.outcome.Step.TheVariants.{Running, Ended}
 
 -- how a run ends on an assignment
 abbrev pub end_on : Symbolic → List ℕ → RunEnd → End
 end_on s input Exits = Exit (worth_of s.terms input (value_at s.registers 10) % 256)
 end_on s input (Traps trap) = Trapped trap
 
--- all its runs have ended so, in the step made last
-pub record IsEnding (p : Program) (s : Symbolic) (end : RunEnd) : Type 0 where
-  pub dag : IsDag s.terms
-  pub one_input : s.terms.inputs ≡ 1
-  pub all_registers : length s.registers ≡ 32
-  pub wide : All (IsWide s.terms) s.registers
-  pub bits : AreBits s.terms s.condition
-  pub bytes : AreBytes s.terms s.output
-  pub numbers : HasSmallNumbers s
-  pub sampled : (s.sample < 256) × (meets s (s.sample ∷ []) ≡ true)
-  pub ends : (input : List ℕ) → IsAssignment (regions_of p) input → meets s input ≡ true →
-      IsRunOf (run p.image (regions_of p) input s.steps) s.steps s.path (Some (end_on s input end))
-      (numbers_of s.terms input s.output)
-  pub alike : DecidedAlike p s
+-- what the machine has come to on an assignment, where a symbolic run stands so
+abbrev pub outcome_on : Symbolic → List ℕ → Step → Outcome
+outcome_on s input Running = machine.Running (concrete s input)
+outcome_on s input (Ended end) = machine.Ended (end_on s input end) (concrete s input)
 
--- a conditional branch comes next, of two registers that are not both numbers
-pub record ComparesTerms (p : Program) (s : Symbolic) : Type 0 where
-  pub test : Test
-  pub rs1 : ℕ
-  pub rs2 : ℕ
-  pub offset : ℕ
-  pub fetched : (input : List ℕ) → IsAssignment (regions_of p) input
-      → IsFetched (concrete p s input) (Branches test rs1 rs2 offset)
-  pub no_numbers : (is_term (value_at s.registers rs1) || is_term (value_at s.registers rs2)) ≡ true
+-- What no instruction changes: the assignments, and where the run stands in the fork tree. Terms are
+-- only added, and 4096 bytes at most are written.
+pub record Keeps (old new : Symbolic) : Type 0 where
+  pub continues : Continues old.terms new.terms
+  pub condition : new.condition ≡ old.condition
+  pub choices : new.choices ≡ old.choices
+  pub steps : new.steps ≡ old.steps
+  pub known : new.known ≡ old.known
+  pub sample : new.sample ≡ old.sample
+  pub few : length new.output ≤ length old.output + 4096
 
--- a conditional branch comes next, and is taken where this term is 1
-pub record IsBranch (p : Program) (s : Symbolic) (term : ℕ) : Type 0 where
-  pub bit : width_of s.terms term ≡ 1
-  pub small : (input : List ℕ) → number_of s.terms term input ≤ 1
-  pub undecided : s.decided ≡ None
-  pub goes : (input : List ℕ) → IsAssignment (regions_of p) input → meets s input ≡ true
-      → Goes (number_of s.terms term input == 1) (concrete p s input)
-  pub compares : ComparesTerms p s
-  pub decides : IsFirstOpen p s (λ input. Side (number_of s.terms term input == 1))
+-- on each assignment the run has come to what this makes of its state
+pub record Comes (old new : Symbolic) (step : Step) (makes : State → Outcome) : Type 0 where
+  pub keeps : Keeps old new
+  pub is : (input : List ℕ) → stands_for old input ≡ true → makes (concrete old input) ≡ outcome_on new input step
 
--- the step needs the number of the term, which is the sum of a register and an offset; the register
--- holds no number
-pub record IsPin (p : Program) (s : Symbolic) (register offset term : ℕ) : Type 0 where
-  pub wide : width_of s.terms term ≡ 32
-  pub is_register : register < 32
-  pub small : offset < 2 ^ 32
-  pub no_number : is_term (value_at s.registers register) ≡ true
-  pub sums : (input : List ℕ) → IsAssignment (regions_of p) input
-      → number_of s.terms term input ≡ sum32 (worth_of s.terms input (value_at s.registers register)) offset
-  pub decides : IsFirstOpen p s (λ input. Number (number_of s.terms term input))
+-- Bytes were put to memory from an address on, on each assignment these, and nothing else was done
+-- but that terms were made.
+pub record Puts (old new : Symbolic) (address : ℕ) (bytes : List ℕ → List ℕ) : Type 0 where
+  pub before : IsFormed old
+  pub same : new ≡ record old { memory = new.memory; terms = new.terms }
+  pub continues : Continues old.terms new.terms
+  pub formed : IsFormed new
+  pub flags : (page : ℕ) → memory_flags new.memory page ≡ memory_flags old.memory page
+  pub is : (input : List ℕ) → stands_for old input ≡ true →
+      concrete new input
+      ≡ record (concrete old input) { byte = with_bytes (concrete old input).byte address (bytes input) }
 
--- it has gone on, it is at a branch or at a term that has to be a number and has not carried the
--- instruction out, or all its runs have ended
-abbrev pub Stepped : Program → Symbolic → Symbolic → Step → Type 0
-Stepped p old new Running = IsOpen p new × IsSame old new × (new.steps ≡ old.steps + 1)
-Stepped p old new (Branch term) =
-    IsOpen p new × IsSame old new × IsGrown old new × IsBranch p new term
-Stepped p old new (Pin register offset term) =
-    IsOpen p new × IsSame old new × IsGrown old new × IsPin p new register offset term
-Stepped p old new (Ended end) = IsEnding p new end × IsSame old new × (new.steps ≡ old.steps + 1)
+-- a list of decisions is the same on all assignments
+pub record AreAlike (s : Symbolic) (decides : State → List Decision) : Type 0 where
+  pub made : List Decision
+  pub alike : (input : List ℕ) → stands_for s input ≡ true → decides (concrete s input) ≡ made
+
+-- an instruction was carried out, and all that it decides is alike
+pub record Carries (old new : Symbolic) (step : Step) (instr : Instr) : Type 0 where
+  pub comes : Comes old new step (λ c. machine.execute c instr)
+  pub alike : AreAlike old (λ c. instr_decisions c (Some instr))
+
+-- a step was made
+pub record Steps (old new : Symbolic) (step : Step) : Type 0 where
+  pub same : IsSame old new
+  pub sample : new.sample ≡ old.sample
+  pub inputs : new.terms.inputs ≡ old.terms.inputs
+  pub steps : new.steps ≡ old.steps + 1
+  pub known : new.known ≡ nothing_known
+  pub few : length new.output ≤ length old.output + 4096
+  pub is : (input : List ℕ) → stands_for old input ≡ true → next (concrete old input) ≡ outcome_on new input step
+  pub alike : AreAlike old step_decisions

@@ -1,13 +1,27 @@
-//! The symbolic machine: one instruction after the other, over numbers and terms, for LUI, JAL, BEQ, BNE, LBU, ADDI, SLTIU and ECALL.
+//! The symbolic machine: RV32IM over numbers and terms. An instruction is carried out where all that it needs is known, on all
+//! assignments alike; else it stops before it has done anything.
+//!
+//! - `outcome`, `halt`: what an instruction leads to, and why it isn't carried out
+//! - `needs`: what has to be known
+//! - `fetch`: the instruction that comes next
+//! - `going`: to the next instruction, or to another
+//! - `transfer`: loads and stores
+//! - `call`: the environment call
+//! - `execute`: each instruction
+//! - `stepping`: steps, one after the other
 #![tactic(auto)]
 
 mod call;
 mod execute;
-mod memory;
+mod fetch;
+mod going;
+mod halt;
+mod needs;
 mod outcome;
-
-pub use execute::step;
-pub use outcome::{RunEnd, Step};
-
+mod stepping;
 #[cfg(test)]
 mod tests;
+mod transfer;
+
+pub use outcome::RunEnd;
+pub use stepping::{Stop, advance};

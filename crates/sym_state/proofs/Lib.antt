@@ -1,4 +1,7 @@
-pub mod Pushes
-pub mod Kept
+pub mod Filling
+pub mod Forms
+pub mod Growing
+pub mod ImageBytes
+pub mod Listing
+pub mod Naming
 pub mod Opening
-pub mod Assigning

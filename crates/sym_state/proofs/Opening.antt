@@ -1,48 +1,163 @@
 -- The run of all assignments, before its first step.
-use Rattle.std.proofs.Common.{◌≡◌, ◌<◌, ◌^◌, refl, sym, subst, arith}
-use Rattle.std.specs.Prelude.{[], All, replicate, Result, Ok, Err, IfOk}
-use Rattle.std.proofs.lemmas.List.Elements.{All-nil, All-set, All-replicate}
-use Rattle.bv_dag.specs.Graphs.{width_of}
-use Rattle.bv_dag.proofs.TermLaws.{IsDag-none}
+use Rattle.std.proofs.Common.{◌≡◌, ℕ, zero, suc, ◌+◌, ◌<◌, ◌≤◌, ◌^◌, ◌&&◌, Bool, true, false, List, [], ◌∷◌, length, map, refl, sym, ap, subst, ◌∙◌, arith}
+use Rattle.std.specs.Prelude.{◌==◌, All, Err, IfOk, None, Ok, Result, Option, Some, if◌then◌else◌, nat_lt, replicate, slice_index_or, sum_by}
+use Rattle.std.proofs.Math.Path.{fun_ext}
+use Rattle.std.proofs.lemmas.Bool.Decides.{nat_tests}
+use Rattle.std.proofs.lemmas.List.{length-replicate}
+use Rattle.std.proofs.lemmas.List.Elements.{All-head, All-map, All-nil, All-replicate, All-set, All-tail}
+use Rattle.std.proofs.lemmas.List.Sums.{AllPass-from_list_all, list_all-from_AllPass, sum_by-cons}
+use Rattle.bv_dag.specs.Graphs.{Graph, width_of}
+use Rattle.cow_pages.specs.SymbolicMemory.{SymbolicMemory, memory_byte, memory_flags}
+use Rattle.cow_pages.specs.declared.byte.Byte.TheVariants.{Number as ByteNumber}
+use Rattle.elf_load.specs.Fits.{unfit, unfit_empty, unfit_overlap, unfit_too_long, unfit_too_many, unfit_unmapped}
+use Rattle.elf_load.specs.Images.{Image}
+use Rattle.elf_load.specs.declared.region.Region.{Region}
+use Rattle.elf_load.specs.declared.unfit.Unfit.TheVariants.{TooMany, Empty, TooLong, Unmapped, Overlap}
+use Rattle.fork_spec.specs.Leaves.{IsSmallChoice, IsSmallStep, are_bytes}
+use Rattle.rv_machine.proofs.Placing.{fitting_mapped}
+use Rattle.rv_machine.specs.Pages.{AreMapped}
 use Rattle.rv_spec.specs.Decisions.{decisions_from}
+use Rattle.rv_spec.specs.Machine.{first_registers, first_state}
+use Rattle.rv_spec.specs.Memory.{byte_of, count_of, flags_of, placed}
 use Rattle.rv_spec.specs.Runs.{run_from}
-use Rattle.fork_spec.specs.Leaves.{IsSmallChoice, IsSmallStep}
+use Rattle.sym_state.specs.Placing.{HasBytes, PutsBytes, bytes_worth, first_run, number_values}
 use Rattle.sym_state.specs.Programs.{Program}
-use Rattle.sym_state.specs.Symbolic.{Symbolic, IsWide, IsWord, IsOpen, first_run}
-use Rattle.sym_state.specs.declared.value.Value.{Value}
+use Rattle.sym_state.specs.Runs.{IsFirst, IsOpen}
+use Rattle.sym_state.specs.Symbolic.{IsFormed, IsTrulyKnown, Symbolic, concrete, known_at, nothing_known, stands_for}
+use Rattle.sym_state.specs.Values.{IsByte, IsWide, byte_worth, worth_of}
+use Rattle.sym_state.specs.declared.decided.Decided.{Decided}
 use Rattle.sym_state.specs.declared.value.Value.TheVariants.{Number}
 
-first_all : (P : Value → Type 0) (p : Program) → P (Number 0) → P (Number 0x7FFFFFF0)
-    → All P (first_run p).registers
-first_all P p zero stack = All-set P (replicate 32 (Number 0)) 2 (Number 0x7FFFFFF0) stack (All-replicate P 32 (Number 0) zero)
+counted : (rs : List Region) → sum_by (λ r. r.count) rs ≡ count_of rs
+counted [] = refl
+counted (r ∷ rs) = sum_by-cons (λ s. s.count) r rs ∙ ap (λ n. r.count + n) (counted rs)
 
-pub open_first : (p : Program) → p.image.entry < 2 ^ 32 → IsOpen p (first_run p)
-unfolding run_from decisions_from
-open_first p entry = record {
-  dag = IsDag-none 1;
-  one_input = refl;
+-- the third of the tests of regions
+not_too_long : (a b c d e : Bool)
+    → (if a then Some TooMany else if b then Some Empty else if c then Some TooLong else if d then Some Unmapped else if e then Some Overlap else None) ≡ None
+    → c ≡ false
+not_too_long true b c d e is = cc
+not_too_long false true c d e is = cc
+not_too_long false false true d e is = cc
+not_too_long false false false d e is = refl
+
+-- regions that fit an image have 256 bytes at most
+pub fitting_few : (image : Image) (rs : List Region) → unfit image rs ≡ None → count_of rs ≤ 256
+unfolding unfit
+fitting_few image rs fit =
+    let short : nat_lt 256 (sum_by (λ r. r.count) rs) ≡ false =
+    not_too_long (unfit_too_many rs) (unfit_empty rs) (unfit_too_long rs) (unfit_unmapped image rs) (unfit_overlap rs) fit in
+    let same = counted rs in
+    grind (arith, nat_tests, short, same)
+
+-- so that they are mapped in the memory that begins with it
+pub image_mapped : (p : Program) (memory : SymbolicMemory) → unfit p.image p.regions ≡ None
+    → ((page : ℕ) → memory_flags memory page ≡ flags_of p.image page) → AreMapped (memory_flags memory) p.regions
+image_mapped p memory fit flags =
+    subst (λ (f : ℕ → Option ℕ). AreMapped f p.regions) (sym (fun_ext flags)) (fitting_mapped p.image p.regions fit)
+
+-- numbers as values are worth what they are
+worth_numbers : (terms : Graph) (input numbers : List ℕ) → map (worth_of terms input) (number_values numbers) ≡ numbers
+worth_numbers terms input [] = refl
+worth_numbers terms input (n ∷ numbers) = ap (λ ns. n ∷ ns) (worth_numbers terms input numbers)
+
+wide_registers : (terms : Graph) → All (IsWide terms) (number_values first_registers)
+wide_registers terms =
+    All-map (IsWide terms) (λ n. Number n) first_registers
+    (All-set (λ n. n < 2 ^ 32) (replicate 32 0) 2 0x7FFFFFF0 (omega arith) (All-replicate (λ n. n < 2 ^ 32) 32 0 (omega arith)))
+
+-- its form
+pub first_formed : (entry : ℕ) (memory : SymbolicMemory) (terms : Graph) → entry < 2 ^ 32
+    → HasBytes terms memory → IsFormed (first_run entry memory terms)
+first_formed entry memory terms small has = record {
   all_registers = refl;
-  wide = first_all (IsWide (first_run p).terms) p (omega arith) (omega arith);
-  small = λ input assigned. first_all (IsWord (first_run p).terms input) p (omega arith) (omega arith);
+  wide = wide_registers terms;
   zero = refl;
-  bits = All-nil (λ id. width_of (first_run p).terms id ≡ 1);
-  bytes = All-nil (λ id. width_of (first_run p).terms id ≡ 8);
-  in_memory = entry;
-  numbers = record {
-    choices = All-nil IsSmallChoice;
-    path = All-nil IsSmallStep;
-    few_steps = omega arith;
-    few_terms = omega arith;
-    few_outputs = omega arith;
-  };
-  sampled = (omega arith, refl);
-  decided = tt;
-  sound = λ input assigned meeting. refl;
-  alike = record { made = []; alike = λ input assigned meeting. refl };
+  memory = has;
+  bits = All-nil (λ id. width_of terms id ≡ 1);
+  bytes = All-nil (IsByte terms);
+  in_memory = small;
+  choices = All-nil IsSmallChoice;
+  path = All-nil IsSmallStep;
+  few_steps = omega arith;
+  places = refl;
+  each_input = length-replicate terms.inputs 0;
+  sample_bytes = All-replicate (λ b. b < 256) terms.inputs 0 (omega arith);
 }
 
--- what is equal to it, where memory was there
-pub opens : {E : Type 0} (p : Program) (r : Result Symbolic E) → p.image.entry < 2 ^ 32
-    → IfOk r (λ s. s ≡ first_run p) → IfOk r (IsOpen p)
-opens p (Err e) entry is = tt
-opens p (Ok s) entry is = subst (IsOpen p) (sym is) (open_first p entry)
+both_true : (a b : Bool) → (a && b) ≡ true → (a ≡ true) × (b ≡ true)
+both_true true b h = (refl, h)
+both_true false b h = cc
+
+-- it stands for lists of bytes
+bytes_of : (s : Symbolic) (input : List ℕ) → stands_for s input ≡ true → All (λ b. b < 256) input
+bytes_of s input stands k d within =
+    let small : nat_lt (slice_index_or input k d) 256 ≡ true =
+    AllPass-from_list_all (λ b. nat_lt b 256) input (both_true (are_bytes input) _ stands).0 k d within in
+    grind (arith, nat_tests, small)
+
+-- nothing is known at any place
+none_at : (known : List (Option Decided)) (place : ℕ) → All (λ k. k ≡ None) known → slice_index_or known place None ≡ None
+none_at [] place all = refl
+none_at (k ∷ known) zero all = All-head (λ (o : Option Decided). o ≡ None) k known all
+none_at (k ∷ known) (suc place) all = none_at known place (All-tail (λ (o : Option Decided). o ≡ None) k known all)
+
+known_nowhere : (entry : ℕ) (memory : SymbolicMemory) (terms : Graph) (place : ℕ) → known_at (first_run entry memory terms) place ≡ None
+known_nowhere entry memory terms place =
+    none_at nothing_known place (All-replicate (λ (k : Option Decided). k ≡ None) 5 None refl)
+
+-- its sample is zeros
+zeros_stand : (entry : ℕ) (memory : SymbolicMemory) (terms : Graph) → stands_for (first_run entry memory terms) (replicate terms.inputs 0) ≡ true
+zeros_stand entry memory terms =
+    let zeros : List ℕ = replicate terms.inputs 0 in
+    let bytes : are_bytes zeros ≡ true =
+    list_all-from_AllPass (λ b. nat_lt b 256) zeros (All-replicate (λ b. nat_lt b 256 ≡ true) terms.inputs 0 refl) in
+    let each : (length zeros == terms.inputs) ≡ true = let long : length zeros ≡ terms.inputs = length-replicate terms.inputs 0 in grind (arith, nat_tests, long) in
+    ap (λ t. t && ((length zeros == terms.inputs) && true)) bytes ∙ ap (λ t. t && true) each
+
+-- memory and terms as the input bytes were put to the image
+module _ (p : Program) (start terms : Graph) (image memory : SymbolicMemory)
+    (inputs : start.inputs ≡ count_of p.regions)
+    (bytes : (address : ℕ) → memory_byte image address ≡ ByteNumber (byte_of p.image address))
+    (flags : (page : ℕ) → memory_flags image page ≡ flags_of p.image page)
+    (puts : PutsBytes start terms image memory (λ input. placed p.regions input (bytes_worth start image input))) where
+  byte_is : (input : List ℕ) → All (λ b. b < 256) input → bytes_worth terms memory input ≡ placed p.regions input (byte_of p.image)
+  byte_is input small =
+      puts.worth input small
+      ∙ ap (λ (byte : ℕ → ℕ). placed p.regions input byte) (fun_ext (λ address. ap (byte_worth start input) (bytes address)))
+
+  state_is : (input : List ℕ) → All (λ b. b < 256) input → concrete (first_run p.image.entry memory terms) input ≡ first_state p.image p.regions input
+  state_is input small =
+      ap (λ rs. record (concrete (first_run p.image.entry memory terms) input) { registers = rs }) (worth_numbers terms input first_registers)
+      ∙ ap (λ (f : ℕ → Option ℕ). record (first_state p.image p.regions input) { flags = f; byte = bytes_worth terms memory input }) (puts.flags ∙ fun_ext flags)
+      ∙ ap (λ (b : ℕ → ℕ). record (first_state p.image p.regions input) { byte = b }) (byte_is input small)
+
+  pub is_first : IsFirst p (first_run p.image.entry memory terms)
+  is_first = record {
+    steps = refl;
+    choices = refl;
+    condition = refl;
+    inputs = puts.continues.inputs ∙ inputs;
+    known = refl;
+    state = λ input assigned. state_is input assigned.1;
+  }
+
+  pub is_open : IsOpen p (first_run p.image.entry memory terms)
+  unfolding run_from decisions_from
+  is_open = record {
+    inputs = puts.continues.inputs ∙ inputs;
+    ready = record {
+      sampled = zeros_stand p.image.entry memory terms;
+      knows = λ place. subst (IsTrulyKnown (first_run p.image.entry memory terms) place) (sym (known_nowhere p.image.entry memory terms place)) tt;
+    };
+    few_outputs = omega arith;
+    sound = λ input stands.
+        ap (λ s. record { state = s; end = None; steps = 0 }) (sym (state_is input (bytes_of (first_run p.image.entry memory terms) input stands)));
+    alike = record { made = []; alike = λ input stands. refl };
+  }
+
+-- what holds of it holds of what begins, where memory was there
+pub if_first : {E : Type 0} (P : Symbolic → Type 0) (r : Result Symbolic E) (entry : ℕ) (memory : SymbolicMemory) (terms : Graph)
+    → IfOk r (λ s. s ≡ first_run entry memory terms) → P (first_run entry memory terms) → IfOk r P
+if_first P (Err e) entry memory terms is holds = tt
+if_first P (Ok s) entry memory terms is holds = subst P (sym is) holds

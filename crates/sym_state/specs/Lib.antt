@@ -1,5 +1,7 @@
-pub mod Programs
+pub mod Values
 pub mod Symbolic
-pub mod Growing
 pub mod Moves
+pub mod Programs
+pub mod Runs
+pub mod Placing
 pub mod Places

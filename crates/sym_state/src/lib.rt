@@ -1,19 +1,37 @@
-//! Symbolic runs: numbers and terms that stand for one run of the machine for each assignment of the input byte that meets a
+//! Symbolic runs: numbers and terms that stand for one run of the machine for each assignment of the input bytes that meets a
 //! condition; and the leaves that they become.
+//!
+//! - `value`: what registers hold, and what tests give
+//! - `state`: a run, and what it holds
+//! - `moves`: how it changes
+//! - `operations`: values made of values
+//! - `values`: the same, of a run's values
+//! - `bytes`: bytes of memory as values, and values as bytes
+//! - `lists`: what copies share, copied out
+//! - `first`: the run of all assignments
+//! - `program`, `decided`: what is run; what is known of a decision
+//! - `leaf_part`, `evidence`: a leaf, and what shows it
 #![tactic(auto)]
 
-mod build;
+mod bytes;
+mod decided;
 mod evidence;
+mod first;
 mod leaf_part;
+mod lists;
+mod moves;
+mod operations;
 mod program;
 mod state;
-mod value;
-
-pub use evidence::{Evidence, Found, Spent};
-pub use leaf_part::LeafPart;
-pub use program::Program;
-pub use state::State;
-pub use value::Value;
-
 #[cfg(test)]
 mod tests;
+mod value;
+mod values;
+
+pub use decided::Decided;
+pub use evidence::{Evidence, Found, Spent};
+pub use leaf_part::LeafPart;
+pub use lists::listed;
+pub use program::Program;
+pub use state::State;
+pub use value::{Bit, Value};

@@ -1,15 +1,16 @@
 //! What is run symbolically.
 
 ghost use Rattle.std.specs.Prelude.{◌≡◌};
+ghost use Rattle.sym_state.specs.Programs.{IsFitted};
 
-use elf_load::Image;
+use elf_load::{Image, Regions};
 use std::marker::Model;
 
-/// A program, and where its input byte stands.
+/// A program, and where its input bytes stand: on mapped pages of it, each at an address of its own.
 #[derive(Debug, Drop)]
 pub struct Program {
     image: Image,
-    place: u32,
+    regions: Regions,
 }
 
 impl Model for Program {
@@ -19,28 +20,33 @@ impl Model for Program {
 
     ghost coded = { spec.program_code };
 
-    ghost view = { λ p. record { image = p.image; place = p.place } };
+    ghost view = { λ p. record { image = p.image; regions = p.regions } };
+
+    ghost invariant = { λ p. spec.IsFitted (record { image = p.image; regions = p.regions }) };
 }
 
 impl Program {
-    /// The program of this image, whose input byte is at `place`.
-    pub fn new(image: Image, place: u32) -> Program
-        ensures { result ≡ record { image = image; place = place } }
+    /// The program of this image, whose input bytes stand in these regions.
+    pub fn new(image: Image, regions: Regions) -> Program
+        requires fitted { IsFitted (record { image = image; regions = regions }) }
+        ensures { result ≡ record { image = image; regions = regions } }
     {
-        Program { image, place }
+        Program { image, regions }
     }
 
     /// Its memory as it begins.
     pub fn image(&self) -> &Image
-        ensures { result.now ≡ self.now.image }
+        ensures value { result.now ≡ self.now.image }
+        ensures fitted { IsFitted self.now }
     {
         &self.image
     }
 
-    /// The address of the input byte.
-    pub fn place(&self) -> u32
-        ensures { result ≡ self.now.place }
+    /// Where its input bytes stand.
+    pub fn regions(&self) -> &Regions
+        ensures value { result.now ≡ self.now.regions }
+        ensures fitted { IsFitted self.now }
     {
-        self.place
+        &self.regions
     }
 }

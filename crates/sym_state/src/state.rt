@@ -1,67 +1,90 @@
 //! A symbolic run.
 
-ghost use Rattle.std.specs.Prelude.{◌≡◌, ◌==◌, ◌+◌, ◌-◌, ◌%◌, ◌<◌, ◌^◌, ℕ, true, false, List, [], ◌∷◌, ◌++◌, All, length, nat_lt, slice_index, IfOk, IsTrue, OnErr, OnOk, Some, if◌then◌else◌};
-ghost use Rattle.bv_dag.specs.Graphs.{IsDag, width_of, number_of};
-ghost use Rattle.rv_spec.specs.Arithmetic.{sum32, one_where};
-ghost use Rattle.sym_state.specs.Growing.{Grows};
-ghost use Rattle.sym_state.specs.Moves.{with_terms, cut_back, narrowed, moved};
-ghost use Rattle.rv_spec.specs.Memory.{IsAssignment};
-ghost use Rattle.sym_state.specs.Places.{run_place};
-ghost use Rattle.sym_state.specs.Programs.{regions_of};
-ghost use Rattle.sym_state.specs.Symbolic.{set_value, value_at, worth_of, first_run, run_at, is_term, IsOpen, IsWide, most_steps};
+ghost use Rattle.std.specs.Prelude.{◌≡◌, ◌+◌, ◌%◌, ◌<◌, IfOk};
+ghost use Rattle.cow_pages.specs.SymbolicMemory.{memory_byte, memory_flags};
+ghost use Rattle.rv_spec.specs.Arithmetic.{sum32};
+ghost use Rattle.sym_state.specs.Symbolic.{IsFormed, known_at, most_decisions, value_at};
+ghost use Rattle.sym_state.specs.Values.{IsByte, IsWide};
 
-use crate::build;
-use crate::program::Program;
+use crate::decided::Decided;
 use crate::value::Value;
-use bv_dag::Dag;
+use cow_pages::{Byte, Pages};
+use cow_vec::CowVec;
 use fork_tree::Placed;
 use rv_decode::{PathStep, Register};
 use std::alloc::{AllocError as NoMemory, Global};
 use std::marker::Model;
+use term_simplify::Builder;
+use term_table::Terms;
+use tool_io::Bytes;
 use tree_core::Choice;
 
-/// What the stack pointer, x2, is at the start.
-const STACK_POINTER: u32 = 0x7FFF_FFF0;
+/// The most decisions of one step.
+pub(crate) const MOST_DECISIONS: usize = 5;
 
-/// A symbolic run, somewhere before its end.
-#[derive(Debug, Drop)]
+/// The bytes of a page.
+const PAGE: u32 = 256;
+
+/// A symbolic run, somewhere before its end. Copies share what they hold until one of them changes.
+#[derive(Drop)]
 pub struct State {
-    pub pc: u32,
+    pub(crate) alloc: Global,
+    pub(crate) pc: u32,
     /// x0 to x31.
-    pub registers: Vec<Value>,
-    pub terms: Dag,
+    pub(crate) registers: [Value; 32],
+    pub(crate) memory: Pages,
+    pub(crate) terms: Builder,
     /// The terms of one bit that are to be 1.
-    pub condition: Vec<usize>,
-    /// The terms of the bytes written so far.
-    pub output: Vec<usize>,
-    pub path: Vec<PathStep>,
+    pub(crate) condition: CowVec<usize>,
+    /// The bytes written so far.
+    pub(crate) output: CowVec<Byte>,
+    pub(crate) path: CowVec<PathStep>,
     /// The sides taken at the forks so far.
-    pub choices: Vec<Choice>,
+    pub(crate) choices: CowVec<Choice>,
     /// How many steps were made.
-    pub steps: u32,
-    /// An input byte that meets the condition.
-    pub sample: u8,
-    /// The side of the conditional branch that comes next, where it was chosen.
-    pub decided: Option<bool>,
+    pub(crate) steps: u32,
+    /// What is known of the decisions of the step that comes next, by their places.
+    pub(crate) known: [Option<Decided>; MOST_DECISIONS],
+    /// An assignment that meets the condition.
+    pub(crate) sample: Bytes,
 }
 
 impl Model for State {
-    ghost use Rattle.sym_state.specs.Symbolic.{Symbolic};
+    ghost use Rattle.std.specs.Coded.{codes};
+    ghost use Rattle.cow_pages.specs.SymbolicMemory.{memory_code};
+    ghost use Rattle.sym_state.specs.Symbolic as spec;
 
-    ghost Value = { Symbolic };
+    ghost Value = { spec.Symbolic };
+
+    ghost coded = { Prim.hlevel (codes, memory_code) };
 
     ghost view = { λ s. record {
       pc = s.pc;
-      registers = s.registers.items;
+      registers = s.registers;
+      memory = s.memory;
       terms = s.terms;
-      condition = s.condition.items;
-      output = s.output.items;
-      path = s.path.items;
-      choices = s.choices.items;
+      condition = s.condition;
+      output = s.output;
+      path = s.path;
+      choices = s.choices;
       steps = s.steps;
+      known = s.known;
       sample = s.sample;
-      decided = s.decided;
     } };
+
+    ghost invariant = { λ s. spec.IsFormed (record {
+      pc = s.pc;
+      registers = s.registers;
+      memory = s.memory;
+      terms = s.terms;
+      condition = s.condition;
+      output = s.output;
+      path = s.path;
+      choices = s.choices;
+      steps = s.steps;
+      known = s.known;
+      sample = s.sample;
+    }) };
 }
 
 impl Placed for State {
@@ -70,71 +93,34 @@ impl Placed for State {
     ghost place = { run_place };
 }
 
-/// The run of all assignments from this address on.
-fn at_entry(alloc: Global, entry: u32) -> Result<State, NoMemory>
-    ensures { IfOk result (λ state. state ≡ run_at entry) }
-{
-    let mut registers = vec![in alloc; Value::Number(0); 32]?;
-    registers[2] = Value::Number(STACK_POINTER);
-    Ok(State {
-        pc: entry,
-        registers,
-        terms: Dag::new(alloc, 1),
-        condition: Vec::new(alloc),
-        output: Vec::new(alloc),
-        path: Vec::new(alloc),
-        choices: Vec::new(alloc),
-        steps: 0,
-        sample: 0,
-        decided: None,
-    })
-}
-
 impl State {
-    /// The run of all assignments, before its first step: it stands for each list of bytes, one for each place of the regions.
-    pub fn first(alloc: Global, program: &Program) -> Result<State, NoMemory>
-        ensures value { IfOk result (λ state. state ≡ first_run program.now) }
-        ensures open { IfOk result (IsOpen program.now) }
-        ensures whole { IfOk result (λ state. (input : List ℕ) → IsAssignment (regions_of program.now) input → IsTrue ((run_place state).covers input)) }
-    {
-        at_entry(alloc, program.image().entry())
-    }
-
-    /// An equal one; a change in one changes nothing in the other.
+    /// An equal one; a change in one changes nothing in the other. It takes memory for tables of references alone.
     pub fn share(&self) -> Result<State, NoMemory>
-        ensures { IfOk result (λ other. other ≡ self.now) }
+        ensures same { IfOk result (λ other. other ≡ self.now) }
+        ensures formed { IsFormed self.now }
     {
         Ok(State {
+            alloc: self.alloc,
             pc: self.pc,
-            registers: self.registers.clone()?,
-            terms: self.terms.clone()?,
-            condition: self.condition.clone()?,
-            output: self.output.clone()?,
-            path: self.path.clone()?,
-            choices: self.choices.clone()?,
+            registers: self.registers,
+            memory: self.memory.share()?,
+            terms: self.terms.share()?,
+            condition: self.condition.share()?,
+            output: self.output.share()?,
+            path: self.path.share()?,
+            choices: self.choices.share()?,
             steps: self.steps,
-            sample: self.sample,
-            decided: self.decided,
+            known: self.known,
+            sample: Bytes::from_slice(self.alloc, self.sample.as_slice())?,
         })
     }
 
-    /// What a register holds.
-    pub fn value(&self, register: Register) -> Value
-        requires { length self.now.registers ≡ 32 }
-        ensures { result ≡ value_at self.now.registers register }
+    /// The address of the instruction that comes next.
+    pub fn pc(&self) -> u32
+        ensures value { result ≡ self.now.pc }
+        ensures formed { IsFormed self.now }
     {
-        self.registers[register.index()]
-    }
-
-    /// Writes a register; x0 is never written.
-    pub fn set(&mut self, register: Register, value: Value)
-        requires { length self.old.registers ≡ 32 }
-        ensures { self.new ≡ record self.old { registers = set_value self.old.registers register value } }
-    {
-        let index = register.index();
-        if index != 0 {
-            self.registers[index] = value;
-        }
+        self.pc
     }
 
     /// The address that is so far from the next instruction's, modulo 2^32.
@@ -144,225 +130,116 @@ impl State {
         self.pc.wrapping_add(offset)
     }
 
-    /// The side of the conditional branch that comes next, where it was chosen.
-    pub fn side(&self) -> Option<bool>
-        ensures { result ≡ self.now.decided }
+    /// How many steps were made.
+    pub fn steps(&self) -> u32
+        ensures { result ≡ self.now.steps }
     {
-        self.decided
+        self.steps
     }
 
-    /// Chooses the side of the conditional branch that comes next.
-    pub fn decide(&mut self, side: bool)
-        ensures { self.new ≡ record self.old { decided = Some side } }
+    /// What a register holds.
+    pub fn value(&self, register: Register) -> Value
+        ensures value { result ≡ value_at self.now.registers register }
+        ensures wide { IsWide self.now.terms result }
+        ensures formed { IsFormed self.now }
     {
-        self.decided = Some(side);
+        self.registers[register.index()]
     }
 
-    /// Makes a step, to this address.
-    pub fn go_to(&mut self, pc: u32)
-        requires { self.old.steps < most_steps }
-        ensures { self.new ≡ moved self.old pc self.old.registers self.old.terms self.old.output self.old.path }
+    /// What may be done on a page, if it is mapped.
+    pub fn flags(&self, page: u32) -> Option<u8>
+        ensures { result ≡ memory_flags self.now.memory page }
     {
-        self.pc = pc;
-        self.steps += 1;
-        self.decided = None;
+        self.memory.flags(page)
     }
 
-    /// Makes a step to the next instruction, with a register written.
-    pub fn write(&mut self, register: Register, value: Value)
-        requires registers { length self.old.registers ≡ 32 }
-        requires few { self.old.steps < most_steps }
-        ensures { self.new ≡ moved self.old (sum32 self.old.pc 4) (set_value self.old.registers register value) self.old.terms self.old.output self.old.path }
+    /// The byte at an address, 0 where no page is mapped.
+    pub fn byte(&self, address: u32) -> Byte
+        ensures value { result ≡ memory_byte self.now.memory address }
+        ensures is_byte { IsByte self.now.terms result }
     {
-        self.set(register, value);
-        self.go_to(self.pc.wrapping_add(4));
-    }
-
-    /// Notes an entry of the path.
-    pub fn note(&mut self, entry: PathStep) -> Result<(), NoMemory>
-        ensures ok { OnOk result (self.new ≡ record self.old { path = self.old.path ++ entry ∷ [] }) }
-        ensures err { OnErr result (self.new ≡ self.old) }
-    {
-        self.path.push(entry)?;
-        Ok(())
-    }
-
-    /// Puts a term of 8 bits behind the output.
-    pub fn emit(&mut self, byte: usize) -> Result<(), NoMemory>
-        ensures ok { OnOk result (self.new ≡ record self.old { output = self.old.output ++ byte ∷ [] }) }
-        ensures err { OnErr result (self.new ≡ self.old) }
-    {
-        self.output.push(byte)?;
-        Ok(())
-    }
-
-    /// The input byte, a term of 8 bits.
-    pub fn input_byte(&mut self) -> Result<usize, NoMemory>
-        requires dag { IsDag self.old.terms }
-        requires one_input { self.old.terms.inputs ≡ 1 }
-        ensures err { OnErr result (self.new ≡ self.old) }
-        ensures terms { self.new ≡ with_terms self.old self.new.terms }
-        ensures grows { OnOk result (Grows self.old.terms self.new.terms) }
-        ensures width { IfOk result (λ id. width_of self.new.terms id ≡ 8) }
-        ensures number { IfOk result (λ id. (input : List ℕ) → number_of self.new.terms id input ≡ slice_index input 0) }
-    {
-        build::input_byte(&mut self.terms, 0)
-    }
-
-    /// A byte, as a term of 8 bits.
-    pub fn byte(&mut self, byte: u8) -> Result<usize, NoMemory>
-        requires dag { IsDag self.old.terms }
-        ensures err { OnErr result (self.new ≡ self.old) }
-        ensures terms { self.new ≡ with_terms self.old self.new.terms }
-        ensures grows { OnOk result (Grows self.old.terms self.new.terms) }
-        ensures width { IfOk result (λ id. width_of self.new.terms id ≡ 8) }
-        ensures number { IfOk result (λ id. (input : List ℕ) → number_of self.new.terms id input ≡ byte) }
-    {
-        build::constant(&mut self.terms, 8, u64::from(byte))
-    }
-
-    /// A term of 8 bits, in 32.
-    pub fn widened(&mut self, byte: usize) -> Result<Value, NoMemory>
-        requires dag { IsDag self.old.terms }
-        requires width { width_of self.old.terms byte ≡ 8 }
-        ensures err { OnErr result (self.new ≡ self.old) }
-        ensures terms { self.new ≡ with_terms self.old self.new.terms }
-        ensures grows { OnOk result (Grows self.old.terms self.new.terms) }
-        ensures wide { IfOk result (IsWide self.new.terms) }
-        ensures worth { IfOk result (λ value. (input : List ℕ) → worth_of self.new.terms input value ≡ number_of self.old.terms byte input) }
-    {
-        let id = build::widened(&mut self.terms, byte, 24)?;
-        Ok(Value::Term(id))
-    }
-
-    /// The sum of a value and a number.
-    pub fn sum(&mut self, value: Value, number: u32) -> Result<Value, NoMemory>
-        requires dag { IsDag self.old.terms }
-        requires wide { IsWide self.old.terms value }
-        ensures err { OnErr result (self.new ≡ self.old) }
-        ensures terms { self.new ≡ with_terms self.old self.new.terms }
-        ensures grows { OnOk result (Grows self.old.terms self.new.terms) }
-        ensures wide { IfOk result (IsWide self.new.terms) }
-        ensures kind { IfOk result (λ sum. is_term sum ≡ is_term value) }
-        ensures worth { IfOk result (λ sum. (input : List ℕ) → worth_of self.new.terms input sum ≡ sum32 (worth_of self.old.terms input value) number) }
-    {
-        match value {
-            Value::Number(left) => Ok(Value::Number(left.wrapping_add(number))),
-            Value::Term(left) => {
-                let id = build::sum_with(&mut self.terms, left, number)?;
-                Ok(Value::Term(id))
-            }
+        if self.memory.flags(address / PAGE).is_none() {
+            return Byte::Number(0);
         }
+        self.memory.read(address)
     }
 
-    /// Whether a value is below a number, without sign: 1 or 0.
-    pub fn is_below(&mut self, value: Value, number: u32) -> Result<Value, NoMemory>
-        requires dag { IsDag self.old.terms }
-        requires wide { IsWide self.old.terms value }
-        ensures err { OnErr result (self.new ≡ self.old) }
-        ensures terms { self.new ≡ with_terms self.old self.new.terms }
-        ensures grows { OnOk result (Grows self.old.terms self.new.terms) }
-        ensures wide { IfOk result (IsWide self.new.terms) }
-        ensures worth { IfOk result (λ below. (input : List ℕ) → worth_of self.new.terms input below ≡ one_where (nat_lt (worth_of self.old.terms input value) number)) }
+    /// The four bytes from an address on that is a multiple of 4, 0 where no page is mapped.
+    pub fn word_bytes(&self, address: u32) -> (Byte, Byte, Byte, Byte)
+        requires aligned { address % 4 ≡ 0 }
+        ensures b0 { result.0 ≡ memory_byte self.now.memory address }
+        ensures b1 { result.1 ≡ memory_byte self.now.memory (address + 1) }
+        ensures b2 { result.2 ≡ memory_byte self.now.memory (address + 2) }
+        ensures b3 { result.3 ≡ memory_byte self.now.memory (address + 3) }
+        ensures formed { IsFormed self.now }
     {
-        match value {
-            Value::Number(left) => Ok(Value::Number(u32::from(left < number))),
-            Value::Term(left) => {
-                let id = build::below_number(&mut self.terms, left, number)?;
-                Ok(Value::Term(id))
-            }
-        }
+        let Some(page) = self.memory.page(address / PAGE) else {
+            return (
+                Byte::Number(0),
+                Byte::Number(0),
+                Byte::Number(0),
+                Byte::Number(0),
+            );
+        };
+        let at = (address % PAGE) as u8;
+        (
+            page.byte(at),
+            page.byte(at + 1),
+            page.byte(at + 2),
+            page.byte(at + 3),
+        )
     }
 
-    /// Whether two values are equal, as a bit.
-    pub fn equality(&mut self, left: Value, right: Value) -> Result<usize, NoMemory>
-        requires dag { IsDag self.old.terms }
-        requires left { IsWide self.old.terms left }
-        requires right { IsWide self.old.terms right }
-        ensures err { OnErr result (self.new ≡ self.old) }
-        ensures terms { self.new ≡ with_terms self.old self.new.terms }
-        ensures grows { OnOk result (Grows self.old.terms self.new.terms) }
-        ensures width { IfOk result (λ id. width_of self.new.terms id ≡ 1) }
-        ensures number { IfOk result (λ id. (input : List ℕ) → number_of self.new.terms id input
-            ≡ (if worth_of self.old.terms input left == worth_of self.old.terms input right then 1 else 0)) }
+    /// What is known of the decision at a place of the step that comes next.
+    pub fn known(&self, place: usize) -> Option<Decided>
+        requires { place < most_decisions }
+        ensures { result ≡ known_at self.now place }
     {
-        build::values_equal(&mut self.terms, left, right)
+        self.known[place]
     }
 
-    /// Whether a term of 32 bits is a number, as a bit.
-    pub fn equals(&mut self, term: usize, number: u32) -> Result<usize, NoMemory>
-        requires dag { IsDag self.old.terms }
-        requires wide { width_of self.old.terms term ≡ 32 }
-        ensures err { OnErr result (self.new ≡ self.old) }
-        ensures terms { self.new ≡ with_terms self.old self.new.terms }
-        ensures grows { OnOk result (Grows self.old.terms self.new.terms) }
-        ensures width { IfOk result (λ id. width_of self.new.terms id ≡ 1) }
-        ensures number { IfOk result (λ id. (input : List ℕ) → number_of self.new.terms id input
-            ≡ (if number_of self.old.terms term input == number then 1 else 0)) }
+    /// An assignment that meets the condition, one byte for each input.
+    pub fn sample(&self) -> &Bytes
+        ensures value { result.now ≡ self.now.sample }
+        ensures formed { IsFormed self.now }
     {
-        self.equality(Value::Term(term), Value::Number(number))
+        &self.sample
     }
 
-    /// The other bit of a term of one.
-    pub fn negation(&mut self, bit: usize) -> Result<usize, NoMemory>
-        requires dag { IsDag self.old.terms }
-        requires bit { width_of self.old.terms bit ≡ 1 }
-        ensures err { OnErr result (self.new ≡ self.old) }
-        ensures terms { self.new ≡ with_terms self.old self.new.terms }
-        ensures grows { OnOk result (Grows self.old.terms self.new.terms) }
-        ensures width { IfOk result (λ id. width_of self.new.terms id ≡ 1) }
-        ensures number { IfOk result (λ id. (input : List ℕ) → number_of self.new.terms id input ≡ 1 - number_of self.old.terms bit input) }
+    /// Its terms.
+    pub fn terms(&self) -> &Terms
+        ensures value { result.now ≡ self.now.terms }
+        ensures formed { IsFormed self.now }
     {
-        build::negation(&mut self.terms, bit)
+        self.terms.terms()
     }
 
-    /// The lowest eight bits of a value, as a term.
-    pub fn low_byte(&mut self, value: Value) -> Result<usize, NoMemory>
-        requires dag { IsDag self.old.terms }
-        requires wide { IsWide self.old.terms value }
-        ensures err { OnErr result (self.new ≡ self.old) }
-        ensures terms { self.new ≡ with_terms self.old self.new.terms }
-        ensures grows { OnOk result (Grows self.old.terms self.new.terms) }
-        ensures width { IfOk result (λ id. width_of self.new.terms id ≡ 8) }
-        ensures number { IfOk result (λ id. (input : List ℕ) → number_of self.new.terms id input ≡ worth_of self.old.terms input value % 256) }
+    /// The terms of one bit that are to be 1.
+    pub fn condition(&self) -> &CowVec<usize>
+        ensures { result.now ≡ self.now.condition }
     {
-        build::byte_of(&mut self.terms, value)
+        &self.condition
     }
 
-    /// Keeps the first `len` terms. The caller sees to it that nothing of the run names another.
-    pub fn cut_back(&mut self, len: usize)
-        ensures { self.new ≡ cut_back self.old len }
+    /// The bytes written so far.
+    pub fn output(&self) -> &CowVec<Byte>
+        ensures value { result.now ≡ self.now.output }
+        ensures formed { IsFormed self.now }
     {
-        self.terms.truncate(len);
+        &self.output
     }
 
-    /// Notes the side of a fork.
-    pub fn choose(&mut self, choice: Choice) -> Result<(), NoMemory>
-        ensures ok { OnOk result (self.new ≡ record self.old { choices = self.old.choices ++ choice ∷ [] }) }
-        ensures err { OnErr result (self.new ≡ self.old) }
+    /// What each conditional branch and each JALR so far has done.
+    pub fn path(&self) -> &CowVec<PathStep>
+        ensures { result.now ≡ self.now.path }
     {
-        self.choices.push(choice)?;
-        Ok(())
+        &self.path
     }
 
-    /// Asks for one more term of one bit to be 1.
-    pub fn assert(&mut self, term: usize) -> Result<(), NoMemory>
-        ensures ok { OnOk result (self.new ≡ record self.old { condition = self.old.condition ++ term ∷ [] }) }
-        ensures err { OnErr result (self.new ≡ self.old) }
+    /// The sides taken at the forks so far.
+    pub fn choices(&self) -> &CowVec<Choice>
+        ensures { result.now ≡ self.now.choices }
     {
-        self.condition.push(term)?;
-        Ok(())
-    }
-
-    /// Narrows to one side of a fork, on which this term of one bit is 1.
-    pub fn narrow(&mut self, choice: Choice, term: usize, sample: u8) -> Result<(), NoMemory>
-        ensures ok { OnOk result (self.new ≡ narrowed self.old choice term sample) }
-        ensures err { OnErr result (self.new ≡ self.old) }
-    {
-        self.choices.reserve(1)?;
-        self.condition.push(term)?;
-        self.choices.push(choice).unwrap();
-        self.sample = sample;
-        Ok(())
+        &self.choices
     }
 }

@@ -6,6 +6,8 @@ use Rattle.tool_io.specs.Causes.{Rose}
 use Rattle.fork_spec.specs.Walks.{Line}
 use Rattle.tool_io.proofs.Deeds.{then_says, then_all, IsPrefix-nothing, IsPrefix-whole}
 use Rattle.tool_io.proofs.Since.{names_since-after, puts_since-after, said_since-after}
+use Rattle.elf_load.specs.Refusals.{refusal}
+use Rattle.elf_load.specs.declared.refused.Refused.{Refused as WhyRefused}
 use Rattle.elf_load.specs.declared.region.Region.{Region}
 use Rattle.tool_words.specs.Job.{Job, Explore, Replay}
 use Rattle.tool_top.specs.Lines.{no_memory}
@@ -13,7 +15,7 @@ use Rattle.tool_top.specs.Plan.{Plan, names_of, IsPlan, IsPlanned, IsReadFault, 
 use Rattle.elf_load.specs.Images.{Image, Loads}
 use Rattle.elf_load.proofs.OneImage.{one_image}
 use Rattle.tree_core.specs.declared.budgets.Budgets.{Budgets}
-use Rattle.tool_top.specs.Later.{IsTaken, IsInput}
+use Rattle.tool_top.specs.Inputs.{IsInput}
 use Rattle.replay_core.specs.Replays.{IsAsSaid}
 use Rattle.tool_top.proofs.ReplayEndings.{given_held, replay_fault, replay_kept, replay_no_job, replay_misfit, replay_no_program, replay_no_test, replay_other, replay_puts, replay_same}
 use Rattle.report_text.specs.Claims.{Entry, IsReport}
@@ -48,7 +50,7 @@ left_of (inl a) not_right = a
 left_of (inr b) not_right = absurd (not_right b)
 
 not_done : (bytes : List ℕ) (asked : List Region) (verdict : Verdict) (puts : List Put) (text : List ℕ) → verdict ≡ Done → IsRefusal bytes verdict puts text ⊎ IsMisfit bytes asked verdict puts text → ⊥
-not_done bytes asked verdict puts text done (inl refusal) = let other = refusal.refused in cc
+not_done bytes asked verdict puts text done (inl none) = let other = none.is in cc
 not_done bytes asked verdict puts text done (inr misfit) = let other = misfit.is in cc
 
 not_fault : (old new : Seen) (job : Option Job) (plan : Plan) → plan.verdict ≡ Done → Rose old.reads new.reads × IsReadFault job plan → ⊥
@@ -59,21 +61,21 @@ done_reported old new program out asked budgets workers plan done planned =
     let means : Means old.told (Some (Explore program out asked budgets workers)) plan = left_of planned (not_fault old new (Some (Explore program out asked budgets workers)) plan done) in
     (means.0, means.1, left_of means.3 (not_done means.0 asked plan.verdict plan.puts plan.text done))
 
-refused_refusal : (old new : Seen) (program out : List ℕ) (asked : List Region) (budgets : Budgets) (workers : ℕ) (plan : Plan) → plan.verdict ≡ Refused → IsPlan old new (Some (Explore program out asked budgets workers)) plan → (bytes : List ℕ) × Gives old.told program most_bytes bytes × ((image : Image) → ¬ IsTaken bytes image)
+refused_refusal : (old new : Seen) (program out : List ℕ) (asked : List Region) (budgets : Budgets) (workers : ℕ) (plan : Plan) → plan.verdict ≡ Refused → IsPlan old new (Some (Explore program out asked budgets workers)) plan → (bytes : List ℕ) × (why : WhyRefused) × Gives old.told program most_bytes bytes × (refusal bytes ≡ Some why)
 refused_refusal old new program out asked budgets workers plan refused (inl (bytes, given, names, inl report)) = let other = report.done in cc
-refused_refusal old new program out asked budgets workers plan refused (inl (bytes, given, names, inr (inl refusal))) = (bytes, given, refusal.none)
+refused_refusal old new program out asked budgets workers plan refused (inl (bytes, given, names, inr (inl none))) = (bytes, none.why, given, none.refuses)
 refused_refusal old new program out asked budgets workers plan refused (inl (bytes, given, names, inr (inr misfit))) = let other = misfit.is in cc
 refused_refusal old new program out asked budgets workers plan refused (inr (rose, (begins, is))) = let other : plan.verdict ≡ ReadFault = ap (λ (p : Plan). p.verdict) is in cc
 
-unfit_misfit : (old new : Seen) (program out : List ℕ) (asked : List Region) (budgets : Budgets) (workers : ℕ) (plan : Plan) → plan.verdict ≡ Unfit → IsPlan old new (Some (Explore program out asked budgets workers)) plan → (bytes : List ℕ) × (image : Image) × Gives old.told program most_bytes bytes × IsTaken bytes image × ((place : ℕ) → ¬ IsInput image asked place)
+unfit_misfit : (old new : Seen) (program out : List ℕ) (asked : List Region) (budgets : Budgets) (workers : ℕ) (plan : Plan) → plan.verdict ≡ Unfit → IsPlan old new (Some (Explore program out asked budgets workers)) plan → (bytes : List ℕ) × (image : Image) × Gives old.told program most_bytes bytes × Loads bytes image × (¬ IsInput image asked)
 unfit_misfit old new program out asked budgets workers plan unfit (inl (bytes, given, names, inl report)) = let other = report.done in cc
-unfit_misfit old new program out asked budgets workers plan unfit (inl (bytes, given, names, inr (inl refusal))) = let other = refusal.refused in cc
-unfit_misfit old new program out asked budgets workers plan unfit (inl (bytes, given, names, inr (inr misfit))) = (bytes, misfit.image, given, misfit.taken, misfit.others)
+unfit_misfit old new program out asked budgets workers plan unfit (inl (bytes, given, names, inr (inl none))) = let other = none.is in cc
+unfit_misfit old new program out asked budgets workers plan unfit (inl (bytes, given, names, inr (inr misfit))) = (bytes, misfit.image, given, misfit.loads, misfit.other)
 unfit_misfit old new program out asked budgets workers plan unfit (inr (rose, (begins, is))) = let other : plan.verdict ≡ ReadFault = ap (λ (p : Plan). p.verdict) is in cc
 
 fault_rose : (old new : Seen) (program out : List ℕ) (asked : List Region) (budgets : Budgets) (workers : ℕ) (plan : Plan) → plan.verdict ≡ ReadFault → IsPlan old new (Some (Explore program out asked budgets workers)) plan → Rose old.reads new.reads
 fault_rose old new program out asked budgets workers plan fault (inl (bytes, given, names, inl report)) = let other = report.done in cc
-fault_rose old new program out asked budgets workers plan fault (inl (bytes, given, names, inr (inl refusal))) = let other = refusal.refused in cc
+fault_rose old new program out asked budgets workers plan fault (inl (bytes, given, names, inr (inl none))) = let other = none.is in cc
 fault_rose old new program out asked budgets workers plan fault (inl (bytes, given, names, inr (inr misfit))) = let other = misfit.is in cc
 fault_rose old new program out asked budgets workers plan fault (inr (rose, read)) = rose
 
@@ -81,7 +83,7 @@ fault_rose old new program out asked budgets workers plan fault (inr (rose, read
 explored_only : (old new : Seen) (program out : List ℕ) (asked : List Region) (budgets : Budgets) (workers : ℕ) (plan : Plan) → IsPlan old new (Some (Explore program out asked budgets workers)) plan
     → (plan.verdict ≡ Done) ⊎ (plan.verdict ≡ Refused) ⊎ (plan.verdict ≡ Unfit) ⊎ (plan.verdict ≡ ReadFault)
 explored_only old new program out asked budgets workers plan (inl (bytes, given, names, inl report)) = inl report.done
-explored_only old new program out asked budgets workers plan (inl (bytes, given, names, inr (inl refusal))) = inr (inl refusal.refused)
+explored_only old new program out asked budgets workers plan (inl (bytes, given, names, inr (inl none))) = inr (inl none.is)
 explored_only old new program out asked budgets workers plan (inl (bytes, given, names, inr (inr misfit))) = inr (inr (inl misfit.is))
 explored_only old new program out asked budgets workers plan (inr (rose, (begins, is))) = inr (inr (inr (ap (λ (p : Plan). p.verdict) is)))
 
@@ -113,7 +115,7 @@ none_other old new plan verdict is no_job fault planned = elim (none_only old ne
 some_puts_done : (old new : Seen) (job : Option Job) (plan : Plan) → plan.puts ≢ [] → IsPlan old new job plan → plan.verdict ≡ Done
 some_puts_done old new None plan some planned = absurd (some (none_puts old new plan planned))
 some_puts_done old new (Some (Explore program out asked budgets workers)) plan some (inl (bytes, given, names, inl report)) = report.done
-some_puts_done old new (Some (Explore program out asked budgets workers)) plan some (inl (bytes, given, names, inr (inl refusal))) = absurd (some refusal.no_files)
+some_puts_done old new (Some (Explore program out asked budgets workers)) plan some (inl (bytes, given, names, inr (inl none))) = absurd (some none.no_files)
 some_puts_done old new (Some (Explore program out asked budgets workers)) plan some (inl (bytes, given, names, inr (inr misfit))) = absurd (some misfit.no_files)
 some_puts_done old new (Some (Explore program out asked budgets workers)) plan some (inr (rose, (begins, is))) = absurd (some (ap (λ (p : Plan). p.puts) is))
 some_puts_done old new (Some (Replay program test)) plan some planned = absurd (some (replay_puts old new program test plan planned))
@@ -189,13 +191,12 @@ written old new name out bytes asked budgets workers Claim plan claims given rep
     let said : carried.said ≡ plan.text = elim carried.whole [ inl all ↦ all | inr cut ↦ absurd (cut.1 refl) ] in
     record {
       image = reported.image;
-      place = reported.place;
       lines = report.lines;
       entries = report.entries;
       bytes = bytes;
       given = given;
-      taken = reported.taken;
-      fits = reported.fits;
+      loads = reported.loads;
+      input = reported.input;
       files = puts_since-after old.told new.told deeds (λ puts. puts ≡ files_of out budgets workers asked report.lines report.entries) carried.changes report.files;
       summary = said_since-after old.told new.told deeds (λ said. said ≡ summary_of report.entries) carried.changes (said ∙ report.summary);
       claim = claims reported.image report.lines report.entries report.claims;
@@ -294,21 +295,22 @@ pub faulted_job : (old new : Seen) (job : Option Job) → IsFaulted old new job 
 faulted_job old new None h is = none_other old new h.plan Done h.only_done (λ e. cc) (λ e. cc) h.planned
 faulted_job old new (Some job) h is = cc
 
--- a program that is taken is not refused
+-- a file that loads is not refused
 held_not_refused : (told : Told) (job : Option Job) → HoldsProgram told job → HoldsNoProgram told job → ⊥
 held_not_refused told None holds none = holds
-held_not_refused told (Some (Explore program out asked budgets workers)) (bytes, image, place, held, taken, fits) (given, gives, none) =
-    let same = given_held most_bytes program bytes given told.holds held gives in
-    none image (subst (λ (b : List ℕ). IsTaken b image) (sym same) taken)
+held_not_refused told (Some (Explore program out asked budgets workers)) (bytes, image, held, loads, input) (given, why, gives, refuses) =
+    let same : given ≡ bytes = given_held most_bytes program bytes given told.holds held gives in
+    let fine : refusal given ≡ None = ap refusal same ∙ loads.fine in
+    cc
 held_not_refused told (Some (Replay program test)) holds none = holds
 
--- nor does it not fit
+-- nor is an input that is taken
 held_not_unfit : (told : Told) (job : Option Job) → HoldsProgram told job → HoldsMisfit told job → ⊥
 held_not_unfit told None holds misfit = holds
-held_not_unfit told (Some (Explore program out asked budgets workers)) (bytes, here, place, held, taken, fits) (given, image, gives, is, others) =
+held_not_unfit told (Some (Explore program out asked budgets workers)) (bytes, here, held, loads, input) (given, image, gives, is, other) =
     let same = given_held most_bytes program bytes given told.holds held gives in
-    let one : here ≡ image = one_image bytes here image taken.loads (subst (λ (b : List ℕ). Loads b image) same is.loads) in
-    others place (subst (λ (i : Image). IsInput i asked place) one fits)
+    let one : here ≡ image = one_image bytes here image loads (subst (λ (b : List ℕ). Loads b image) same is) in
+    other (subst (λ (i : Image). IsInput i asked) one input)
 held_not_unfit told (Some (Replay program test)) holds misfit = holds
 
 -- where it is held, and no fault was counted, it is explored to the end

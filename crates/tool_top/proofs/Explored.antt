@@ -1,6 +1,8 @@
 -- A tree that its worker has drained gives the report of its program.
-use Rattle.std.proofs.Common.{◌≡◌, ℕ, ◌<◌, ◌≤◌, ◌++◌, IsTrue, true, refl, sym, ap, subst, ◌∙◌, arith}
-use Rattle.std.specs.Prelude.{List, All, Bool, Option, Some}
+use Rattle.std.proofs.Common.{◌≡◌, ℕ, ◌<◌, ◌≤◌, ◌&&◌, ◌++◌, IsTrue, true, refl, sym, ap, subst, ◌∙◌, arith}
+use Rattle.std.specs.Prelude.{List, All, Bool, Option, Some, ◌==◌, length, nat_lt}
+use Rattle.std.proofs.lemmas.Bool.Decides.{nat_tests}
+use Rattle.std.proofs.lemmas.List.Sums.{list_all-from_AllPass}
 use Rattle.elf_load.specs.declared.region.Region.{Region}
 use Rattle.rv_spec.specs.Memory.{IsAssignment}
 use Rattle.tree_core.specs.Covers.{covered, root_content}
@@ -8,6 +10,7 @@ use Rattle.tree_core.specs.Stories.{Story}
 use Rattle.tree_core.specs.declared.budgets.Budgets.{Budgets}
 use Rattle.tree_core.specs.declared.event.Event.{Event}
 use Rattle.fork_spec.specs.Histories.{cause_of}
+use Rattle.fork_spec.specs.Leaves.{are_bytes}
 use Rattle.fork_spec.specs.Parts.{Part}
 use Rattle.fork_spec.specs.Written.{lines_of}
 use Rattle.fork_tree.specs.Calls.{IsOpening}
@@ -19,16 +22,25 @@ use Rattle.fork_tree.specs.declared.content.Content.TheVariants.{Open, Shut}
 use Rattle.node_split.specs.Rules.{leaf_place, rules_of}
 use Rattle.report_text.proofs.Claimed.{are_a_report}
 use Rattle.report_text.proofs.Entering.{are_entries, reportable}
-use Rattle.report_text.specs.Claims.{IsReport}
 use Rattle.report_text.specs.Entries.{AreEntries, AskAsClaimed, IsLeafAt, IsReportOfTree, IsReportable, entries_of}
 use Rattle.sym_state.specs.Places.{run_place}
-use Rattle.sym_state.specs.Programs.{Program, regions_of}
-use Rattle.sym_state.specs.Symbolic.{Symbolic}
+use Rattle.sym_state.specs.Programs.{Program}
+use Rattle.sym_state.specs.Runs.{IsFirst}
+use Rattle.sym_state.specs.Symbolic.{Symbolic, stands_for}
 use Rattle.tool_io.specs.Told.{Put}
 use Rattle.tool_top.specs.Reports.{IsReportOf}
 
 abbrev covers_at : Content Symbolic Part → List ℕ → Bool
 covers_at c = (place_in run_place leaf_place c).covers
+
+-- a run before its first step stands for every assignment
+stands_for_all : (p : Program) (s : Symbolic) → IsFirst p s → (input : List ℕ) → IsAssignment p.regions input → stands_for s input ≡ true
+stands_for_all p s first input (long, small) =
+    let bytes : are_bytes input ≡ true =
+    list_all-from_AllPass (λ b. nat_lt b 256) input (λ k d within. let less = small k d within in grind (arith, nat_tests, less)) in
+    let each : length input ≡ s.terms.inputs = long ∙ sym first.inputs in
+    let count : (length input == s.terms.inputs) ≡ true = grind (arith, nat_tests, each) in
+    rw first.condition (ap (λ t. t && ((length input == s.terms.inputs) && true)) bytes ∙ ap (λ t. t && true) count)
 
 -- a root that stands for every assignment still does when the tree has grown
 rooted : (regions : List Region) (root : Symbolic) (old new : Story (Content Symbolic Part)) → IsOpening root old
@@ -48,7 +60,7 @@ by_few root old new workers some opens grows =
 
 module _ (p : Program) (budgets : Budgets) where
   -- what the worker asks of leaves is what is claimed of them
-  asks : AskAsClaimed (λ (part : Part). part) (rules_of p budgets.steps budgets.targets) leaf_place p.image (regions_of p) budgets
+  asks : AskAsClaimed (λ (part : Part). part) (rules_of p budgets.steps budgets.targets) leaf_place p.image p.regions budgets
   asks = record {
     right = λ sides leaf right. right;
     cut = λ leaf. refl;
@@ -58,17 +70,17 @@ module _ (p : Program) (budgets : Budgets) where
   }
 
   -- the report of a tree that this worker's root has grown to is one of the program
-  pub is_report_of : (asked : List Region) → asked ≡ regions_of p → (root : Symbolic) (old new : Story (Content Symbolic Part)) → IsOpening root old
-      → ((input : List ℕ) → IsAssignment (regions_of p) input → IsTrue ((run_place root).covers input)) → GrowsBy 0 old new
+  pub is_report_of : (root : Symbolic) (old new : Story (Content Symbolic Part)) → IsOpening root old
+      → IsFirst p root → GrowsBy 0 old new
       → IsDrained (rules_of p budgets.steps budgets.targets) run_place leaf_place new → (workers : ℕ) → 1 ≤ workers → (out : List ℕ) (puts : List Put) (text : List ℕ)
-      → IsReportOfTree (λ (part : Part). part) (λ part. cause_of part.leaf.end) out asked budgets workers new puts text
-      → IsReportOf out p.image asked budgets workers puts text
-  is_report_of asked same root old new opens whole grows drained workers some out puts text made = record {
+      → IsReportOfTree (λ (part : Part). part) (λ part. cause_of part.leaf.end) out p.regions budgets workers new puts text
+      → IsReportOf out p.image p.regions budgets workers puts text
+  is_report_of root old new opens first grows drained workers some out puts text made = record {
     lines = lines_of (cut_in (λ (part : Part). cause_of part.leaf.end)) new;
-    entries = entries_of asked 0 made.leaves;
-    claims = subst (λ (rs : List Region). IsReport p.image rs budgets workers (lines_of (cut_in (λ (part : Part). cause_of part.leaf.end)) new) (entries_of rs 0 made.leaves)) (sym same)
-        (are_a_report (λ (part : Part). part) (rules_of p budgets.steps budgets.targets) run_place leaf_place p.image (regions_of p) budgets asks new drained
-        (entries_of (regions_of p) 0 made.leaves) are (rooted (regions_of p) root old new opens whole grows) workers (by_few root old new workers some opens grows));
+    entries = entries_of p.regions 0 made.leaves;
+    claims =
+        are_a_report (λ (part : Part). part) (rules_of p budgets.steps budgets.targets) run_place leaf_place p.image p.regions budgets asks new drained
+        (entries_of p.regions 0 made.leaves) are (rooted p.regions root old new opens (stands_for_all p root first) grows) workers (by_few root old new workers some opens grows);
     files = made.files;
     summary = made.summary;
   }
@@ -79,7 +91,7 @@ module _ (p : Program) (budgets : Budgets) where
       right_at : (node : ℕ) (part : Part) → IsLeafAt (λ (x : Part). x) new node part → IsReportable part
       right_at node part at =
           let here : HasIt (Some (Shut at.leaf)) node = subst (λ held. HasIt held node) at.held (drained.leaves node at.within at.is_leaf) in
-          subst IsReportable at.same (reportable p.image (regions_of p) budgets.steps budgets.targets here.sides at.leaf here.right)
+          subst IsReportable at.same (reportable p.image p.regions budgets.steps budgets.targets here.sides at.leaf here.right)
 
-      are : AreEntries (λ (part : Part). part) (regions_of p) new (entries_of (regions_of p) 0 made.leaves)
-      are = are_entries (λ (part : Part). part) (regions_of p) new made.leaves made.by_rank (λ rank l at. right_at l.node l.part.now (made.by_rank.each rank l at))
+      are : AreEntries (λ (part : Part). part) p.regions new (entries_of p.regions 0 made.leaves)
+      are = are_entries (λ (part : Part). part) p.regions new made.leaves made.by_rank (λ rank l at. right_at l.node l.part.now (made.by_rank.each rank l at))

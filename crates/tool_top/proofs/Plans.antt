@@ -1,6 +1,7 @@
 -- Making a plan, from what its parts are.
-use Rattle.std.proofs.Common.{◌≡◌, ℕ, List, [], ◌∙◌, sym, ap, subst, inl, inr}
-use Rattle.std.specs.Prelude.{Option, None, Some, Result, Ok, Err, IfOk, OnErr}
+use Rattle.std.proofs.Common.{◌≡◌, ℕ, true, false, List, [], ◌∙◌, sym, ap, inl, inr, arith}
+use Rattle.std.specs.Prelude.{◌==◌, Option, None, Some, Result, Ok, Err, IfOk, OnErr}
+use Rattle.std.proofs.lemmas.Bool.Decides.{nat_tests}
 use Rattle.std.specs.declared.alloc.AllocError.{AllocError}
 use Rattle.tool_io.specs.Told.{Seen, after, IsPrefix}
 use Rattle.elf_load.specs.Fits.{unfit}
@@ -10,12 +11,10 @@ use Rattle.elf_load.specs.declared.refused.Refused.{Refused as WhyRefused}
 use Rattle.elf_load.specs.declared.region.Region.{Region}
 use Rattle.elf_load.specs.declared.unfit.Unfit.{Unfit as WhyUnfit}
 use Rattle.tool_words.specs.Job.{Job}
-use Rattle.elf_load.proofs.OneImage.{one_image}
+use Rattle.rv_spec.specs.Memory.{count_of}
 use Rattle.tree_core.specs.declared.budgets.Budgets.{Budgets}
-use Rattle.tool_top.specs.Later.{IsTaken, IsInput, IsDataByte, HasLaterWord}
-use Rattle.sym_state.specs.Programs.{IsRunnable, regions_of}
+use Rattle.tool_top.specs.Inputs.{IsInput}
 use Rattle.tool_top.specs.Reports.{IsReportOf}
-use Rattle.tool_top.proofs.Running.{runnable}
 use Rattle.tool_top.specs.Lines.{refused_line, unfit_line, usage}
 use Rattle.tool_top.specs.Plan.{Treats, names_of, IsPlanned, OnlyReads}
 use Rattle.tool_top.specs.declared.plan.Plan.{Plan as Made}
@@ -36,66 +35,52 @@ pub only_reads : {T : Type 0} (old new : Seen) (job : Option Job) (names : List 
 only_reads old new job names (Ok p) begins c = tt
 only_reads old new job names (Err e) begins c = record { names = names; begins = begins; changes = c }
 
--- the program's file is refused
-pub treats_refused : (out bytes : List ℕ) (asked : List Region) (budgets : Budgets) (workers : ℕ) (why : WhyRefused) (made : Result Made AllocError) → refusal bytes ≡ Some why → IfOk made (λ p. p.verdict ≡ Refused) → IfOk made (λ p. p.files.items ≡ []) → IfOk made (λ p. p.text ≡ refused_line (Some why)) → IfOk made (λ p. Treats out bytes asked budgets workers p.verdict p.files.items p.text)
-treats_refused out bytes asked budgets workers why (Err e) is v f t = tt
-treats_refused out bytes asked budgets workers why (Ok made) is v f t = inr (inl (record {
-  none = λ image taken. let fine : refusal bytes ≡ None = taken.loads.fine in cc;
-  refused = v;
-  no_files = f;
-  line = t ∙ ap refused_line (sym is);
-}))
+module _ (out bytes : List ℕ) (asked : List Region) (budgets : Budgets) (workers : ℕ) where
+  -- the file is that of no program
+  pub treats_refused : (why : WhyRefused) (made : Result Made AllocError) → refusal bytes ≡ Some why
+      → IfOk made (λ p. p.verdict ≡ Refused) → IfOk made (λ p. p.files.items ≡ []) → IfOk made (λ p. p.text ≡ refused_line why)
+      → IfOk made (λ p. Treats out bytes asked budgets workers p.verdict p.files.items p.text)
+  treats_refused why (Err e) refuses v f t = tt
+  treats_refused why (Ok made) refuses v f t = inr (inl (record { why = why; refuses = refuses; is = v; no_files = f; line = t }))
 
--- the program is to be taken later
-pub treats_later : (out bytes : List ℕ) (asked : List Region) (budgets : Budgets) (workers : ℕ) (image : Image) (made : Result Made AllocError) → Loads bytes image → HasLaterWord image → IfOk made (λ p. p.verdict ≡ Refused) → IfOk made (λ p. p.files.items ≡ []) → IfOk made (λ p. p.text ≡ refused_line None) → IfOk made (λ p. Treats out bytes asked budgets workers p.verdict p.files.items p.text)
-treats_later out bytes asked budgets workers image (Err e) loads later v f t = tt
-treats_later out bytes asked budgets workers image (Ok made) loads later v f t = inr (inl (record {
-  none = λ other taken. taken.none_later (subst HasLaterWord (one_image bytes image other loads taken.loads) later);
-  refused = v;
-  no_files = f;
-  line = t ∙ ap refused_line (sym loads.fine);
-}))
+  -- the input isn't taken
+  pub treats_misfit : (image : Image) (why : Option WhyUnfit) (made : Result Made AllocError) → Loads bytes image
+      → unfit image asked ≡ why → ¬ IsInput image asked
+      → IfOk made (λ p. p.verdict ≡ Unfit) → IfOk made (λ p. p.files.items ≡ []) → IfOk made (λ p. p.text ≡ unfit_line why)
+      → IfOk made (λ p. Treats out bytes asked budgets workers p.verdict p.files.items p.text)
+  treats_misfit image why (Err e) loads is other v f t = tt
+  treats_misfit image why (Ok made) loads is other v f t = inr (inr (record {
+    image = image;
+    loads = loads;
+    other = other;
+    is = v;
+    no_files = f;
+    line = t ∙ ap unfit_line (sym is);
+  }))
 
--- the program is one that is taken, but not for this input
-pub treats_misfit : (out bytes : List ℕ) (asked : List Region) (budgets : Budgets) (workers : ℕ) (image : Image) (why : Option WhyUnfit) (made : Result Made AllocError) → IsTaken bytes image → unfit image asked ≡ why → ((place : ℕ) → ¬ IsInput image asked place) → IfOk made (λ p. p.verdict ≡ Unfit) → IfOk made (λ p. p.files.items ≡ []) → IfOk made (λ p. p.text ≡ unfit_line why) → IfOk made (λ p. Treats out bytes asked budgets workers p.verdict p.files.items p.text)
-treats_misfit out bytes asked budgets workers image why (Err e) taken is others v f t = tt
-treats_misfit out bytes asked budgets workers image why (Ok made) taken is others v f t = inr (inr (record {
-  image = image;
-  taken = taken;
-  others = others;
-  is = v;
-  no_files = f;
-  line = t ∙ ap unfit_line (sym is);
-}))
+  -- the report of a program, for an input that is taken
+  pub treats_reported : (image : Image) (made : Result Made AllocError) → Loads bytes image → IsInput image asked
+      → IfOk made (λ q. q.verdict ≡ Done) → IfOk made (λ q. IsReportOf out image asked budgets workers q.files.items q.text)
+      → IfOk made (λ q. Treats out bytes asked budgets workers q.verdict q.files.items q.text)
+  treats_reported image (Err e) loads input v r = tt
+  treats_reported image (Ok made) loads input v r = inl (record {
+    image = image;
+    loads = loads;
+    input = input;
+    done = v;
+    report = r;
+  })
 
 -- an input that doesn't fit is none that is taken
-pub unfit_other : (image : Image) (asked : List Region) (why : WhyUnfit) → unfit image asked ≡ Some why → (place : ℕ) → ¬ IsInput image asked place
-unfit_other image asked why is place input = let fits = input.fits in cc
+pub unfit_other : (image : Image) (asked : List Region) (why : WhyUnfit) → unfit image asked ≡ Some why → ¬ IsInput image asked
+unfit_other image asked why is input = let fits = input.fits in cc
 
--- nor is one that is no byte of data
-pub no_data_byte : (image : Image) (asked slice : List Region) → slice ≡ asked → ((place : ℕ) → ¬ IsDataByte image slice place) → (place : ℕ) → ¬ IsInput image asked place
-no_data_byte image asked slice same none place input = none place (subst (λ (rs : List Region). IsDataByte image rs place) (sym same) input.byte)
+-- nor is one that doesn't have one byte
+pub other_bytes : (image : Image) (asked slice : List Region) → slice ≡ asked → (count_of slice == 1) ≡ false → ¬ IsInput image asked
+other_bytes image asked slice same other input =
+    let one : count_of slice ≡ 1 = ap count_of same ∙ input.one_byte in grind (arith, nat_tests, other, one)
 
--- an input that fits and is a byte of data is one that is taken
-input_of : (image : Image) (asked slice : List Region) (place : ℕ) → unfit image asked ≡ None → slice ≡ asked → IsDataByte image slice place → IsInput image asked place
-input_of image asked slice place fits same byte = record { fits = fits; byte = subst (λ (rs : List Region). IsDataByte image rs place) same byte }
-
--- so it can be run
-pub runs_here : (bytes : List ℕ) (image : Image) (asked slice : List Region) (place : ℕ) → IsTaken bytes image → unfit image asked ≡ None → slice ≡ asked → IsDataByte image slice place → IsRunnable (record { image = image; place = place })
-runs_here bytes image asked slice place taken fits same byte = runnable image asked place taken.none_later (input_of image asked slice place fits same byte)
-
--- its input byte is the region that was asked
-pub asked_here : (image : Image) (asked slice : List Region) (place : ℕ) → slice ≡ asked → IsDataByte image slice place → asked ≡ regions_of (record { image = image; place = place })
-asked_here image asked slice place same byte = sym same ∙ byte.one_byte
-
--- the report of a program that is taken, for an input that is taken
-pub treats_reported : (out bytes : List ℕ) (asked slice : List Region) (budgets : Budgets) (workers : ℕ) (image : Image) (place : ℕ) (made : Result Made AllocError) → IsTaken bytes image → unfit image asked ≡ None → slice ≡ asked → IsDataByte image slice place → IfOk made (λ q. q.verdict ≡ Done) → IfOk made (λ q. IsReportOf out image asked budgets workers q.files.items q.text) → IfOk made (λ q. Treats out bytes asked budgets workers q.verdict q.files.items q.text)
-treats_reported out bytes asked slice budgets workers image place (Err e) taken fits same byte v r = tt
-treats_reported out bytes asked slice budgets workers image place (Ok made) taken fits same byte v r = inl (record {
-  image = image;
-  place = place;
-  taken = taken;
-  fits = input_of image asked slice place fits same byte;
-  done = v;
-  report = r;
-})
+-- regions of one byte
+pub one_of : (asked slice : List Region) → slice ≡ asked → (count_of slice == 1) ≡ true → count_of asked ≡ 1
+one_of asked slice same is =
+    let one : count_of slice ≡ 1 = grind (arith, nat_tests, is) in ap count_of (sym same) ∙ one

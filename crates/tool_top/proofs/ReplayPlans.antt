@@ -1,6 +1,6 @@
 -- Making the plan of a replay, from what its parts are.
 use Rattle.std.proofs.Common.{◌≡◌, ℕ, ◌+◌, List, [], ◌∷◌, ◌∙◌, refl, sym, ap, subst, inl, inr}
-use Rattle.std.specs.Prelude.{Option, None, Some, Result, Ok, Err, IfOk, IsErrOf, OnErr, sum_by}
+use Rattle.std.specs.Prelude.{Option, Some, Result, Ok, Err, IfOk, IsErrOf, OnErr, sum_by}
 use Rattle.std.specs.declared.alloc.AllocError.{AllocError}
 use Rattle.std.proofs.lemmas.List.Sums.{sum_by-cons}
 use Rattle.tool_io.specs.Told.{Seen, after, reads, Gives}
@@ -9,9 +9,10 @@ use Rattle.tool_io.specs.declared.files.Fault.TheVariants.{Failed, NoMemory}
 use Rattle.tool_io.proofs.Deeds.{after_two, after-nothing, IsPrefix-nothing, IsPrefix-whole}
 use Rattle.elf_load.specs.Fits.{unfit}
 use Rattle.elf_load.specs.Images.{Image, Loads}
+use Rattle.elf_load.specs.Refusals.{refusal}
+use Rattle.elf_load.specs.declared.refused.Refused.{Refused as WhyRefused}
 use Rattle.elf_load.specs.declared.region.Region.{Region}
 use Rattle.elf_load.specs.declared.unfit.Unfit.{Unfit as WhyUnfit}
-use Rattle.elf_load.proofs.OneImage.{one_image}
 use Rattle.replay_core.specs.Differences.{difference_text}
 use Rattle.replay_core.specs.Replays.{IsAsSaid, run_of}
 use Rattle.rv_spec.specs.Memory.{count_of}
@@ -19,7 +20,6 @@ use Rattle.test_files.specs.Reading.{reading}
 use Rattle.test_files.specs.Tests.{Test}
 use Rattle.test_files.specs.declared.refused.TestRefused.{TestRefused as WhyNoTest}
 use Rattle.tool_words.specs.Job.{Replay}
-use Rattle.tool_top.specs.Later.{IsTaken, HasLaterWord}
 use Rattle.tool_top.specs.Lines.{refused_line, same, test_refused, unfit_line}
 use Rattle.tool_top.specs.Plan.{IsPlanned, OnlyReads, Replays, most_bytes}
 use Rattle.tool_top.specs.Replaying.{IsReplayable, IsShort, IsTestInput, most_test_bytes}
@@ -35,8 +35,8 @@ sum_count (r ∷ rs) = sum_by-cons (λ (r : Region). r.count) r rs ∙ ap (λ n.
 pub unfit_test : (image : Image) (asked : List Region) (why : WhyUnfit) → unfit image asked ≡ Some why → ¬ IsTestInput image asked
 unfit_test image asked why is input = let fits = input.fits in cc
 
-pub long_test : (image : Image) (slice asked : List Region) → slice ≡ asked → ¬ IsShort image slice → ¬ IsTestInput image asked
-long_test image slice asked alike long input = long (subst (IsShort image) (sym alike) input.short)
+pub long_test : (image : Image) (slice asked : List Region) → slice ≡ asked → ¬ IsShort slice → ¬ IsTestInput image asked
+long_test image slice asked alike long input = long (subst IsShort (sym alike) input.short)
 
 -- What came of reading two names.
 abbrev failing : (T : Type 0) → Fault → Result T Fault
@@ -74,31 +74,27 @@ module _ (program test : List ℕ) where
   planned_replay old new bytes text (Err e) given also read treated = tt
 
 module _ (bytes text : List ℕ) where
-  -- the program is to be taken later
-  pub replays_later : (image : Image) (made : Result Made AllocError) → Loads bytes image → HasLaterWord image → IfOk made (λ p. p.verdict ≡ Refused) → IfOk made (λ p. p.files.items ≡ []) → IfOk made (λ p. p.text ≡ refused_line None)
+  -- the file is that of no program
+  pub replays_refused : (why : WhyRefused) (made : Result Made AllocError) → refusal bytes ≡ Some why
+      → IfOk made (λ p. p.verdict ≡ Refused) → IfOk made (λ p. p.files.items ≡ []) → IfOk made (λ p. p.text ≡ refused_line why)
       → IfOk made (λ p. Replays bytes text p.verdict p.files.items p.text)
-  replays_later image (Err e) loads later v f t = tt
-  replays_later image (Ok made) loads later v f t = inl (record {
-    none = λ other taken. taken.none_later (subst HasLaterWord (one_image bytes image other loads taken.loads) later);
-    refused = v;
-    no_files = f;
-    line = t ∙ ap refused_line (sym loads.fine);
-  })
+  replays_refused why (Err e) refuses v f t = tt
+  replays_refused why (Ok made) refuses v f t = inl (record { why = why; refuses = refuses; is = v; no_files = f; line = t })
 
   -- the text is no test
-  pub replays_no_test : (image : Image) (why : WhyNoTest) (made : Result Made AllocError) → IsTaken bytes image → reading text ≡ Err why → IfOk made (λ p. p.verdict ≡ TestRefused) → IfOk made (λ p. p.files.items ≡ []) → IfOk made (λ p. p.text ≡ test_refused why)
+  pub replays_no_test : (image : Image) (why : WhyNoTest) (made : Result Made AllocError) → Loads bytes image → reading text ≡ Err why → IfOk made (λ p. p.verdict ≡ TestRefused) → IfOk made (λ p. p.files.items ≡ []) → IfOk made (λ p. p.text ≡ test_refused why)
       → IfOk made (λ p. Replays bytes text p.verdict p.files.items p.text)
-  replays_no_test image why (Err e) taken refuses v f t = tt
-  replays_no_test image why (Ok made) taken refuses v f t = inr (inl (record { image = image; taken = taken; why = why; refuses = refuses; is = v; no_files = f; line = t }))
+  replays_no_test image why (Err e) loads refuses v f t = tt
+  replays_no_test image why (Ok made) loads refuses v f t = inr (inl (record { image = image; loads = loads; why = why; refuses = refuses; is = v; no_files = f; line = t }))
 
   -- the test's regions aren't taken
-  pub replays_misfit : (image : Image) (test : Test) (why : Option WhyUnfit) (made : Result Made AllocError) → IsTaken bytes image → reading text ≡ Ok test → unfit image test.regions ≡ why → ¬ IsTestInput image test.regions
+  pub replays_misfit : (image : Image) (test : Test) (why : Option WhyUnfit) (made : Result Made AllocError) → Loads bytes image → reading text ≡ Ok test → unfit image test.regions ≡ why → ¬ IsTestInput image test.regions
       → IfOk made (λ p. p.verdict ≡ Unfit) → IfOk made (λ p. p.files.items ≡ []) → IfOk made (λ p. p.text ≡ unfit_line why) → IfOk made (λ p. Replays bytes text p.verdict p.files.items p.text)
-  replays_misfit image test why (Err e) taken reads is other v f t = tt
-  replays_misfit image test why (Ok made) taken reads is other v f t = inr (inr (inl (record {
+  replays_misfit image test why (Err e) loads reads is other v f t = tt
+  replays_misfit image test why (Ok made) loads reads is other v f t = inr (inr (inl (record {
     image = image;
     test = test;
-    taken = taken;
+    loads = loads;
     reads = reads;
     other = other;
     is = v;

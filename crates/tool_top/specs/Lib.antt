@@ -1,4 +1,4 @@
-pub mod Later
+pub mod Inputs
 pub mod Reports
 pub mod Lines
 pub mod Replaying

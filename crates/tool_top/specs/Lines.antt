@@ -18,10 +18,9 @@ program_refused number name = codes "program refused " ++ decimal number ++ code
 abbrev pub inputs_refused : ℕ → List ℕ → List ℕ
 inputs_refused number name = codes "inputs refused " ++ decimal number ++ codes " " ++ name ++ codes "\n"
 
--- why a program isn't taken: the reason why its file is refused, and where there is none, that it is to be taken later
-abbrev pub refused_line : Option WhyRefused → List ℕ
-refused_line (Some why) = program_refused (refused_number why) (refused_name why)
-refused_line None = program_refused 19 (codes "Later")
+-- why a file is that of no program
+abbrev pub refused_line : WhyRefused → List ℕ
+refused_line why = program_refused (refused_number why) (refused_name why)
 
 -- why an input isn't taken: the reason why it doesn't fit, and where there is none, that it is to be taken later
 abbrev pub unfit_line : Option WhyUnfit → List ℕ

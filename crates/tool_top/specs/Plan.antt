@@ -3,12 +3,13 @@ use Rattle.std.specs.Prelude.{◌≡◌, ℕ, ◌⊎◌, List, [], ◌∷◌, Op
 use Rattle.tool_io.specs.Told.{Told, Seen, Put, after, Gives, IsPrefix}
 use Rattle.tool_io.specs.Causes.{Rose}
 use Rattle.elf_load.specs.Fits.{unfit}
-use Rattle.elf_load.specs.Images.{Image}
+use Rattle.elf_load.specs.Images.{Image, Loads}
 use Rattle.elf_load.specs.Refusals.{refusal}
+use Rattle.elf_load.specs.declared.refused.Refused.{Refused as WhyRefused}
 use Rattle.elf_load.specs.declared.region.Region.{Region}
 use Rattle.tool_words.specs.Job.{Job, Explore, Replay}
 use Rattle.tree_core.specs.declared.budgets.Budgets.{Budgets}
-use Rattle.tool_top.specs.Later.{IsTaken, IsInput}
+use Rattle.tool_top.specs.Inputs.{IsInput}
 use Rattle.tool_top.specs.Lines.{read_fault, refused_line, unfit_line, usage}
 use Rattle.tool_top.specs.Replaying.{IsNoTest, IsReplayed, IsTestMisfit, most_test_bytes}
 use Rattle.tool_top.specs.Reports.{IsReportOf}
@@ -36,27 +37,27 @@ most_bytes = 1048577
 abbrev pub says_only : Verdict → List (List ℕ) → List ℕ → Plan
 says_only verdict names text = record { verdict = verdict; names = names; puts = []; text = text }
 
--- the bytes are the file of a program that is taken, for the input that is asked, and its report is put into `out`
+-- the bytes are the file of a program, the input that is asked is taken, and the report is put into `out`
 pub record IsReported (out bytes : List ℕ) (asked : List Region) (budgets : Budgets) (workers : ℕ) (verdict : Verdict) (puts : List Put) (text : List ℕ) : Type 0 where
   pub image : Image
-  pub place : ℕ
-  pub taken : IsTaken bytes image
-  pub fits : IsInput image asked place
+  pub loads : Loads bytes image
+  pub input : IsInput image asked
   pub done : verdict ≡ Done
   pub report : IsReportOf out image asked budgets workers puts text
 
--- the bytes are the file of no program that is taken, and why is said
+-- the bytes are the file of no program, and why is said
 pub record IsRefusal (bytes : List ℕ) (verdict : Verdict) (puts : List Put) (text : List ℕ) : Type 0 where
-  pub none : (image : Image) → ¬ IsTaken bytes image
-  pub refused : verdict ≡ Refused
+  pub why : WhyRefused
+  pub refuses : refusal bytes ≡ Some why
+  pub is : verdict ≡ Refused
   pub no_files : puts ≡ []
-  pub line : text ≡ refused_line (refusal bytes)
+  pub line : text ≡ refused_line why
 
--- the bytes are the file of a program that is taken, but not for the input that is asked, and why is said
+-- the bytes are the file of a program, but the input that is asked isn't taken, and why is said
 pub record IsMisfit (bytes : List ℕ) (asked : List Region) (verdict : Verdict) (puts : List Put) (text : List ℕ) : Type 0 where
   pub image : Image
-  pub taken : IsTaken bytes image
-  pub others : (place : ℕ) → ¬ IsInput image asked place
+  pub loads : Loads bytes image
+  pub other : ¬ IsInput image asked
   pub is : verdict ≡ Unfit
   pub no_files : puts ≡ []
   pub line : text ≡ unfit_line (unfit image asked)

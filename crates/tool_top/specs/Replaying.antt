@@ -1,15 +1,15 @@
 -- What is meant for a replay: the bytes of a program's file and of a test's, and what is said of them.
 use Rattle.std.specs.Prelude.{◌≡◌, ◌⊎◌, ℕ, List, [], None, Ok, Err}
 use Rattle.elf_load.specs.Fits.{unfit}
-use Rattle.elf_load.specs.Images.{Image}
+use Rattle.elf_load.specs.Images.{Image, Loads}
 use Rattle.elf_load.specs.declared.region.Region.{Region}
 use Rattle.replay_core.specs.Differences.{difference_text}
 use Rattle.replay_core.specs.Replays.{IsAsSaid, run_of}
+use Rattle.rv_spec.specs.Memory.{count_of}
 use Rattle.test_files.specs.Reading.{reading}
 use Rattle.test_files.specs.Tests.{Test}
 use Rattle.test_files.specs.declared.refused.TestRefused.{TestRefused as WhyNoTest}
 use Rattle.tool_io.specs.Told.{Put}
-use Rattle.tool_top.specs.Later.{IsTaken, IsDataByte}
 use Rattle.tool_top.specs.Lines.{same, test_refused, unfit_line}
 use Rattle.tool_top.specs.declared.verdict.Verdict.{Verdict}
 use Rattle.tool_top.specs.declared.verdict.Verdict.TheVariants.{Done, Differs, TestRefused, Unfit}
@@ -18,18 +18,18 @@ use Rattle.tool_top.specs.declared.verdict.Verdict.TheVariants.{Done, Differs, T
 abbrev pub most_test_bytes : ℕ
 most_test_bytes = 16777217
 
--- no byte, or one on a page that can't be executed
-abbrev pub IsShort : Image → List Region → Type 0
-IsShort image asked = (asked ≡ []) ⊎ ((place : ℕ) × IsDataByte image asked place)
+-- no region, or one byte in all
+abbrev pub IsShort : List Region → Type 0
+IsShort asked = (asked ≡ []) ⊎ (count_of asked ≡ 1)
 
--- the regions of a test that are taken: they fit the image, and have one byte of data at most
+-- the regions of a test that are taken: they fit the image, and have one byte in all if there are any
 pub record IsTestInput (image : Image) (asked : List Region) : Type 0 where
   pub fits : unfit image asked ≡ None
-  pub short : IsShort image asked
+  pub short : IsShort asked
 
--- the bytes are those of a program that is taken, and of this test, whose regions are taken
+-- the bytes are those of a program, and of this test, whose regions are taken
 pub record IsReplayable (bytes text : List ℕ) (image : Image) (test : Test) : Type 0 where
-  pub taken : IsTaken bytes image
+  pub loads : Loads bytes image
   pub reads : reading text ≡ Ok test
   pub input : IsTestInput image test.regions
 
@@ -56,18 +56,18 @@ pub record IsReplayed (bytes text : List ℕ) (verdict : Verdict) (puts : List P
 -- the text is no test, and why is said
 pub record IsNoTest (bytes text : List ℕ) (verdict : Verdict) (puts : List Put) (said : List ℕ) : Type 0 where
   pub image : Image
-  pub taken : IsTaken bytes image
+  pub loads : Loads bytes image
   pub why : WhyNoTest
   pub refuses : reading text ≡ Err why
   pub is : verdict ≡ TestRefused
   pub no_files : puts ≡ []
   pub line : said ≡ test_refused why
 
--- the program is one that is taken, but not for the regions of this test, and why is said
+-- there is a program, but the regions of this test aren't taken, and why is said
 pub record IsTestMisfit (bytes text : List ℕ) (verdict : Verdict) (puts : List Put) (said : List ℕ) : Type 0 where
   pub image : Image
   pub test : Test
-  pub taken : IsTaken bytes image
+  pub loads : Loads bytes image
   pub reads : reading text ≡ Ok test
   pub other : ¬ IsTestInput image test.regions
   pub is : verdict ≡ Unfit

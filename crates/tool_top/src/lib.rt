@@ -2,8 +2,7 @@
 #![tactic(auto)]
 
 mod carry;
-mod later;
-pub mod laws;
+mod inputs;
 mod plan;
 mod refusals;
 mod replaying;

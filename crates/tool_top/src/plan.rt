@@ -4,13 +4,11 @@ ghost use Rattle.std.specs.Prelude.{◌≡◌, ◌≤◌, None, [], Some, IfOk, 
 ghost use Rattle.tool_words.specs.Job.{Explore, job_of};
 ghost use Rattle.tool_words.specs.Limits.{IsBudgets};
 ghost use Rattle.elf_load.specs.Images.{Loads};
-ghost use Rattle.sym_state.specs.Programs.{regions_of};
-ghost use Rattle.tool_top.specs.Later.{IsInput, IsTaken};
 ghost use Rattle.tool_top.specs.Lines.{refused_line, unfit_line};
 ghost use Rattle.tool_top.specs.Plan.{IsPlanned, OnlyReads, Treats};
 ghost use Rattle.tool_top.specs.Reports.{IsReportOf};
 
-use crate::later::{data_byte, has_later_word};
+use crate::inputs::has_one_byte;
 use crate::refusals::{say_refused, say_unfit};
 use crate::replaying::plan_replay;
 use crate::verdict::Verdict;
@@ -58,24 +56,18 @@ pub(crate) fn says_only(alloc: Global, verdict: Verdict, text: &[u8]) -> Result<
 }
 
 // The report of a program, made in full: one worker works its fork tree until nothing is left to be done.
-fn plan_report(
-    alloc: Global,
-    out: &str,
-    asked: &Regions,
-    worker: Worker,
-    workers: u32,
-) -> Result<Plan, NoMemory>
-    requires asked { asked.now ≡ regions_of worker.program }
+fn plan_report(alloc: Global, out: &str, worker: Worker, workers: u32) -> Result<Plan, NoMemory>
     requires within { IsBudgets worker.budgets }
     requires some { 1 ≤ workers }
     ensures verdict { IfOk result (λ p. p.verdict ≡ Verdict.Done) }
-    ensures report { IfOk result (λ p. IsReportOf out.now worker.program.image asked.now worker.budgets workers p.files.items p.text) }
+    ensures report { IfOk result (λ p. IsReportOf out.now worker.program.image worker.program.regions worker.budgets workers p.files.items p.text) }
 {
     let budgets = worker.budgets();
     let root = State::first(alloc, worker.program())?;
     let mut tree = Tree::new(alloc, worker, root)?;
     drain(alloc, &mut tree, ONE_WORKER)?;
-    let report = make_report(alloc, out, asked, &budgets, workers, &tree)?;
+    let regions = tree.worker().program().regions();
+    let report = make_report(alloc, out, regions, &budgets, workers, &tree)?;
     Ok(Plan {
         verdict: Verdict::Done,
         files: report.files,
@@ -83,7 +75,7 @@ fn plan_report(
     })
 }
 
-pub(crate) fn refuse(alloc: Global, why: Option<Refused>) -> Result<Plan, NoMemory>
+pub(crate) fn refuse(alloc: Global, why: Refused) -> Result<Plan, NoMemory>
     ensures verdict { IfOk result (λ p. p.verdict ≡ Verdict.Refused) }
     ensures files { IfOk result (λ p. p.files.items ≡ []) }
     ensures text { IfOk result (λ p. p.text ≡ refused_line why) }
@@ -101,30 +93,31 @@ pub(crate) fn refuse_input(alloc: Global, why: Option<Unfit>) -> Result<Plan, No
     says_only(alloc, Verdict::Unfit, line.as_slice())
 }
 
-// What is to be done for a program that is taken.
-fn plan_taken(
+// What is to be done for a program, from its image.
+fn plan_image(
     alloc: Global,
     out: &str,
-    asked: &Regions,
+    asked: Regions,
     budgets: Budgets,
     workers: u32,
     bytes: &[u8],
     image: Image,
 ) -> Result<Plan, NoMemory>
-    requires taken { IsTaken bytes.now image }
+    requires loads { Loads bytes.now image }
     requires within { IsBudgets budgets }
     requires some { 1 ≤ workers }
-    ensures { IfOk result (λ p. Treats out.now bytes.now asked.now budgets workers p.verdict p.files.items p.text) }
+    ensures { IfOk result (λ p. Treats out.now bytes.now asked budgets workers p.verdict p.files.items p.text) }
 {
-    match fit(&image, asked) {
+    match fit(&image, &asked) {
         Err(why) => refuse_input(alloc, Some(why)),
-        Ok(()) => match data_byte(&image, asked.as_slice()) {
-            None => refuse_input(alloc, None),
-            Some(place) => {
-                let worker = Worker::new(Program::new(image, place), budgets);
-                plan_report(alloc, out, asked, worker, workers)
+        Ok(()) => {
+            if has_one_byte(asked.as_slice()) {
+                let worker = Worker::new(Program::new(image, asked), budgets);
+                plan_report(alloc, out, worker, workers)
+            } else {
+                refuse_input(alloc, None)
             }
-        },
+        }
     }
 }
 
@@ -132,19 +125,18 @@ fn plan_taken(
 fn plan_bytes(
     alloc: Global,
     out: &str,
-    asked: &Regions,
+    asked: Regions,
     budgets: Budgets,
     workers: u32,
     bytes: &[u8],
 ) -> Result<Plan, NoMemory>
     requires within { IsBudgets budgets }
     requires some { 1 ≤ workers }
-    ensures { IfOk result (λ p. Treats out.now bytes.now asked.now budgets workers p.verdict p.files.items p.text) }
+    ensures { IfOk result (λ p. Treats out.now bytes.now asked budgets workers p.verdict p.files.items p.text) }
 {
     match load(alloc, bytes) {
-        Ok(image) if has_later_word(&image) => refuse(alloc, None),
-        Ok(image) => plan_taken(alloc, out, asked, budgets, workers, bytes, image),
-        Err(LoadError::Refused(why)) => refuse(alloc, Some(why)),
+        Ok(image) => plan_image(alloc, out, asked, budgets, workers, bytes, image),
+        Err(LoadError::Refused(why)) => refuse(alloc, why),
         Err(LoadError::NoMemory) => Err(NoMemory),
     }
 }
@@ -153,7 +145,7 @@ fn plan_explore<F: Files>(
     alloc: Global,
     program: &str,
     out: &str,
-    asked: &Regions,
+    asked: Regions,
     budgets: Budgets,
     workers: u32,
     files: &mut F,
@@ -161,8 +153,8 @@ fn plan_explore<F: Files>(
     requires within { IsBudgets budgets }
     requires some { 1 ≤ workers }
     ensures ok { IfOk result (λ p. IsPlanned (F.seen files.old) (F.seen files.new)
-        (Some (Explore program.now out.now asked.now budgets workers)) p.verdict p.files.items p.text) }
-    ensures err { OnErr result (OnlyReads (F.seen files.old) (F.seen files.new) (Some (Explore program.now out.now asked.now budgets workers))) }
+        (Some (Explore program.now out.now asked budgets workers)) p.verdict p.files.items p.text) }
+    ensures err { OnErr result (OnlyReads (F.seen files.old) (F.seen files.new) (Some (Explore program.now out.now asked budgets workers))) }
     ensures writes { (F.seen files.new).writes ≡ (F.seen files.old).writes }
 {
     match files.read(program, MOST_BYTES) {
@@ -192,7 +184,7 @@ pub fn make_plan<F: Files>(alloc: Global, words: &[String], files: &mut F) -> Re
             alloc,
             program.as_str(),
             out.as_str(),
-            &regions,
+            regions,
             budgets,
             workers,
             files,

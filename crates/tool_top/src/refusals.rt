@@ -1,4 +1,4 @@
-//! The lines that are said of programs, inputs and tests that aren't taken.
+//! The lines that are said of files that are no programs, and of inputs and tests that aren't taken.
 
 ghost use Rattle.std.specs.Prelude.{◌≡◌, IfOk};
 ghost use Rattle.tool_top.specs.Lines.{program_refused, inputs_refused, refused_line, test_refused, unfit_line};
@@ -26,14 +26,11 @@ fn inputs_refused(alloc: Global, number: u8, name: &str) -> Result<Vec<u8>, NoMe
     Ok(line.into_bytes())
 }
 
-/// Why a program isn't taken: the reason why its file is refused, and else that it is to be taken later.
-pub fn say_refused(alloc: Global, why: Option<Refused>) -> Result<Vec<u8>, NoMemory>
+/// Why a file is that of no program.
+pub fn say_refused(alloc: Global, why: Refused) -> Result<Vec<u8>, NoMemory>
     ensures { IfOk result (λ line. line.items ≡ refused_line why) }
 {
-    match why {
-        Some(why) => program_refused(alloc, why.number(), why.name()),
-        None => program_refused(alloc, 19, "Later"),
-    }
+    program_refused(alloc, why.number(), why.name())
 }
 
 /// Why an input isn't taken: the reason why it doesn't fit, and else that it is to be taken later.

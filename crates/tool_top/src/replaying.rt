@@ -3,13 +3,13 @@
 ghost use Rattle.std.specs.Prelude.{◌≡◌, true, false, Ok, Some, [], ◌∷◌, IfOk, OnOk, OnErr};
 ghost use Rattle.tool_io.specs.Causes.{HasCause};
 ghost use Rattle.tool_io.specs.Told.{Gives, after};
+ghost use Rattle.elf_load.specs.Images.{Loads};
 ghost use Rattle.test_files.specs.Reading.{reading};
 ghost use Rattle.tool_words.specs.Job.{Replay};
-ghost use Rattle.tool_top.specs.Later.{IsTaken};
 ghost use Rattle.tool_top.specs.Plan.{IsPlanned, OnlyReads, Replays, most_bytes};
 ghost use Rattle.tool_top.specs.Replaying.{IsReplayable, IsShort, most_test_bytes};
 
-use crate::later::{data_byte, has_later_word};
+use crate::inputs::has_one_byte;
 use crate::plan::{MOST_BYTES, Plan, refuse, refuse_input, says_only};
 use crate::refusals::say_test_refused;
 use crate::verdict::Verdict;
@@ -22,12 +22,12 @@ use tool_io::{Bytes, Fault, Files};
 // The most bytes of a test's file that are read.
 const MOST_TEST_BYTES: usize = 16_777_217;
 
-// Whether there is no byte of input, or one on a page that can't be executed.
-fn is_short(image: &Image, regions: &[Region]) -> bool
-    ensures yes { result ≡ true → IsShort image.now regions.now }
-    ensures no { result ≡ false → ¬ IsShort image.now regions.now }
+// Whether there is no region, or one byte in all.
+fn is_short(regions: &[Region]) -> bool
+    ensures yes { result ≡ true → IsShort regions.now }
+    ensures no { result ≡ false → ¬ IsShort regions.now }
 {
-    regions.is_empty() || data_byte(image, regions).is_some()
+    regions.is_empty() || has_one_byte(regions)
 }
 
 // The answer of a test that can be run.
@@ -50,7 +50,7 @@ fn plan_run(
     }
 }
 
-// What is to be done for a test on a program that is taken.
+// What is to be done for a test on a program.
 fn plan_test(
     alloc: Global,
     bytes: &[u8],
@@ -58,14 +58,14 @@ fn plan_test(
     image: &Image,
     test: &Test,
 ) -> Result<Plan, NoMemory>
-    requires taken { IsTaken bytes.now image.now }
+    requires loads { Loads bytes.now image.now }
     requires reads { reading text.now ≡ Ok test.now }
     ensures { IfOk result (λ p. Replays bytes.now text.now p.verdict p.files.items p.text) }
 {
     match fit(image, &test.regions) {
         Err(why) => refuse_input(alloc, Some(why)),
         Ok(()) => {
-            if is_short(image, test.regions.as_slice()) {
+            if is_short(test.regions.as_slice()) {
                 plan_run(alloc, bytes, text, image, test)
             } else {
                 refuse_input(alloc, None)
@@ -74,9 +74,9 @@ fn plan_test(
     }
 }
 
-// What is to be done for a test's bytes, on a program that is taken.
+// What is to be done for a test's bytes, on a program.
 fn plan_text(alloc: Global, bytes: &[u8], text: &[u8], image: &Image) -> Result<Plan, NoMemory>
-    requires taken { IsTaken bytes.now image.now }
+    requires loads { Loads bytes.now image.now }
     ensures { IfOk result (λ p. Replays bytes.now text.now p.verdict p.files.items p.text) }
 {
     match read_test(alloc, text) {
@@ -94,9 +94,8 @@ fn plan_both(alloc: Global, bytes: &[u8], text: &[u8]) -> Result<Plan, NoMemory>
     ensures { IfOk result (λ p. Replays bytes.now text.now p.verdict p.files.items p.text) }
 {
     match load(alloc, bytes) {
-        Ok(image) if has_later_word(&image) => refuse(alloc, None),
         Ok(image) => plan_text(alloc, bytes, text, &image),
-        Err(LoadError::Refused(why)) => refuse(alloc, Some(why)),
+        Err(LoadError::Refused(why)) => refuse(alloc, why),
         Err(LoadError::NoMemory) => Err(NoMemory),
     }
 }

@@ -105,7 +105,7 @@ pub fn run_tool<R: Threads + Wait + Sync, F: Files, G: Gate + Sync>(
     // Where a replay is done, the run of the test has the steps, the path, the end and the output that the test says.
     ensures same { result ≡ 0 → OnReplayed (F.seen files.old).told (job_of (map string_bytes words.now)) IsAsSaid }
 
-    // A program that is taken is explored to the end, unless memory is refused,
+    // A program is explored to the end, for an input that is taken, unless memory is refused,
     ensures complete { HoldsProgram (F.seen files.old).told (job_of (map string_bytes words.now))
         → ¬ Rose (F.seen files.old).reads (F.seen files.new).reads
         → ¬ Rose (F.seen files.old).writes (F.seen files.new).writes

@@ -1,5 +1,6 @@
 //! Tests over whole runs of the tool.
 
+mod instructions;
 mod refusals;
 mod replays;
 mod rows;

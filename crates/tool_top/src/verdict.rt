@@ -10,9 +10,9 @@ pub enum Verdict {
     Differs,
     /// The words ask for nothing that the tool does.
     NoJob,
-    /// The program is none that is taken.
+    /// The file is that of no program.
     Refused,
-    /// The program is one that is taken, but not for the input that is asked.
+    /// There is a program, but the input that is asked, or that a test has, isn't taken.
     Unfit,
     /// A name could not be read.
     ReadFault,

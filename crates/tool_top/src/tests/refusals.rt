@@ -1,7 +1,7 @@
 //! Programs and inputs that are refused, by the line that is said.
 
-use crate::tests::runs::{EXPLORE, files, program_file, run};
-use row_files::programs::{ADDED, DIVIDED, STORED, STRAIGHT};
+use crate::tests::runs::{EXPLORE, program_file, run};
+use row_files::programs::STRAIGHT;
 use std::alloc::Global;
 use std::test::Fail;
 use tool_io::MemFiles;
@@ -97,18 +97,7 @@ fn files_that_load(rt: HostRuntime) -> Result<(), Fail> {
     Ok(())
 }
 
-// Programs with an instruction that is taken later.
-#[test]
-fn programs_that_are_taken_later(rt: HostRuntime) -> Result<(), Fail> {
-    for program in [&DIVIDED[..], &ADDED[..], &STORED[..]] {
-        let mut files = files(rt.alloc(), program, &[])?;
-        assert_eq!(rt; run(&rt, &EXPLORE, &mut files)?, 3);
-        assert_eq!(rt; files.said(), b"program refused 19 Later\n".as_slice());
-    }
-    Ok(())
-}
-
-// Inputs for a program that is taken, and the line.
+// Inputs for a program, and the line.
 #[test]
 fn inputs_that_are_refused(rt: HostRuntime) -> Result<(), Fail> {
     let alloc = rt.alloc();
@@ -148,7 +137,6 @@ fn inputs_that_are_refused(rt: HostRuntime) -> Result<(), Fail> {
         "00011000:1",
         "00011001:1",
     ];
-    let code = ["rvklee", "explore", "p.elf", "out", "00010003:1"];
     for (words, line) in [
         (&nine[..], "inputs refused 1 TooMany\n"),
         (&none[..], "inputs refused 2 Empty\n"),
@@ -157,7 +145,6 @@ fn inputs_that_are_refused(rt: HostRuntime) -> Result<(), Fail> {
         (&twice[..], "inputs refused 5 Overlap\n"),
         (&later[..], "inputs refused 6 Later\n"),
         (&two[..], "inputs refused 6 Later\n"),
-        (&code[..], "inputs refused 6 Later\n"),
     ] {
         let mut files = holding(alloc, bytes.as_slice())?;
         assert_eq!(rt; run(&rt, words, &mut files)?, 4, "{line}");

@@ -4,17 +4,19 @@ use crate::tests::runs::{EXPLORE, files, run};
 use row_files::programs::{CALLED, COMPARED, COUNTED, FORKED, STRAIGHT};
 use std::alloc::Global;
 use std::process::Abort;
+use std::sync::Wait;
 use std::test::Fail;
+use std::thread::Threads;
 use tool_io::NamedFile;
 
 /// A run of the tool on a program.
-struct Row {
-    program: &'static [u32],
-    words: &'static [&'static str],
-    said: &'static str,
-    puts: usize,
+pub(crate) struct Row {
+    pub program: &'static [u32],
+    pub words: &'static [&'static str],
+    pub said: &'static str,
+    pub puts: usize,
     /// Some of the files by their places among those put, with their names and how they begin.
-    files: &'static [(usize, &'static str, &'static str)],
+    pub files: &'static [(usize, &'static str, &'static str)],
 }
 
 const ONE_WORKER: [&str; 7] = [
@@ -47,7 +49,7 @@ const FEWER_STEPS: [&str; 7] = [
     "00011000:1",
 ];
 
-const FOUR_TARGETS: [&str; 7] = [
+pub(crate) const FOUR_TARGETS: [&str; 7] = [
     "rvklee",
     "explore",
     "--targets",
@@ -226,21 +228,16 @@ fn check_files(rt: &impl Abort, puts: &[NamedFile], files: &[(usize, &str, &str)
     }
 }
 
-#[test]
-fn programs_are_explored(rt: HostRuntime) -> Result<(), Fail> {
-    for &Row {
-        program,
-        words,
-        said,
-        puts,
-        files: beginnings,
-    } in &ROWS {
-        let mut held = files(rt.alloc(), program, &[])?;
-        assert_eq!(rt; run(&rt, words, &mut held)?, 0);
-        assert_eq!(rt; held.said(), said.as_bytes());
-        assert_eq!(rt; held.puts().len(), puts);
-        check_files(&rt, held.puts(), beginnings);
-    }
+// What is put and said is as the row says.
+pub(crate) fn explores<R: Threads + Wait + Sync + AllocGlobal + Abort>(
+    rt: &R,
+    row: &Row,
+) -> Result<(), Fail> {
+    let mut held = files(rt.alloc(), row.program, &[])?;
+    assert_eq!(rt; run(rt, row.words, &mut held)?, 0);
+    assert_eq!(rt; held.said(), row.said.as_bytes());
+    assert_eq!(rt; held.puts().len(), row.puts);
+    check_files(rt, held.puts(), row.files);
     Ok(())
 }
 
@@ -255,20 +252,36 @@ fn test_names(alloc: Global, puts: &[NamedFile]) -> Result<Vec<String>, Fail> {
     Ok(names)
 }
 
+// Each test that is put is replayed, and is as its run.
+pub(crate) fn replays<R: Threads + Wait + Sync + AllocGlobal + Abort>(
+    rt: &R,
+    row: &Row,
+) -> Result<(), Fail> {
+    let mut held = files(rt.alloc(), row.program, &[])?;
+    assert_eq!(rt; run(rt, row.words, &mut held)?, 0);
+    let names = test_names(rt.alloc(), held.puts())?;
+    let said = held.said().len();
+    for name in &names {
+        let words = ["rvklee", "replay", "p.elf", name.as_str()];
+        assert_eq!(rt; run(rt, &words, &mut held)?, 0);
+    }
+    assert!(rt; !names.is_empty());
+    assert!(rt; held.said().len().checked_sub(said) == Some(5 * names.len()));
+    Ok(())
+}
+
+#[test]
+fn programs_are_explored(rt: HostRuntime) -> Result<(), Fail> {
+    for row in &ROWS {
+        explores(&rt, row)?;
+    }
+    Ok(())
+}
+
 #[test]
 fn tests_that_were_put_are_as_their_runs(rt: HostRuntime) -> Result<(), Fail> {
-    let alloc = rt.alloc();
-    for &Row { program, words, .. } in &ROWS {
-        let mut held = files(alloc, program, &[])?;
-        assert_eq!(rt; run(&rt, words, &mut held)?, 0);
-        let names = test_names(alloc, held.puts())?;
-        let said = held.said().len();
-        for name in &names {
-            let words = ["rvklee", "replay", "p.elf", name.as_str()];
-            assert_eq!(rt; run(&rt, &words, &mut held)?, 0);
-        }
-        assert!(rt; !names.is_empty());
-        assert!(rt; held.said().len().checked_sub(said) == Some(5 * names.len()));
+    for row in &ROWS {
+        replays(&rt, row)?;
     }
     Ok(())
 }

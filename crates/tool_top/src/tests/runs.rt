@@ -1,7 +1,7 @@
 //! Runs of the tool over files in memory and over real files, by what is put, said and answered.
 
 use crate::run_tool;
-use row_files::programs::{DIVIDED, FORKED};
+use row_files::programs::FORKED;
 use row_files::row_file;
 use std::alloc::Global;
 use std::fs;
@@ -63,6 +63,13 @@ pub(crate) fn files(alloc: Global, program: &[u32], to_fail: &[u64]) -> Result<M
     Ok(files)
 }
 
+/// Files that hold no byte as p.elf, and fail at these calls.
+pub(crate) fn no_program(alloc: Global, to_fail: &[u64]) -> Result<MemFiles, Fail> {
+    let mut files = MemFiles::new(alloc, Vec::from_slice(alloc, to_fail)?);
+    files.hold("p.elf", b"")?;
+    Ok(files)
+}
+
 /// The status of the tool's run.
 pub(crate) fn run<R: Threads + Wait + Sync + AllocGlobal, F: Files>(
     rt: &R,
@@ -79,7 +86,6 @@ fn other_runs_say_one_line(rt: HostRuntime) -> Result<(), Fail> {
     let usage =
         "usage: rvklee explore [--steps N] [--targets N] [--conflicts N] [--workers N] PROGRAM OUT INPUT..\n       rvklee replay PROGRAM TEST\n       rvklee bench NUMBER WORKERS OUT\n";
     let unfit = "inputs refused 6 Later\n";
-    let refused = "program refused 19 Later\n";
     let fault = "read fault\n";
     for (words, program, to_fail, status, said, names, puts) in [
         (&EXPLORE[..1], &FORKED[..], 9, 2, usage, 0, 0),
@@ -88,10 +94,7 @@ fn other_runs_say_one_line(rt: HostRuntime) -> Result<(), Fail> {
         (&NO_STEPS[..], &FORKED[..], 9, 2, usage, 0, 0),
         (&OTHER_INPUT[..], &FORKED[..], 9, 4, unfit, 1, 0),
         (&OTHER_INPUT[..], &FORKED[..], 2, 4, "", 1, 0),
-        (&OTHER_INPUT[..], &DIVIDED[..], 9, 3, refused, 1, 0),
         (&EXPLORE[..1], &FORKED[..], 1, 2, "", 0, 0),
-        (&EXPLORE[..], &DIVIDED[..], 9, 3, refused, 1, 0),
-        (&EXPLORE[..], &DIVIDED[..], 2, 3, "", 1, 0),
         (&EXPLORE[..], &NOTHING[..], 9, 5, fault, 1, 0),
         (&EXPLORE[..], &FORKED[..], 1, 5, fault, 1, 0),
         (&EXPLORE[..], &FORKED[..], 2, 6, "", 1, 0),
@@ -117,6 +120,24 @@ fn other_runs_say_one_line(rt: HostRuntime) -> Result<(), Fail> {
             "status {status}, call {to_fail}"
         );
         assert_eq!(rt; files.puts().len(), puts, "status {status}, call {to_fail}");
+    }
+    Ok(())
+}
+
+// The program is looked at before the input, and its refusal stands where the line can't be said.
+#[test]
+fn a_program_that_is_refused(rt: HostRuntime) -> Result<(), Fail> {
+    let refused = "program refused 2 Short\n";
+    for (words, to_fail, said) in [
+        (&EXPLORE, 9, refused),
+        (&OTHER_INPUT, 9, refused),
+        (&EXPLORE, 2, ""),
+    ] {
+        let mut files = no_program(rt.alloc(), &[to_fail])?;
+        assert_eq!(rt; run(&rt, words, &mut files)?, 3, "call {to_fail}");
+        assert_eq!(rt; files.said(), said.as_bytes(), "call {to_fail}");
+        assert_eq!(rt; files.names().len(), 1, "call {to_fail}");
+        assert_eq!(rt; files.puts().len(), 0, "call {to_fail}");
     }
     Ok(())
 }

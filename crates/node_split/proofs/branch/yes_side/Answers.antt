@@ -1,8 +1,9 @@
-use Rattle.std.proofs.Common.{arith}
-use Rattle.node_split.proofs.Sides.{yes_narrower}
+use Rattle.std.proofs.Common.{arith, ap, refl, sym, ◌∙◌}
+use Rattle.sym_state.specs.declared.decided.Decided.TheVariants.{Side}
+use Rattle.node_split.proofs.Branching.{yes_narrower}
 use Rattle.node_split.proofs.branch.yes_side.Goals as goal
 
 pub returns : goal.returns
 returns c =
-    rw (c.decide.ensures, c.in_ok-narrow.ensures.ok, c.in_ok-yes.ensures)
-    (yes_narrower c.args.program.now c.args.state.now c.args.term c.args.sample c.requires.open c.requires.at (omega arith) c.requires.side)
+    rw (c.know.ensures.value, c.in_ok-narrow.ensures, c.in_ok-yes.ensures.same)
+    (yes_narrower c.args.state.now c.args.term c.args.sample c.in_ok-yes.ensures.formed c.requires.at (omega arith) c.requires.side)

@@ -1,8 +1,18 @@
-use Rattle.node_split.proofs.Leaving.{cut_full, cut_whole}
+use Rattle.std.specs.Prelude.{Some}
+use Rattle.tree_core.specs.declared.cause.Cause.TheVariants.{Steps}
+use Rattle.fork_spec.specs.declared.end.LeafEnd.TheVariants.{Cut}
+use Rattle.node_split.proofs.Leaving.{cut_whole, ends_as, full-left, full_as, leaf_ok, left_part}
 use Rattle.node_split.proofs.finish.cut_steps.Goals as goal
 
-pub leaf_of-requires-clause-full : goal.leaf_of-requires-clause-full
-leaf_of-requires-clause-full c = cut_full c.args.program.now c.args.state c.requires.open
+pub leaf_of-requires : goal.leaf_of-requires
+leaf_of-requires c =
+    record {
+      full = full_as c.args.state c.leaf_terms.new.state c.in_ok-terms.terms (Cut Steps) c.in_ok-terms.ensures.grown
+          (full-left c.args.state c.in_ok-terms.terms c.in_ok-terms.ensures.terms (Cut Steps) c.in_ok-terms.ensures.grown.before c.requires.writable tt);
+    }
 
 pub returns : goal.returns
-returns c = rw (c.leaf_of.ensures, c.in_ok-sample.ensures) (cut_whole c.args.program.now c.args.budgets.steps c.args.budgets.targets c.args.state c.requires.open c.requires.spent)
+returns c =
+    leaf_ok c.leaf_of.result (left_part c.leaf_terms.new.state c.in_ok-terms.terms (Cut Steps)) _ c.leaf_of.ensures
+    (λ p targets was. ends_as p c.args.state.steps targets (Some Steps) c.args.state c.leaf_terms.new.state c.in_ok-terms.terms (Cut Steps) c.in_ok-terms.ensures.grown
+    (cut_whole p targets c.args.state c.in_ok-terms.terms c.in_ok-terms.ensures.terms c.in_ok-terms.ensures.grown.before c.requires.writable was))

@@ -3,4 +3,4 @@ use Rattle.node_split.specs.Resting.{AreSidesOf}
 use Rattle.node_split.proofs.pin.value_sides.Given as goal
 
 abbrev pub invariant-loop-at : goal.invariant-loop-at
-invariant-loop-at l = AreSidesOf l.program l.state l.pin.term (take l.at-index l.found) l.kids.items
+invariant-loop-at l = AreSidesOf l.state l.pin.term (take l.at-index l.found) l.kids.items

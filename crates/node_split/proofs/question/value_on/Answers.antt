@@ -19,4 +19,5 @@ returns-clause-some c = (
   omega arith,
   sym (holds_by_words c.args.terms.now c.args.condition.now (c.args.byte ∷ []) c.in_ok-words.words.items _ (sym c.requires.one_input) c.in_ok-words.ensures (rw c.deref.ensures.value at c.if-not-are_ones.ensures)),
   ap (λ (ws : List BitVector). (word_at ws c.args.term).number) (sym c.in_ok-words.ensures) ∙ sym (rw c.deref-2.ensures.value at c.number_in.ensures),
+  omega arith,
 )

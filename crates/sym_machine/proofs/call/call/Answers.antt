@@ -1,36 +1,46 @@
-use Rattle.std.proofs.Common.{◌∙◌, sym, ap, arith}
-use Rattle.rv_spec.specs.Machine.{call}
-use Rattle.sym_state.specs.Symbolic.{concrete}
-use Rattle.sym_state.specs.declared.value.Value.TheVariants.{Number}
-use Rattle.sym_machine.proofs.Branching.{x-number}
-use Rattle.sym_machine.proofs.Calling.{at_call_pin, exits, stops_call, is_not}
-use Rattle.sym_machine.proofs.Deciding.{call_open, is_write}
+use Rattle.std.proofs.Common.{sym, ◌∙◌}
+use Rattle.sym_machine.proofs.Calls.{count_next, exits, file_next, no_file, no_such_call, number_first, start_next, writes}
 use Rattle.sym_machine.proofs.call.call.Goals as goal
 
-pub returns-in-Term : goal.returns-in-Term
-returns-in-Term c =
-    let is = rw c.new-number_at.ensures at c.value.ensures in
-    rw (c.pin.ensures, c.new-number_at.ensures) (at_call_pin c.args.program.now c.args.state.now 17 c.in-Term.term c.requires.open (omega arith) (sym is ∙ c.in-Term.is)
-    (call_open c.args.program.now c.args.state.now c.in-Term.term (sym is ∙ c.in-Term.is) c.requires.decides))
+pub needs-requires-clause-stands : goal.needs-requires-clause-stands
+needs-requires-clause-stands c = rw c.new.ensures (number_first c.args.state.now c.requires.decides)
 
-pub write-requires-clause-writes : goal.write-requires-clause-writes
-write-requires-clause-writes c = λ input assigned.
-    let is = rw c.new-number_at.ensures at c.value.ensures in
-    c.requires.calls input assigned ∙ ap (call (concrete c.args.program.now c.args.state.now input)) (x-number c.args.program.now c.args.state.now input 17 64 (sym is ∙ c.in-Number.is ∙ ap Number c.if-number-eq-WRITE.true))
+pub returns-then-number-eq-EXIT-clause-ok : goal.returns-then-number-eq-EXIT-clause-ok
+returns-then-number-eq-EXIT-clause-ok c =
+    exits c.args.state.now (rw (c.new.ensures, c.if-number-eq-EXIT.true) at c.in_ok-number.ensures.ok)
 
-pub write-requires-clause-decides : goal.write-requires-clause-decides
-write-requires-clause-decides c =
-    let is = rw c.new-number_at.ensures at c.value.ensures in
-    is_write c.args.program.now c.args.state.now (sym is ∙ c.in-Number.is ∙ ap Number c.if-number-eq-WRITE.true) c.requires.decides
+pub returns-then-number-ne-WRITE-clause-ok : goal.returns-then-number-ne-WRITE-clause-ok
+returns-then-number-ne-WRITE-clause-ok c =
+    rw c.trapped.ensures (no_such_call c.args.state.now c.in_ok-number.number (rw c.new.ensures at c.in_ok-number.ensures.ok)
+    c.if-number-eq-EXIT.false c.if-number-ne-WRITE.true)
 
-pub returns-then-number-eq-EXIT : goal.returns-then-number-eq-EXIT
-returns-then-number-eq-EXIT c =
-    let is = rw c.new-number_at.ensures at c.value.ensures in
-    rw (c.ended.ensures.state, c.ended.ensures.ended)
-    (exits c.args.program.now c.args.state.now c.requires.open c.requires.few c.requires.decides (sym is ∙ c.in-Number.is ∙ ap Number c.if-number-eq-EXIT.true) c.requires.calls)
+pub needs-requires-2-clause-stands : goal.needs-requires-2-clause-stands
+needs-requires-2-clause-stands c =
+    rw c.new-2.ensures (file_next c.args.state.now c.requires.decides
+    (rw (c.new.ensures, c.if-number-ne-WRITE.false) at c.in_ok-number.ensures.ok))
 
-pub returns : goal.returns
-returns c =
-    let is = rw c.new-number_at.ensures at c.value.ensures in
-    rw (c.trapped.ensures.state, c.trapped.ensures.ended)
-    (stops_call c.args.program.now c.args.state.now c.in-Number.number c.requires.open c.requires.few c.requires.decides (sym is ∙ c.in-Number.is) (is_not _ 93 c.if-number-eq-EXIT.false) (is_not _ 64 c.if-number-eq-WRITE.false) c.requires.calls)
+pub returns-then-not-is_file-clause-ok : goal.returns-then-not-is_file-clause-ok
+returns-then-not-is_file-clause-ok c =
+    rw c.trapped-then-not-is_file.ensures (no_file c.args.state.now c.in_ok-file.file
+    (rw (c.new.ensures, c.if-number-ne-WRITE.false) at c.in_ok-number.ensures.ok)
+    (rw c.new-2.ensures at c.in_ok-file.ensures.ok) (sym c.is_file.ensures ∙ c.if-not-is_file.true))
+
+pub needs-requires-3-clause-stands : goal.needs-requires-3-clause-stands
+needs-requires-3-clause-stands c =
+    rw c.new-3.ensures (start_next c.args.state.now c.requires.decides c.in_ok-file.file
+    (rw (c.new.ensures, c.if-number-ne-WRITE.false) at c.in_ok-number.ensures.ok)
+    (rw c.new-2.ensures at c.in_ok-file.ensures.ok) (sym c.is_file.ensures ∙ c.if-not-is_file.false))
+
+pub needs-requires-4-clause-stands : goal.needs-requires-4-clause-stands
+needs-requires-4-clause-stands c =
+    rw c.new-4.ensures (count_next c.args.state.now c.requires.decides c.in_ok-file.file c.in_ok-start.start
+    (rw (c.new.ensures, c.if-number-ne-WRITE.false) at c.in_ok-number.ensures.ok)
+    (rw c.new-2.ensures at c.in_ok-file.ensures.ok) (sym c.is_file.ensures ∙ c.if-not-is_file.false)
+    (rw c.new-3.ensures at c.in_ok-start.ensures.ok))
+
+pub returns-clause-ok : goal.returns-clause-ok
+returns-clause-ok c =
+    writes c.args.state.now c.write_out.new.state c.in_ok-step.step c.in_ok-file.file c.in_ok-start.start c.in_ok-count.count
+    (rw (c.new.ensures, c.if-number-ne-WRITE.false) at c.in_ok-number.ensures.ok)
+    (rw c.new-2.ensures at c.in_ok-file.ensures.ok) (sym c.is_file.ensures ∙ c.if-not-is_file.false)
+    (rw c.new-3.ensures at c.in_ok-start.ensures.ok) (rw c.new-4.ensures at c.in_ok-count.ensures.ok) c.in_ok-step.ensures

@@ -1,51 +1,34 @@
-use Rattle.std.proofs.Common.{◌∙◌, sym, ap, arith}
-use Rattle.rv_decode.specs.declared.instr.Instr.TheVariants.{Load}
-use Rattle.std.specs.Prelude.{[], Some}
-use Rattle.rv_spec.specs.Decisions.{instr_decisions}
-use Rattle.rv_spec.specs.Machine.{execute, linked}
-use Rattle.sym_state.specs.Symbolic.{concrete}
-use Rattle.sym_state.specs.declared.value.Value.TheVariants.{Number}
-use Rattle.sym_state.proofs.Pushes.{Grows-none}
-use Rattle.sym_machine.proofs.Acting.{writes_register}
-use Rattle.sym_machine.proofs.Deciding.{alike_by}
-use Rattle.sym_machine.proofs.Loading.{is_lbu}
-use Rattle.sym_machine.proofs.Stepping.{next_executes}
+use Rattle.sym_machine.proofs.Executing.{adds_upper, goes_on, loads_upper, of_two, shifted_by, with_immediate}
 use Rattle.sym_machine.proofs.execute.execute.Goals as goal
 
-pub jump_and_link-requires-clause-jumps : goal.jump_and_link-requires-clause-jumps
-jump_and_link-requires-clause-jumps c = λ input assigned.
-    next_executes (concrete c.args.program.now c.args.state.now input) c.args.instr (c.requires.fetched input assigned)
-    ∙ ap (execute (concrete c.args.program.now c.args.state.now input)) c.in-Jal.is
-    ∙ ap (linked (concrete c.args.program.now c.args.state.now input) c.in-Jal.rd) (sym c.address-target.ensures)
+pub returns-in-Lui-clause-ok : goal.returns-in-Lui-clause-ok
+returns-in-Lui-clause-ok c =
+    rw (c.in-Lui.is, c.go_on_with.ensures.running, c.go_on_with.ensures.state) (loads_upper c.args.state.now c.in-Lui.rd c.in-Lui.upper)
 
-pub jump_and_link-requires-clause-alike : goal.jump_and_link-requires-clause-alike
-jump_and_link-requires-clause-alike c =
-    alike_by c.args.program.now c.args.state.now (λ s. instr_decisions s (Some c.args.instr)) [] c.requires.decides
-    (λ input assigned meeting. ap (λ i. instr_decisions (concrete c.args.program.now c.args.state.now input) (Some i)) c.in-Jal.is)
+pub returns-in-Auipc-clause-ok : goal.returns-in-Auipc-clause-ok
+returns-in-Auipc-clause-ok c =
+    rw (c.in-Auipc.is, c.go_on_with-in-Auipc.ensures.running, c.go_on_with-in-Auipc.ensures.state)
+    (adds_upper c.args.state.now c.in-Auipc.rd c.in-Auipc.upper c.address-address.result c.address-address.ensures)
 
-pub immediate-requires-clause-alike : goal.immediate-requires-clause-alike
-immediate-requires-clause-alike c =
-    alike_by c.args.program.now c.args.state.now (λ s. instr_decisions s (Some c.args.instr)) [] c.requires.decides
-    (λ input assigned meeting. ap (λ i. instr_decisions (concrete c.args.program.now c.args.state.now input) (Some i)) c.in-Immediate.is)
+pub returns-in_ok-compute-in-Immediate-clause-ok : goal.returns-in_ok-compute-in-Immediate-clause-ok
+returns-in_ok-compute-in-Immediate-clause-ok c =
+    rw c.in-Immediate.is
+    (with_immediate c.args.state.now c.compute.new.state c.in_ok-compute-in-Immediate.field-0 c.in-Immediate.op c.of_immediate.result
+    c.in-Immediate.rd c.in-Immediate.rs1 c.in-Immediate.immediate c.of_immediate.ensures c.in_ok-compute-in-Immediate.ensures)
 
-pub load-requires-clause-loads : goal.load-requires-clause-loads
-load-requires-clause-loads c = λ input assigned.
-    next_executes (concrete c.args.program.now c.args.state.now input) c.args.instr (c.requires.fetched input assigned)
-    ∙ ap (execute (concrete c.args.program.now c.args.state.now input)) (c.in-Load.is ∙ ap (λ w. Load w c.in-Load.rd c.in-Load.rs1 c.in-Load.offset) (is_lbu c.in-Load.width (rw c.in-Load.is at c.requires.known)))
+pub returns-in_ok-compute-in-ShiftImmediate-clause-ok : goal.returns-in_ok-compute-in-ShiftImmediate-clause-ok
+returns-in_ok-compute-in-ShiftImmediate-clause-ok c =
+    rw c.in-ShiftImmediate.is
+    (shifted_by c.args.state.now c.compute-in-ShiftImmediate.new.state c.in_ok-compute-in-ShiftImmediate.field-0 c.in-ShiftImmediate.op c.of_shift.result
+    c.in-ShiftImmediate.rd c.in-ShiftImmediate.rs1 c.in-ShiftImmediate.amount (rw c.in-ShiftImmediate.is at c.requires.shifts)
+    c.of_shift.ensures c.in_ok-compute-in-ShiftImmediate.ensures)
 
-pub immediate-requires-clause-computes : goal.immediate-requires-clause-computes
-immediate-requires-clause-computes c = λ input assigned.
-    next_executes (concrete c.args.program.now c.args.state.now input) c.args.instr (c.requires.fetched input assigned)
-    ∙ ap (execute (concrete c.args.program.now c.args.state.now input)) c.in-Immediate.is
+pub returns-in_ok-compute-in-Binary-clause-ok : goal.returns-in_ok-compute-in-Binary-clause-ok
+returns-in_ok-compute-in-Binary-clause-ok c =
+    rw c.in-Binary.is
+    (of_two c.args.state.now c.compute-in-Binary.new.state c.in_ok-compute-in-Binary.field-0 c.in-Binary.op
+    c.in-Binary.rd c.in-Binary.rs1 c.in-Binary.rs2 (rw c.value-second.ensures.value at c.in_ok-compute-in-Binary.ensures))
 
-pub call-requires-clause-calls : goal.call-requires-clause-calls
-call-requires-clause-calls c = λ input assigned.
-    next_executes (concrete c.args.program.now c.args.state.now input) c.args.instr (c.requires.fetched input assigned)
-    ∙ ap (execute (concrete c.args.program.now c.args.state.now input)) c.in-Ecall.is
-
-pub returns-in-Lui : goal.returns-in-Lui
-returns-in-Lui c =
-    rw c.write.ensures
-    (writes_register c.args.program.now c.args.state.now c.args.state.now.terms c.in-Lui.rd (Number c.in-Lui.upper) c.requires.open (Grows-none _ c.requires.open.dag) (omega arith) (λ input assigned. omega arith) c.requires.few (alike_by c.args.program.now c.args.state.now (λ s. instr_decisions s (Some c.args.instr)) [] c.requires.decides (λ input assigned meeting. ap (λ i. instr_decisions (concrete c.args.program.now c.args.state.now input) (Some i)) c.in-Lui.is))
-    (λ input assigned. next_executes (concrete c.args.program.now c.args.state.now input) c.args.instr (c.requires.fetched input assigned)
-    ∙ ap (execute (concrete c.args.program.now c.args.state.now input)) c.in-Lui.is))
+pub returns-in-Fence-clause-ok : goal.returns-in-Fence-clause-ok
+returns-in-Fence-clause-ok c =
+    rw (c.in-Fence.is, c.go_on.ensures.running, c.go_on.ensures.state) (goes_on c.args.state.now)

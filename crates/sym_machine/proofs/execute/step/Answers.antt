@@ -1,31 +1,23 @@
-use Rattle.std.proofs.Common.{◌∙◌, sym, ap}
-use Rattle.sym_state.specs.Symbolic.{Symbolic, concrete}
-use Rattle.rv_spec.specs.Machine.{fetch}
-use Rattle.rv_spec.specs.Memory.{flags_of, byte_of}
-use Rattle.sym_machine.proofs.Acting.{stops_by_trap}
-use Rattle.sym_machine.proofs.Fetching.{alike_unfetched, decides_fetched, fetch-placed, known_fetched}
-use Rattle.sym_machine.proofs.Stepping.{next_traps}
+use Rattle.sym_machine.proofs.Counting.{counts_instr, counts_trap}
+use Rattle.sym_machine.proofs.Standing.{DecidesBy-grown, ready-grown}
 use Rattle.sym_machine.proofs.execute.step.Goals as goal
+use Rattle.sym_machine.proofs.execute.step.Goals.{in-Ok+in_ok-step-in-Ok, in-Err}
 
-pub execute-requires-clause-known : goal.execute-requires-clause-known
-execute-requires-clause-known c =
-    let pc = ap (λ (s : Symbolic). s.pc) c.state.view_is in
-    known_fetched c.args.program.now c.args.state.now.pc c.in-Ok.instr c.requires.runnable c.requires.open.in_memory (ap (fetch (flags_of c.args.program.now.image) (byte_of c.args.program.now.image)) (sym pc) ∙ sym c.fetch.ensures ∙ c.in-Ok.is)
-
-pub execute-requires-clause-fetched : goal.execute-requires-clause-fetched
-execute-requires-clause-fetched c = λ input assigned.
-    let pc = ap (λ (s : Symbolic). s.pc) c.state.view_is in
-    fetch-placed c.args.program.now input c.args.state.now.pc c.requires.runnable ∙ ap (fetch (flags_of c.args.program.now.image) (byte_of c.args.program.now.image)) (sym pc) ∙ sym c.fetch.ensures ∙ c.in-Ok.is
+pub execute-requires-clause-ready : goal.execute-requires-clause-ready
+execute-requires-clause-ready c = ready-grown c.args.state.now c.fetch.new.state c.in_ok-instr.ensures.grown c.requires.ready
 
 pub execute-requires-clause-decides : goal.execute-requires-clause-decides
 execute-requires-clause-decides c =
-    let pc = ap (λ (s : Symbolic). s.pc) c.state.view_is in
-    decides_fetched c.args.program.now c.args.state.now c.in-Ok.instr c.requires.runnable (ap (fetch (flags_of c.args.program.now.image) (byte_of c.args.program.now.image)) (sym pc) ∙ sym c.fetch.ensures ∙ c.in-Ok.is)
+    let fetched = rw c.in-Ok.is at c.in_ok-instr.ensures.ok in
+    DecidesBy-grown c.args.state.now c.fetch.new.state c.in-Ok.instr c.in_ok-instr.ensures.grown fetched.decides.0
 
-pub returns-in-Err : goal.returns-in-Err
-returns-in-Err c =
-    let pc = ap (λ (s : Symbolic). s.pc) c.state.view_is in
-    rw (c.trapped.ensures.state, c.trapped.ensures.ended)
-    (stops_by_trap c.args.program.now c.args.state.now c.in-Err.trap c.requires.open c.requires.few
-    (alike_unfetched c.args.program.now c.args.state.now c.in-Err.trap c.requires.runnable (ap (fetch (flags_of c.args.program.now.image) (byte_of c.args.program.now.image)) (sym pc) ∙ sym c.fetch.ensures ∙ c.in-Err.is))
-    (λ input assigned. next_traps (concrete c.args.program.now c.args.state.now input) c.in-Err.trap (fetch-placed c.args.program.now input c.args.state.now.pc c.requires.runnable ∙ ap (fetch (flags_of c.args.program.now.image) (byte_of c.args.program.now.image)) (sym pc) ∙ sym c.fetch.ensures ∙ c.in-Err.is)))
+pub returns-clause-ok : goal.returns-clause-ok
+returns-clause-ok c =
+    rw c.count.ensures.value (elim c.match-branch-2.branch [
+      | in-Ok+in_ok-step-in-Ok w ↦
+          rw (w.state-is, w.step-is) (counts_instr c.args.state.now c.fetch.new.state w.execute.new.state w.in_ok-step-in-Ok.step w.in-Ok.instr
+          c.in_ok-instr.ensures.grown (rw w.in-Ok.is at c.in_ok-instr.ensures.ok) w.in_ok-step-in-Ok.ensures.ok)
+      | in-Err w ↦
+          rw (w.state-is, w.step-is, w.trapped-step.ensures) (counts_trap c.args.state.now c.fetch.new.state w.in-Err.trap
+          c.in_ok-instr.ensures.grown (rw w.in-Err.is at c.in_ok-instr.ensures.ok))
+    ])

@@ -1,0 +1,34 @@
+use Rattle.std.proofs.Common.{subst, sym}
+use Rattle.std.specs.Prelude.{None}
+use Rattle.fork_spec.specs.declared.end.LeafEnd.TheVariants.{Exits}
+use Rattle.sym_machine.proofs.Standing.{IsGrown-trans}
+use Rattle.node_split.proofs.Leaving.{IsStatus, ends_as, exited_whole, first_there, full-left, full_as, leaf_ok, left_part, status_picked, status_there, terms_before}
+use Rattle.node_split.proofs.finish.exited.Goals as goal
+
+pub leaf_terms-requires : goal.leaf_terms-requires
+leaf_terms-requires c = status_there c.args.state c.exit_status.new.state c.in_ok-status.status c.in_ok-status.ensures
+
+pub leaf_of-requires : goal.leaf_of-requires
+leaf_of-requires c =
+    record {
+      full = full_as c.args.state c.leaf_terms.new.state c.in_ok-terms.terms (Exits c.index-status.result.now)
+          (IsGrown-trans c.args.state c.exit_status.new.state c.leaf_terms.new.state c.in_ok-status.ensures.grown c.in_ok-terms.ensures.grown)
+          (full-left c.args.state c.in_ok-terms.terms
+          (terms_before c.args.state c.exit_status.new.state c.in_ok-terms.terms c.in_ok-status.ensures.grown c.in_ok-terms.ensures.terms)
+          (Exits c.index-status.result.now) c.in_ok-status.ensures.grown.before c.requires.writable
+          (subst (IsStatus c.args.state c.in_ok-terms.terms.condition.graph) (sym c.index-status.ensures)
+          (status_picked c.args.state c.exit_status.new.state c.in_ok-terms.terms.condition.graph c.in_ok-status.status c.index-status.result.now
+          c.in_ok-terms.terms.more.items c.in_ok-status.ensures c.in_ok-terms.ensures.more)).byte);
+    }
+
+pub returns : goal.returns
+returns c =
+    leaf_ok c.leaf_of.result (left_part c.leaf_terms.new.state c.in_ok-terms.terms (Exits c.index-status.result.now)) _ c.leaf_of.ensures
+    (λ p steps targets was within. ends_as p steps targets None c.args.state c.leaf_terms.new.state c.in_ok-terms.terms (Exits c.index-status.result.now)
+    (IsGrown-trans c.args.state c.exit_status.new.state c.leaf_terms.new.state c.in_ok-status.ensures.grown c.in_ok-terms.ensures.grown)
+    (exited_whole p steps targets c.args.state c.in_ok-terms.terms c.index-status.result.now
+    (terms_before c.args.state c.exit_status.new.state c.in_ok-terms.terms c.in_ok-status.ensures.grown c.in_ok-terms.ensures.terms)
+    c.in_ok-status.ensures.grown.before c.requires.writable was
+    (subst (IsStatus c.args.state c.in_ok-terms.terms.condition.graph) (sym c.index-status.ensures)
+    (status_picked c.args.state c.exit_status.new.state c.in_ok-terms.terms.condition.graph c.in_ok-status.status c.index-status.result.now
+    c.in_ok-terms.terms.more.items c.in_ok-status.ensures c.in_ok-terms.ensures.more)) within))

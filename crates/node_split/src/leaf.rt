@@ -1,0 +1,118 @@
+//! The leaf of a run that is left where it is, over only the terms that it stands on.
+
+ghost use Rattle.std.specs.Prelude.{◌≡◌, ◌<◌, ◌≤◌, All, IfOk, OnOk, Some, drop, length, option_map, take};
+ghost use Rattle.fork_spec.specs.Leaves.{AreBytes, IsFull};
+ghost use Rattle.sym_state.specs.Moves.{IsGrown};
+ghost use Rattle.sym_state.specs.Places.{evidence_of};
+ghost use Rattle.node_split.specs.Copies.{AreCopies};
+ghost use Rattle.node_split.specs.Leaving.{AreTermsOf, HasTerms, IsPicked, left_as};
+
+use bv_dag::Query;
+use fork_spec::LeafEnd;
+use query_pick::pick_terms;
+use std::alloc::{AllocError as NoMemory, Global};
+use sym_state::{Evidence, LeafPart, State, listed};
+use tool_io::Bytes;
+
+/// Terms of a run, in a graph of their own.
+#[derive(Debug, Drop)]
+pub struct LeafTerms {
+    /// The run's condition.
+    pub condition: Query,
+    /// The bytes written, 8 bits each.
+    pub outputs: Vec<usize>,
+    /// What was asked for besides.
+    pub more: Vec<usize>,
+}
+
+// The terms of the bytes written.
+fn output_terms(alloc: Global, state: &mut State) -> Result<Vec<usize>, NoMemory>
+    ensures grown { OnOk result (IsGrown state.old state.new) }
+    ensures terms { IfOk result (λ ids. AreTermsOf state.old.terms state.old.output state.new.terms ids.items) }
+{
+    let bytes = listed(alloc, state.output())?;
+    let mut ids = Vec::with_capacity(alloc, bytes.len())?;
+    for byte in &bytes {
+        ids.push(state.byte_term(*byte)?)?;
+    }
+    Ok(ids)
+}
+
+// The ids before a place, and those from it on.
+fn split(alloc: Global, ids: &[usize], at: usize) -> Result<(Vec<usize>, Vec<usize>), NoMemory>
+    requires { at ≤ length ids.now }
+    ensures front { IfOk result (λ parts. parts.0.items ≡ take at ids.now) }
+    ensures back { IfOk result (λ parts. parts.1.items ≡ drop at ids.now) }
+{
+    let (front, back) = ids.split_at(at);
+    Ok((
+        Vec::from_slice(alloc, front)?,
+        Vec::from_slice(alloc, back)?,
+    ))
+}
+
+// The terms of the condition and these, in a graph of their own. It has fewer than 2^32: a text has no room for more.
+fn picked(
+    alloc: Global,
+    state: &State,
+    outputs: &[usize],
+    more: &[usize],
+) -> Result<LeafTerms, NoMemory>
+    requires outputs { AreBytes state.now.terms outputs.now }
+    requires more { All (λ id. id < length state.now.terms.nodes) more.now }
+    ensures { IfOk result (IsPicked state.now outputs.now more.now) }
+{
+    let mut ids = listed(alloc, state.condition())?;
+    let outputs_at = ids.len();
+    ids.extend_from_slice(outputs)?;
+    let more_at = ids.len();
+    ids.extend_from_slice(more)?;
+    let picked = pick_terms(alloc, state.terms(), &ids)?;
+    if picked.graph.len() > u32::MAX as usize {
+        return Err(NoMemory);
+    }
+    let (front, more) = split(alloc, &picked.ids, more_at)?;
+    let (condition, outputs) = split(alloc, &front, outputs_at)?;
+    Ok(LeafTerms {
+        condition: Query::new(picked.graph, condition),
+        outputs,
+        more,
+    })
+}
+
+/// The terms that a leaf of the run has, with these besides.
+pub fn leaf_terms(alloc: Global, state: &mut State, more: &[usize]) -> Result<LeafTerms, NoMemory>
+    requires { All (λ id. id < length state.old.terms.nodes) more.now }
+    ensures grown { OnOk result (IsGrown state.old state.new) }
+    ensures terms { IfOk result (HasTerms state.old) }
+    ensures more { IfOk result (λ t. AreCopies state.old.terms more.now t.condition.graph t.more.items) }
+{
+    let outputs = output_terms(alloc, state)?;
+    picked(alloc, state, &outputs, more)
+}
+
+/// The leaf of a run that is left where it is, with its sample.
+pub fn leaf_of(
+    alloc: Global,
+    state: &State,
+    terms: LeafTerms,
+    end: LeafEnd,
+    evidence: Option<Evidence>,
+) -> Result<LeafPart, NoMemory>
+    requires full { IsFull (left_as state.now terms end) }
+    ensures { IfOk result (λ part. part ≡ record { leaf = left_as state.now terms end; sample = Some state.now.sample; evidence = option_map evidence_of evidence }) }
+{
+    let choices = listed(alloc, state.choices())?;
+    let path = listed(alloc, state.path())?;
+    let sample = Bytes::from_slice(alloc, state.sample().as_slice())?;
+    Ok(LeafPart::new(
+        choices,
+        path,
+        state.steps(),
+        end,
+        terms.condition,
+        terms.outputs,
+        Some(sample),
+        evidence,
+    ))
+}

@@ -1,0 +1,351 @@
+-- What a symbolic run stands for stays where terms are added, and what instructions keep.
+use Rattle.std.proofs.Common.{◌≡◌, ℕ, ◌<◌, ◌&&◌, Bool, true, false, List, [], ◌∷◌, ◌++◌, length, map, refl, sym, ap, subst, ◌∙◌, arith}
+use Rattle.std.specs.Prelude.{◌==◌, All, Option, None, Some, if◌then◌else◌, nat_lt, slice_get, slice_set}
+use Rattle.std.specs.List.{list_all}
+use Rattle.std.proofs.Math.Path.{fun_ext}
+use Rattle.std.proofs.Math.ListN as lists
+use Rattle.std.proofs.lemmas.Bool.Decides.{nat_tests}
+use Rattle.std.proofs.lemmas.List.{map-set, take_all}
+use Rattle.std.proofs.lemmas.List.Elements.{All-cons, All-head, All-nil, All-tail}
+use Rattle.bv_dag.specs.Graphs.{Graph, number_of, width_of}
+use Rattle.bv_dag.specs.Queries.{AreBits, holds}
+use Rattle.cow_pages.specs.SymbolicMemory.{memory_byte}
+use Rattle.fork_spec.specs.Leaves.{are_bytes}
+use Rattle.rv_spec.specs.Decisions.{Decision, Number as Needs, instr_decisions, step_decisions}
+use Rattle.rv_decode.specs.declared.instr.Instr.{Instr}
+use Rattle.rv_spec.specs.Arithmetic.{sum32}
+use Rattle.rv_spec.specs.Machine.{State, Outcome, to_register, written, x}
+use Rattle.rv_spec.specs.Machine as machine
+use Rattle.term_trees.specs.Growth.{Continues}
+use Rattle.sym_state.specs.Moves.{IsGrown, MakesValue, with_terms}
+use Rattle.sym_state.specs.Runs.{IsReady}
+use Rattle.sym_state.specs.Symbolic.{Symbolic, IsFormed, IsTrulyKnown, concrete, condition_of, known_at, set_value, stands_for, value_at}
+use Rattle.sym_state.specs.Values.{IsByte, IsWide, byte_worth, worth_of}
+use Rattle.sym_state.specs.declared.decided.Decided.{Decided}
+use Rattle.sym_state.specs.declared.value.Value.{Value}
+use Rattle.sym_state.specs.declared.value.Value.TheVariants.{Number}
+use Rattle.sym_state.proofs.Growing.{Continues-trans, byte_worth-grown, number-grown, worth-grown}
+use Rattle.sym_machine.specs.Steps.{AreAlike, Comes, Keeps}
+use Rattle.sym_machine.specs.Stops.{DecidesBy, StandsAt, Stops, StopsAt}
+use Rattle.sym_machine.specs.declared.halt.Halt.{Halt}
+use Rattle.sym_machine.specs.declared.halt.Halt.TheVariants.{Side as SideHalt, Number as NumberHalt, NoMemory}
+use Rattle.sym_machine.specs.declared.outcome.Step.{Step}
+use Rattle.sym_machine.specs.declared.outcome.Step.TheVariants.{Running}
+
+-- ---- Assignments.
+both_true : (a b : Bool) → (a && b) ≡ true → (a ≡ true) × (b ≡ true)
+both_true true b h = (refl, h)
+both_true false b h = cc
+
+below_of : (n m : ℕ) → nat_lt n m ≡ true → n < m
+below_of n m is = grind (arith, nat_tests)
+
+are_bytes-all : (input : List ℕ) → are_bytes input ≡ true → All (λ b. b < 256) input
+are_bytes-all [] is = All-nil (λ b. b < 256)
+are_bytes-all (b ∷ bs) is =
+    let parts = both_true (nat_lt b 256) (are_bytes bs) is in
+    All-cons (λ n. n < 256) b bs (below_of b 256 parts.0) (are_bytes-all bs parts.1)
+
+-- an assignment that a run stands for is a list of bytes
+pub bytes_of : (s : Symbolic) (input : List ℕ) → stands_for s input ≡ true
+    → All (λ b. b < 256) input
+bytes_of s input stands =
+    are_bytes-all input (both_true (are_bytes input) (holds (condition_of s) input) stands).0
+
+-- ---- More terms change nothing that a run stands for.
+map-same : {A : Type 0} (P : A → Type 0) (f g : A → ℕ) (xs : List A) → ((a : A) → P a → f a ≡ g a)
+    → All P xs → map f xs ≡ map g xs
+map-same P f g [] same all = refl
+map-same P f g (a ∷ rest) same all =
+    cc (same a (All-head P a rest all), map-same P f g rest same (All-tail P a rest all))
+
+ones-grown : (g h : Graph) (input ids : List ℕ) → Continues g h → AreBits g ids
+    → list_all (λ id. number_of h id input == 1) ids
+    ≡ list_all (λ id. number_of g id input == 1) ids
+ones-grown g h input [] grown bits = refl
+ones-grown g h input (id ∷ ids) grown bits =
+    let first : width_of g id ≡ 1 = All-head (λ i. width_of g i ≡ 1) id ids bits in
+    let same : number_of h id input ≡ number_of g id input =
+    number-grown g h id 1 input grown first (omega arith) in
+    let rest : list_all (λ i. number_of h i input == 1) ids
+    ≡ list_all (λ i. number_of g i input == 1) ids =
+    ones-grown g h input ids grown (All-tail (λ i. width_of g i ≡ 1) id ids bits) in
+    ap (λ n. (n == 1) && list_all (λ i. number_of h i input == 1) ids) same
+    ∙ ap (λ b. (number_of g id input == 1) && b) rest
+
+-- a condition is met where it was
+pub holds-grown : (g h : Graph) (ids input : List ℕ) → Continues g h → AreBits g ids
+    → holds (record { graph = h; asserted = ids }) input
+    ≡ holds (record { graph = g; asserted = ids }) input
+holds-grown g h ids input grown bits =
+    ap (λ n. (length input == n) && list_all (λ id. number_of h id input == 1) ids) grown.inputs
+    ∙ ap (λ b. (length input == g.inputs) && b) (ones-grown g h input ids grown bits)
+
+pub stands-with_terms : (s : Symbolic) (g : Graph) (input : List ℕ) → IsFormed s
+    → Continues s.terms g
+    → stands_for (with_terms s g) input ≡ stands_for s input
+stands-with_terms s g input formed grown =
+    ap (λ b. are_bytes input && b) (holds-grown s.terms g s.condition input grown formed.bits)
+
+concrete-with_terms : (s : Symbolic) (g : Graph) (input : List ℕ) → IsFormed s → Continues s.terms g
+    → concrete (with_terms s g) input ≡ concrete s input
+concrete-with_terms s g input formed grown =
+    ap (λ rs. record (concrete (with_terms s g) input) { registers = rs })
+    (map-same (IsWide s.terms) (worth_of g input) (worth_of s.terms input) s.registers
+    (λ v. worth-grown s.terms g input v grown) formed.wide)
+    ∙ ap (λ (byte : ℕ → ℕ). record (concrete s input) {
+      byte = byte;
+      output = map (byte_worth g input) s.output;
+    })
+    (fun_ext (λ address.
+    byte_worth-grown s.terms g input (memory_byte s.memory address) grown (formed.memory address)))
+    ∙ ap (λ ns. record (concrete s input) { output = ns })
+    (map-same (IsByte s.terms) (byte_worth g input) (byte_worth s.terms input) s.output
+    (λ b. byte_worth-grown s.terms g input b grown) formed.bytes)
+
+pub stands-grown : (old new : Symbolic) (input : List ℕ) → IsGrown old new
+    → stands_for new input ≡ stands_for old input
+stands-grown old new input grown =
+    ap (λ (s : Symbolic). stands_for s input) grown.same
+    ∙ stands-with_terms old new.terms input grown.before grown.continues
+
+pub concrete-grown : (old new : Symbolic) (input : List ℕ) → IsGrown old new
+    → concrete new input ≡ concrete old input
+concrete-grown old new input grown =
+    ap (λ (s : Symbolic). concrete s input) grown.same
+    ∙ concrete-with_terms old new.terms input grown.before grown.continues
+
+-- an assignment that a run stands for after terms were made it stood for before
+pub stood : (old new : Symbolic) (input : List ℕ) → IsGrown old new
+    → stands_for new input ≡ true → stands_for old input ≡ true
+stood old new input grown stands = sym (stands-grown old new input grown) ∙ stands
+
+-- and the other way
+pub still_stands : (old new : Symbolic) (input : List ℕ) → IsGrown old new
+    → stands_for old input ≡ true → stands_for new input ≡ true
+still_stands old new input grown stands = stands-grown old new input grown ∙ stands
+
+known-grown : (old new : Symbolic) (place : ℕ) (known : Option Decided) → IsGrown old new
+    → IsTrulyKnown old place known → IsTrulyKnown new place known
+known-grown old new place None grown is = tt
+known-grown old new place (Some d) grown is = λ input stands.
+    ap (λ (c : State). slice_get (step_decisions c) place) (concrete-grown old new input grown)
+    ∙ is input (stood old new input grown stands)
+
+pub ready-grown : (old new : Symbolic) → IsGrown old new → IsReady old → IsReady new
+ready-grown old new grown ready = record {
+  sampled = ap (stands_for new) (ap (λ (s : Symbolic). s.sample) grown.same)
+      ∙ still_stands old new old.sample grown ready.sampled;
+  knows = λ place.
+      subst (IsTrulyKnown new place) (sym (ap (λ (s : Symbolic). known_at s place) grown.same))
+      (known-grown old new place (known_at old place) grown (ready.knows place));
+}
+
+pub IsGrown-trans : (old mid new : Symbolic) → IsGrown old mid → IsGrown mid new → IsGrown old new
+IsGrown-trans old mid new first second = record {
+  before = first.before;
+  same = second.same ∙ ap (λ (s : Symbolic). with_terms s new.terms) first.same;
+  continues = Continues-trans first.continues second.continues;
+  formed = second.formed;
+}
+
+-- ---- What the step decides is what it was.
+pub StandsAt-grown : (old new : Symbolic) (place : ℕ) (decision : List ℕ → Decision)
+    → IsGrown old new
+    → StandsAt old place decision → StandsAt new place decision
+StandsAt-grown old new place decision grown stands = record {
+  front = stands.front;
+  back = stands.back;
+  before = stands.before;
+  is = λ input standing.
+      ap step_decisions (concrete-grown old new input grown)
+      ∙ stands.is input (stood old new input grown standing);
+}
+
+pub DecidesBy-grown : (old new : Symbolic) (instr : Instr) → IsGrown old new
+    → DecidesBy old instr → DecidesBy new instr
+DecidesBy-grown old new instr grown decides = record {
+  word = decides.word;
+  is = λ input standing.
+      ap step_decisions (concrete-grown old new input grown)
+      ∙ decides.is input (stood old new input grown standing)
+      ∙ ap (λ (c : State). Needs decides.word ∷ instr_decisions c (Some instr))
+      (sym (concrete-grown old new input grown));
+}
+
+pub AreAlike-grown : (old new : Symbolic) (decides : State → List Decision) → IsGrown old new
+    → AreAlike new decides → AreAlike old decides
+AreAlike-grown old new decides grown are = record {
+  made = are.made;
+  alike = λ input standing.
+      ap decides (sym (concrete-grown old new input grown))
+      ∙ are.alike input (still_stands old new input grown standing);
+}
+
+-- a decision that is the same on all assignments, in other words
+pub StandsAt-by : (s : Symbolic) (place : ℕ) (was is : List ℕ → Decision)
+    → ((input : List ℕ) → stands_for s input ≡ true → was input ≡ is input)
+    → StandsAt s place was → StandsAt s place is
+StandsAt-by s place was is same stands = record {
+  front = stands.front;
+  back = stands.back;
+  before = stands.before;
+  is = λ input standing.
+      stands.is input standing
+      ∙ ap (λ d. stands.front ++ d ∷ stands.back input) (same input standing);
+}
+
+-- what an instruction decides first stands behind its word
+pub StandsAt-first : (s : Symbolic) (instr : Instr) (decision : List ℕ → Decision)
+    (back : List ℕ → List Decision)
+    → ((input : List ℕ) → instr_decisions (concrete s input) (Some instr)
+    ≡ decision input ∷ back input)
+    → DecidesBy s instr → StandsAt s 1 decision
+StandsAt-first s instr decision back first decides = record {
+  front = Needs decides.word ∷ [];
+  back = back;
+  before = refl;
+  is = λ input standing. decides.is input standing
+      ∙ ap (λ ds. Needs decides.word ∷ ds) (first input);
+}
+
+-- ---- Where a step stops.
+pub Stops-at : (old new : Symbolic) (halt : Halt) → IsGrown old new → StopsAt new halt
+    → Stops old new halt
+Stops-at old new (SideHalt term) grown at = (grown, at)
+Stops-at old new (NumberHalt place term) grown at = (grown, at)
+Stops-at old new NoMemory grown at = tt
+
+-- after terms were made
+pub Stops-made : (old mid new : Symbolic) (halt : Halt) → IsGrown old mid → Stops mid new halt
+    → Stops old new halt
+Stops-made old mid new (SideHalt term) grown stops =
+    (IsGrown-trans old mid new grown stops.0, stops.1)
+Stops-made old mid new (NumberHalt place term) grown stops =
+    (IsGrown-trans old mid new grown stops.0, stops.1)
+Stops-made old mid new NoMemory grown stops = tt
+
+-- ---- Registers.
+pub x-worth : (s : Symbolic) (input : List ℕ) (r : ℕ)
+    → x (concrete s input) r ≡ worth_of s.terms input (value_at s.registers r)
+x-worth s input r = lists.get_or-map (worth_of s.terms input) s.registers r (Number 0)
+
+-- what a write makes of the registers on an assignment
+pub registers-set : (f : Value → ℕ) (rs : List Value) (rd : ℕ) (v : Value)
+    → map f (set_value rs rd v) ≡ written (map f rs) rd (f v)
+registers-set f rs rd v =
+    elim (rd == 0) as (λ b. map f (if b then rs else slice_set rs rd v)
+    ≡ (if b then map f rs else slice_set (map f rs) rd (f v)))
+    [ true ↦ refl | false ↦ map-set f rs rd v ]
+
+-- ---- What instructions keep.
+pub Continues-refl : (g : Graph) → Continues g g
+Continues-refl g = record { inputs = refl; front = take_all (length g.nodes) g.nodes (omega arith) }
+
+pub Keeps-refl : (s : Symbolic) → Keeps s s
+Keeps-refl s = record {
+  continues = Continues-refl s.terms;
+  condition = refl;
+  choices = refl;
+  steps = refl;
+  known = refl;
+  sample = refl;
+  few = omega arith;
+}
+
+pub Keeps-grown : (old new : Symbolic) → IsGrown old new → Keeps old new
+Keeps-grown old new grown = record {
+  continues = grown.continues;
+  condition = ap (λ (s : Symbolic). s.condition) grown.same;
+  choices = ap (λ (s : Symbolic). s.choices) grown.same;
+  steps = ap (λ (s : Symbolic). s.steps) grown.same;
+  known = ap (λ (s : Symbolic). s.known) grown.same;
+  sample = ap (λ (s : Symbolic). s.sample) grown.same;
+  few = let same = ap (λ (s : Symbolic). length s.output) grown.same in omega (arith, same);
+}
+
+-- after something that has written no byte
+pub Keeps-after : (old mid new : Symbolic) → Keeps old mid → mid.output ≡ old.output
+    → Keeps mid new → Keeps old new
+Keeps-after old mid new first same second = record {
+  continues = Continues-trans first.continues second.continues;
+  condition = second.condition ∙ first.condition;
+  choices = second.choices ∙ first.choices;
+  steps = second.steps ∙ first.steps;
+  known = second.known ∙ first.known;
+  sample = second.sample ∙ first.sample;
+  few = let lengths = ap length same in omega (arith, lengths, second.few);
+}
+
+-- after terms were made
+pub Keeps-made : (old mid new : Symbolic) → IsGrown old mid → Keeps mid new → Keeps old new
+Keeps-made old mid new grown kept =
+    Keeps-after old mid new (Keeps-grown old mid grown)
+    (ap (λ (s : Symbolic). s.output) grown.same) kept
+
+-- what comes of a run after terms were made comes of it before
+pub Comes-made : (old mid new : Symbolic) (step : Step) (makes : State → Outcome) → IsGrown old mid
+    → Comes mid new step makes → Comes old new step makes
+Comes-made old mid new step makes grown comes = record {
+  keeps = Keeps-made old mid new grown comes.keeps;
+  is = λ input standing.
+      ap makes (sym (concrete-grown old mid input grown))
+      ∙ comes.is input (still_stands old mid input grown standing);
+}
+
+-- what the machine makes of it, in other words
+pub Comes-by : (old new : Symbolic) (step : Step) (made makes : State → Outcome)
+    → ((input : List ℕ) → stands_for old input ≡ true
+    → makes (concrete old input) ≡ made (concrete old input))
+    → Comes old new step made → Comes old new step makes
+Comes-by old new step made makes same comes = record {
+  keeps = comes.keeps;
+  is = λ input standing. same input standing ∙ comes.is input standing;
+}
+
+-- at the next instruction, with a register written
+abbrev pub onward_with : Symbolic → ℕ → Value → Symbolic
+onward_with s rd v = record s { pc = sum32 s.pc 4; registers = set_value s.registers rd v }
+
+pub to_register-is : (s : Symbolic) (rd : ℕ) (v : Value) (input : List ℕ)
+    → to_register (concrete s input) rd (worth_of s.terms input v)
+    ≡ machine.Running (concrete (onward_with s rd v) input)
+to_register-is s rd v input =
+    ap (λ rs. machine.Running (record (concrete s input) { pc = sum32 s.pc 4; registers = rs }))
+    (sym (registers-set (worth_of s.terms input) s.registers rd v))
+
+-- where only pc and registers change
+pub Keeps-moved : (s : Symbolic) (pc : ℕ) (registers : List Value) → Keeps s (record s { pc = pc; registers = registers })
+Keeps-moved s pc registers = record {
+  continues = Continues-refl s.terms;
+  condition = refl;
+  choices = refl;
+  steps = refl;
+  known = refl;
+  sample = refl;
+  few = omega arith;
+}
+
+pub Keeps-onward : (s : Symbolic) (rd : ℕ) (v : Value) → Keeps s (onward_with s rd v)
+Keeps-onward s rd v = Keeps-moved s (sum32 s.pc 4) (set_value s.registers rd v)
+
+-- a value that was made is written
+pub comes_to_register : (old mid new : Symbolic) (step : Step) (rd : ℕ) (v : Value)
+    (number : List ℕ → ℕ) (makes : State → Outcome)
+    → MakesValue old mid v number → step ≡ Running → new ≡ onward_with mid rd v
+    → ((input : List ℕ) → stands_for old input ≡ true
+    → makes (concrete old input) ≡ to_register (concrete old input) rd (number input))
+    → Comes old new step makes
+comes_to_register old mid new step rd v number makes made running there does =
+    subst (λ (s : Symbolic). Comes old s step makes) (sym there)
+    (subst (λ (t : Step). Comes old (onward_with mid rd v) t makes) (sym running)
+    (record {
+      keeps = Keeps-made old mid (onward_with mid rd v) made.grown (Keeps-onward mid rd v);
+      is = λ input standing.
+          does input standing
+          ∙ ap (λ (c : State). to_register c rd (number input))
+          (sym (concrete-grown old mid input made.grown))
+          ∙ ap (to_register (concrete mid input) rd)
+          (sym (made.gives.worth input (bytes_of old input standing)))
+          ∙ to_register-is mid rd v input;
+    }))

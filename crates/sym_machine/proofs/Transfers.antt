@@ -1,0 +1,71 @@
+-- Loads and stores, whose address is known.
+use Rattle.std.proofs.Common.{◌≡◌, ℕ, true, List, [], ◌∷◌, refl, ap}
+use Rattle.rv_decode.specs.declared.instr.Instr.TheVariants.{Load, Store}
+use Rattle.rv_decode.specs.declared.ops.LoadWidth.{LoadWidth}
+use Rattle.rv_decode.specs.declared.ops.StoreWidth.{StoreWidth}
+use Rattle.rv_spec.specs.Arithmetic.{sum32}
+use Rattle.rv_spec.specs.Decisions.{Number as Needs}
+use Rattle.rv_spec.specs.Machine.{State, Outcome, load, store, x}
+use Rattle.sym_state.specs.Moves.{IsGrown}
+use Rattle.sym_state.specs.Symbolic.{Symbolic, concrete, stands_for}
+use Rattle.sym_machine.specs.Steps.{AreAlike, Carries, Comes}
+use Rattle.sym_machine.specs.Stops.{DecidesBy, StandsAt}
+use Rattle.sym_machine.specs.declared.outcome.Step.{Step}
+use Rattle.sym_machine.proofs.Standing.{Comes-by, Comes-made, StandsAt-first}
+
+-- the address that a register and an offset make
+abbrev address : State → (rs1 offset : ℕ) → ℕ
+address c rs1 offset = sum32 (x c rs1) offset
+
+-- it is the same on all assignments
+abbrev pub IsAddress : Symbolic → (rs1 offset at : ℕ) → Type 0
+IsAddress s rs1 offset at = (input : List ℕ) → stands_for s input ≡ true
+    → address (concrete s input) rs1 offset ≡ at
+
+alike : (s : Symbolic) (rs1 offset at : ℕ) → IsAddress s rs1 offset at
+    → AreAlike s (λ c. Needs (address c rs1 offset) ∷ [])
+alike s rs1 offset at is = record {
+  made = Needs at ∷ [];
+  alike = λ input standing. ap (λ n. Needs n ∷ []) (is input standing);
+}
+
+comes : (old mid new : Symbolic) (step : Step) (rs1 offset at : ℕ) (makes : State → ℕ → Outcome)
+    → IsGrown old mid
+    → IsAddress old rs1 offset at → Comes mid new step (λ c. makes c at)
+    → Comes old new step (λ c. makes c (address c rs1 offset))
+comes old mid new step rs1 offset at makes grown is made =
+    Comes-by old new step (λ c. makes c at) (λ c. makes c (address c rs1 offset))
+    (λ input standing. ap (makes (concrete old input)) (is input standing))
+    (Comes-made old mid new step (λ c. makes c at) grown made)
+
+pub load_needs : (s : Symbolic) (width : LoadWidth) (rd rs1 offset : ℕ)
+    → DecidesBy s (Load width rd rs1 offset)
+    → StandsAt s 1 (λ input. Needs (sum32 (x (concrete s input) rs1) offset))
+load_needs s width rd rs1 offset decides =
+    StandsAt-first s (Load width rd rs1 offset)
+    (λ input. Needs (address (concrete s input) rs1 offset)) (λ input. []) (λ input. refl) decides
+
+pub load_carries : (old mid new : Symbolic) (step : Step) (width : LoadWidth)
+    (rd rs1 offset at : ℕ) → IsGrown old mid
+    → IsAddress old rs1 offset at → Comes mid new step (λ c. load c width rd at)
+    → Carries old new step (Load width rd rs1 offset)
+load_carries old mid new step width rd rs1 offset at grown is makes = record {
+  comes = comes old mid new step rs1 offset at (λ c n. load c width rd n) grown is makes;
+  alike = alike old rs1 offset at is;
+}
+
+pub store_needs : (s : Symbolic) (width : StoreWidth) (rs1 rs2 offset : ℕ)
+    → DecidesBy s (Store width rs1 rs2 offset)
+    → StandsAt s 1 (λ input. Needs (sum32 (x (concrete s input) rs1) offset))
+store_needs s width rs1 rs2 offset decides =
+    StandsAt-first s (Store width rs1 rs2 offset)
+    (λ input. Needs (address (concrete s input) rs1 offset)) (λ input. []) (λ input. refl) decides
+
+pub store_carries : (old mid new : Symbolic) (step : Step) (width : StoreWidth)
+    (rs1 rs2 offset at : ℕ) → IsGrown old mid
+    → IsAddress old rs1 offset at → Comes mid new step (λ c. store c width at (x c rs2))
+    → Carries old new step (Store width rs1 rs2 offset)
+store_carries old mid new step width rs1 rs2 offset at grown is makes = record {
+  comes = comes old mid new step rs1 offset at (λ c n. store c width n (x c rs2)) grown is makes;
+  alike = alike old rs1 offset at is;
+}

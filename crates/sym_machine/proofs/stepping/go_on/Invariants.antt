@@ -1,0 +1,12 @@
+use Rattle.sym_state.specs.Runs.{left_to_do}
+use Rattle.sym_machine.proofs.Runs.{IsOnward}
+use Rattle.sym_machine.proofs.stepping.go_on.Given as goal
+
+-- steps were made, and it is not further than it may be
+abbrev pub invariant-loop-state : goal.invariant-loop-state
+invariant-loop-state l = record {
+  onward : IsOnward l.most l.fn.state l.state;
+}
+
+abbrev pub decreases-loop-state : goal.decreases-loop-state
+decreases-loop-state l = left_to_do l.state

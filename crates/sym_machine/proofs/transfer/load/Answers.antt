@@ -1,0 +1,12 @@
+use Rattle.sym_machine.proofs.Transfers.{load_carries, load_needs}
+use Rattle.sym_machine.proofs.transfer.load.Goals as goal
+
+pub address_of-requires-clause-stands : goal.address_of-requires-clause-stands
+address_of-requires-clause-stands c =
+    load_needs _ c.args.width c.args.rd c.args.rs1 c.args.offset c.requires.decides
+
+pub returns-clause-ok : goal.returns-clause-ok
+returns-clause-ok c =
+    load_carries c.args.state.now c.address_of.new.state c.load_from.new.state c.in_ok-step.step
+    c.args.width c.args.rd c.args.rs1 c.args.offset c.in_ok-address.address
+    c.in_ok-address.ensures.grown c.in_ok-address.ensures.ok c.in_ok-step.ensures

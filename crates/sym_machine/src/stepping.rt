@@ -1,0 +1,63 @@
+//! Steps, one after the other.
+
+ghost use Rattle.std.specs.Prelude.{◌≡◌, ◌≤◌, IfOk, OnErr};
+ghost use Rattle.sym_state.specs.Runs.{IsReady};
+ghost use Rattle.sym_state.specs.Symbolic.{most_steps};
+ghost use Rattle.sym_machine.specs.Advancing.{Advances};
+
+use crate::execute::step;
+use crate::halt::Halt;
+use crate::outcome::{RunEnd, Step};
+use std::alloc::AllocError as NoMemory;
+use sym_state::State;
+
+/// Why a symbolic run makes no step more.
+#[derive(Clone, Copy, Debug, PartialEq, Eq)]
+pub enum Stop {
+    /// A conditional branch comes next, which is taken where this term of one bit is 1. The term is no number.
+    Branch { term: usize },
+    /// The step that comes next needs the number that this term of 32 bits is, at this place of its decisions. The term is no
+    /// number.
+    Pin { place: usize, term: usize },
+    /// All its runs have ended.
+    Ended(RunEnd),
+    /// It has made as many steps as it may.
+    Steps,
+}
+
+// Makes steps on a run that is of no use after want of memory.
+fn go_on(state: &mut State, most: u32) -> Result<Stop, NoMemory>
+    requires ready { IsReady state.old }
+    requires within { state.old.steps ≤ most }
+    requires steps { most ≤ most_steps }
+    ensures { IfOk result (Advances most state.old state.new) }
+{
+    while state.steps() < most {
+        match step(state) {
+            Ok(Step::Running) => {}
+            Ok(Step::Ended(end)) => return Ok(Stop::Ended(end)),
+            Err(Halt::Side(term)) => return Ok(Stop::Branch { term }),
+            Err(Halt::Number { place, term }) => return Ok(Stop::Pin { place, term }),
+            Err(Halt::NoMemory) => return Err(NoMemory),
+        }
+    }
+    Ok(Stop::Steps)
+}
+
+/// Makes steps until all runs have ended, or so many were made in all, or a step needs to know what may differ from run to run.
+///
+/// # Errors
+///
+/// Where memory is wanting; the run is then as it was.
+pub fn advance(state: &mut State, most: u32) -> Result<Stop, NoMemory>
+    requires ready { IsReady state.old }
+    requires within { state.old.steps ≤ most }
+    requires steps { most ≤ most_steps }
+    ensures ok { IfOk result (Advances most state.old state.new) }
+    ensures err { OnErr result (state.new ≡ state.old) }
+{
+    let mut run = state.share()?;
+    let stop = go_on(&mut run, most)?;
+    *state = run;
+    Ok(stop)
+}

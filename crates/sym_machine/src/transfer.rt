@@ -1,0 +1,230 @@
+//! Loads and stores. Their address has to be known; alignment is tested before the page.
+
+ghost use Rattle.std.specs.Prelude.{◌≡◌, ◌+◌, ◌*◌, ◌/◌, ◌%◌, ◌^◌, ◌<◌, ◌∷◌, [], true, ℕ, List, IfOk, IfErr, OnOk, OnErr};
+ghost use Rattle.cow_pages.specs.SymbolicMemory.{memory_flags};
+ghost use Rattle.rv_decode.specs.declared.instr.Instr.TheVariants.{Load, Store};
+ghost use Rattle.rv_decode.specs.declared.ops.StoreWidth.TheVariants.{Sh, Sw};
+ghost use Rattle.rv_spec.specs.Arithmetic.{sum32};
+ghost use Rattle.rv_spec.specs.Decisions.{Number as Needs};
+ghost use Rattle.rv_spec.specs.Machine as machine;
+ghost use Rattle.rv_spec.specs.Machine.{x};
+ghost use Rattle.rv_spec.specs.Memory.{can_write, half_at, is_mapped};
+ghost use Rattle.term_simplify.specs.Operations.{widened};
+ghost use Rattle.sym_state.specs.Moves.{IsGrown, MakesValue};
+ghost use Rattle.sym_state.specs.Runs.{IsReady};
+ghost use Rattle.sym_state.specs.Symbolic.{concrete, stands_for};
+ghost use Rattle.sym_state.specs.Values.{IsWide, worth_of};
+ghost use Rattle.sym_machine.specs.Steps.{Carries, Comes, Puts};
+ghost use Rattle.sym_machine.specs.Stops.{DecidesBy, StandsAt, Stops};
+
+use crate::fetch::word;
+use crate::going::{go_on, go_on_with};
+use crate::halt::Halt;
+use crate::needs::number_at;
+use crate::outcome::{Step, trapped};
+use rv_decode::{LoadWidth, Register, RegisterOp, StoreWidth, Trap};
+use std::alloc::AllocError as NoMemory;
+use sym_state::{State, Value};
+
+/// The bytes of a page.
+const PAGE: u32 = 256;
+
+/// Whether a page is mapped at an address.
+pub(crate) fn is_mapped(state: &State, address: u32) -> bool
+    ensures { result ≡ is_mapped (memory_flags state.now.memory) address }
+{
+    state.flags(address / PAGE).is_some()
+}
+
+/// Whether bytes can be written at an address.
+fn can_write(state: &State, address: u32) -> bool
+    ensures { result ≡ can_write (memory_flags state.now.memory) address }
+{
+    match state.flags(address / PAGE) {
+        None => false,
+        Some(flags) => flags / 2 % 2 == 1,
+    }
+}
+
+fn is_load_aligned(width: LoadWidth, address: u32) -> bool
+    ensures { result ≡ machine.is_load_aligned width address }
+{
+    match width {
+        LoadWidth::Lb | LoadWidth::Lbu => true,
+        LoadWidth::Lh | LoadWidth::Lhu => address % 2 == 0,
+        LoadWidth::Lw => address % 4 == 0,
+    }
+}
+
+fn is_store_aligned(width: StoreWidth, address: u32) -> bool
+    ensures { result ≡ machine.is_store_aligned width address }
+{
+    match width {
+        StoreWidth::Sb => true,
+        StoreWidth::Sh => address % 2 == 0,
+        StoreWidth::Sw => address % 4 == 0,
+    }
+}
+
+/// The sum of a register and an offset, which has to be known.
+fn address_of(state: &mut State, rs1: Register, offset: u32) -> Result<u32, Halt>
+    requires ready { IsReady state.old }
+    requires stands { StandsAt state.old 1 (λ input. Needs (sum32 (x (concrete state.old input) rs1) offset)) }
+    ensures grown { IfOk result (λ _. IsGrown state.old state.new) }
+    ensures ok { IfOk result (λ address. (input : List ℕ) → stands_for state.old input ≡ true → sum32 (x (concrete state.old input) rs1) offset ≡ address) }
+    ensures err { IfErr result (Stops state.old state.new) }
+{
+    let base = state.value(rs1);
+    let sum = state.combined(RegisterOp::Add, base, Value::Number(offset))?;
+    number_at(state, 1, sum)
+}
+
+/// The half word at an address in 32 bits, low byte first.
+fn half(state: &mut State, signed: bool, address: u32) -> Result<Value, NoMemory>
+    requires aligned { address % 2 ≡ 0 }
+    ensures ok { IfOk result (λ value. MakesValue state.old state.new value (λ input. widened signed 16 (half_at (concrete state.old input).byte address))) }
+    ensures err { OnErr result (state.new ≡ state.old) }
+{
+    let low = state.byte(address);
+    let high = state.byte(address + 1);
+    state.from_half(signed, low, high)
+}
+
+/// What is loaded from an address.
+fn loaded(state: &mut State, width: LoadWidth, address: u32) -> Result<Value, NoMemory>
+    requires aligned { machine.is_load_aligned width address ≡ true }
+    ensures ok { IfOk result (λ value. MakesValue state.old state.new value (λ input. machine.loaded width (concrete state.old input).byte address)) }
+    ensures err { OnErr result (state.new ≡ state.old) }
+{
+    match width {
+        LoadWidth::Lb => state.from_byte(true, state.byte(address)),
+        LoadWidth::Lh => half(state, true, address),
+        LoadWidth::Lw => word(state, address),
+        LoadWidth::Lbu => state.from_byte(false, state.byte(address)),
+        LoadWidth::Lhu => half(state, false, address),
+    }
+}
+
+/// Loads from an address into a register.
+fn load_from(
+    state: &mut State,
+    width: LoadWidth,
+    rd: Register,
+    address: u32,
+) -> Result<Step, NoMemory>
+    ensures { IfOk result (λ step. Comes state.old state.new step (λ c. machine.load c width rd address)) }
+{
+    if !is_load_aligned(width, address) {
+        return Ok(trapped(Trap::LoadMisaligned));
+    }
+    if !is_mapped(state, address) {
+        return Ok(trapped(Trap::LoadAccess));
+    }
+    let value = loaded(state, width, address)?;
+    Ok(go_on_with(state, rd, value))
+}
+
+/// Loads into a register.
+pub(crate) fn load(
+    state: &mut State,
+    width: LoadWidth,
+    rd: Register,
+    rs1: Register,
+    offset: u32,
+) -> Result<Step, Halt>
+    requires ready { IsReady state.old }
+    requires decides { DecidesBy state.old (Load width rd rs1 offset) }
+    ensures ok { IfOk result (λ step. Carries state.old state.new step (Load width rd rs1 offset)) }
+    ensures err { IfErr result (Stops state.old state.new) }
+{
+    let address = address_of(state, rs1, offset)?;
+    let step = load_from(state, width, rd, address)?;
+    Ok(step)
+}
+
+/// Puts the byte of a value that is `at` bytes up, of 4, to an address of a mapped page.
+fn put_byte(state: &mut State, address: u32, value: Value, at: u32) -> Result<(), NoMemory>
+    requires mapped { is_mapped (memory_flags state.old.memory) address ≡ true }
+    requires wide { IsWide state.old.terms value }
+    requires at { at < 4 }
+    ensures { OnOk result (Puts state.old state.new address (λ input. worth_of state.old.terms input value / 2 ^ (8 * at) % 2 ^ 8 ∷ [])) }
+{
+    let byte = state.byte_at(value, at)?;
+    state.put(address, byte)
+}
+
+/// Puts the low two bytes of a value.
+fn put_half(state: &mut State, address: u32, value: Value) -> Result<(), NoMemory>
+    requires aligned { address % 2 ≡ 0 }
+    requires mapped { is_mapped (memory_flags state.old.memory) address ≡ true }
+    requires wide { IsWide state.old.terms value }
+    ensures { OnOk result (Puts state.old state.new address (λ input. machine.stored Sh (worth_of state.old.terms input value))) }
+{
+    put_byte(state, address, value, 0)?;
+    put_byte(state, address + 1, value, 1)
+}
+
+/// Puts the bytes of a value.
+fn put_word(state: &mut State, address: u32, value: Value) -> Result<(), NoMemory>
+    requires aligned { address % 4 ≡ 0 }
+    requires mapped { is_mapped (memory_flags state.old.memory) address ≡ true }
+    requires wide { IsWide state.old.terms value }
+    ensures { OnOk result (Puts state.old state.new address (λ input. machine.stored Sw (worth_of state.old.terms input value))) }
+{
+    put_byte(state, address, value, 0)?;
+    put_byte(state, address + 1, value, 1)?;
+    put_byte(state, address + 2, value, 2)?;
+    put_byte(state, address + 3, value, 3)
+}
+
+/// Puts what is stored.
+fn put(state: &mut State, width: StoreWidth, address: u32, value: Value) -> Result<(), NoMemory>
+    requires aligned { machine.is_store_aligned width address ≡ true }
+    requires mapped { is_mapped (memory_flags state.old.memory) address ≡ true }
+    requires wide { IsWide state.old.terms value }
+    ensures { OnOk result (Puts state.old state.new address (λ input. machine.stored width (worth_of state.old.terms input value))) }
+{
+    match width {
+        StoreWidth::Sb => put_byte(state, address, value, 0),
+        StoreWidth::Sh => put_half(state, address, value),
+        StoreWidth::Sw => put_word(state, address, value),
+    }
+}
+
+/// Stores a register at an address.
+fn store_to(
+    state: &mut State,
+    width: StoreWidth,
+    address: u32,
+    rs2: Register,
+) -> Result<Step, NoMemory>
+    ensures { IfOk result (λ step. Comes state.old state.new step (λ c. machine.store c width address (x c rs2))) }
+{
+    if !is_store_aligned(width, address) {
+        return Ok(trapped(Trap::StoreMisaligned));
+    }
+    if !can_write(state, address) {
+        return Ok(trapped(Trap::StoreAccess));
+    }
+    let value = state.value(rs2);
+    put(state, width, address, value)?;
+    Ok(go_on(state))
+}
+
+/// Stores a register.
+pub(crate) fn store(
+    state: &mut State,
+    width: StoreWidth,
+    rs1: Register,
+    rs2: Register,
+    offset: u32,
+) -> Result<Step, Halt>
+    requires ready { IsReady state.old }
+    requires decides { DecidesBy state.old (Store width rs1 rs2 offset) }
+    ensures ok { IfOk result (λ step. Carries state.old state.new step (Store width rs1 rs2 offset)) }
+    ensures err { IfErr result (Stops state.old state.new) }
+{
+    let address = address_of(state, rs1, offset)?;
+    let step = store_to(state, width, address, rs2)?;
+    Ok(step)
+}

@@ -1,0 +1,22 @@
+use Rattle.std.proofs.Common.{◌∙◌, ap, arith}
+use Rattle.bv_dag.specs.BitVectors.{BitVector}
+use Rattle.term_simplify.specs.Operations as operations
+use Rattle.sym_state.proofs.Growing.{Continues-trans, IsByte-grown, builds_gives, given-grown, later-byte, width-kept}
+use Rattle.sym_state.proofs.bytes.half_term.Goals as goal
+
+pub byte_term-requires-2 : goal.byte_term-requires-2
+byte_term-requires-2 c = record { is_byte = IsByte-grown _ _ c.args.high c.in_ok-low.ensures.ok.continues c.requires.high }
+
+pub half-requires-clause-low : goal.half-requires-clause-low
+half-requires-clause-low c = width-kept _ _ _ 8 c.in_ok-high.ensures.ok.continues c.in_ok-low.ensures.ok.width (omega arith)
+
+pub returns-clause-ok : goal.returns-clause-ok
+returns-clause-ok c =
+    let both = Continues-trans c.in_ok-low.ensures.ok.continues c.in_ok-high.ensures.ok.continues in
+    builds_gives _ c.widened.result _ _ _ _ (Continues-trans both c.in_ok-half.ensures.ok.continues)
+    (λ input bytes.
+    let half = ap (λ (x : BitVector). x.number) (c.in_ok-half.ensures.ok.value input bytes) in
+    let low = given-grown (omega arith) c.in_ok-low.ensures.ok c.in_ok-high.ensures.ok.continues input bytes in
+    let high = later-byte c.args.high c.in_ok-low.ensures.ok.continues c.requires.high c.in_ok-high.ensures.ok input bytes in
+    ap (operations.widened c.args.signed 16) (half ∙ cc (low, high)))
+    c.widened.ensures.ok

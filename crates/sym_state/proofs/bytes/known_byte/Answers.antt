@@ -1,0 +1,34 @@
+use Rattle.std.proofs.Common.{arith, refl, sym}
+use Rattle.bv_dag.proofs.TermLaws.{there}
+use Rattle.sym_state.proofs.Naming.{number_below, number_is, unknown_node}
+use Rattle.sym_state.proofs.bytes.known_byte.Goals as goal
+
+pub node-requires : goal.node-requires
+node-requires c = rw c.terms.ensures (there c.args.terms.now c.args.id 8 c.requires.width (omega arith))
+
+pub overflow_cast-result : goal.overflow_cast-result
+overflow_cast-result c =
+    let is = rw (c.in-Num.is, c.terms.ensures) at c.node.ensures.is in
+    let dag = rw c.terms.ensures at c.node.ensures.fit in
+    omega (arith, number_below c.args.terms.now c.args.id c.in-Num.width c.in-Num.value 8 dag is c.requires.width (omega arith))
+
+pub returns-in-Num-clause-is_byte : goal.returns-in-Num-clause-is_byte
+returns-in-Num-clause-is_byte c =
+    let is = rw (c.in-Num.is, c.terms.ensures) at c.node.ensures.is in
+    let dag = rw c.terms.ensures at c.node.ensures.fit in
+    number_below c.args.terms.now c.args.id c.in-Num.width c.in-Num.value 8 dag is c.requires.width (omega arith)
+
+pub returns-in-Num-clause-worth : goal.returns-in-Num-clause-worth
+returns-in-Num-clause-worth c =
+    let is = rw (c.in-Num.is, c.terms.ensures) at c.node.ensures.is in
+    let dag = rw c.terms.ensures at c.node.ensures.fit in
+    λ input. sym (number_is c.args.terms.now c.args.id c.in-Num.width c.in-Num.value input dag is)
+
+pub returns-in_default : goal.returns-in_default
+returns-in_default c =
+    let is = rw c.terms.ensures at c.node.ensures.is in
+    let dag = rw c.terms.ensures at c.node.ensures.fit in
+    record {
+      is_byte = unknown_node c.args.terms.now c.args.id 8 c.node.result dag is c.requires.width c.in_default.not-Num;
+      worth = λ input. refl;
+    }

@@ -1,0 +1,8 @@
+use Rattle.sym_state.proofs.Forms.{formed_value, makes_value}
+use Rattle.sym_state.proofs.state.State.combined.Goals as goal
+
+pub invariant_of-self : goal.invariant_of-self
+invariant_of-self c = formed_value _ c.combined.new.terms c.combined.result _ c.self.invariant c.combined.ensures.ok c.combined.ensures.err
+
+pub returns-clause-ok : goal.returns-clause-ok
+returns-clause-ok c = rw (← c.self.view_is) (makes_value _ c.combined.new.terms c.combined.result _ c.self.invariant c.combined.ensures.ok)

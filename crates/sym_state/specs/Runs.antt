@@ -1,0 +1,42 @@
+-- When a symbolic run is one of a program: the machine's run of each assignment that it stands for is
+-- where it is, and all of them have decided alike.
+use Rattle.std.specs.Prelude.{◌≡◌, ℕ, ◌+◌, ◌-◌, ◌*◌, ◌≤◌, true, List, [], length, count_by, None, is_none}
+use Rattle.rv_spec.specs.Decisions.{Decision, decisions}
+use Rattle.rv_spec.specs.Machine.{first_state}
+use Rattle.rv_spec.specs.Memory.{IsAssignment, count_of}
+use Rattle.rv_spec.specs.Runs.{run}
+use Rattle.sym_state.specs.Programs.{Program}
+use Rattle.sym_state.specs.Symbolic.{Symbolic, KnowsTruth, concrete, most_steps, nothing_known, stands_for}
+
+-- all assignments that it stands for have made the same decisions in the steps made
+pub record DecidedAlike (p : Program) (s : Symbolic) : Type 0 where
+  pub made : List Decision
+  pub alike : (input : List ℕ) → stands_for s input ≡ true → decisions p.image p.regions input s.steps ≡ made
+
+-- what a step starts from: the sample is one of its assignments, and what is known of the step is true
+pub record IsReady (s : Symbolic) : Type 0 where
+  pub sampled : stands_for s s.sample ≡ true
+  pub knows : KnowsTruth s
+
+-- the runs of a program have made these steps and are where it is
+pub record IsOpen (p : Program) (s : Symbolic) : Type 0 where
+  pub inputs : s.terms.inputs ≡ count_of p.regions
+  pub ready : IsReady s
+  -- a step writes 4096 bytes at most
+  pub few_outputs : length s.output ≤ 4096 * s.steps
+  pub sound : (input : List ℕ) → stands_for s input ≡ true →
+      run p.image p.regions input s.steps ≡ record { state = concrete s input; end = None; steps = s.steps }
+  pub alike : DecidedAlike p s
+
+-- it is before its first step, and stands for every assignment
+pub record IsFirst (p : Program) (s : Symbolic) : Type 0 where
+  pub steps : s.steps ≡ 0
+  pub choices : s.choices ≡ []
+  pub condition : s.condition ≡ []
+  pub inputs : s.terms.inputs ≡ count_of p.regions
+  pub known : s.known ≡ nothing_known
+  pub state : (input : List ℕ) → IsAssignment p.regions input → concrete s input ≡ first_state p.image p.regions input
+
+-- how far a run may still go: each step, and each decision that gets known, makes it less
+abbrev pub left_to_do : Symbolic → ℕ
+left_to_do s = 6 * (most_steps - s.steps) + count_by is_none s.known

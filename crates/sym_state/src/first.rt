@@ -1,0 +1,134 @@
+//! The run of all assignments, before its first step.
+
+ghost use Rattle.std.specs.Prelude.{◌≡◌, ◌+◌, ◌<◌, ◌≤◌, ℕ, All, IfOk, OnOk, drop};
+ghost use Rattle.cow_pages.specs.SymbolicMemory.{memory_flags};
+ghost use Rattle.rv_machine.specs.Pages.{AreMapped, IsMapped, filled};
+ghost use Rattle.rv_spec.specs.Machine as machine;
+ghost use Rattle.rv_spec.specs.Memory.{byte_of, count_of, placed};
+ghost use Rattle.sym_state.specs.Placing.{HasBytes, PutsBytes, bytes_worth, first_run, number_values};
+ghost use Rattle.sym_state.specs.Runs.{IsFirst, IsOpen};
+
+use crate::program::Program;
+use crate::state::{MOST_DECISIONS, State};
+use crate::value::Value;
+use cow_pages::{Byte, Pages};
+use cow_vec::CowVec;
+use elf_load::{Image, Region};
+use std::alloc::{AllocError as NoMemory, Global};
+use term_simplify::Builder;
+use term_table::Terms;
+use tool_io::Bytes;
+
+/// What the stack pointer, x2, is at the start.
+const STACK_POINTER: u32 = 0x7FFF_FFF0;
+
+/// The registers at the start.
+fn first_registers() -> [Value; 32]
+    ensures { result ≡ number_values machine.first_registers }
+{
+    let mut registers = [Value::Number(0); 32];
+    registers[2] = Value::Number(STACK_POINTER);
+    registers
+}
+
+/// How many bytes regions have.
+fn count_bytes(regions: &[Region]) -> usize
+    requires few { count_of regions.now ≤ 256 }
+    ensures { result ≡ count_of regions.now }
+{
+    let mut count = 0;
+    for region in regions {
+        count += region.count as usize;
+    }
+    count
+}
+
+/// A list of bytes has no greater numbers.
+fn list_is_of_bytes(bytes: &[u8])
+    ensures { All (λ b. b < 256) bytes.now }
+{}
+
+/// An image has bytes, and no greater numbers.
+fn image_is_of_bytes(image: &Image)
+    ensures { (address : ℕ) → byte_of image.now address < 256 }
+{
+    for (_, page) in image.pages() {
+        list_is_of_bytes(&page.bytes);
+    }
+}
+
+/// Puts input bytes to a region, from the input `first` on.
+fn fill(
+    memory: &mut Pages,
+    terms: &mut Builder,
+    region: &Region,
+    first: usize,
+) -> Result<(), NoMemory>
+    requires mapped { IsMapped (memory_flags memory.old) region.now }
+    requires has_bytes { HasBytes terms.old memory.old }
+    requires inputs { first + region.now.count ≤ terms.old.inputs }
+    requires few { terms.old.inputs ≤ 256 }
+    ensures { OnOk result (PutsBytes terms.old terms.new memory.old memory.new
+        (λ input. filled region.now.start region.now.count (drop first input) (bytes_worth terms.old memory.old input))) }
+{
+    for i in 0..region.count {
+        let byte = terms.input(first + i as usize)?;
+        memory.write(region.start + i, Byte::Term(byte))?;
+    }
+    Ok(())
+}
+
+/// Puts the input bytes to their regions.
+fn place_inputs(memory: &mut Pages, terms: &mut Builder, regions: &[Region]) -> Result<(), NoMemory>
+    requires mapped { AreMapped (memory_flags memory.old) regions.now }
+    requires has_bytes { HasBytes terms.old memory.old }
+    requires inputs { count_of regions.now ≡ terms.old.inputs }
+    requires few { terms.old.inputs ≤ 256 }
+    ensures { OnOk result (PutsBytes terms.old terms.new memory.old memory.new
+        (λ input. placed regions.now input (bytes_worth terms.old memory.old input))) }
+{
+    let mut first = 0;
+    for region in regions {
+        fill(memory, terms, region, first)?;
+        first += region.count as usize;
+    }
+    Ok(())
+}
+
+/// A run before its first step, with this memory and these terms.
+fn begin(alloc: Global, entry: u32, memory: Pages, terms: Builder) -> Result<State, NoMemory>
+    requires has_bytes { HasBytes terms memory }
+    ensures { IfOk result (λ state. state ≡ first_run entry memory terms) }
+{
+    let inputs = terms.terms().inputs();
+    Ok(State {
+        alloc,
+        pc: entry,
+        registers: first_registers(),
+        memory,
+        terms,
+        condition: CowVec::new(alloc),
+        output: CowVec::new(alloc),
+        path: CowVec::new(alloc),
+        choices: CowVec::new(alloc),
+        steps: 0,
+        known: [None; MOST_DECISIONS],
+        sample: Bytes::from_vec(vec![in alloc; 0; inputs]?),
+    })
+}
+
+impl State {
+    /// The run of all assignments, before its first step: it stands for each list of bytes, one for each place of the regions.
+    pub fn first(alloc: Global, program: &Program) -> Result<State, NoMemory>
+        ensures first { IfOk result (IsFirst program.now) }
+        ensures open { IfOk result (IsOpen program.now) }
+    {
+        let image = program.image();
+        let regions = program.regions().as_slice();
+        image_is_of_bytes(image);
+        let mut memory = Pages::new(alloc, image)?;
+        let mut terms = Builder::new(Terms::new(alloc, count_bytes(regions)));
+        place_inputs(&mut memory, &mut terms, regions)?;
+        begin(alloc, image.entry(), memory, terms)
+    }
+}
