@@ -1,0 +1,136 @@
+#!/usr/bin/env python3
+"""Runs each routine on all 256 values of its input byte, by interpreter.py, and says which runs decide alike.
+
+    runs.py            writes NAME.expected for each NAME.elf here, and NAME.WORD.expected for runs with small budgets
+    runs.py --check    writes nothing, and says which of them aren't as they would be written
+    runs.py --qemu     compares status, signal and output of all runs with qemu-riscv32
+"""
+import pathlib
+import struct
+import subprocess
+import sys
+import tempfile
+
+from interpreter import INPUT, Machine, load
+
+HERE = pathlib.Path(__file__).resolve().parent
+STEPS, TARGETS = 10_000, 16
+# Of this one a term has more values than there may be targets, so it has no run in which nothing is cut.
+ALWAYS_CUT = {"inside"}
+# Runs with a small budget: a word for the file's name, the steps and the targets.
+SMALL = {"isqrt": ("steps60", 60, TARGETS), "lookup": ("targets5", STEPS, 5), "inside": ("targets64", STEPS, 64)}
+# Instruction by instruction, so that a store into code is seen by the next fetch; and with no extension but M.
+QEMU = ["qemu-riscv32", "-singlestep", "-cpu", "rv32,g=false,c=false,f=false,d=false,a=false"]
+SIGNALS = {"Illegal": 4, "Break": 5, "LoadAccess": 11, "StoreAccess": 11, "FetchAccess": 11}
+# What qemu says of a misaligned target, which a Linux process can't reach.
+ABORTED = b"unhandled CPU exception 0 "
+
+
+def ranges(values):
+    """00-1f 23 ..."""
+    parts, values = [], sorted(values)
+    for value in values:
+        if parts and parts[-1][1] == value - 1:
+            parts[-1][1] = value
+        else:
+            parts.append([value, value])
+    return " ".join(f"{low:02x}" if low == high else f"{low:02x}-{high:02x}" for low, high in parts)
+
+
+def grouped(keys):
+    groups = {}
+    for value, key in enumerate(keys):
+        groups.setdefault(key, []).append(value)
+    return groups
+
+
+def expected(name, steps, targets, spends):
+    """The text of the table: a line for each leaf, and below it one for each end and output of its runs."""
+    image = load(HERE / f"{name}.elf")
+    runs = [Machine(image, value).run(steps) for value in range(256)]
+    decisions = [[number for decided, _, _ in run.log for number in decided] for run in runs]
+    groups = grouped(map(tuple, decisions))
+    lines = [f"# {name}: what brute force says. `runs.py` wrote it.", f"options --steps {steps} --targets {targets}"]
+    place = None
+    if spends:
+        # All runs decide alike up to one step, where one number has more values than targets, and then each is a leaf.
+        place = next(place for place in range(10**9) if len({decided[place] for decided in decisions}) > 1)
+        values = {decided[place] for decided in decisions}
+        assert targets < len(values) == len(groups), name
+        counts = [len(decided) for decided, _, _ in runs[0].log]
+        made = next(made for made in range(len(counts)) if place < sum(counts[: made + 1]))
+        _, path, output = runs[0].log[made]
+        lines += [f"spent {targets} of {len(values)} steps {made} path {path}. output {output.hex()}."]
+    else:
+        finished = [runs[values[0]] for values in groups.values() if runs[values[0]].end != "running"]
+        total, cut = len(groups), len(groups) - len(finished)
+        lines += [f"summary leaves {total} finished {total - cut} cut {cut} tests {total} steps {sum(len(run.log) for run in finished)}"]
+    for decided, values in groups.items():
+        run = runs[values[0]]
+        assert all((len(runs[v].log), runs[v].path) == (len(run.log), run.path) for v in values), name
+        lines += [f"leaf steps {len(run.log)} path {run.path}." + (f" value {decided[place]:08x}" if spends else "")]
+        ends = {}
+        for value in values:
+            ends.setdefault((runs[value].end, runs[value].output.hex()), []).append(value)
+        for (end, output), same in ends.items():
+            lines += [f"  {end} output {output}. inputs {ranges(same)}"]
+    return "\n".join(lines) + "\n"
+
+
+def tables():
+    """Each table's file name and text."""
+    for name in sorted(path.stem for path in HERE.glob("*.elf")):
+        if name not in ALWAYS_CUT:
+            yield f"{name}.expected", expected(name, STEPS, TARGETS, False)
+    for name, (word, steps, targets) in SMALL.items():
+        yield f"{name}.{word}.expected", expected(name, steps, targets, targets != TARGETS)
+
+
+def compare_with_qemu():
+    """Compares exits and output, and of traps the signal, where a Linux process has one that says the same."""
+    wrong = compared = skipped = 0
+    for path in sorted(HERE.glob("*.elf")):
+        image, data = load(path), bytearray(path.read_bytes())
+        assert struct.unpack_from("<I", data, 52 + 32 + 8)[0] == INPUT
+        place = struct.unpack_from("<I", data, 52 + 32 + 4)[0]
+        with tempfile.TemporaryDirectory() as folder:
+            for value in range(256):
+                run = Machine(image, value).run(STEPS)
+                kind, word = run.end.split()
+                if kind == "trap" and word not in SIGNALS and word != "FetchMisaligned":
+                    skipped += 1
+                    continue
+                data[place] = value
+                patched = pathlib.Path(folder, f"{value}.elf")
+                patched.write_bytes(data)
+                patched.chmod(0o755)
+                done = subprocess.run([*QEMU, patched], stdout=subprocess.PIPE, stderr=subprocess.STDOUT, timeout=60)
+                compared += 1
+                if word == "FetchMisaligned":
+                    same = done.stdout.startswith(run.output) and ABORTED in done.stdout
+                else:
+                    same = done.returncode == (int(word) if kind == "exit" else -SIGNALS[word]) and done.stdout == run.output
+                if not same:
+                    wrong += 1
+                    print(f"{path.name} {value:02x}: here {run.end} {run.output!r}, qemu {done.returncode} {done.stdout!r}")
+    print(f"{compared} runs compared with qemu-riscv32, {wrong} differ, {skipped} end in traps that Linux has no signal for")
+    return 1 if wrong else 0
+
+
+def main(words):
+    if words == ["--qemu"]:
+        return compare_with_qemu()
+    stale = 0
+    for name, text in tables():
+        path = HERE / name
+        if words == ["--check"]:
+            if not path.exists() or path.read_text() != text:
+                print(f"{name} isn't what brute force says")
+                stale = 1
+        else:
+            path.write_text(text)
+    return stale
+
+
+if __name__ == "__main__":
+    sys.exit(main(sys.argv[1:]))
