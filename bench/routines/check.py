@@ -18,6 +18,7 @@ import sys
 import tempfile
 
 HERE = pathlib.Path(__file__).resolve().parent
+DATA = HERE.parent.parent / "crates/routine_runs/data"
 REGION = "00011000:1"
 
 
@@ -166,6 +167,13 @@ def compare_rest(leaf, table, found, say):
     return {value: ("running", wanted["output"]) for value in range(256) if value not in taken}
 
 
+def summary_of(table, found):
+    """The summary where targets are spent, by the leaves of the table that were found."""
+    count = table.spent["targets"]
+    finished = [one["steps"] for one in found if all(end != "running" for end, _ in one["runs"].values())]
+    return f"leaves {count + 1} finished {len(finished)} cut {count + 1 - len(finished)} tests {count} steps {sum(finished)}"
+
+
 def compare(word, tool, folder, replays):
     """Explores a routine and compares. Gives the number of disagreements."""
     wrong = []
@@ -174,7 +182,7 @@ def compare(word, tool, folder, replays):
         wrong.append(line)
         print(f"{word}: {line}", flush=True)
 
-    table, program = Table(HERE / f"{word}.expected"), HERE / f"{word.split('.')[0]}.elf"
+    table, program = Table(HERE / f"{word}.expected"), DATA / f"{word.split('.')[0]}.elf"
     command = [tool, "explore", *table.options, program, folder, REGION]
     done = subprocess.run(command, stdout=subprocess.PIPE, stderr=subprocess.DEVNULL, text=True)
     if done.returncode != 0:
@@ -197,10 +205,7 @@ def compare(word, tool, folder, replays):
         say(f"{len(leaves)} leaves are written, by brute force {wanted}")
     if [leaf["kind"] for leaf in leaves].count("targets") != (1 if table.spent else 0):
         say("another number of leaves is cut by targets than by brute force")
-    summary = table.summary
-    if table.spent:
-        count = table.spent["targets"]
-        summary = f"leaves {count + 1} finished {count} cut 1 tests {count} steps {sum(one['steps'] for one in found)}"
+    summary = table.summary or summary_of(table, found)
     if done.stdout != summary + "\n":
         say(f"says {done.stdout.strip()}, by brute force {summary}")
     if shutil.which("z3"):

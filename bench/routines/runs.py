@@ -1,11 +1,13 @@
 #!/usr/bin/env python3
 """Runs each routine on all 256 values of its input byte, by interpreter.py, and says which runs decide alike.
 
-    runs.py            writes NAME.expected for each NAME.elf here, and NAME.WORD.expected for runs with small budgets
+    runs.py            writes NAME.expected for each NAME.elf of crates/routine_runs/data, NAME.WORD.expected for runs with
+                       small budgets, and crates/routine_runs/stdout
     runs.py --check    writes nothing, and says which of them aren't as they would be written
     runs.py --qemu     compares status, signal and output of all runs with qemu-riscv32
 """
 import pathlib
+import re
 import struct
 import subprocess
 import sys
@@ -14,11 +16,19 @@ import tempfile
 from interpreter import INPUT, Machine, load
 
 HERE = pathlib.Path(__file__).resolve().parent
+# The program of the gate that explores the routines, with the files of all.
+GATE = HERE.parent.parent / "crates/routine_runs"
+DATA = GATE / "data"
+# A table that isn't in the gate, so that its run stays short: 256 leaves.
+NOT_IN_GATE = {"crc8.expected"}
 STEPS, TARGETS = 10_000, 16
 # Of this one a term has more values than there may be targets, so it has no run in which nothing is cut.
 ALWAYS_CUT = {"inside"}
-# Runs with a small budget: a word for the file's name, the steps and the targets.
-SMALL = {"isqrt": ("steps60", 60, TARGETS), "lookup": ("targets5", STEPS, 5), "inside": ("targets64", STEPS, 64)}
+# Runs with a small budget: the program, a word for the file's name, the steps and the targets.
+SMALL = [
+    ("isqrt", "steps60", 60, TARGETS), ("lookup", "targets5", STEPS, 5), ("lookup", "steps10.targets5", 10, 5),
+    ("inside", "targets64", STEPS, 64),
+]
 # Instruction by instruction, so that a store into code is seen by the next fetch; and with no extension but M.
 QEMU = ["qemu-riscv32", "-singlestep", "-cpu", "rv32,g=false,c=false,f=false,d=false,a=false"]
 SIGNALS = {"Illegal": 4, "Break": 5, "LoadAccess": 11, "StoreAccess": 11, "FetchAccess": 11}
@@ -44,12 +54,19 @@ def grouped(keys):
     return groups
 
 
+def summary(tested, rest):
+    """The line that has to be said of leaves that have a test, each given by one of its runs, and of some that have none."""
+    finished, total = [len(run.log) for run in tested if run.end != "running"], len(tested) + rest
+    return f"summary leaves {total} finished {len(finished)} cut {total - len(finished)} tests {len(tested)} steps {sum(finished)}"
+
+
 def expected(name, steps, targets, spends):
     """The text of the table: a line for each leaf, and below it one for each end and output of its runs."""
-    image = load(HERE / f"{name}.elf")
+    image = load(DATA / f"{name}.elf")
     runs = [Machine(image, value).run(steps) for value in range(256)]
     decisions = [[number for decided, _, _ in run.log for number in decided] for run in runs]
     groups = grouped(map(tuple, decisions))
+    firsts = [runs[values[0]] for values in groups.values()]
     lines = [f"# {name}: what brute force says. `runs.py` wrote it.", f"options --steps {steps} --targets {targets}"]
     place = None
     if spends:
@@ -61,10 +78,11 @@ def expected(name, steps, targets, spends):
         made = next(made for made in range(len(counts)) if place < sum(counts[: made + 1]))
         _, path, output = runs[0].log[made]
         lines += [f"spent {targets} of {len(values)} steps {made} path {path}. output {output.hex()}."]
+        # Which values are found isn't foreseen, so the summary is where it doesn't matter.
+        if len({(len(run.log), run.end == "running") for run in firsts}) == 1:
+            lines += [summary(firsts[:targets], 1)]
     else:
-        finished = [runs[values[0]] for values in groups.values() if runs[values[0]].end != "running"]
-        total, cut = len(groups), len(groups) - len(finished)
-        lines += [f"summary leaves {total} finished {total - cut} cut {cut} tests {total} steps {sum(len(run.log) for run in finished)}"]
+        lines += [summary(firsts, 0)]
     for decided, values in groups.items():
         run = runs[values[0]]
         assert all((len(runs[v].log), runs[v].path) == (len(run.log), run.path) for v in values), name
@@ -79,17 +97,27 @@ def expected(name, steps, targets, spends):
 
 def tables():
     """Each table's file name and text."""
-    for name in sorted(path.stem for path in HERE.glob("*.elf")):
+    for name in sorted(path.stem for path in DATA.glob("*.elf")):
         if name not in ALWAYS_CUT:
             yield f"{name}.expected", expected(name, STEPS, TARGETS, False)
-    for name, (word, steps, targets) in SMALL.items():
+    for name, word, steps, targets in SMALL:
         yield f"{name}.{word}.expected", expected(name, steps, targets, targets != TARGETS)
+
+
+def stdout(texts):
+    """What the gate's program has to print: of each table with a summary that line, and `same` for the replay of each test."""
+    lines = []
+    for name, text in sorted(texts.items()):
+        found = re.search(r"^summary (.* tests (\d+) .*)$", text, re.MULTILINE)
+        if found and name not in NOT_IN_GATE:
+            lines += [found[1]] + int(found[2]) * ["same"]
+    return "".join(f"{line}\n" for line in lines)
 
 
 def compare_with_qemu():
     """Compares exits and output, and of traps the signal, where a Linux process has one that says the same."""
     wrong = compared = skipped = 0
-    for path in sorted(HERE.glob("*.elf")):
+    for path in sorted(DATA.glob("*.elf")):
         image, data = load(path), bytearray(path.read_bytes())
         assert struct.unpack_from("<I", data, 52 + 32 + 8)[0] == INPUT
         place = struct.unpack_from("<I", data, 52 + 32 + 4)[0]
@@ -120,12 +148,11 @@ def compare_with_qemu():
 def main(words):
     if words == ["--qemu"]:
         return compare_with_qemu()
-    stale = 0
-    for name, text in tables():
-        path = HERE / name
+    stale, texts = 0, dict(tables())
+    for path, text in [(GATE / "stdout", stdout(texts)), *((HERE / name, text) for name, text in texts.items())]:
         if words == ["--check"]:
             if not path.exists() or path.read_text() != text:
-                print(f"{name} isn't what brute force says")
+                print(f"{path} isn't what brute force says")
                 stale = 1
         else:
             path.write_text(text)
