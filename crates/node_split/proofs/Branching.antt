@@ -12,12 +12,12 @@ use Rattle.sym_state.specs.Values.{GivesTerm}
 use Rattle.sym_state.specs.declared.decided.Decided.TheVariants.{Side}
 use Rattle.term_trees.specs.Growth.{Continues}
 use Rattle.tree_core.specs.declared.choice.Choice.TheVariants.{No, Yes}
+use Rattle.sym_state.proofs.Grown.{Continues-refl}
 use Rattle.node_split.specs.Copies.{IsAsked}
 use Rattle.node_split.specs.Narrowing.{IsNarrower, IsSettled, answers, is_side}
 use Rattle.node_split.specs.declared.asked.Question.{Question}
 use Rattle.node_split.proofs.Bytes.{all_true, both_true, not_true, one_byte, one_is, other_side, second_false}
 use Rattle.node_split.proofs.Copying.{answers-asked, asked-number}
-use Rattle.node_split.proofs.Grown.{Continues-none}
 use Rattle.node_split.proofs.Sides.{decision_there, narrower, side_run, stood_byte}
 
 -- a byte that answers is an assignment
@@ -35,7 +35,7 @@ pub yes_narrower : (s : Symbolic) (term sample : ℕ) → IsFormed s → IsBranc
 yes_narrower s term sample formed at small answer =
     let parts = answer_stands s term true sample small answer in
     narrower s s.terms 1 1 term (Side true) Yes term (sample ∷ []) (λ input. is_side true (number_of s.terms term input))
-    (λ input. OnSide (number_of s.terms term input == 1)) formed (Continues-none s.terms) at (λ input bytes. refl)
+    (λ input. OnSide (number_of s.terms term input == 1)) formed (Continues-refl s.terms) at (λ input bytes. refl)
     (λ input is. ap OnSide is) parts.0 parts.1
 
 -- and the side on which it isn't, where the term's other is 1

@@ -37,13 +37,13 @@ use Rattle.sym_state.specs.Values.{GivesTerm, IsByte, byte_worth, worth_of}
 use Rattle.sym_state.proofs.Growing.{Continues-trans, byte_worth-grown, number-grown, width-kept}
 use Rattle.sym_state.specs.declared.value.Value.{Value}
 use Rattle.sym_machine.proofs.Standing.{IsGrown-trans}
+use Rattle.sym_state.proofs.Grown.{Continues-refl, bytes-grown}
 use Rattle.node_split.specs.Copies.{AreCopies}
 use Rattle.node_split.specs.Leaving.{AreTermsOf, HasTerms, IsPicked, IsWritable, left_as}
 use Rattle.node_split.specs.Rules.{leaf_place, rules_of}
 use Rattle.node_split.specs.declared.leaf.LeafTerms.{LeafTerms}
 use Rattle.node_split.proofs.Bytes.{all_true, both_true, bytes_true}
 use Rattle.node_split.proofs.Copying.{all-copied, copies-back, copies-front, holds-copied}
-use Rattle.node_split.proofs.Grown.{Continues-none, bytes-grown}
 
 -- ---- Copies of terms that were there before others were added.
 same-each : (P : ℕ → Type 0) (f g : ℕ → ℕ) (ids : List ℕ) → All P ids → ((id : ℕ) → P id → f id ≡ g id)
@@ -301,7 +301,7 @@ parts_picked s outputs more g ids at end is_at is_end is =
 
 -- ---- The terms of the bytes written, one after the other.
 pub grown_none : (s : Symbolic) → IsFormed s → IsGrown s s
-grown_none s formed = record { before = formed; same = refl; continues = Continues-none s.terms; formed = formed }
+grown_none s formed = record { before = formed; same = refl; continues = Continues-refl s.terms; formed = formed }
 
 pub no_terms : (g : Graph) → AreTermsOf g [] g []
 no_terms g = record { eight_bits = All-nil (λ id. width_of g id ≡ 8); worth = λ input bytes. refl }

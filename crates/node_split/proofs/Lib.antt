@@ -3,7 +3,6 @@ pub mod Asking
 pub mod Branching
 pub mod Bytes
 pub mod Copying
-pub mod Grown
 pub mod Increasing
 pub mod Parting
 pub mod Pinning

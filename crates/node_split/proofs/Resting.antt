@@ -24,6 +24,7 @@ use Rattle.sym_state.specs.Symbolic.{Symbolic, IsFormed, condition_of, stands_fo
 use Rattle.sym_state.specs.Values.{IsUnknown, byte_worth}
 use Rattle.sym_state.proofs.Growing.{number-grown, width-kept}
 use Rattle.term_trees.specs.Growth.{Continues}
+use Rattle.sym_state.proofs.Grown.{bytes-grown, holds-grown}
 use Rattle.node_split.specs.Copies.{AreCopies}
 use Rattle.node_split.specs.Leaving.{HasTerms, IsWritable, left_as}
 use Rattle.node_split.specs.Resting.{IsRest, IsWithout, founds_of}
@@ -32,7 +33,6 @@ use Rattle.node_split.specs.declared.leaf.LeafTerms.{LeafTerms}
 use Rattle.node_split.specs.declared.question.ValueAt.{ValueAt}
 use Rattle.node_split.proofs.Bytes.{all_true, and-assoc, both_true, bytes_of}
 use Rattle.node_split.proofs.Copying.{copies-front, holds-copied}
-use Rattle.node_split.proofs.Grown.{bytes-grown, holds-grown}
 use Rattle.node_split.proofs.Leaving.{alike-left, first_number, first_width, full-left, full_as, holds-left, runs-left, still_runs}
 
 -- the run of what is left: narrowed, on its side, with its sample

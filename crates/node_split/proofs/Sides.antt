@@ -17,13 +17,15 @@ use Rattle.sym_state.specs.Moves.{informed, narrowed, with_terms}
 use Rattle.sym_state.specs.Programs.{Program}
 use Rattle.sym_state.specs.Runs.{DecidedAlike, IsOpen, IsReady, left_to_do}
 use Rattle.sym_state.specs.Symbolic.{Symbolic, IsFormed, IsTrulyKnown, KnowsTruth, concrete, decision_of, known_at, most_decisions, most_steps, stands_for}
+use Rattle.sym_state.specs.Unfolded.{unfolded}
+use Rattle.sym_state.specs.Unfolding.{unfolded_run}
 use Rattle.sym_state.specs.declared.decided.Decided.{Decided}
 use Rattle.term_trees.specs.Growth.{Continues}
 use Rattle.tree_core.specs.declared.choice.Choice.{Choice}
+use Rattle.sym_state.proofs.Grown.{concrete-with_terms, stands-with_terms, unfolded-with_terms}
 use Rattle.node_split.specs.Narrowing.{GoesOn, IsNarrower, IsSettled}
 use Rattle.node_split.proofs.Bytes.{IsByte, all_true, and_last, both_true, by_bytes, bytes_of, is_byte}
 use Rattle.node_split.proofs.Increasing.{equals}
-use Rattle.node_split.proofs.Grown.{concrete-grown, stands-grown}
 
 -- an assignment of a run over one input is a byte
 pub stood_byte : (s : Symbolic) (input : List ℕ) → s.terms.inputs ≡ 1 → stands_for s input ≡ true → IsByte input
@@ -50,6 +52,7 @@ decision_there s place decision at input stands =
 record IsWithin (s u : Symbolic) : Type 0 where
   pub some : (input : List ℕ) → stands_for u input ≡ true → stands_for s input ≡ true
   pub same : (input : List ℕ) → stands_for u input ≡ true → concrete u input ≡ concrete s input
+  pub terms : unfolded u ≡ unfolded s
 
 truly_kept : (s u : Symbolic) (q : ℕ) (known : Option Decided) → IsWithin s u → IsTrulyKnown s q known
     → IsTrulyKnown u q known
@@ -86,6 +89,7 @@ open_within p s u was within inputs output steps ready = record {
     made = was.alike.made;
     alike = λ input stands. ap (λ k. decisions p.image p.regions input k) steps ∙ was.alike.alike input (within.some input stands);
   };
+  terms = λ input stands. within.terms ∙ was.terms input (within.some input stands) ∙ ap (unfolded_run p.image p.regions input) (sym steps);
 }
 
 -- with one decision more known there is less to do
@@ -101,7 +105,7 @@ pub goes_settled : (s : Symbolic) (place : ℕ) (d : Decided) → IsFormed (info
     → GoesOn s (informed s place d)
 goes_settled s place d formed settled =
     let places : length s.known ≡ most_decisions = sym (length-set s.known place (Some d)) ∙ formed.places in
-    let within : IsWithin s (informed s place d) = record { some = λ input stands. stands; same = λ input stands. refl } in record {
+    let within : IsWithin s (informed s place d) = record { some = λ input stands. stands; same = λ input stands. refl; terms = refl } in record {
       is_open = λ p was. open_within p s (informed s place d) was within refl refl refl (record {
         sampled = was.ready.sampled;
         knows = knows_more s (informed s place d) place d places settled.in_range refl within settled.settled was.ready.knows;
@@ -129,7 +133,7 @@ stands-narrowed : (s : Symbolic) (g : Graph) (place : ℕ) (d : Decided) (choice
 stands-narrowed s g place d choice term sample test formed grown tells input =
     ap (λ b. are_bytes input && b) (holds-last g s.condition term input)
     ∙ by_bytes (are_bytes input) (holds (record { graph = g; asserted = s.condition }) input) (number_of g term input == 1) (test input) (λ bytes. tells input (bytes_of input bytes))
-    ∙ ap (λ b. b && test input) (stands-grown s g input formed grown)
+    ∙ ap (λ b. b && test input) (stands-with_terms s g input formed grown)
 
 pub narrower : (s : Symbolic) (g : Graph) (place bits x : ℕ) (d : Decided) (choice : Choice) (term : ℕ)
     (sample : List ℕ) (test : List ℕ → Bool) (decision : List ℕ → Decision) → IsFormed s → Continues s.terms g
@@ -144,7 +148,7 @@ narrower s g place bits x d choice term sample test decision formed grown at tel
     = stands-narrowed s g place d choice term sample test formed grown tells in
     let parts : (input : List ℕ) → stands_for u input ≡ true → (stands_for s input ≡ true) × (test input ≡ true)
     = λ input on. both_true (stands_for s input) (test input) (sym (covers input) ∙ on) in
-    let within : IsWithin s u = record { some = λ input on. (parts input on).0; same = λ input on. concrete-grown s g input formed grown } in
+    let within : IsWithin s u = record { some = λ input on. (parts input on).0; same = λ input on. concrete-with_terms s g input formed grown; terms = unfolded-with_terms s g formed grown } in
     let new : IsTrulyKnown u place (Some d) = λ input on.
     ap (λ (c : State). slice_get (step_decisions c) place) (within.same input on)
     ∙ decision_there s place decision at.stands input (parts input on).0 ∙ ap Some (decides input (parts input on).1) in record {

@@ -40,6 +40,7 @@ use Rattle.sym_state.specs.Values.{GivesTerm}
 use Rattle.sym_state.proofs.Forms.{AreBits-grown}
 use Rattle.sym_state.proofs.Growing.{Continues-trans, number-grown}
 use Rattle.rv_spec.specs.Arithmetic.{one_where}
+use Rattle.sym_state.proofs.Grown.{Continues-refl, ones-grown}
 use Rattle.node_split.specs.Resting.{AreSidesOf, IsRest, IsSideOf, IsWithout}
 use Rattle.node_split.specs.Rules.{Piece, content_place, rules_of}
 use Rattle.node_split.specs.Splits.{IsForkOf, IsForked}
@@ -52,7 +53,6 @@ use Rattle.node_split.proofs.Copying.{asked-holds, asked-number}
 use Rattle.node_split.specs.declared.question.ValueAt.{ValueAt}
 use Rattle.node_split.proofs.Apart.{AreOtherSides, AreTwoSides, IsOnFork, kids_apart}
 use Rattle.node_split.proofs.Bytes.{IsByte, all_true, both_true, not_true, one_is}
-use Rattle.node_split.proofs.Grown.{Continues-none, ones-grown}
 use Rattle.node_split.proofs.Sides.{decision_there, stood_byte}
 use Rattle.node_split.proofs.Increasing.{counted-once, equals, or-true, same}
 use Rattle.node_split.proofs.Sharing.{count-cons, side-choices, side-covers, side_form, side_on_fork, side_part, side_passes, two_runs}
@@ -222,7 +222,7 @@ pub without_none : (s : Symbolic) (term : ℕ) → IsWithout s term [] s
 without_none s term = record {
   ids = [];
   same = ap (λ ids. record s { condition = ids }) (sym (append-nil s.condition));
-  continues = Continues-none s.terms;
+  continues = Continues-refl s.terms;
   bits = All-nil (λ id. width_of s.terms id ≡ 1);
   each = refl;
   tells = λ input bytes. refl;

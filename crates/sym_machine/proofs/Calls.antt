@@ -20,6 +20,9 @@ use Rattle.sym_state.specs.Moves.{IsGrown}
 use Rattle.sym_state.specs.Symbolic.{Symbolic, IsFormed, concrete, set_value, stands_for, value_at}
 use Rattle.sym_state.specs.Values.{byte_worth, worth_of}
 use Rattle.sym_state.specs.declared.value.Value.TheVariants.{Number}
+use Rattle.sym_state.specs.Unfolded.{unfolded}
+use Rattle.sym_state.specs.Unfolding as symbolic
+use Rattle.sym_state.proofs.Grown.{Continues-refl}
 use Rattle.sym_machine.specs.Calls.{IsWritten}
 use Rattle.sym_machine.specs.Steps.{Carries, Comes}
 use Rattle.sym_machine.specs.Stops.{DecidesBy, StandsAt, Stops, StopsAt}
@@ -28,7 +31,7 @@ use Rattle.sym_machine.specs.declared.halt.Halt.TheVariants.{Side as SideHalt, N
 use Rattle.sym_machine.specs.declared.outcome.RunEnd.TheVariants.{Exits, Traps}
 use Rattle.sym_machine.specs.declared.outcome.Step.{Step}
 use Rattle.sym_machine.specs.declared.outcome.Step.TheVariants.{Running, Ended}
-use Rattle.sym_machine.proofs.Standing.{Continues-refl, Keeps-refl, registers-set, x-worth}
+use Rattle.sym_machine.proofs.Standing.{Keeps-refl, map-map, registers-set, x-worth}
 
 -- ---- Bytes behind the output.
 pub none_written : (s : Symbolic) (start : ℕ) → IsWritten s s start 0
@@ -77,10 +80,6 @@ after_write s start count = record s {
   registers = set_value s.registers 10 (Number count);
   output = s.output ++ map (memory_byte s.memory) (addresses start count);
 }
-
-map-map : {A B C : Type 0} (f : B → C) (g : A → B) (xs : List A) → map f (map g xs) ≡ map (λ x. f (g x)) xs
-map-map f g [] = refl
-map-map f g (x ∷ xs) = ap (λ ys. f (g x) ∷ ys) (map-map f g xs)
 
 written_on : (s : Symbolic) (input : List ℕ) (start count : ℕ) →
     record (concrete s input) {
@@ -230,6 +229,7 @@ exits s number = record {
         ∙ ap (λ n. machine.Ended (Exit (n % 256)) (concrete s input)) (x-worth s input 10);
   };
   alike = record { made = Needs 93 ∷ []; alike = λ input stands. calls (concrete s input) 93 (number input stands) };
+  terms = λ input stands. sym (ap (symbolic.call (unfolded s)) (calls (concrete s input) 93 (number input stands)));
 }
 
 no_call : (c : State) (n : ℕ) → n ≢ 93 → n ≢ 64 → machine.call c n ≡ trapped Call c
@@ -237,6 +237,11 @@ no_call c n other another =
     let first : (n == 93) ≡ false = grind (arith, nat_tests, other) in
     let second : (n == 64) ≡ false = grind (arith, nat_tests, another) in
     rw (first, second) refl
+
+no_call_decides : (c : State) (n : ℕ) → x c 17 ≡ n → n ≢ 64 → call_decisions c ≡ Needs n ∷ []
+no_call_decides c n is another =
+    let second : (n == 64) ≡ false = grind (arith, nat_tests, another) in
+    calls c n is ∙ ap (λ b. Needs n ∷ (if b then write_decisions c else [])) second
 
 pub no_such_call : (s : Symbolic) (n : ℕ) → IsKnown s 17 n → n ≢ 93 → n ≢ 64 → Carries s s (Ended (Traps Call)) Ecall
 no_such_call s n number other another = record {
@@ -246,15 +251,20 @@ no_such_call s n number other another = record {
   };
   alike = record {
     made = Needs n ∷ [];
-    alike = λ input stands.
-        let second : (n == 64) ≡ false = grind (arith, nat_tests, another) in
-        calls (concrete s input) n (number input stands) ∙ ap (λ b. Needs n ∷ (if b then write_decisions (concrete s input) else [])) second;
+    alike = λ input stands. no_call_decides (concrete s input) n (number input stands) another;
   };
+  terms = λ input stands. sym (ap (symbolic.call (unfolded s)) (no_call_decides (concrete s input) n (number input stands) another));
 }
 
 not_written : (c : State) (f start count : ℕ) → (f == 1 || f == 2) ≡ false → write c f start count ≡ trapped Call c
 unfolding write
 not_written c f start count other = rw other refl
+
+no_file_decides : (c : State) (f : ℕ) → x c 17 ≡ 64 → x c 10 ≡ f → (f == 1 || f == 2) ≡ false → call_decisions c ≡ Needs 64 ∷ Needs f ∷ []
+no_file_decides c f is file other =
+    calls_write c is
+    ∙ ap (λ n. Needs 64 ∷ Needs n ∷ (if n == 1 || n == 2 then Needs (x c 11) ∷ Needs (x c 12) ∷ [] else [])) file
+    ∙ ap (λ b. Needs 64 ∷ Needs f ∷ (if b then Needs (x c 11) ∷ Needs (x c 12) ∷ [] else [])) other
 
 pub no_file : (s : Symbolic) (f : ℕ) → IsKnown s 17 64 → IsKnown s 10 f → (f == 1 || f == 2) ≡ false
     → Carries s s (Ended (Traps Call)) Ecall
@@ -268,11 +278,9 @@ no_file s f number file other = record {
   };
   alike = record {
     made = Needs 64 ∷ Needs f ∷ [];
-    alike = λ input stands.
-        calls_write (concrete s input) (number input stands)
-        ∙ ap (λ n. Needs 64 ∷ Needs n ∷ (if n == 1 || n == 2 then Needs (x (concrete s input) 11) ∷ Needs (x (concrete s input) 12) ∷ [] else [])) (file input stands)
-        ∙ ap (λ b. Needs 64 ∷ Needs f ∷ (if b then Needs (x (concrete s input) 11) ∷ Needs (x (concrete s input) 12) ∷ [] else [])) other;
+    alike = λ input stands. no_file_decides (concrete s input) f (number input stands) (file input stands) other;
   };
+  terms = λ input stands. sym (ap (symbolic.call (unfolded s)) (no_file_decides (concrete s input) f (number input stands) (file input stands) other));
 }
 
 -- both files are one
@@ -280,9 +288,15 @@ either_file : (c : State) (f start count : ℕ) → (f == 1 || f == 2) ≡ true 
 unfolding write
 either_file c f start count there = rw there refl
 
+-- all that a write decides
+write_decides : (c : State) (f start count : ℕ) → x c 17 ≡ 64 → x c 10 ≡ f → (f == 1 || f == 2) ≡ true → x c 11 ≡ start → x c 12 ≡ count
+    → call_decisions c ≡ Needs 64 ∷ Needs f ∷ Needs start ∷ Needs count ∷ []
+write_decides c f start count is file there at many = calls_file c f is file there ∙ cc (at, many)
+
 pub writes : (s t : Symbolic) (step : Step) (f start count : ℕ) → IsKnown s 17 64 → IsKnown s 10 f → (f == 1 || f == 2) ≡ true
-    → IsKnown s 11 start → IsKnown s 12 count → Comes s t step (λ c. write c 1 start count) → Carries s t step Ecall
-writes s t step f start count number file there at many comes = record {
+    → IsKnown s 11 start → IsKnown s 12 count → Comes s t step (λ c. write c 1 start count)
+    → unfolded t ≡ symbolic.write (unfolded s) start (min count 4096) → Carries s t step Ecall
+writes s t step f start count number file there at many comes terms = record {
   comes = record {
     keeps = comes.keeps;
     is = λ input stands.
@@ -294,7 +308,9 @@ writes s t step f start count number file there at many comes = record {
   };
   alike = record {
     made = Needs 64 ∷ Needs f ∷ Needs start ∷ Needs count ∷ [];
-    alike = λ input stands.
-        calls_file (concrete s input) f (number input stands) (file input stands) there ∙ cc (at input stands, many input stands);
+    alike = λ input stands. write_decides (concrete s input) f start count (number input stands) (file input stands) there (at input stands) (many input stands);
   };
+  terms = λ input stands.
+      terms ∙ sym (ap (symbolic.call (unfolded s))
+      (write_decides (concrete s input) f start count (number input stands) (file input stands) there (at input stands) (many input stands)));
 }

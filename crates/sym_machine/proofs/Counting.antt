@@ -1,5 +1,5 @@
 -- A step: what comes next is fetched and carried out, and the step is counted.
-use Rattle.std.proofs.Common.{◌≡◌, ℕ, ◌+◌, ◌&&◌, List, ◌∷◌, refl, sym, ap, ◌∙◌}
+use Rattle.std.proofs.Common.{◌≡◌, ℕ, ◌+◌, ◌&&◌, true, List, ◌∷◌, refl, sym, ap, ◌∙◌}
 use Rattle.std.specs.Prelude.{Some, Result, Ok, Err}
 use Rattle.bv_dag.specs.Queries.{holds}
 use Rattle.fork_spec.specs.Leaves.{are_bytes}
@@ -9,14 +9,17 @@ use Rattle.rv_spec.specs.Decisions.{Number as Needs, instr_decisions, step_decis
 use Rattle.rv_spec.specs.Machine.{State, execute_fetched, fetch, next}
 use Rattle.sym_state.specs.Moves.{IsGrown, counted}
 use Rattle.sym_state.specs.Symbolic.{Symbolic, IsFormed, concrete, stands_for}
-use Rattle.sym_machine.specs.Fetching.{IsFetched}
+use Rattle.sym_state.specs.Unfolded.{unfolded}
+use Rattle.sym_state.specs.Unfolding.{execute_of}
+use Rattle.sym_state.proofs.Grown.{concrete-grown, holds-grown, unfolded-grown}
+use Rattle.sym_machine.specs.Fetching.{IsFetched, unfolded_by}
 use Rattle.sym_machine.specs.Steps.{AreAlike, Carries, Comes, Keeps, Steps, outcome_on}
 use Rattle.sym_machine.specs.Stops.{DecidesBy}
 use Rattle.sym_machine.specs.declared.outcome.RunEnd.{RunEnd}
 use Rattle.sym_machine.specs.declared.outcome.RunEnd.TheVariants.{Exits, Traps}
 use Rattle.sym_machine.specs.declared.outcome.Step.{Step}
 use Rattle.sym_machine.specs.declared.outcome.Step.TheVariants.{Running, Ended}
-use Rattle.sym_machine.proofs.Standing.{Keeps-made, Keeps-refl, concrete-grown, holds-grown, still_stands}
+use Rattle.sym_machine.proofs.Standing.{Keeps-made, Keeps-refl, still_stands}
 
 -- what an instruction leads to stands for the same assignments
 pub stands-kept : (s u : Symbolic) (input : List ℕ) → IsFormed s → Keeps s u → stands_for u input ≡ stands_for s input
@@ -39,8 +42,9 @@ outcome-counted u input Running = refl
 outcome-counted u input (Ended end) = ended-counted u input end
 
 counts : (s t u : Symbolic) (step : Step) (fetched : Result Instr Trap) → IsGrown s t → IsFetched s fetched
-    → Comes t u step (λ c. execute_fetched c fetched) → AreAlike s step_decisions → Steps s (counted u) step
-counts s t u step fetched grown is comes alike =
+    → Comes t u step (λ c. execute_fetched c fetched) → AreAlike s step_decisions
+    → ((input : List ℕ) → stands_for s input ≡ true → unfolded u ≡ unfolded_by (unfolded s) (concrete s input) fetched) → Steps s (counted u) step
+counts s t u step fetched grown is comes alike terms =
     let keeps = Keeps-made s t u grown comes.keeps in
     record {
       same = record {
@@ -58,12 +62,14 @@ counts s t u step fetched grown is comes alike =
           ∙ comes.is input (still_stands s t input grown stands)
           ∙ outcome-counted u input step;
       alike = alike;
+      terms = λ input stands. terms input stands ∙ sym (is.terms input stands (unfolded s));
     }
 
 -- nothing was fetched
 pub counts_trap : (s t : Symbolic) (trap : Trap) → IsGrown s t → IsFetched s (Err trap) → Steps s (counted t) (Ended (Traps trap))
 counts_trap s t trap grown is =
     counts s t t (Ended (Traps trap)) (Err trap) grown is (record { keeps = Keeps-refl t; is = λ input stands. refl }) is.decides
+    (λ input stands. unfolded-grown s t grown)
 
 -- an instruction was fetched and carried out
 pub counts_instr : (s t u : Symbolic) (step : Step) (instr : Instr) → IsGrown s t → IsFetched s (Ok instr)
@@ -78,3 +84,7 @@ counts_instr s t u step instr grown is carries =
           (ap (λ c. instr_decisions c (Some instr)) (sym (concrete-grown s t input grown))
           ∙ carries.alike.alike input (still_stands s t input grown stands));
     })
+    (λ input stands.
+    carries.terms input (still_stands s t input grown stands)
+    ∙ ap (λ x. execute_of x instr (instr_decisions (concrete t input) (Some instr))) (unfolded-grown s t grown)
+    ∙ ap (λ c. execute_of (unfolded s) instr (instr_decisions c (Some instr))) (concrete-grown s t input grown))

@@ -14,15 +14,20 @@ use Rattle.rv_spec.specs.Machine.{State, even, to_register, x}
 use Rattle.rv_spec.specs.Machine as machine
 use Rattle.sym_state.specs.Moves.{IsGrown, MakesBit, MakesValue}
 use Rattle.sym_state.specs.Symbolic.{Symbolic, concrete, set_value, stands_for, value_at}
+use Rattle.sym_state.specs.Expressions.{Number as ANumber, combined_of, value_expression}
+use Rattle.sym_state.specs.Unfolded.{expression_at, unfolded}
+use Rattle.sym_state.specs.Unfolding as symbolic
 use Rattle.sym_state.specs.Values.{bit_worth, worth_of}
 use Rattle.sym_state.specs.declared.value.Bit.{Bit}
 use Rattle.sym_state.specs.declared.value.Value.{Value}
 use Rattle.sym_state.specs.declared.value.Value.TheVariants.{Number}
+use Rattle.sym_state.proofs.Grown.{concrete-grown, unfolded-grown}
 use Rattle.sym_machine.specs.Steps.{AreAlike, Carries, Comes}
 use Rattle.sym_machine.specs.Stops.{DecidesBy, StandsAt}
 use Rattle.sym_machine.specs.declared.outcome.Step.{Step}
 use Rattle.sym_machine.specs.declared.outcome.Step.TheVariants.{Running}
-use Rattle.sym_machine.proofs.Standing.{Comes-by, Comes-made, IsGrown-trans, Keeps-moved, Keeps-onward, bytes_of, concrete-grown, still_stands, stood, to_register-is, x-worth}
+use Rattle.sym_machine.proofs.Unfolds.{expression-x, unfolded-onward, written}
+use Rattle.sym_machine.proofs.Standing.{Comes-by, Comes-made, IsGrown-trans, Keeps-moved, Keeps-onward, bytes_of, still_stands, stood, to_register-is, x-worth}
 
 -- ---- A register is written.
 pub comes_set : (s : Symbolic) (rd : ℕ) (v : Value) (of : State → ℕ)
@@ -50,6 +55,16 @@ computes s t op rd rs1 second v of made same =
     ∙ ap (arithmetic.combined op (worth_of s.terms input (value_at s.registers rs1))) (same input before)
     ∙ sym (made.gives.worth input (bytes_of s input before))))
 
+pub computes_terms : (s t u : Symbolic) (op : RegisterOp) (rd rs1 : ℕ) (second v first : Value) → IsGrown s t
+    → first ≡ value_at s.registers rs1
+    → value_expression t.terms v ≡ combined_of op (value_expression s.terms first) (value_expression s.terms second)
+    → u ≡ record t { pc = sum32 t.pc 4; registers = set_value t.registers rd v }
+    → unfolded u ≡ symbolic.to_register (unfolded s) rd (combined_of op (expression_at (unfolded s).registers rs1) (value_expression s.terms second))
+computes_terms s t u op rd rs1 second v first grown is made there =
+    written s t u rd v (combined_of op (expression_at (unfolded s).registers rs1) (value_expression s.terms second)) grown there
+    (made ∙ ap (λ w. combined_of op (value_expression s.terms w) (value_expression s.terms second)) is
+    ∙ ap (λ e. combined_of op e (value_expression s.terms second)) (sym (expression-x s rs1)))
+
 -- ---- A conditional branch.
 module _ (s t : Symbolic) (test : Test) (rs1 rs2 offset : ℕ) (bit : Bit)
     (made : MakesBit s t bit (λ input. arithmetic.passes test (worth_of s.terms input (value_at s.registers rs1)) (worth_of s.terms input (value_at s.registers rs2))))
@@ -74,8 +89,9 @@ module _ (s t : Symbolic) (test : Test) (rs1 rs2 offset : ℕ) (bit : Bit)
 
   pub branches : (u : Symbolic) (step : Step) (taken : Bool) (target : ℕ) → target ≡ sum32 s.pc offset
       → ((input : List ℕ) → stands_for t input ≡ true → bit_worth t.terms input bit ≡ taken)
-      → Comes t u step (λ c. machine.branch c taken target) → Carries s u step (Branch test rs1 rs2 offset)
-  branches u step taken target at known comes =
+      → Comes t u step (λ c. machine.branch c taken target) → unfolded u ≡ symbolic.branch (unfolded t) taken target
+      → Carries s u step (Branch test rs1 rs2 offset)
+  branches u step taken target at known comes terms =
       let is_taken : (input : List ℕ) → stands_for s input ≡ true → arithmetic.passes test (x (concrete s input) rs1) (x (concrete s input) rs2) ≡ taken =
       λ input stands. passes_is input stands ∙ known input (still_stands s t input made.grown stands) in
       record {
@@ -84,6 +100,10 @@ module _ (s t : Symbolic) (test : Test) (rs1 rs2 offset : ℕ) (bit : Bit)
             ∙ ap (machine.branch (concrete s input) taken) (sym at))
             (Comes-made s t u step (λ c. machine.branch c taken target) made.grown comes);
         alike = record { made = Side taken ∷ []; alike = λ input stands. ap (λ b. Side b ∷ []) (is_taken input stands) };
+        terms = λ input stands.
+            terms ∙ ap (λ x. symbolic.branch x taken target) (unfolded-grown s t made.grown)
+            ∙ ap (symbolic.branch (unfolded s) taken) at
+            ∙ ap (λ b. symbolic.branch (unfolded s) b (sum32 s.pc offset)) (sym (is_taken input stands));
       }
 
 -- ---- A jump to an address in a register.
@@ -116,8 +136,9 @@ module _ (s t u : Symbolic) (rd rs1 offset : ℕ) (sum target : Value)
 
   pub jumps : (v : Symbolic) (step : Step) (at : ℕ)
       → ((input : List ℕ) → stands_for u input ≡ true → worth_of u.terms input target ≡ at)
-      → Comes u v step (λ c. machine.linked (machine.noted c (Target at)) rd at) → Carries s v step (Jalr rd rs1 offset)
-  jumps v step at known comes =
+      → Comes u v step (λ c. machine.linked (machine.noted c (Target at)) rd at)
+      → unfolded v ≡ symbolic.linked (symbolic.noted (unfolded u) (Target at)) rd at → Carries s v step (Jalr rd rs1 offset)
+  jumps v step at known comes terms =
       let is_at : (input : List ℕ) → stands_for s input ≡ true → even (sum32 (x (concrete s input) rs1) offset) ≡ at =
       λ input stands. target_is input stands ∙ known input (still_stands s u input grown stands) in
       record {
@@ -125,6 +146,9 @@ module _ (s t u : Symbolic) (rd rs1 offset : ℕ) (sum target : Value)
             (λ input stands. ap (λ n. machine.linked (machine.noted (concrete s input) (Target n)) rd n) (is_at input stands))
             (Comes-made s u v step (λ c. machine.linked (machine.noted c (Target at)) rd at) grown comes);
         alike = record { made = Needs at ∷ []; alike = λ input stands. ap (λ n. Needs n ∷ []) (is_at input stands) };
+        terms = λ input stands.
+            terms ∙ ap (λ x. symbolic.linked (symbolic.noted x (Target at)) rd at) (unfolded-grown s u grown)
+            ∙ ap (λ n. symbolic.linked (symbolic.noted (unfolded s) (Target n)) rd n) (sym (is_at input stands));
       }
 
 -- ---- Instructions that need nothing.
@@ -136,6 +160,7 @@ pub loads_upper : (s : Symbolic) (rd upper : ℕ)
 loads_upper s rd upper = record {
   comes = comes_set s rd (Number upper) (λ c. upper) (λ input stands. refl);
   alike = nothing_decided s;
+  terms = λ input stands. unfolded-onward s rd (Number upper);
 }
 
 pub adds_upper : (s : Symbolic) (rd upper address : ℕ) → address ≡ sum32 s.pc upper
@@ -143,6 +168,7 @@ pub adds_upper : (s : Symbolic) (rd upper address : ℕ) → address ≡ sum32 s
 adds_upper s rd upper address is = record {
   comes = comes_set s rd (Number address) (λ c. sum32 c.pc upper) (λ input stands. sym is);
   alike = nothing_decided s;
+  terms = λ input stands. unfolded-onward s rd (Number address) ∙ ap (λ n. symbolic.to_register (unfolded s) rd (ANumber n)) is;
 }
 
 pub goes_on : (s : Symbolic) → Carries s (record s { pc = sum32 s.pc 4 }) Running Fence
@@ -152,6 +178,7 @@ goes_on s = record {
     is = λ input stands. refl;
   };
   alike = nothing_decided s;
+  terms = λ input stands. refl;
 }
 
 -- ---- What is computed of registers and numbers.
@@ -160,31 +187,47 @@ Computes s u step op rd rs1 second = (of : State → ℕ)
     → ((input : List ℕ) → stands_for s input ≡ true → of (concrete s input) ≡ worth_of s.terms input second)
     → Comes s u step (λ c. to_register c rd (arithmetic.combined op (x c rs1) (of c)))
 
+-- its terms
+abbrev pub ComputesTerms : Symbolic → Symbolic → RegisterOp → (rd rs1 : ℕ) → Value → Type 0
+ComputesTerms s u op rd rs1 second =
+    unfolded u ≡ symbolic.to_register (unfolded s) rd (combined_of op (expression_at (unfolded s).registers rs1) (value_expression s.terms second))
+
 pub with_immediate : (s u : Symbolic) (step : Step) (op : ImmediateOp) (of : RegisterOp) (rd rs1 immediate : ℕ)
     → ((a b : ℕ) → arithmetic.combined of a b ≡ arithmetic.with_immediate op a b)
-    → Computes s u step of rd rs1 (Number immediate) → Carries s u step (Immediate op rd rs1 immediate)
-with_immediate s u step op of rd rs1 immediate same computed = record {
+    → of ≡ symbolic.of_immediate op
+    → Computes s u step of rd rs1 (Number immediate) → ComputesTerms s u of rd rs1 (Number immediate)
+    → Carries s u step (Immediate op rd rs1 immediate)
+with_immediate s u step op of rd rs1 immediate same is computed terms = record {
   comes = Comes-by s u step (λ c. to_register c rd (arithmetic.combined of (x c rs1) immediate))
       (λ c. to_register c rd (arithmetic.with_immediate op (x c rs1) immediate))
       (λ input stands. ap (to_register (concrete s input) rd) (sym (same (x (concrete s input) rs1) immediate)))
       (computed (λ c. immediate) (λ input stands. refl));
   alike = nothing_decided s;
+  terms = λ input stands.
+      terms ∙ ap (λ o. symbolic.to_register (unfolded s) rd (combined_of o (expression_at (unfolded s).registers rs1) (ANumber immediate))) is;
 }
 
 pub shifted_by : (s u : Symbolic) (step : Step) (op : ShiftOp) (of : RegisterOp) (rd rs1 amount : ℕ) → amount < 32
     → ((a n : ℕ) → n < 32 → arithmetic.combined of a n ≡ arithmetic.shifted op a n)
-    → Computes s u step of rd rs1 (Number amount) → Carries s u step (ShiftImmediate op rd rs1 amount)
-shifted_by s u step op of rd rs1 amount small same computed = record {
+    → of ≡ symbolic.of_shift op
+    → Computes s u step of rd rs1 (Number amount) → ComputesTerms s u of rd rs1 (Number amount)
+    → Carries s u step (ShiftImmediate op rd rs1 amount)
+shifted_by s u step op of rd rs1 amount small same is computed terms = record {
   comes = Comes-by s u step (λ c. to_register c rd (arithmetic.combined of (x c rs1) amount))
       (λ c. to_register c rd (arithmetic.shifted op (x c rs1) amount))
       (λ input stands. ap (to_register (concrete s input) rd) (sym (same (x (concrete s input) rs1) amount small)))
       (computed (λ c. amount) (λ input stands. refl));
   alike = nothing_decided s;
+  terms = λ input stands.
+      terms ∙ ap (λ o. symbolic.to_register (unfolded s) rd (combined_of o (expression_at (unfolded s).registers rs1) (ANumber amount))) is;
 }
 
 pub of_two : (s u : Symbolic) (step : Step) (op : RegisterOp) (rd rs1 rs2 : ℕ)
-    → Computes s u step op rd rs1 (value_at s.registers rs2) → Carries s u step (Binary op rd rs1 rs2)
-of_two s u step op rd rs1 rs2 computed = record {
+    → Computes s u step op rd rs1 (value_at s.registers rs2) → ComputesTerms s u op rd rs1 (value_at s.registers rs2)
+    → Carries s u step (Binary op rd rs1 rs2)
+of_two s u step op rd rs1 rs2 computed terms = record {
   comes = computed (λ c. x c rs2) (λ input stands. x-worth s input rs2);
   alike = nothing_decided s;
+  terms = λ input stands.
+      terms ∙ ap (λ e. symbolic.to_register (unfolded s) rd (combined_of op (expression_at (unfolded s).registers rs1) e)) (sym (expression-x s rs2));
 }

@@ -13,15 +13,29 @@ use Rattle.sym_state.specs.Moves.{IsGrown}
 use Rattle.sym_state.specs.Symbolic.{Symbolic, concrete, stands_for}
 use Rattle.sym_state.specs.Values.{worth_of}
 use Rattle.sym_state.specs.declared.value.Value.{Value}
-use Rattle.sym_machine.specs.Fetching.{DecidesOnce, IsFetched}
+use Rattle.sym_state.specs.Unfolded.{Unfolded}
+use Rattle.sym_state.specs.Unfolding.{execute_word, next_unfolded}
+use Rattle.sym_state.proofs.Grown.{concrete-grown}
+use Rattle.sym_machine.specs.Fetching.{DecidesOnce, IsFetched, unfolded_by}
 use Rattle.sym_machine.specs.Stops.{StandsAt}
-use Rattle.sym_machine.proofs.Standing.{concrete-grown, stood}
+use Rattle.sym_machine.proofs.Standing.{stood}
 
 pub zero_true : (n : ℕ) → n ≡ 0 → (n == 0) ≡ true
 zero_true n is = rw is refl
 
 pub zero_false : (n : ℕ) → (n ≡ 0 → ⊥) → (n == 0) ≡ false
 zero_false n other = search (rules, other)
+
+-- ---- What the terms become.
+nothing_next : (u : Unfolded) → next_unfolded u [] ≡ u
+unfolding next_unfolded
+nothing_next u = refl
+
+word_next : (u : Unfolded) (c : State) (w : ℕ) (i : Option Instr) → instr w ≡ i
+    → next_unfolded u (Needs w ∷ instr_decisions c (instr w)) ≡ unfolded_by u c (ok_or i Illegal)
+unfolding next_unfolded
+word_next u c w None is = ap (λ j. execute_word u j (instr_decisions c j)) is
+word_next u c w (Some k) is = ap (λ j. execute_word u j (instr_decisions c j)) is
 
 -- ---- Nothing is fetched from an address that is no multiple of 4, nor from a page without X.
 misaligned : (c : State) → (c.pc % 4 == 0) ≡ false → fetch c.flags c.byte c.pc ≡ Err FetchMisaligned
@@ -36,6 +50,7 @@ pub fetch_misaligned : (s : Symbolic) → (s.pc % 4 ≡ 0 → ⊥) → IsFetched
 fetch_misaligned s other = record {
   is = λ input stands. misaligned (concrete s input) (zero_false (s.pc % 4) other);
   decides = record { made = []; alike = λ input stands. misaligned-decides (concrete s input) (zero_false (s.pc % 4) other) };
+  terms = λ input stands u. ap (next_unfolded u) (misaligned-decides (concrete s input) (zero_false (s.pc % 4) other)) ∙ nothing_next u;
 }
 
 refused : (c : State) → (c.pc % 4 == 0) ≡ true → can_execute c.flags c.pc ≡ false → fetch c.flags c.byte c.pc ≡ Err FetchAccess
@@ -51,6 +66,7 @@ pub fetch_refused : (s : Symbolic) → s.pc % 4 ≡ 0 → can_execute (memory_fl
 fetch_refused s aligned cannot = record {
   is = λ input stands. refused (concrete s input) (zero_true (s.pc % 4) aligned) cannot;
   decides = record { made = []; alike = λ input stands. refused-decides (concrete s input) (zero_true (s.pc % 4) aligned) cannot };
+  terms = λ input stands u. ap (next_unfolded u) (refused-decides (concrete s input) (zero_true (s.pc % 4) aligned) cannot) ∙ nothing_next u;
 }
 
 -- ---- Else the word is.
@@ -109,4 +125,7 @@ fetch_word s w i aligned can word is shifts = record {
       ∙ ap (λ j. ok_or j Illegal) (sym is);
   decides = decides_once s w i (sym is) shifts (λ input stands.
       known_decides (concrete s input) w (zero_true (s.pc % 4) aligned) can (word input stands));
+  terms = λ input stands u.
+      ap (next_unfolded u) (known_decides (concrete s input) w (zero_true (s.pc % 4) aligned) can (word input stands))
+      ∙ word_next u (concrete s input) w i (sym is);
 }

@@ -5,4 +5,5 @@ pub mod Fetches
 pub mod Putting
 pub mod Runs
 pub mod Standing
+pub mod Unfolds
 pub mod Transfers

@@ -17,10 +17,11 @@ use Rattle.sym_state.specs.Symbolic.{Symbolic, IsFormed, concrete, stands_for, v
 use Rattle.sym_state.specs.Values.{IsWide, byte_worth, worth_of}
 use Rattle.sym_state.specs.declared.value.Value.{Value}
 use Rattle.sym_state.proofs.Growing.{Continues-trans, IsWide-grown, worth-grown}
+use Rattle.sym_state.proofs.Grown.{concrete-grown, stands-with_terms}
 use Rattle.sym_machine.specs.Steps.{Comes, Keeps, Puts}
 use Rattle.sym_machine.specs.declared.outcome.Step.{Step}
 use Rattle.sym_machine.specs.declared.outcome.Step.TheVariants.{Running}
-use Rattle.sym_machine.proofs.Standing.{bytes_of, concrete-grown, stands-with_terms, x-worth}
+use Rattle.sym_machine.proofs.Standing.{bytes_of, x-worth}
 
 -- a state with these bytes from an address on
 abbrev with_put : State → ℕ → List ℕ → State

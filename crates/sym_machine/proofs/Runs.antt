@@ -9,8 +9,10 @@ use Rattle.rv_spec.specs.Machine.{State, Running as GoesOn, Ended as Stops, firs
 use Rattle.rv_spec.specs.Runs.{Run, IsRunOf, run, run_from, continued, after_outcome}
 use Rattle.sym_state.specs.Moves.{IsGrown, IsSame}
 use Rattle.sym_state.specs.Programs.{Program}
-use Rattle.sym_state.specs.Runs.{DecidedAlike, IsOpen, IsReady, left_to_do}
+use Rattle.sym_state.specs.Runs.{AreTermsOf, DecidedAlike, IsOpen, IsReady, left_to_do}
 use Rattle.sym_state.specs.Symbolic.{Symbolic, IsTrulyKnown, concrete, known_at, most_decisions, most_steps, nothing_known, stands_for}
+use Rattle.sym_state.specs.Unfolding.{next_unfolded, unfolded_run}
+use Rattle.sym_state.proofs.Grown.{concrete-grown, stands-grown, unfolded-grown}
 use Rattle.sym_machine.specs.Advancing.{Advances, IsEnded, IsUnderway}
 use Rattle.sym_machine.specs.Steps.{Steps, end_on}
 use Rattle.sym_machine.specs.Stops.{IsBranch, IsPin}
@@ -18,7 +20,7 @@ use Rattle.sym_machine.specs.declared.stepping.Stop.TheVariants.{Branch as Branc
 use Rattle.sym_machine.specs.declared.outcome.RunEnd.{RunEnd}
 use Rattle.sym_machine.specs.declared.outcome.Step.{Step}
 use Rattle.sym_machine.specs.declared.outcome.Step.TheVariants.{Running, Ended}
-use Rattle.sym_machine.proofs.Standing.{concrete-grown, ready-grown, stands-grown, stood}
+use Rattle.sym_machine.proofs.Standing.{ready-grown, stood}
 
 -- of a run that has not ended
 run_more : (image : Image) (all : List Region) (input : List ℕ) (steps : ℕ) (s : State)
@@ -55,6 +57,15 @@ decisions_more image all input steps s h =
     ap (λ k. decisions_from (first_state image all input) k) (add-one steps)
     ∙ ap (λ (r : Run). decisions image all input steps ++ run_decisions r r.end) h
 
+-- Its terms then.
+unfolded_more : (image : Image) (all : List Region) (input : List ℕ) (steps : ℕ) (s : State)
+    → run image all input steps ≡ record { state = s; end = None; steps = steps }
+    → unfolded_run image all input (steps + 1) ≡ next_unfolded (unfolded_run image all input steps) (step_decisions s)
+unfolding unfolded_run
+unfolded_more image all input steps s h =
+    ap (unfolded_run image all input) (add-one steps)
+    ∙ ap (λ (r : Run). next_unfolded (unfolded_run image all input steps) (step_decisions r.state)) h
+
 -- ---- What a step leaves.
 -- an assignment that it stands for after a step it stood for before
 before_step : (s t : Symbolic) (step : Step) → Steps s t step → (input : List ℕ) → stands_for t input ≡ true → stands_for s input ≡ true
@@ -89,6 +100,14 @@ alike_after p s t step made was = record {
       ∙ ap (λ ds. was.alike.made ++ ds) (made.alike.alike input stood_for);
 }
 
+terms_after : (p : Program) (s t : Symbolic) (step : Step) → Steps s t step → IsOpen p s → AreTermsOf p t
+terms_after p s t step made was input stands =
+    let stood_for = before_step s t step made input stands in
+    made.terms input stood_for
+    ∙ ap (λ u. next_unfolded u (step_decisions (concrete s input))) (was.terms input stood_for)
+    ∙ sym (unfolded_more p.image p.regions input s.steps (concrete s input) (was.sound input stood_for))
+    ∙ ap (unfolded_run p.image p.regions input) (sym made.steps)
+
 few_after : (s t : Symbolic) (step : Step) → Steps s t step → length s.output ≤ 4096 * s.steps → length t.output ≤ 4096 * t.steps
 few_after s t step made few = omega (arith, made.few, made.steps, few)
 
@@ -103,6 +122,7 @@ open_after p s t made was = record {
       ∙ run_on p.image p.regions input s.steps (concrete s input) (concrete t input) (was.sound input stood_for) (made.is input stood_for)
       ∙ ap (λ n. record { state = concrete t input; end = None; steps = n }) (sym made.steps);
   alike = alike_after p s t Running made was;
+  terms = terms_after p s t Running made was;
 }
 
 pub ended_after : (p : Program) (s t : Symbolic) (end : RunEnd) → Steps s t (Ended end) → IsOpen p s → IsEnded p t end
@@ -115,6 +135,7 @@ ended_after p s t end made was = record {
       subst (λ n. IsRunOf (run p.image p.regions input n) n t.path (Some (end_on t input end)) (concrete t input).output) (sym made.steps)
       (run_ends p.image p.regions input s.steps (concrete s input) (concrete t input) (end_on t input end) (was.sound input stood_for) (made.is input stood_for));
   alike = alike_after p s t (Ended end) made was;
+  terms = terms_after p s t (Ended end) made was;
 }
 
 -- ---- More terms: it is the same run.
@@ -138,6 +159,8 @@ open-grown p s t grown was =
         made = was.alike.made;
         alike = λ input stands. ap (decisions p.image p.regions input) steps ∙ was.alike.alike input (stood s t input grown stands);
       };
+      terms = λ input stands.
+          unfolded-grown s t grown ∙ was.terms input (stood s t input grown stands) ∙ ap (unfolded_run p.image p.regions input) (sym steps);
     }
 
 same-grown : (s t : Symbolic) → IsGrown s t → IsSame s t

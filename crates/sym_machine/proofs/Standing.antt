@@ -1,30 +1,26 @@
 -- What a symbolic run stands for stays where terms are added, and what instructions keep.
 use Rattle.std.proofs.Common.{◌≡◌, ℕ, ◌<◌, ◌&&◌, Bool, true, false, List, [], ◌∷◌, ◌++◌, length, map, refl, sym, ap, subst, ◌∙◌, arith}
 use Rattle.std.specs.Prelude.{◌==◌, All, Option, None, Some, if◌then◌else◌, nat_lt, slice_get, slice_set}
-use Rattle.std.specs.List.{list_all}
-use Rattle.std.proofs.Math.Path.{fun_ext}
 use Rattle.std.proofs.Math.ListN as lists
 use Rattle.std.proofs.lemmas.Bool.Decides.{nat_tests}
-use Rattle.std.proofs.lemmas.List.{map-set, take_all}
-use Rattle.std.proofs.lemmas.List.Elements.{All-cons, All-head, All-nil, All-tail}
-use Rattle.bv_dag.specs.Graphs.{Graph, number_of, width_of}
-use Rattle.bv_dag.specs.Queries.{AreBits, holds}
-use Rattle.cow_pages.specs.SymbolicMemory.{memory_byte}
+use Rattle.std.proofs.lemmas.List.{map-set}
+use Rattle.std.proofs.lemmas.List.Elements.{All-cons, All-nil}
+use Rattle.bv_dag.specs.Queries.{holds}
 use Rattle.fork_spec.specs.Leaves.{are_bytes}
 use Rattle.rv_spec.specs.Decisions.{Decision, Number as Needs, instr_decisions, step_decisions}
 use Rattle.rv_decode.specs.declared.instr.Instr.{Instr}
 use Rattle.rv_spec.specs.Arithmetic.{sum32}
 use Rattle.rv_spec.specs.Machine.{State, Outcome, to_register, written, x}
 use Rattle.rv_spec.specs.Machine as machine
-use Rattle.term_trees.specs.Growth.{Continues}
 use Rattle.sym_state.specs.Moves.{IsGrown, MakesValue, with_terms}
 use Rattle.sym_state.specs.Runs.{IsReady}
-use Rattle.sym_state.specs.Symbolic.{Symbolic, IsFormed, IsTrulyKnown, concrete, condition_of, known_at, set_value, stands_for, value_at}
-use Rattle.sym_state.specs.Values.{IsByte, IsWide, byte_worth, worth_of}
+use Rattle.sym_state.specs.Symbolic.{Symbolic, IsTrulyKnown, concrete, condition_of, known_at, set_value, stands_for, value_at}
+use Rattle.sym_state.specs.Values.{worth_of}
 use Rattle.sym_state.specs.declared.decided.Decided.{Decided}
 use Rattle.sym_state.specs.declared.value.Value.{Value}
 use Rattle.sym_state.specs.declared.value.Value.TheVariants.{Number}
-use Rattle.sym_state.proofs.Growing.{Continues-trans, byte_worth-grown, number-grown, worth-grown}
+use Rattle.sym_state.proofs.Growing.{Continues-trans}
+use Rattle.sym_state.proofs.Grown.{Continues-refl, concrete-grown, stands-grown}
 use Rattle.sym_machine.specs.Steps.{AreAlike, Comes, Keeps}
 use Rattle.sym_machine.specs.Stops.{DecidesBy, StandsAt, Stops, StopsAt}
 use Rattle.sym_machine.specs.declared.halt.Halt.{Halt}
@@ -53,68 +49,6 @@ bytes_of s input stands =
     are_bytes-all input (both_true (are_bytes input) (holds (condition_of s) input) stands).0
 
 -- ---- More terms change nothing that a run stands for.
-map-same : {A : Type 0} (P : A → Type 0) (f g : A → ℕ) (xs : List A) → ((a : A) → P a → f a ≡ g a)
-    → All P xs → map f xs ≡ map g xs
-map-same P f g [] same all = refl
-map-same P f g (a ∷ rest) same all =
-    cc (same a (All-head P a rest all), map-same P f g rest same (All-tail P a rest all))
-
-ones-grown : (g h : Graph) (input ids : List ℕ) → Continues g h → AreBits g ids
-    → list_all (λ id. number_of h id input == 1) ids
-    ≡ list_all (λ id. number_of g id input == 1) ids
-ones-grown g h input [] grown bits = refl
-ones-grown g h input (id ∷ ids) grown bits =
-    let first : width_of g id ≡ 1 = All-head (λ i. width_of g i ≡ 1) id ids bits in
-    let same : number_of h id input ≡ number_of g id input =
-    number-grown g h id 1 input grown first (omega arith) in
-    let rest : list_all (λ i. number_of h i input == 1) ids
-    ≡ list_all (λ i. number_of g i input == 1) ids =
-    ones-grown g h input ids grown (All-tail (λ i. width_of g i ≡ 1) id ids bits) in
-    ap (λ n. (n == 1) && list_all (λ i. number_of h i input == 1) ids) same
-    ∙ ap (λ b. (number_of g id input == 1) && b) rest
-
--- a condition is met where it was
-pub holds-grown : (g h : Graph) (ids input : List ℕ) → Continues g h → AreBits g ids
-    → holds (record { graph = h; asserted = ids }) input
-    ≡ holds (record { graph = g; asserted = ids }) input
-holds-grown g h ids input grown bits =
-    ap (λ n. (length input == n) && list_all (λ id. number_of h id input == 1) ids) grown.inputs
-    ∙ ap (λ b. (length input == g.inputs) && b) (ones-grown g h input ids grown bits)
-
-pub stands-with_terms : (s : Symbolic) (g : Graph) (input : List ℕ) → IsFormed s
-    → Continues s.terms g
-    → stands_for (with_terms s g) input ≡ stands_for s input
-stands-with_terms s g input formed grown =
-    ap (λ b. are_bytes input && b) (holds-grown s.terms g s.condition input grown formed.bits)
-
-concrete-with_terms : (s : Symbolic) (g : Graph) (input : List ℕ) → IsFormed s → Continues s.terms g
-    → concrete (with_terms s g) input ≡ concrete s input
-concrete-with_terms s g input formed grown =
-    ap (λ rs. record (concrete (with_terms s g) input) { registers = rs })
-    (map-same (IsWide s.terms) (worth_of g input) (worth_of s.terms input) s.registers
-    (λ v. worth-grown s.terms g input v grown) formed.wide)
-    ∙ ap (λ (byte : ℕ → ℕ). record (concrete s input) {
-      byte = byte;
-      output = map (byte_worth g input) s.output;
-    })
-    (fun_ext (λ address.
-    byte_worth-grown s.terms g input (memory_byte s.memory address) grown (formed.memory address)))
-    ∙ ap (λ ns. record (concrete s input) { output = ns })
-    (map-same (IsByte s.terms) (byte_worth g input) (byte_worth s.terms input) s.output
-    (λ b. byte_worth-grown s.terms g input b grown) formed.bytes)
-
-pub stands-grown : (old new : Symbolic) (input : List ℕ) → IsGrown old new
-    → stands_for new input ≡ stands_for old input
-stands-grown old new input grown =
-    ap (λ (s : Symbolic). stands_for s input) grown.same
-    ∙ stands-with_terms old new.terms input grown.before grown.continues
-
-pub concrete-grown : (old new : Symbolic) (input : List ℕ) → IsGrown old new
-    → concrete new input ≡ concrete old input
-concrete-grown old new input grown =
-    ap (λ (s : Symbolic). concrete s input) grown.same
-    ∙ concrete-with_terms old new.terms input grown.before grown.continues
-
 -- an assignment that a run stands for after terms were made it stood for before
 pub stood : (old new : Symbolic) (input : List ℕ) → IsGrown old new
     → stands_for new input ≡ true → stands_for old input ≡ true
@@ -225,6 +159,10 @@ Stops-made old mid new (NumberHalt place term) grown stops =
     (IsGrown-trans old mid new grown stops.0, stops.1)
 Stops-made old mid new NoMemory grown stops = tt
 
+pub map-map : {A B C : Type 0} (f : B → C) (g : A → B) (xs : List A) → map f (map g xs) ≡ map (λ x. f (g x)) xs
+map-map f g [] = refl
+map-map f g (x ∷ xs) = ap (λ ys. f (g x) ∷ ys) (map-map f g xs)
+
 -- ---- Registers.
 pub x-worth : (s : Symbolic) (input : List ℕ) (r : ℕ)
     → x (concrete s input) r ≡ worth_of s.terms input (value_at s.registers r)
@@ -239,9 +177,6 @@ registers-set f rs rd v =
     [ true ↦ refl | false ↦ map-set f rs rd v ]
 
 -- ---- What instructions keep.
-pub Continues-refl : (g : Graph) → Continues g g
-Continues-refl g = record { inputs = refl; front = take_all (length g.nodes) g.nodes (omega arith) }
-
 pub Keeps-refl : (s : Symbolic) → Keeps s s
 Keeps-refl s = record {
   continues = Continues-refl s.terms;

@@ -1,5 +1,5 @@
 -- Loads and stores, whose address is known.
-use Rattle.std.proofs.Common.{◌≡◌, ℕ, true, List, [], ◌∷◌, refl, ap}
+use Rattle.std.proofs.Common.{◌≡◌, ℕ, true, List, [], ◌∷◌, refl, sym, ap, ◌∙◌}
 use Rattle.rv_decode.specs.declared.instr.Instr.TheVariants.{Load, Store}
 use Rattle.rv_decode.specs.declared.ops.LoadWidth.{LoadWidth}
 use Rattle.rv_decode.specs.declared.ops.StoreWidth.{StoreWidth}
@@ -8,6 +8,9 @@ use Rattle.rv_spec.specs.Decisions.{Number as Needs}
 use Rattle.rv_spec.specs.Machine.{State, Outcome, load, store, x}
 use Rattle.sym_state.specs.Moves.{IsGrown}
 use Rattle.sym_state.specs.Symbolic.{Symbolic, concrete, stands_for}
+use Rattle.sym_state.specs.Unfolded.{Unfolded, expression_at, unfolded}
+use Rattle.sym_state.specs.Unfolding as symbolic
+use Rattle.sym_state.proofs.Grown.{unfolded-grown}
 use Rattle.sym_machine.specs.Steps.{AreAlike, Carries, Comes}
 use Rattle.sym_machine.specs.Stops.{DecidesBy, StandsAt}
 use Rattle.sym_machine.specs.declared.outcome.Step.{Step}
@@ -38,6 +41,12 @@ comes old mid new step rs1 offset at makes grown is made =
     (λ input standing. ap (makes (concrete old input)) (is input standing))
     (Comes-made old mid new step (λ c. makes c at) grown made)
 
+terms : (old mid new : Symbolic) (rs1 offset at : ℕ) (makes : Unfolded → ℕ → Unfolded) → IsGrown old mid → IsAddress old rs1 offset at
+    → unfolded new ≡ makes (unfolded mid) at
+    → (input : List ℕ) → stands_for old input ≡ true → unfolded new ≡ makes (unfolded old) (address (concrete old input) rs1 offset)
+terms old mid new rs1 offset at makes grown is made input standing =
+    made ∙ ap (λ u. makes u at) (unfolded-grown old mid grown) ∙ ap (makes (unfolded old)) (sym (is input standing))
+
 pub load_needs : (s : Symbolic) (width : LoadWidth) (rd rs1 offset : ℕ)
     → DecidesBy s (Load width rd rs1 offset)
     → StandsAt s 1 (λ input. Needs (sum32 (x (concrete s input) rs1) offset))
@@ -47,11 +56,12 @@ load_needs s width rd rs1 offset decides =
 
 pub load_carries : (old mid new : Symbolic) (step : Step) (width : LoadWidth)
     (rd rs1 offset at : ℕ) → IsGrown old mid
-    → IsAddress old rs1 offset at → Comes mid new step (λ c. load c width rd at)
+    → IsAddress old rs1 offset at → Comes mid new step (λ c. load c width rd at) → unfolded new ≡ symbolic.load (unfolded mid) width rd at
     → Carries old new step (Load width rd rs1 offset)
-load_carries old mid new step width rd rs1 offset at grown is makes = record {
+load_carries old mid new step width rd rs1 offset at grown is makes made = record {
   comes = comes old mid new step rs1 offset at (λ c n. load c width rd n) grown is makes;
   alike = alike old rs1 offset at is;
+  terms = terms old mid new rs1 offset at (λ u n. symbolic.load u width rd n) grown is made;
 }
 
 pub store_needs : (s : Symbolic) (width : StoreWidth) (rs1 rs2 offset : ℕ)
@@ -64,8 +74,10 @@ store_needs s width rs1 rs2 offset decides =
 pub store_carries : (old mid new : Symbolic) (step : Step) (width : StoreWidth)
     (rs1 rs2 offset at : ℕ) → IsGrown old mid
     → IsAddress old rs1 offset at → Comes mid new step (λ c. store c width at (x c rs2))
+    → unfolded new ≡ symbolic.store (unfolded mid) width at (expression_at (unfolded mid).registers rs2)
     → Carries old new step (Store width rs1 rs2 offset)
-store_carries old mid new step width rs1 rs2 offset at grown is makes = record {
+store_carries old mid new step width rs1 rs2 offset at grown is makes made = record {
   comes = comes old mid new step rs1 offset at (λ c n. store c width n (x c rs2)) grown is makes;
   alike = alike old rs1 offset at is;
+  terms = terms old mid new rs1 offset at (λ u n. symbolic.store u width n (expression_at u.registers rs2)) grown is made;
 }

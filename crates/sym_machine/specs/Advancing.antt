@@ -4,7 +4,7 @@ use Rattle.rv_spec.specs.Memory.{count_of}
 use Rattle.rv_spec.specs.Runs.{run, IsRunOf}
 use Rattle.sym_state.specs.Moves.{IsSame}
 use Rattle.sym_state.specs.Programs.{Program}
-use Rattle.sym_state.specs.Runs.{DecidedAlike, IsOpen, left_to_do}
+use Rattle.sym_state.specs.Runs.{AreTermsOf, DecidedAlike, IsOpen, left_to_do}
 use Rattle.sym_state.specs.Symbolic.{Symbolic, stands_for}
 use Rattle.sym_state.specs.Values.{byte_worth}
 use Rattle.sym_machine.specs.Steps.{end_on}
@@ -22,6 +22,7 @@ pub record IsEnded (p : Program) (s : Symbolic) (end : RunEnd) : Type 0 where
       IsRunOf (run p.image p.regions input s.steps) s.steps s.path (Some (end_on s input end))
       (map (byte_worth s.terms input) s.output)
   pub alike : DecidedAlike p s
+  pub terms : AreTermsOf p s
 
 -- its runs are where it is, before a step that there is still room for
 pub record IsUnderway (p : Program) (most : ℕ) (s : Symbolic) : Type 0 where

@@ -11,6 +11,8 @@ use Rattle.rv_spec.specs.Memory.{with_bytes}
 use Rattle.term_trees.specs.Growth.{Continues}
 use Rattle.sym_state.specs.Moves.{IsSame}
 use Rattle.sym_state.specs.Symbolic.{Symbolic, IsFormed, concrete, nothing_known, stands_for, value_at}
+use Rattle.sym_state.specs.Unfolded.{unfolded}
+use Rattle.sym_state.specs.Unfolding.{execute_of, next_unfolded}
 use Rattle.sym_state.specs.Values.{worth_of}
 use Rattle.sym_machine.specs.declared.outcome.RunEnd.{RunEnd}
 use Rattle.sym_machine.specs.declared.outcome.RunEnd.TheVariants.{Exits, Traps}
@@ -60,10 +62,12 @@ pub record AreAlike (s : Symbolic) (decides : State → List Decision) : Type 0 
   pub made : List Decision
   pub alike : (input : List ℕ) → stands_for s input ≡ true → decides (concrete s input) ≡ made
 
--- an instruction was carried out, and all that it decides is alike
+-- an instruction was carried out: all that it decides is alike, and its terms are those that it makes
 pub record Carries (old new : Symbolic) (step : Step) (instr : Instr) : Type 0 where
   pub comes : Comes old new step (λ c. machine.execute c instr)
   pub alike : AreAlike old (λ c. instr_decisions c (Some instr))
+  pub terms : (input : List ℕ) → stands_for old input ≡ true →
+      unfolded new ≡ execute_of (unfolded old) instr (instr_decisions (concrete old input) (Some instr))
 
 -- a step was made
 pub record Steps (old new : Symbolic) (step : Step) : Type 0 where
@@ -75,3 +79,5 @@ pub record Steps (old new : Symbolic) (step : Step) : Type 0 where
   pub few : length new.output ≤ length old.output + 4096
   pub is : (input : List ℕ) → stands_for old input ≡ true → next (concrete old input) ≡ outcome_on new input step
   pub alike : AreAlike old step_decisions
+  pub terms : (input : List ℕ) → stands_for old input ≡ true →
+      unfolded new ≡ next_unfolded (unfolded old) (step_decisions (concrete old input))

@@ -1,6 +1,6 @@
 //! The environment call: exit, and write. Its number has to be known, and of a write its file, its start and its length.
 
-ghost use Rattle.std.specs.Prelude.{◌≡◌, ◌<◌, true, ℕ, List, IfOk, IfErr, OnOk};
+ghost use Rattle.std.specs.Prelude.{◌≡◌, ◌<◌, true, ℕ, List, IfOk, IfErr, OnOk, min};
 ghost use Rattle.std.specs.List.{list_all};
 ghost use Rattle.cow_pages.specs.SymbolicMemory.{memory_flags};
 ghost use Rattle.rv_decode.specs.declared.instr.Instr.TheVariants.{Ecall};
@@ -10,6 +10,8 @@ ghost use Rattle.rv_spec.specs.Machine.{addresses, x};
 ghost use Rattle.rv_spec.specs.Memory.{is_mapped};
 ghost use Rattle.sym_state.specs.Runs.{IsReady};
 ghost use Rattle.sym_state.specs.Symbolic.{concrete, most_decisions, stands_for};
+ghost use Rattle.sym_state.specs.Unfolded.{unfolded};
+ghost use Rattle.sym_state.specs.Unfolding as symbolic;
 ghost use Rattle.sym_machine.specs.Calls.{IsWritten};
 ghost use Rattle.sym_machine.specs.Steps.{Carries, Comes};
 ghost use Rattle.sym_machine.specs.Stops.{DecidesBy, StandsAt, Stops};
@@ -47,7 +49,8 @@ fn emit(state: &mut State, start: u32, count: u32) -> Result<(), NoMemory>
 
 /// Writes bytes of memory to the output, 4096 at most, and answers their number in a0.
 fn write_out(state: &mut State, start: u32, asked: u32) -> Result<Step, NoMemory>
-    ensures { IfOk result (λ step. Comes state.old state.new step (λ c. machine.write c 1 start asked)) }
+    ensures comes { IfOk result (λ step. Comes state.old state.new step (λ c. machine.write c 1 start asked)) }
+    ensures terms { IfOk result (λ _. unfolded state.new ≡ symbolic.write (unfolded state.old) start (min asked 4096)) }
 {
     let count = asked.min(MOST_WRITTEN);
     if !are_mapped(state, start, count) {

@@ -6,8 +6,11 @@ ghost use Rattle.rv_decode.specs.declared.instr.Instr.TheVariants.{Branch, Jalr}
 ghost use Rattle.rv_spec.specs.Arithmetic as arithmetic;
 ghost use Rattle.rv_spec.specs.Machine as machine;
 ghost use Rattle.rv_spec.specs.Machine.{x};
+ghost use Rattle.sym_state.specs.Expressions.{combined_of, value_expression};
 ghost use Rattle.sym_state.specs.Runs.{IsReady};
 ghost use Rattle.sym_state.specs.Symbolic.{concrete, most_steps, stands_for};
+ghost use Rattle.sym_state.specs.Unfolded.{expression_at, unfolded};
+ghost use Rattle.sym_state.specs.Unfolding as symbolic;
 ghost use Rattle.sym_state.specs.Values.{IsWide, worth_of};
 ghost use Rattle.sym_machine.specs.Steps.{Carries, Comes, Steps};
 ghost use Rattle.sym_machine.specs.Stops.{DecidesBy, Stops};
@@ -25,7 +28,8 @@ use sym_state::{State, Value};
 
 /// The operation of two registers that an operation with an immediate is.
 fn of_immediate(op: ImmediateOp) -> RegisterOp
-    ensures { (a b : ℕ) → arithmetic.combined result a b ≡ arithmetic.with_immediate op a b }
+    ensures computes { (a b : ℕ) → arithmetic.combined result a b ≡ arithmetic.with_immediate op a b }
+    ensures op { result ≡ symbolic.of_immediate op }
 {
     match op {
         ImmediateOp::Addi => RegisterOp::Add,
@@ -39,7 +43,8 @@ fn of_immediate(op: ImmediateOp) -> RegisterOp
 
 /// The operation of two registers that a shift by a number below 32 is.
 fn of_shift(op: ShiftOp) -> RegisterOp
-    ensures { (a amount : ℕ) → amount < 32 → arithmetic.combined result a amount ≡ arithmetic.shifted op a amount }
+    ensures computes { (a amount : ℕ) → amount < 32 → arithmetic.combined result a amount ≡ arithmetic.shifted op a amount }
+    ensures op { result ≡ symbolic.of_shift op }
 {
     match op {
         ShiftOp::Slli => RegisterOp::Sll,
@@ -57,8 +62,10 @@ fn compute(
     second: Value,
 ) -> Result<Step, NoMemory>
     requires wide { IsWide state.old.terms second }
-    ensures { IfOk result (λ step. (of : machine.State → ℕ) → ((input : List ℕ) → stands_for state.old input ≡ true → of (concrete state.old input) ≡ worth_of state.old.terms input second) →
+    ensures comes { IfOk result (λ step. (of : machine.State → ℕ) → ((input : List ℕ) → stands_for state.old input ≡ true → of (concrete state.old input) ≡ worth_of state.old.terms input second) →
         Comes state.old state.new step (λ c. machine.to_register c rd (arithmetic.combined op (x c rs1) (of c)))) }
+    ensures terms { IfOk result (λ _. unfolded state.new ≡ symbolic.to_register (unfolded state.old) rd
+        (combined_of op (expression_at (unfolded state.old).registers rs1) (value_expression state.old.terms second))) }
 {
     let first = state.value(rs1);
     let value = state.combined(op, first, second)?;

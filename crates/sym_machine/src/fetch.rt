@@ -1,12 +1,14 @@
 //! The instruction that comes next.
 
-ghost use Rattle.std.specs.Prelude.{◌≡◌, ◌%◌, Ok, Err, IfOk, IfErr, OnErr};
+ghost use Rattle.std.specs.Prelude.{◌≡◌, ◌+◌, ◌%◌, Ok, Err, IfOk, IfErr, OnErr};
 ghost use Rattle.rv_spec.specs.Machine as machine;
 ghost use Rattle.cow_pages.specs.SymbolicMemory.{memory_flags};
 ghost use Rattle.rv_spec.specs.Memory.{can_execute, word_at};
+ghost use Rattle.sym_state.specs.Expressions.{value_expression, word_of};
 ghost use Rattle.sym_state.specs.Moves.{IsGrown, MakesValue};
 ghost use Rattle.sym_state.specs.Runs.{IsReady};
 ghost use Rattle.sym_state.specs.Symbolic.{concrete};
+ghost use Rattle.sym_state.specs.Unfolded.{unfolded};
 ghost use Rattle.sym_machine.specs.Fetching.{IsFetched};
 ghost use Rattle.sym_machine.specs.Stops.{Stops};
 
@@ -36,6 +38,8 @@ fn can_execute(state: &State, address: u32) -> bool
 pub(crate) fn word(state: &mut State, address: u32) -> Result<Value, NoMemory>
     requires aligned { address % 4 ≡ 0 }
     ensures ok { IfOk result (λ value. MakesValue state.old state.new value (λ input. word_at (concrete state.old input).byte address)) }
+    ensures expression { IfOk result (λ value. value_expression state.new.terms value
+        ≡ word_of ((unfolded state.old).byte address) ((unfolded state.old).byte (address + 1)) ((unfolded state.old).byte (address + 2)) ((unfolded state.old).byte (address + 3))) }
     ensures err { OnErr result (state.new ≡ state.old) }
 {
     let (b0, b1, b2, b3) = state.word_bytes(address);

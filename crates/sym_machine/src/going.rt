@@ -5,6 +5,8 @@ ghost use Rattle.rv_decode.specs.declared.ends.PathStep.TheVariants.{Target};
 ghost use Rattle.rv_spec.specs.Arithmetic.{sum32};
 ghost use Rattle.rv_spec.specs.Machine as machine;
 ghost use Rattle.sym_state.specs.Symbolic.{set_value};
+ghost use Rattle.sym_state.specs.Unfolded.{unfolded};
+ghost use Rattle.sym_state.specs.Unfolding as symbolic;
 ghost use Rattle.sym_state.specs.Values.{IsWide};
 ghost use Rattle.sym_machine.specs.Steps.{Comes};
 
@@ -34,7 +36,8 @@ pub(crate) fn go_on_with(state: &mut State, register: Register, value: Value) ->
 
 /// Goes to a target, and writes the next instruction's address into a register.
 pub(crate) fn jump_and_link(state: &mut State, rd: Register, target: u32) -> Step
-    ensures { Comes state.old state.new result (λ c. machine.linked c rd target) }
+    ensures comes { Comes state.old state.new result (λ c. machine.linked c rd target) }
+    ensures terms { unfolded state.new ≡ symbolic.linked (unfolded state.old) rd target }
 {
     if target % 4 != 0 {
         return trapped(Trap::FetchMisaligned);
@@ -51,7 +54,8 @@ pub(crate) fn jump_to_register(
     rd: Register,
     target: u32,
 ) -> Result<Step, NoMemory>
-    ensures { IfOk result (λ step. Comes state.old state.new step (λ c. machine.linked (machine.noted c (Target target)) rd target)) }
+    ensures comes { IfOk result (λ step. Comes state.old state.new step (λ c. machine.linked (machine.noted c (Target target)) rd target)) }
+    ensures terms { IfOk result (λ _. unfolded state.new ≡ symbolic.linked (symbolic.noted (unfolded state.old) (Target target)) rd target) }
 {
     state.note(PathStep::Target(target))?;
     Ok(jump_and_link(state, rd, target))
@@ -59,7 +63,8 @@ pub(crate) fn jump_to_register(
 
 /// Goes along one side of a conditional branch. The path notes it before the target is tested.
 pub(crate) fn branch(state: &mut State, taken: bool, target: u32) -> Result<Step, NoMemory>
-    ensures { IfOk result (λ step. Comes state.old state.new step (λ c. machine.branch c taken target)) }
+    ensures comes { IfOk result (λ step. Comes state.old state.new step (λ c. machine.branch c taken target)) }
+    ensures terms { IfOk result (λ _. unfolded state.new ≡ symbolic.branch (unfolded state.old) taken target) }
 {
     if !taken {
         state.note(PathStep::NotTaken)?;

@@ -10,9 +10,12 @@ ghost use Rattle.rv_spec.specs.Machine as machine;
 ghost use Rattle.rv_spec.specs.Machine.{x};
 ghost use Rattle.rv_spec.specs.Memory.{can_write, half_at, is_mapped};
 ghost use Rattle.term_simplify.specs.Operations.{widened};
+ghost use Rattle.sym_state.specs.Expressions.{byte_of, value_expression, widened_half};
 ghost use Rattle.sym_state.specs.Moves.{IsGrown, MakesValue};
 ghost use Rattle.sym_state.specs.Runs.{IsReady};
 ghost use Rattle.sym_state.specs.Symbolic.{concrete, stands_for};
+ghost use Rattle.sym_state.specs.Unfolded.{expression_at, unfolded};
+ghost use Rattle.sym_state.specs.Unfolding as symbolic;
 ghost use Rattle.sym_state.specs.Values.{IsWide, worth_of};
 ghost use Rattle.sym_machine.specs.Steps.{Carries, Comes, Puts};
 ghost use Rattle.sym_machine.specs.Stops.{DecidesBy, StandsAt, Stops};
@@ -83,6 +86,7 @@ fn address_of(state: &mut State, rs1: Register, offset: u32) -> Result<u32, Halt
 fn half(state: &mut State, signed: bool, address: u32) -> Result<Value, NoMemory>
     requires aligned { address % 2 ≡ 0 }
     ensures ok { IfOk result (λ value. MakesValue state.old state.new value (λ input. widened signed 16 (half_at (concrete state.old input).byte address))) }
+    ensures expression { IfOk result (λ value. value_expression state.new.terms value ≡ widened_half signed ((unfolded state.old).byte address) ((unfolded state.old).byte (address + 1))) }
     ensures err { OnErr result (state.new ≡ state.old) }
 {
     let low = state.byte(address);
@@ -94,6 +98,7 @@ fn half(state: &mut State, signed: bool, address: u32) -> Result<Value, NoMemory
 fn loaded(state: &mut State, width: LoadWidth, address: u32) -> Result<Value, NoMemory>
     requires aligned { machine.is_load_aligned width address ≡ true }
     ensures ok { IfOk result (λ value. MakesValue state.old state.new value (λ input. machine.loaded width (concrete state.old input).byte address)) }
+    ensures expression { IfOk result (λ value. value_expression state.new.terms value ≡ symbolic.loaded width (unfolded state.old).byte address) }
     ensures err { OnErr result (state.new ≡ state.old) }
 {
     match width {
@@ -112,7 +117,8 @@ fn load_from(
     rd: Register,
     address: u32,
 ) -> Result<Step, NoMemory>
-    ensures { IfOk result (λ step. Comes state.old state.new step (λ c. machine.load c width rd address)) }
+    ensures comes { IfOk result (λ step. Comes state.old state.new step (λ c. machine.load c width rd address)) }
+    ensures terms { IfOk result (λ _. unfolded state.new ≡ symbolic.load (unfolded state.old) width rd address) }
 {
     if !is_load_aligned(width, address) {
         return Ok(trapped(Trap::LoadMisaligned));
@@ -147,7 +153,8 @@ fn put_byte(state: &mut State, address: u32, value: Value, at: u32) -> Result<()
     requires mapped { is_mapped (memory_flags state.old.memory) address ≡ true }
     requires wide { IsWide state.old.terms value }
     requires at { at < 4 }
-    ensures { OnOk result (Puts state.old state.new address (λ input. worth_of state.old.terms input value / 2 ^ (8 * at) % 2 ^ 8 ∷ [])) }
+    ensures puts { OnOk result (Puts state.old state.new address (λ input. worth_of state.old.terms input value / 2 ^ (8 * at) % 2 ^ 8 ∷ [])) }
+    ensures terms { OnOk result (unfolded state.new ≡ symbolic.with_put (unfolded state.old) address (byte_of at (value_expression state.old.terms value) ∷ [])) }
 {
     let byte = state.byte_at(value, at)?;
     state.put(address, byte)
@@ -158,7 +165,8 @@ fn put_half(state: &mut State, address: u32, value: Value) -> Result<(), NoMemor
     requires aligned { address % 2 ≡ 0 }
     requires mapped { is_mapped (memory_flags state.old.memory) address ≡ true }
     requires wide { IsWide state.old.terms value }
-    ensures { OnOk result (Puts state.old state.new address (λ input. machine.stored Sh (worth_of state.old.terms input value))) }
+    ensures puts { OnOk result (Puts state.old state.new address (λ input. machine.stored Sh (worth_of state.old.terms input value))) }
+    ensures terms { OnOk result (unfolded state.new ≡ symbolic.with_put (unfolded state.old) address (symbolic.stored Sh (value_expression state.old.terms value))) }
 {
     put_byte(state, address, value, 0)?;
     put_byte(state, address + 1, value, 1)
@@ -169,7 +177,8 @@ fn put_word(state: &mut State, address: u32, value: Value) -> Result<(), NoMemor
     requires aligned { address % 4 ≡ 0 }
     requires mapped { is_mapped (memory_flags state.old.memory) address ≡ true }
     requires wide { IsWide state.old.terms value }
-    ensures { OnOk result (Puts state.old state.new address (λ input. machine.stored Sw (worth_of state.old.terms input value))) }
+    ensures puts { OnOk result (Puts state.old state.new address (λ input. machine.stored Sw (worth_of state.old.terms input value))) }
+    ensures terms { OnOk result (unfolded state.new ≡ symbolic.with_put (unfolded state.old) address (symbolic.stored Sw (value_expression state.old.terms value))) }
 {
     put_byte(state, address, value, 0)?;
     put_byte(state, address + 1, value, 1)?;
@@ -182,7 +191,8 @@ fn put(state: &mut State, width: StoreWidth, address: u32, value: Value) -> Resu
     requires aligned { machine.is_store_aligned width address ≡ true }
     requires mapped { is_mapped (memory_flags state.old.memory) address ≡ true }
     requires wide { IsWide state.old.terms value }
-    ensures { OnOk result (Puts state.old state.new address (λ input. machine.stored width (worth_of state.old.terms input value))) }
+    ensures puts { OnOk result (Puts state.old state.new address (λ input. machine.stored width (worth_of state.old.terms input value))) }
+    ensures terms { OnOk result (unfolded state.new ≡ symbolic.with_put (unfolded state.old) address (symbolic.stored width (value_expression state.old.terms value))) }
 {
     match width {
         StoreWidth::Sb => put_byte(state, address, value, 0),
@@ -198,7 +208,8 @@ fn store_to(
     address: u32,
     rs2: Register,
 ) -> Result<Step, NoMemory>
-    ensures { IfOk result (λ step. Comes state.old state.new step (λ c. machine.store c width address (x c rs2))) }
+    ensures comes { IfOk result (λ step. Comes state.old state.new step (λ c. machine.store c width address (x c rs2))) }
+    ensures terms { IfOk result (λ _. unfolded state.new ≡ symbolic.store (unfolded state.old) width address (expression_at (unfolded state.old).registers rs2)) }
 {
     if !is_store_aligned(width, address) {
         return Ok(trapped(Trap::StoreMisaligned));

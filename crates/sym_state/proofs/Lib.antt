@@ -4,4 +4,6 @@ pub mod Growing
 pub mod ImageBytes
 pub mod Listing
 pub mod Naming
+pub mod Expressing
+pub mod Grown
 pub mod Opening

@@ -20,9 +20,12 @@ use Rattle.rv_spec.specs.Decisions.{decisions_from}
 use Rattle.rv_spec.specs.Machine.{first_registers, first_state}
 use Rattle.rv_spec.specs.Memory.{byte_of, count_of, flags_of, placed}
 use Rattle.rv_spec.specs.Runs.{run_from}
-use Rattle.sym_state.specs.Placing.{HasBytes, PutsBytes, bytes_worth, first_run, number_values}
+use Rattle.sym_state.specs.Expressions.{Expression, Number as ANumber, byte_expression, value_expression}
+use Rattle.sym_state.specs.Placing.{HasBytes, PutsBytes, bytes_expressed, bytes_worth, first_run, number_values}
 use Rattle.sym_state.specs.Programs.{Program}
 use Rattle.sym_state.specs.Runs.{IsFirst, IsOpen}
+use Rattle.sym_state.specs.Unfolded.{first_unfolded, inputs_placed, unfolded}
+use Rattle.sym_state.specs.Unfolding.{unfolded_run}
 use Rattle.sym_state.specs.Symbolic.{IsFormed, IsTrulyKnown, Symbolic, concrete, known_at, nothing_known, stands_for}
 use Rattle.sym_state.specs.Values.{IsByte, IsWide, byte_worth, worth_of}
 use Rattle.sym_state.specs.declared.decided.Decided.{Decided}
@@ -60,6 +63,11 @@ image_mapped p memory fit flags =
 worth_numbers : (terms : Graph) (input numbers : List ℕ) → map (worth_of terms input) (number_values numbers) ≡ numbers
 worth_numbers terms input [] = refl
 worth_numbers terms input (n ∷ numbers) = ap (λ ns. n ∷ ns) (worth_numbers terms input numbers)
+
+-- and are these numbers as expressions
+expressed_numbers : (terms : Graph) (numbers : List ℕ) → map (value_expression terms) (number_values numbers) ≡ map (λ n. ANumber n) numbers
+expressed_numbers terms [] = refl
+expressed_numbers terms (n ∷ numbers) = ap (λ es. ANumber n ∷ es) (expressed_numbers terms numbers)
 
 wide_registers : (terms : Graph) → All (IsWide terms) (number_values first_registers)
 wide_registers terms =
@@ -120,7 +128,7 @@ module _ (p : Program) (start terms : Graph) (image memory : SymbolicMemory)
     (inputs : start.inputs ≡ count_of p.regions)
     (bytes : (address : ℕ) → memory_byte image address ≡ ByteNumber (byte_of p.image address))
     (flags : (page : ℕ) → memory_flags image page ≡ flags_of p.image page)
-    (puts : PutsBytes start terms image memory (λ input. placed p.regions input (bytes_worth start image input))) where
+    (puts : PutsBytes start terms image memory (inputs_placed p.regions 0 (bytes_expressed start image)) (λ input. placed p.regions input (bytes_worth start image input))) where
   byte_is : (input : List ℕ) → All (λ b. b < 256) input → bytes_worth terms memory input ≡ placed p.regions input (byte_of p.image)
   byte_is input small =
       puts.worth input small
@@ -132,6 +140,15 @@ module _ (p : Program) (start terms : Graph) (image memory : SymbolicMemory)
       ∙ ap (λ (f : ℕ → Option ℕ). record (first_state p.image p.regions input) { flags = f; byte = bytes_worth terms memory input }) (puts.flags ∙ fun_ext flags)
       ∙ ap (λ (b : ℕ → ℕ). record (first_state p.image p.regions input) { byte = b }) (byte_is input small)
 
+  bytes_are : bytes_expressed terms memory ≡ inputs_placed p.regions 0 (λ address. ANumber (byte_of p.image address))
+  bytes_are = puts.expressed ∙ ap (inputs_placed p.regions 0) (fun_ext (λ address. ap (byte_expression start) (bytes address)))
+
+  terms_are : unfolded (first_run p.image.entry memory terms) ≡ first_unfolded p.image p.regions
+  terms_are =
+      ap (λ es. record (unfolded (first_run p.image.entry memory terms)) { registers = es }) (expressed_numbers terms first_registers)
+      ∙ ap (λ (f : ℕ → Option ℕ). record (first_unfolded p.image p.regions) { flags = f; byte = bytes_expressed terms memory }) (puts.flags ∙ fun_ext flags)
+      ∙ ap (λ (b : ℕ → Expression). record (first_unfolded p.image p.regions) { byte = b }) bytes_are
+
   pub is_first : IsFirst p (first_run p.image.entry memory terms)
   is_first = record {
     steps = refl;
@@ -140,10 +157,11 @@ module _ (p : Program) (start terms : Graph) (image memory : SymbolicMemory)
     inputs = puts.continues.inputs ∙ inputs;
     known = refl;
     state = λ input assigned. state_is input assigned.1;
+    terms = terms_are;
   }
 
   pub is_open : IsOpen p (first_run p.image.entry memory terms)
-  unfolding run_from decisions_from
+  unfolding run_from decisions_from unfolded_run
   is_open = record {
     inputs = puts.continues.inputs ∙ inputs;
     ready = record {
@@ -154,6 +172,7 @@ module _ (p : Program) (start terms : Graph) (image memory : SymbolicMemory)
     sound = λ input stands.
         ap (λ s. record { state = s; end = None; steps = 0 }) (sym (state_is input (bytes_of (first_run p.image.entry memory terms) input stands)));
     alike = record { made = []; alike = λ input stands. refl };
+    terms = λ input stands. terms_are;
   }
 
 -- what holds of it holds of what begins, where memory was there

@@ -5,3 +5,6 @@ pub mod Programs
 pub mod Runs
 pub mod Placing
 pub mod Places
+pub mod Expressions
+pub mod Unfolded
+pub mod Unfolding

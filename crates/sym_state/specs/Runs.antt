@@ -6,6 +6,8 @@ use Rattle.rv_spec.specs.Machine.{first_state}
 use Rattle.rv_spec.specs.Memory.{IsAssignment, count_of}
 use Rattle.rv_spec.specs.Runs.{run}
 use Rattle.sym_state.specs.Programs.{Program}
+use Rattle.sym_state.specs.Unfolded.{first_unfolded, unfolded}
+use Rattle.sym_state.specs.Unfolding.{unfolded_run}
 use Rattle.sym_state.specs.Symbolic.{Symbolic, KnowsTruth, concrete, most_steps, nothing_known, stands_for}
 
 -- all assignments that it stands for have made the same decisions in the steps made
@@ -18,6 +20,10 @@ pub record IsReady (s : Symbolic) : Type 0 where
   pub sampled : stands_for s s.sample ≡ true
   pub knows : KnowsTruth s
 
+-- its terms are those of a program's run, whichever of its assignments that is of
+abbrev pub AreTermsOf : Program → Symbolic → Type 0
+AreTermsOf p s = (input : List ℕ) → stands_for s input ≡ true → unfolded s ≡ unfolded_run p.image p.regions input s.steps
+
 -- the runs of a program have made these steps and are where it is
 pub record IsOpen (p : Program) (s : Symbolic) : Type 0 where
   pub inputs : s.terms.inputs ≡ count_of p.regions
@@ -27,6 +33,7 @@ pub record IsOpen (p : Program) (s : Symbolic) : Type 0 where
   pub sound : (input : List ℕ) → stands_for s input ≡ true →
       run p.image p.regions input s.steps ≡ record { state = concrete s input; end = None; steps = s.steps }
   pub alike : DecidedAlike p s
+  pub terms : AreTermsOf p s
 
 -- it is before its first step, and stands for every assignment
 pub record IsFirst (p : Program) (s : Symbolic) : Type 0 where
@@ -36,6 +43,7 @@ pub record IsFirst (p : Program) (s : Symbolic) : Type 0 where
   pub inputs : s.terms.inputs ≡ count_of p.regions
   pub known : s.known ≡ nothing_known
   pub state : (input : List ℕ) → IsAssignment p.regions input → concrete s input ≡ first_state p.image p.regions input
+  pub terms : unfolded s ≡ first_unfolded p.image p.regions
 
 -- how far a run may still go: each step, and each decision that gets known, makes it less
 abbrev pub left_to_do : Symbolic → ℕ

@@ -3,7 +3,10 @@
 ghost use Rattle.std.specs.Prelude.{◌≡◌, ◌+◌, ◌*◌, ◌/◌, ◌%◌, ◌^◌, ◌<◌, ℕ, List, IfOk, OnErr};
 ghost use Rattle.bv_dag.specs.Graphs.{number_of, width_of};
 ghost use Rattle.term_simplify.specs.Operations as operations;
+ghost use Rattle.term_simplify.specs.Simplified.{extension_by};
 ghost use Rattle.term_trees.specs.Growth.{Continues};
+ghost use Rattle.term_trees.specs.Trees.{tree_of};
+ghost use Rattle.sym_state.specs.Expressions.{byte_expression, byte_of, settled, tree_in, value_expression, widened_byte, widened_half, word_of};
 ghost use Rattle.sym_state.specs.Values.{GivesByte, GivesTerm, GivesValue, IsByte, IsWide, byte_worth, worth_of};
 
 use crate::operations::value_of;
@@ -18,6 +21,7 @@ use term_simplify::Builder;
 pub(crate) fn byte_term(terms: &mut Builder, byte: Byte) -> Result<usize, NoMemory>
     requires is_byte { IsByte terms.old byte }
     ensures ok { IfOk result (λ id. GivesTerm terms.old terms.new 8 id (λ input. byte_worth terms.old input byte)) }
+    ensures tree { IfOk result (λ id. tree_of terms.new id ≡ tree_in 8 (byte_expression terms.old byte)) }
     ensures err { OnErr result (terms.new ≡ terms.old) }
 {
     match byte {
@@ -31,6 +35,7 @@ fn known_byte(terms: &Builder, id: usize) -> Byte
     requires width { width_of terms.now id ≡ 8 }
     ensures is_byte { IsByte terms.now result }
     ensures worth { (input : List ℕ) → byte_worth terms.now input result ≡ number_of terms.now id input }
+    ensures expression { byte_expression terms.now result ≡ settled (tree_of terms.now id) }
 {
     match terms.terms().node(id) {
         Node::Num { value, .. } => Byte::Number(value as u8),
@@ -43,6 +48,7 @@ pub(crate) fn byte_at(terms: &mut Builder, value: Value, at: u32) -> Result<Byte
     requires wide { IsWide terms.old value }
     requires at { at < 4 }
     ensures ok { IfOk result (λ byte. GivesByte terms.old terms.new byte (λ input. worth_of terms.old input value / 2 ^ (8 * at) % 2 ^ 8)) }
+    ensures expression { IfOk result (λ byte. byte_expression terms.new byte ≡ byte_of at (value_expression terms.old value)) }
     ensures err { OnErr result (terms.new ≡ terms.old) }
 {
     match value {
@@ -58,6 +64,7 @@ pub(crate) fn byte_at(terms: &mut Builder, value: Value, at: u32) -> Result<Byte
 pub(crate) fn from_byte(terms: &mut Builder, signed: bool, byte: Byte) -> Result<Value, NoMemory>
     requires is_byte { IsByte terms.old byte }
     ensures ok { IfOk result (λ value. GivesValue terms.old terms.new value (λ input. operations.widened signed 8 (byte_worth terms.old input byte))) }
+    ensures expression { IfOk result (λ value. value_expression terms.new value ≡ widened_byte signed (byte_expression terms.old byte)) }
     ensures err { OnErr result (terms.new ≡ terms.old) }
 {
     match byte {
@@ -77,6 +84,7 @@ fn half_term(terms: &mut Builder, signed: bool, low: Byte, high: Byte) -> Result
     ensures continues { Continues terms.old terms.new }
     ensures ok { IfOk result (λ id. GivesTerm terms.old terms.new 32 id
         (λ input. operations.widened signed 16 (byte_worth terms.old input low + 2 ^ 8 * byte_worth terms.old input high))) }
+    ensures tree { IfOk result (λ id. tree_of terms.new id ≡ extension_by 16 signed (operations.half_tree (tree_in 8 (byte_expression terms.old low)) (tree_in 8 (byte_expression terms.old high)))) }
 {
     let low = byte_term(terms, low)?;
     let high = byte_term(terms, high)?;
@@ -103,6 +111,7 @@ pub(crate) fn from_half(
     requires high { IsByte terms.old high }
     ensures ok { IfOk result (λ value. GivesValue terms.old terms.new value
         (λ input. operations.widened signed 16 (byte_worth terms.old input low + 2 ^ 8 * byte_worth terms.old input high))) }
+    ensures expression { IfOk result (λ value. value_expression terms.new value ≡ widened_half signed (byte_expression terms.old low) (byte_expression terms.old high)) }
     ensures err { OnErr result (terms.new ≡ terms.old) }
 {
     if let (Byte::Number(low), Byte::Number(high)) = (low, high) {
@@ -125,6 +134,8 @@ fn word_term(terms: &mut Builder, b0: Byte, b1: Byte, b2: Byte, b3: Byte) -> Res
     ensures continues { Continues terms.old terms.new }
     ensures ok { IfOk result (λ id. GivesTerm terms.old terms.new 32 id
         (λ input. byte_worth terms.old input b0 + 2 ^ 8 * byte_worth terms.old input b1 + 2 ^ 16 * byte_worth terms.old input b2 + 2 ^ 24 * byte_worth terms.old input b3)) }
+    ensures tree { IfOk result (λ id. tree_of terms.new id ≡ operations.word_tree (tree_in 8 (byte_expression terms.old b0)) (tree_in 8 (byte_expression terms.old b1))
+        (tree_in 8 (byte_expression terms.old b2)) (tree_in 8 (byte_expression terms.old b3))) }
 {
     let b0 = byte_term(terms, b0)?;
     let b1 = byte_term(terms, b1)?;
@@ -154,6 +165,8 @@ pub(crate) fn from_word(
     requires b3 { IsByte terms.old b3 }
     ensures ok { IfOk result (λ value. GivesValue terms.old terms.new value
         (λ input. byte_worth terms.old input b0 + 2 ^ 8 * byte_worth terms.old input b1 + 2 ^ 16 * byte_worth terms.old input b2 + 2 ^ 24 * byte_worth terms.old input b3)) }
+    ensures expression { IfOk result (λ value. value_expression terms.new value ≡ word_of (byte_expression terms.old b0) (byte_expression terms.old b1)
+        (byte_expression terms.old b2) (byte_expression terms.old b3)) }
     ensures err { OnErr result (terms.new ≡ terms.old) }
 {
     if let (Byte::Number(b0), Byte::Number(b1), Byte::Number(b2), Byte::Number(b3)) = (

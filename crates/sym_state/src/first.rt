@@ -5,8 +5,9 @@ ghost use Rattle.cow_pages.specs.SymbolicMemory.{memory_flags};
 ghost use Rattle.rv_machine.specs.Pages.{AreMapped, IsMapped, filled};
 ghost use Rattle.rv_spec.specs.Machine as machine;
 ghost use Rattle.rv_spec.specs.Memory.{byte_of, count_of, placed};
-ghost use Rattle.sym_state.specs.Placing.{HasBytes, PutsBytes, bytes_worth, first_run, number_values};
+ghost use Rattle.sym_state.specs.Placing.{HasBytes, PutsBytes, bytes_expressed, bytes_worth, first_run, inputs_filled, number_values};
 ghost use Rattle.sym_state.specs.Runs.{IsFirst, IsOpen};
+ghost use Rattle.sym_state.specs.Unfolded.{inputs_placed};
 
 use crate::program::Program;
 use crate::state::{MOST_DECISIONS, State};
@@ -69,6 +70,7 @@ fn fill(
     requires inputs { first + region.now.count ≤ terms.old.inputs }
     requires few { terms.old.inputs ≤ 256 }
     ensures { OnOk result (PutsBytes terms.old terms.new memory.old memory.new
+        (inputs_filled region.now.start region.now.count first (bytes_expressed terms.old memory.old))
         (λ input. filled region.now.start region.now.count (drop first input) (bytes_worth terms.old memory.old input))) }
 {
     for i in 0..region.count {
@@ -85,6 +87,7 @@ fn place_inputs(memory: &mut Pages, terms: &mut Builder, regions: &[Region]) -> 
     requires inputs { count_of regions.now ≡ terms.old.inputs }
     requires few { terms.old.inputs ≤ 256 }
     ensures { OnOk result (PutsBytes terms.old terms.new memory.old memory.new
+        (inputs_placed regions.now 0 (bytes_expressed terms.old memory.old))
         (λ input. placed regions.now input (bytes_worth terms.old memory.old input))) }
 {
     let mut first = 0;

@@ -5,7 +5,10 @@ ghost use Rattle.std.specs.Prelude.{◌≡◌, ◌==◌, ◌*◌, ◌/◌, ◌<�
 ghost use Rattle.bv_dag.specs.Graphs.{number_of, width_of};
 ghost use Rattle.rv_spec.specs.Arithmetic as machine;
 ghost use Rattle.rv_spec.specs.Machine.{even};
+ghost use Rattle.term_simplify.specs.Operations.{combined_tree};
 ghost use Rattle.term_trees.specs.Growth.{Continues};
+ghost use Rattle.term_trees.specs.Trees.{tree_of};
+ghost use Rattle.sym_state.specs.Expressions.{combined_of, even_of, settled, tree_in, value_expression};
 ghost use Rattle.sym_state.specs.Values.{GivesBit, GivesTerm, GivesValue, IsWide, bit_worth, worth_of, IsBit};
 
 use crate::value::{Bit, Value};
@@ -19,6 +22,7 @@ use term_simplify::Builder;
 pub(crate) fn term_of(terms: &mut Builder, value: Value) -> Result<usize, NoMemory>
     requires wide { IsWide terms.old value }
     ensures ok { IfOk result (λ id. GivesTerm terms.old terms.new 32 id (λ input. worth_of terms.old input value)) }
+    ensures tree { IfOk result (λ id. tree_of terms.new id ≡ tree_in 32 (value_expression terms.old value)) }
     ensures err { OnErr result (terms.new ≡ terms.old) }
 {
     match value {
@@ -32,6 +36,7 @@ pub(crate) fn value_of(terms: &Builder, id: usize) -> Value
     requires wide { width_of terms.now id ≡ 32 }
     ensures wide { IsWide terms.now result }
     ensures worth { (input : List ℕ) → worth_of terms.now input result ≡ number_of terms.now id input }
+    ensures expression { value_expression terms.now result ≡ settled (tree_of terms.now id) }
 {
     match terms.terms().node(id) {
         Node::Num { value, .. } => Value::Number(value as u32),
@@ -58,6 +63,7 @@ fn combined_term(terms: &mut Builder, op: RegisterOp, a: Value, b: Value) -> Res
     ensures continues { Continues terms.old terms.new }
     ensures ok { IfOk result (λ id. GivesTerm terms.old terms.new 32 id
         (λ input. machine.combined op (worth_of terms.old input a) (worth_of terms.old input b))) }
+    ensures tree { IfOk result (λ id. tree_of terms.new id ≡ combined_tree op (tree_in 32 (value_expression terms.old a)) (tree_in 32 (value_expression terms.old b))) }
 {
     let a = term_of(terms, a)?;
     let b = term_of(terms, b)?;
@@ -75,6 +81,7 @@ pub(crate) fn combined(
     requires second { IsWide terms.old b }
     ensures ok { IfOk result (λ value. GivesValue terms.old terms.new value
         (λ input. machine.combined op (worth_of terms.old input a) (worth_of terms.old input b))) }
+    ensures expression { IfOk result (λ value. value_expression terms.new value ≡ combined_of op (value_expression terms.old a) (value_expression terms.old b)) }
     ensures err { OnErr result (terms.new ≡ terms.old) }
 {
     if let (Value::Number(a), Value::Number(b)) = (a, b) {
@@ -143,6 +150,7 @@ pub(crate) fn passes(terms: &mut Builder, test: Test, a: Value, b: Value) -> Res
 pub(crate) fn cleared(terms: &mut Builder, a: Value) -> Result<Value, NoMemory>
     requires wide { IsWide terms.old a }
     ensures ok { IfOk result (λ value. GivesValue terms.old terms.new value (λ input. even (worth_of terms.old input a))) }
+    ensures expression { IfOk result (λ value. value_expression terms.new value ≡ even_of (value_expression terms.old a)) }
     ensures err { OnErr result (terms.new ≡ terms.old) }
 {
     match a {

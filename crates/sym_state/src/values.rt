@@ -5,6 +5,7 @@ ghost use Rattle.rv_spec.specs.Arithmetic as machine;
 ghost use Rattle.rv_spec.specs.Machine.{even};
 ghost use Rattle.term_simplify.specs.Operations as operations;
 ghost use Rattle.bv_dag.specs.Graphs.{number_of, width_of};
+ghost use Rattle.sym_state.specs.Expressions.{byte_expression, byte_of, combined_of, even_of, value_expression, widened_byte, widened_half, word_of};
 ghost use Rattle.sym_state.specs.Moves.{MakesBit, MakesByte, MakesTerm, MakesValue};
 ghost use Rattle.sym_state.specs.Values.{IsByte, IsWide, byte_worth, worth_of};
 
@@ -22,6 +23,7 @@ impl State {
         requires second { IsWide self.old.terms b }
         ensures ok { IfOk result (λ value. MakesValue self.old self.new value
             (λ input. machine.combined op (worth_of self.old.terms input a) (worth_of self.old.terms input b))) }
+        ensures expression { IfOk result (λ value. value_expression self.new.terms value ≡ combined_of op (value_expression self.old.terms a) (value_expression self.old.terms b)) }
         ensures err { OnErr result (self.new ≡ self.old) }
     {
         operations::combined(&mut self.terms, op, a, b)
@@ -71,6 +73,7 @@ impl State {
     pub fn cleared(&mut self, a: Value) -> Result<Value, NoMemory>
         requires wide { IsWide self.old.terms a }
         ensures ok { IfOk result (λ value. MakesValue self.old self.new value (λ input. even (worth_of self.old.terms input a))) }
+        ensures expression { IfOk result (λ value. value_expression self.new.terms value ≡ even_of (value_expression self.old.terms a)) }
         ensures err { OnErr result (self.new ≡ self.old) }
     {
         operations::cleared(&mut self.terms, a)
@@ -81,6 +84,7 @@ impl State {
         requires wide { IsWide self.old.terms value }
         requires at { at < 4 }
         ensures ok { IfOk result (λ byte. MakesByte self.old self.new byte (λ input. worth_of self.old.terms input value / 2 ^ (8 * at) % 2 ^ 8)) }
+        ensures expression { IfOk result (λ byte. byte_expression self.new.terms byte ≡ byte_of at (value_expression self.old.terms value)) }
         ensures err { OnErr result (self.new ≡ self.old) }
     {
         bytes::byte_at(&mut self.terms, value, at)
@@ -90,6 +94,7 @@ impl State {
     pub fn from_byte(&mut self, signed: bool, byte: Byte) -> Result<Value, NoMemory>
         requires is_byte { IsByte self.old.terms byte }
         ensures ok { IfOk result (λ value. MakesValue self.old self.new value (λ input. operations.widened signed 8 (byte_worth self.old.terms input byte))) }
+        ensures expression { IfOk result (λ value. value_expression self.new.terms value ≡ widened_byte signed (byte_expression self.old.terms byte)) }
         ensures err { OnErr result (self.new ≡ self.old) }
     {
         bytes::from_byte(&mut self.terms, signed, byte)
@@ -101,6 +106,7 @@ impl State {
         requires high { IsByte self.old.terms high }
         ensures ok { IfOk result (λ value. MakesValue self.old self.new value
             (λ input. operations.widened signed 16 (byte_worth self.old.terms input low + 2 ^ 8 * byte_worth self.old.terms input high))) }
+        ensures expression { IfOk result (λ value. value_expression self.new.terms value ≡ widened_half signed (byte_expression self.old.terms low) (byte_expression self.old.terms high)) }
         ensures err { OnErr result (self.new ≡ self.old) }
     {
         bytes::from_half(&mut self.terms, signed, low, high)
@@ -114,6 +120,8 @@ impl State {
         requires b3 { IsByte self.old.terms b3 }
         ensures ok { IfOk result (λ value. MakesValue self.old self.new value
             (λ input. byte_worth self.old.terms input b0 + 2 ^ 8 * byte_worth self.old.terms input b1 + 2 ^ 16 * byte_worth self.old.terms input b2 + 2 ^ 24 * byte_worth self.old.terms input b3)) }
+        ensures expression { IfOk result (λ value. value_expression self.new.terms value ≡ word_of (byte_expression self.old.terms b0) (byte_expression self.old.terms b1)
+            (byte_expression self.old.terms b2) (byte_expression self.old.terms b3)) }
         ensures err { OnErr result (self.new ≡ self.old) }
     {
         bytes::from_word(&mut self.terms, b0, b1, b2, b3)

@@ -43,4 +43,4 @@ returns-clause-ok c =
     writes c.args.state.now c.write_out.new.state c.in_ok-step.step c.in_ok-file.file c.in_ok-start.start c.in_ok-count.count
     (rw (c.new.ensures, c.if-number-ne-WRITE.false) at c.in_ok-number.ensures.ok)
     (rw c.new-2.ensures at c.in_ok-file.ensures.ok) (sym c.is_file.ensures ∙ c.if-not-is_file.false)
-    (rw c.new-3.ensures at c.in_ok-start.ensures.ok) (rw c.new-4.ensures at c.in_ok-count.ensures.ok) c.in_ok-step.ensures
+    (rw c.new-3.ensures at c.in_ok-start.ensures.ok) (rw c.new-4.ensures at c.in_ok-count.ensures.ok) c.in_ok-step.ensures.comes c.in_ok-step.ensures.terms

@@ -15,4 +15,4 @@ returns-clause-ok c =
     branches c.args.state.now c.passes.new.self c.args.test c.args.rs1 c.args.rs2 c.args.offset c.in_ok-bit.bit
     (rw (c.value-first.ensures.value, c.value-second.ensures.value) at c.in_ok-bit.ensures.ok) c.requires.decides
     c.branch-state.new.state c.in_ok-step.step c.in_ok-taken.taken c.address-target.result c.address-target.ensures
-    c.in_ok-taken.ensures.ok c.in_ok-step.ensures
+    c.in_ok-taken.ensures.ok c.in_ok-step.ensures.comes c.in_ok-step.ensures.terms

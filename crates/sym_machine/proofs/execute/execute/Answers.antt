@@ -14,20 +14,23 @@ pub returns-in_ok-compute-in-Immediate-clause-ok : goal.returns-in_ok-compute-in
 returns-in_ok-compute-in-Immediate-clause-ok c =
     rw c.in-Immediate.is
     (with_immediate c.args.state.now c.compute.new.state c.in_ok-compute-in-Immediate.field-0 c.in-Immediate.op c.of_immediate.result
-    c.in-Immediate.rd c.in-Immediate.rs1 c.in-Immediate.immediate c.of_immediate.ensures c.in_ok-compute-in-Immediate.ensures)
+    c.in-Immediate.rd c.in-Immediate.rs1 c.in-Immediate.immediate c.of_immediate.ensures.computes c.of_immediate.ensures.op
+    c.in_ok-compute-in-Immediate.ensures.comes c.in_ok-compute-in-Immediate.ensures.terms)
 
 pub returns-in_ok-compute-in-ShiftImmediate-clause-ok : goal.returns-in_ok-compute-in-ShiftImmediate-clause-ok
 returns-in_ok-compute-in-ShiftImmediate-clause-ok c =
     rw c.in-ShiftImmediate.is
     (shifted_by c.args.state.now c.compute-in-ShiftImmediate.new.state c.in_ok-compute-in-ShiftImmediate.field-0 c.in-ShiftImmediate.op c.of_shift.result
     c.in-ShiftImmediate.rd c.in-ShiftImmediate.rs1 c.in-ShiftImmediate.amount (rw c.in-ShiftImmediate.is at c.requires.shifts)
-    c.of_shift.ensures c.in_ok-compute-in-ShiftImmediate.ensures)
+    c.of_shift.ensures.computes c.of_shift.ensures.op
+    c.in_ok-compute-in-ShiftImmediate.ensures.comes c.in_ok-compute-in-ShiftImmediate.ensures.terms)
 
 pub returns-in_ok-compute-in-Binary-clause-ok : goal.returns-in_ok-compute-in-Binary-clause-ok
 returns-in_ok-compute-in-Binary-clause-ok c =
     rw c.in-Binary.is
     (of_two c.args.state.now c.compute-in-Binary.new.state c.in_ok-compute-in-Binary.field-0 c.in-Binary.op
-    c.in-Binary.rd c.in-Binary.rs1 c.in-Binary.rs2 (rw c.value-second.ensures.value at c.in_ok-compute-in-Binary.ensures))
+    c.in-Binary.rd c.in-Binary.rs1 c.in-Binary.rs2 (rw c.value-second.ensures.value at c.in_ok-compute-in-Binary.ensures.comes)
+    (rw c.value-second.ensures.value at c.in_ok-compute-in-Binary.ensures.terms))
 
 pub returns-in-Fence-clause-ok : goal.returns-in-Fence-clause-ok
 returns-in-Fence-clause-ok c =

@@ -17,4 +17,4 @@ pub returns-clause-ok : goal.returns-clause-ok
 returns-clause-ok c =
     jumps c.args.state.now c.combined.new.self c.cleared.new.self c.args.rd c.args.rs1 c.args.offset c.in_ok-sum.sum c.in_ok-target.target
     (rw c.value-base.ensures.value at c.in_ok-sum.ensures.ok) c.in_ok-target.ensures.ok c.requires.decides
-    c.jump_to_register.new.state c.in_ok-step.step c.in_ok-target-2.target c.in_ok-target-2.ensures.ok c.in_ok-step.ensures
+    c.jump_to_register.new.state c.in_ok-step.step c.in_ok-target-2.target c.in_ok-target-2.ensures.ok c.in_ok-step.ensures.comes c.in_ok-step.ensures.terms

@@ -9,7 +9,10 @@ use Rattle.sym_state.specs.Values.{worth_of}
 use Rattle.sym_state.specs.declared.value.Value.TheVariants.{Number}
 use Rattle.sym_machine.specs.Steps.{Comes}
 use Rattle.sym_machine.specs.declared.outcome.Step.TheVariants.{Running}
+use Rattle.sym_state.specs.Unfolded.{unfolded}
+use Rattle.sym_machine.proofs.Fetches.{zero_false, zero_true}
 use Rattle.sym_machine.proofs.Standing.{Keeps-moved, registers-set}
+use Rattle.sym_machine.proofs.Unfolds as unfolds
 use Rattle.sym_machine.proofs.going.jump_and_link.Goals as goal
 
 -- at the target, with the link
@@ -31,8 +34,8 @@ comes s rd target aligned = record {
   is = λ input standing. links s rd target input (grind (arith, nat_tests, aligned));
 }
 
-pub returns : goal.returns
-returns c =
+pub returns-clause-comes : goal.returns-clause-comes
+returns-clause-comes c =
     let old = c.args.state.now in
     let target = c.args.target in
     let rd = c.args.rd in
@@ -42,3 +45,17 @@ returns c =
     ∙ ap (λ n. record old { pc = target; registers = set_value old.registers rd (Number n) })
     c.address-after.ensures))
     (comes old rd target c.if-target-ne0.false)
+
+pub returns-clause-terms : goal.returns-clause-terms
+returns-clause-terms c =
+    let old = c.args.state.now in
+    let target = c.args.target in
+    let rd = c.args.rd in
+    ap unfolded (c.go_to.ensures.value
+    ∙ ap (λ (s : Symbolic). record s { pc = target }) c.set.ensures.value
+    ∙ ap (λ n. record old { pc = target; registers = set_value old.registers rd (Number n) }) c.address-after.ensures)
+    ∙ unfolds.unfolded-moved old target rd (Number (sum32 old.pc 4))
+    ∙ unfolds.links (unfolded old) rd target (zero_true (target % 4) c.if-target-ne0.false)
+
+pub returns-then-target-ne0-clause-terms : goal.returns-then-target-ne0-clause-terms
+returns-then-target-ne0-clause-terms c = unfolds.links_not (unfolded c.args.state.now) c.args.rd c.args.target (zero_false (c.args.target % 4) c.if-target-ne0.true)

@@ -1,8 +1,10 @@
-use Rattle.std.proofs.Common.{[], ◌∷◌, ◌++◌, subst}
+use Rattle.std.proofs.Common.{[], ◌∷◌, ◌++◌, ap, subst, ◌∙◌}
 use Rattle.rv_decode.specs.declared.ends.PathStep.{PathStep}
 use Rattle.rv_decode.specs.declared.ends.PathStep.TheVariants.{Target}
 use Rattle.rv_spec.specs.Machine.{State, Outcome, linked, noted}
 use Rattle.sym_state.specs.Symbolic.{Symbolic}
+use Rattle.sym_state.specs.Unfolded.{unfolded}
+use Rattle.sym_state.specs.Unfolding as symbolic
 use Rattle.sym_machine.specs.Steps.{Comes}
 use Rattle.sym_machine.specs.declared.outcome.Step.{Step}
 use Rattle.sym_machine.proofs.going.jump_to_register.Goals as goal
@@ -24,11 +26,16 @@ comes old new entry step makes rest = record {
   is = rest.is;
 }
 
-pub returns : goal.returns
-returns c =
+pub returns-clause-comes : goal.returns-clause-comes
+returns-clause-comes c =
     comes c.args.state.now c.jump_and_link.new.state (Target c.args.target) c.jump_and_link.result
     (λ d. linked d c.args.rd c.args.target)
     (subst
     (λ (s : Symbolic).
     Comes s c.jump_and_link.new.state c.jump_and_link.result (λ d. linked d c.args.rd c.args.target))
-    c.in_ok-note.ensures.ok c.jump_and_link.ensures)
+    c.in_ok-note.ensures.ok c.jump_and_link.ensures.comes)
+
+pub returns-clause-terms : goal.returns-clause-terms
+returns-clause-terms c =
+    c.jump_and_link.ensures.terms
+    ∙ ap (λ (s : Symbolic). symbolic.linked (unfolded s) c.args.rd c.args.target) c.in_ok-note.ensures.ok

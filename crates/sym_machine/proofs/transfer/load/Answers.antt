@@ -9,4 +9,4 @@ pub returns-clause-ok : goal.returns-clause-ok
 returns-clause-ok c =
     load_carries c.args.state.now c.address_of.new.state c.load_from.new.state c.in_ok-step.step
     c.args.width c.args.rd c.args.rs1 c.args.offset c.in_ok-address.address
-    c.in_ok-address.ensures.grown c.in_ok-address.ensures.ok c.in_ok-step.ensures
+    c.in_ok-address.ensures.grown c.in_ok-address.ensures.ok c.in_ok-step.ensures.comes c.in_ok-step.ensures.terms

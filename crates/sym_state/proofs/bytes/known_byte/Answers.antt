@@ -1,5 +1,6 @@
 use Rattle.std.proofs.Common.{arith, refl, sym}
 use Rattle.bv_dag.proofs.TermLaws.{there}
+use Rattle.sym_state.proofs.Expressing.{settled_number, settled_unknown}
 use Rattle.sym_state.proofs.Naming.{number_below, number_is, unknown_node}
 use Rattle.sym_state.proofs.bytes.known_byte.Goals as goal
 
@@ -24,11 +25,19 @@ returns-in-Num-clause-worth c =
     let dag = rw c.terms.ensures at c.node.ensures.fit in
     λ input. sym (number_is c.args.terms.now c.args.id c.in-Num.width c.in-Num.value input dag is)
 
+pub returns-in-Num-clause-expression : goal.returns-in-Num-clause-expression
+returns-in-Num-clause-expression c =
+    let is = rw (c.in-Num.is, c.terms.ensures) at c.node.ensures.is in
+    let dag = rw c.terms.ensures at c.node.ensures.fit in
+    settled_number c.args.terms.now c.args.id c.in-Num.width c.in-Num.value dag is
+
 pub returns-in_default : goal.returns-in_default
 returns-in_default c =
     let is = rw c.terms.ensures at c.node.ensures.is in
     let dag = rw c.terms.ensures at c.node.ensures.fit in
+    let unknown = unknown_node c.args.terms.now c.args.id 8 c.node.result dag is c.requires.width c.in_default.not-Num in
     record {
-      is_byte = unknown_node c.args.terms.now c.args.id 8 c.node.result dag is c.requires.width c.in_default.not-Num;
+      is_byte = unknown;
       worth = λ input. refl;
+      expression = settled_unknown c.args.terms.now 8 c.args.id unknown;
     }

@@ -1,4 +1,6 @@
-use Rattle.std.proofs.Common.{arith}
+use Rattle.std.proofs.Common.{◌∙◌, ap, arith}
+use Rattle.sym_state.specs.Expressions.{tree_in}
+use Rattle.sym_state.proofs.Expressing.{builds_tree, expression-grown, tree-kept}
 use Rattle.sym_state.proofs.Growing.{Continues-trans, IsWide-grown, builds_gives, given-grown, later-value, width-kept}
 use Rattle.sym_state.proofs.operations.combined_term.Goals as goal
 
@@ -16,3 +18,9 @@ returns-clause-ok c =
       later-value c.args.b c.in_ok-a.ensures.ok.continues c.requires.second c.in_ok-b.ensures.ok input bytes,
     ))
     c.combined.ensures.ok
+
+pub returns-clause-tree : goal.returns-clause-tree
+returns-clause-tree c =
+    let first = tree-kept _ _ _ 32 c.in_ok-b.ensures.ok.continues c.in_ok-a.ensures.ok.width (omega arith) ∙ c.in_ok-a.ensures.tree in
+    let second = c.in_ok-b.ensures.tree ∙ ap (tree_in 32) (expression-grown _ _ c.args.b c.in_ok-a.ensures.ok.continues c.requires.second) in
+    builds_tree _ _ c.combined.result _ _ 32 _ (cc (first, second)) c.combined.ensures.ok

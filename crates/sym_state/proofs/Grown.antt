@@ -1,0 +1,82 @@
+-- A run to which terms were added is where it was, stands for the same assignments, and has the same
+-- terms.
+use Rattle.std.proofs.Common.{◌≡◌, ℕ, ◌&&◌, List, [], ◌∷◌, length, map, refl, ap, ◌∙◌, arith}
+use Rattle.std.specs.Prelude.{All, ◌==◌}
+use Rattle.std.specs.List.{list_all}
+use Rattle.std.proofs.Math.Path.{fun_ext}
+use Rattle.std.proofs.lemmas.List.{take_all}
+use Rattle.std.proofs.lemmas.List.Elements.{All-head, All-tail}
+use Rattle.bv_dag.specs.Graphs.{Graph, number_of, width_of}
+use Rattle.bv_dag.specs.Queries.{AreBits, holds}
+use Rattle.cow_pages.specs.SymbolicMemory.{memory_byte}
+use Rattle.cow_pages.specs.declared.byte.Byte.{Byte}
+use Rattle.fork_spec.specs.Leaves.{are_bytes}
+use Rattle.term_trees.specs.Growth.{Continues}
+use Rattle.sym_state.specs.Expressions.{Expression, byte_expression, value_expression}
+use Rattle.sym_state.specs.Moves.{IsGrown, with_terms}
+use Rattle.sym_state.specs.Symbolic.{Symbolic, IsFormed, concrete, stands_for}
+use Rattle.sym_state.specs.Unfolded.{unfolded}
+use Rattle.sym_state.specs.Values.{IsByte, IsWide, byte_worth, worth_of}
+use Rattle.sym_state.proofs.Expressing.{byte_expression-grown, expression-grown}
+use Rattle.sym_state.proofs.Growing.{byte_worth-grown, number-grown, worth-grown}
+
+pub Continues-refl : (g : Graph) → Continues g g
+Continues-refl g = record { inputs = refl; front = take_all (length g.nodes) g.nodes (omega arith) }
+
+pub ones-grown : (g h : Graph) (input ids : List ℕ) → Continues g h → AreBits g ids
+    → list_all (λ id. number_of h id input == 1) ids ≡ list_all (λ id. number_of g id input == 1) ids
+ones-grown g h input [] grown bits = refl
+ones-grown g h input (id ∷ ids) grown bits =
+    let first : number_of h id input ≡ number_of g id input = number-grown g h id 1 input grown (All-head (λ i. width_of g i ≡ 1) id ids bits) (omega arith) in
+    cc (first, ones-grown g h input ids grown (All-tail (λ i. width_of g i ≡ 1) id ids bits))
+
+-- a condition is met where it was
+pub holds-grown : (g h : Graph) (ids input : List ℕ) → Continues g h → AreBits g ids
+    → holds (record { graph = h; asserted = ids }) input ≡ holds (record { graph = g; asserted = ids }) input
+holds-grown g h ids input grown bits =
+    ap (λ n. (length input == n) && list_all (λ id. number_of h id input == 1) ids) grown.inputs
+    ∙ ap (λ b. (length input == g.inputs) && b) (ones-grown g h input ids grown bits)
+
+-- ---- With other terms.
+pub stands-with_terms : (s : Symbolic) (g : Graph) (input : List ℕ) → IsFormed s → Continues s.terms g
+    → stands_for (with_terms s g) input ≡ stands_for s input
+stands-with_terms s g input formed grown = ap (λ b. are_bytes input && b) (holds-grown s.terms g s.condition input grown formed.bits)
+
+map-same : {A B : Type 0} (P : A → Type 0) (f g : A → B) (xs : List A) → ((x : A) → P x → f x ≡ g x) → All P xs → map f xs ≡ map g xs
+map-same P f g [] same all = refl
+map-same P f g (x ∷ xs) same all = cc (same x (All-head P x xs all), map-same P f g xs same (All-tail P x xs all))
+
+pub bytes-grown : (g h : Graph) (input : List ℕ) (bs : List Byte) → Continues g h → All (IsByte g) bs
+    → map (byte_worth h input) bs ≡ map (byte_worth g input) bs
+bytes-grown g h input bs grown each = map-same (IsByte g) (byte_worth h input) (byte_worth g input) bs (λ b. byte_worth-grown g h input b grown) each
+
+pub concrete-with_terms : (s : Symbolic) (g : Graph) (input : List ℕ) → IsFormed s → Continues s.terms g
+    → concrete (with_terms s g) input ≡ concrete s input
+concrete-with_terms s g input formed grown =
+    ap (λ rs. record (concrete (with_terms s g) input) { registers = rs })
+    (map-same (IsWide s.terms) (worth_of g input) (worth_of s.terms input) s.registers (λ v. worth-grown s.terms g input v grown) formed.wide)
+    ∙ ap (λ (bytes : ℕ → ℕ). record (concrete s input) { byte = bytes; output = map (byte_worth g input) s.output })
+    (fun_ext (λ a. byte_worth-grown s.terms g input (memory_byte s.memory a) grown (formed.memory a)))
+    ∙ ap (λ ns. record (concrete s input) { output = ns })
+    (bytes-grown s.terms g input s.output grown formed.bytes)
+
+pub unfolded-with_terms : (s : Symbolic) (g : Graph) → IsFormed s → Continues s.terms g → unfolded (with_terms s g) ≡ unfolded s
+unfolded-with_terms s g formed grown =
+    ap (λ es. record (unfolded (with_terms s g)) { registers = es })
+    (map-same (IsWide s.terms) (value_expression g) (value_expression s.terms) s.registers (λ v. expression-grown s.terms g v grown) formed.wide)
+    ∙ ap (λ (bytes : ℕ → Expression). record (unfolded s) { byte = bytes; output = map (byte_expression g) s.output })
+    (fun_ext (λ a. byte_expression-grown s.terms g (memory_byte s.memory a) grown (formed.memory a)))
+    ∙ ap (λ es. record (unfolded s) { output = es })
+    (map-same (IsByte s.terms) (byte_expression g) (byte_expression s.terms) s.output (λ b. byte_expression-grown s.terms g b grown) formed.bytes)
+
+-- ---- The same run, with more terms.
+pub stands-grown : (old new : Symbolic) (input : List ℕ) → IsGrown old new → stands_for new input ≡ stands_for old input
+stands-grown old new input grown =
+    ap (λ (s : Symbolic). stands_for s input) grown.same ∙ stands-with_terms old new.terms input grown.before grown.continues
+
+pub concrete-grown : (old new : Symbolic) (input : List ℕ) → IsGrown old new → concrete new input ≡ concrete old input
+concrete-grown old new input grown =
+    ap (λ (s : Symbolic). concrete s input) grown.same ∙ concrete-with_terms old new.terms input grown.before grown.continues
+
+pub unfolded-grown : (old new : Symbolic) → IsGrown old new → unfolded new ≡ unfolded old
+unfolded-grown old new grown = ap unfolded grown.same ∙ unfolded-with_terms old new.terms grown.before grown.continues
