@@ -1,11 +1,15 @@
-//! Clauses, with the places in which each literal stands, so that only those are looked at where it becomes false.
+//! Clauses, with the places in which each literal stands, so that only those are looked at where it becomes false, and with
+//! a checker of those that come next.
 
-ghost use Rattle.std.specs.Prelude.{◌≡◌, ℕ, ◌+◌, ◌*◌, ◌<◌, ◌++◌, ◌∷◌, [], List, Some, true, OnOk, OnErr, IfOk, slice_get, length};
+ghost use Rattle.std.specs.Prelude.{◌≡◌, ℕ, ◌+◌, ◌*◌, ◌<◌, ◌++◌, ◌∷◌, ◌&&◌, [], List, Some, true, OnOk, OnErr, IfOk, slice_get, length};
 ghost use Rattle.std.specs.List.{list_any};
 ghost use Rattle.cnf_form.specs.Literals.{Literal, same_literal};
+ghost use Rattle.cnf_form.specs.Propagation.{follows};
+ghost use Rattle.cnf_form.specs.Refutations.{is_new};
 ghost use Rattle.cdcl_core.specs.Places.{index_of, is_among, places_of, AreKept};
 
-use cnf_form::{Clause, Lit};
+use cnf_form::{Clause, Lit, LogStep};
+use proof_check::Checker;
 use std::alloc::{AllocError as NoMemory, Global};
 use std::marker::Model;
 
@@ -83,7 +87,7 @@ impl Places {
 /// Clauses in their order.
 #[derive(Debug, Drop)]
 pub struct ClauseList {
-    clauses: Vec<Clause>,
+    checker: Checker,
     places: Places,
 }
 
@@ -94,9 +98,9 @@ impl Model for ClauseList {
 
     ghost Value = { List (List Literal) };
 
-    ghost view = { λ c. c.clauses.items };
+    ghost view = { λ c. c.checker };
 
-    ghost invariant = { λ c. AreNoted c.clauses.items c.places };
+    ghost invariant = { λ c. AreNoted c.checker c.places };
 }
 
 impl ClauseList {
@@ -105,7 +109,7 @@ impl ClauseList {
         ensures { result ≡ [] }
     {
         ClauseList {
-            clauses: Vec::new(alloc),
+            checker: Checker::empty(alloc),
             places: Places {
                 lists: Vec::new(alloc),
             },
@@ -117,15 +121,23 @@ impl ClauseList {
         ensures ok { OnOk result (self.new ≡ self.old ++ clause ∷ []) }
         ensures err { OnErr result (self.new ≡ self.old) }
     {
-        self.places.add(alloc, &clause, self.clauses.len())?;
-        self.clauses.push(clause)?;
-        Ok(())
+        let place = self.as_slice().len();
+        self.places.add(alloc, &clause, place)?;
+        self.checker.note(clause)
     }
 
     pub fn as_slice(&self) -> &[Clause]
         ensures { result.now ≡ self.now }
     {
-        self.clauses.as_slice()
+        self.checker.clauses()
+    }
+
+    /// Whether the step's clause follows by its hints from the clauses, and is a superset of none of them.
+    pub fn may_come_next(&mut self, step: &LogStep) -> Result<bool, NoMemory>
+        ensures answer { IfOk result (λ yes. yes ≡ (follows self.old step.now.clause step.now.hints && is_new self.old step.now.clause)) }
+        ensures same { self.new ≡ self.old }
+    {
+        self.checker.may_come_next(step)
     }
 
     /// The places of clauses, with all of those in which the literal stands.

@@ -1,6 +1,6 @@
 //! A refutation made by hand, logs that are none, and clauses that are fresh or not.
 
-use crate::{check, ends_empty, fresh, may_come_next};
+use crate::{Checker, check, ends_empty, fresh};
 use cnf_form::{Clause, Cnf, Lit, Log, LogStep};
 use std::alloc::{AllocError as NoMemory, Global};
 use std::process::Abort;
@@ -107,13 +107,19 @@ fn supersets_are_not_fresh(rt: HostRuntime) -> Result<(), Fail> {
 #[test]
 fn steps_that_may_come_next(rt: HostRuntime) -> Result<(), Fail> {
     let alloc = rt.alloc();
-    let formula = formula(&rt, alloc)?;
-    let log = Log::new(alloc);
+    let mut checker = Checker::new(alloc, &formula(&rt, alloc)?)?;
     let good = step(&rt, alloc, &[b()], &[1, 2])?;
-    assert!(rt; may_come_next(alloc, &formula, &log, &good)?);
+    assert!(rt; checker.may_come_next(&good)?);
     let unshown = step(&rt, alloc, &[b()], &[1])?;
-    assert!(rt; !may_come_next(alloc, &formula, &log, &unshown)?);
+    assert!(rt; !checker.may_come_next(&unshown)?);
     let known = step(&rt, alloc, &[a()], &[1])?;
-    assert!(rt; !may_come_next(alloc, &formula, &log, &known)?);
+    assert!(rt; !checker.may_come_next(&known)?);
+    checker.note(good.clause().clone()?)?;
+    assert!(rt; !checker.may_come_next(&good)?);
+    let empty = step(&rt, alloc, &[], &[4, 3])?;
+    assert!(rt; checker.may_come_next(&empty)?);
+    checker.note(empty.clause().clone()?)?;
+    assert!(rt; !checker.is_new(good.clause())?);
+    assert_eq!(rt; checker.clauses().len(), 5);
     Ok(())
 }

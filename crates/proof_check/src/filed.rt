@@ -1,0 +1,102 @@
+//! Clauses in their order, filed by their last literals.
+
+ghost use Rattle.std.specs.Prelude.{◌≡◌, ◌++◌, ◌∷◌, [], OnOk, OnErr, slice_get};
+ghost use Rattle.cnf_form.specs.Propagation.{hint_is_falsified};
+ghost use Rattle.proof_check.specs.Marking.{marked};
+ghost use Rattle.proof_check.specs.Filing.{keys_of, has_falsified, has_falsified_end, AreFiled};
+
+use crate::checking::is_falsified;
+use crate::index::{Index, clause_key, literal_key};
+use crate::marks::Marks;
+use cnf_form::{Clause, Lit};
+use std::alloc::{AllocError as NoMemory, Global};
+use std::marker::Model;
+
+fn is_falsified_at(marks: &Marks, clauses: &[Clause], place: usize) -> bool
+    ensures { result ≡ hint_is_falsified (marked marks.now) (slice_get clauses.now place) }
+{
+    match clauses.get(place) {
+        Some(clause) => is_falsified(marks, clause.literals()),
+        None => false,
+    }
+}
+
+// Whether one of the clauses of this key is false.
+fn has_falsified(marks: &Marks, clauses: &[Clause], index: &Index, key: usize) -> bool
+    requires { AreFiled (keys_of clauses.now) index.now }
+    ensures { result ≡ has_falsified (marked marks.now) clauses.now key }
+{
+    let mut number = index.last(key);
+    while number > 0 {
+        let place = number - 1;
+        if is_falsified_at(marks, clauses, place) {
+            return true;
+        }
+        number = index.before(place);
+    }
+    false
+}
+
+/// Clauses that are found by their keys.
+#[derive(Debug, Drop)]
+pub struct FiledClauses {
+    clauses: Vec<Clause>,
+    index: Index,
+}
+
+impl Model for FiledClauses {
+    ghost use Rattle.std.specs.Prelude.{List};
+    ghost use Rattle.cnf_form.specs.Literals.{Literal};
+    ghost use Rattle.proof_check.specs.Filing.{keys_of, AreFiled};
+
+    ghost Value = { List (List Literal) };
+
+    ghost view = { λ c. c.clauses.items };
+
+    ghost invariant = { λ c. AreFiled (keys_of c.clauses.items) c.index };
+}
+
+impl FiledClauses {
+    /// No clauses.
+    pub fn new(alloc: Global) -> FiledClauses
+        ensures { result ≡ [] }
+    {
+        FiledClauses {
+            clauses: Vec::new(alloc),
+            index: Index::new(alloc),
+        }
+    }
+
+    pub fn as_slice(&self) -> &[Clause]
+        ensures { result.now ≡ self.now }
+    {
+        self.clauses.as_slice()
+    }
+
+    /// Puts a clause behind the others.
+    pub fn push(&mut self, clause: Clause) -> Result<(), NoMemory>
+        ensures ok { OnOk result (self.new ≡ self.old ++ clause ∷ []) }
+        ensures err { OnErr result (self.new ≡ self.old) }
+    {
+        self.clauses.reserve(1)?;
+        self.index.push(clause_key(&clause))?;
+        self.clauses.push(clause).unwrap();
+        Ok(())
+    }
+
+    /// Whether one of the clauses of this key is false.
+    pub fn has_falsified(&self, marks: &Marks, key: usize) -> bool
+        ensures { result ≡ has_falsified (marked marks.now) self.now key }
+    {
+        has_falsified(marks, &self.clauses, &self.index, key)
+    }
+}
+
+/// Whether a clause is false that ends in one of these literals.
+pub fn has_falsified_end(marks: &Marks, clauses: &FiledClauses, literals: &[Lit]) -> bool
+    ensures { result ≡ has_falsified_end (marked marks.now) clauses.now literals.now }
+{
+    literals
+        .iter()
+        .any(|l| clauses.has_falsified(marks, literal_key(*l)))
+}
