@@ -1,3 +1,4 @@
+pub mod Deciding
 pub mod Filling
 pub mod Forms
 pub mod Growing

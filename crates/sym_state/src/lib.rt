@@ -11,12 +11,14 @@
 //! - `first`: the run of all assignments
 //! - `program`, `decided`: what is run; what is known of a decision
 //! - `leaf_part`, `evidence`: a leaf, and what shows it
+//! - `laws`: what holds of the terms of runs
 #![tactic(auto)]
 
 mod bytes;
 mod decided;
 mod evidence;
 mod first;
+pub mod laws;
 mod leaf_part;
 mod lists;
 mod moves;
