@@ -8,7 +8,8 @@ use Rattle.bv_dag.specs.Graphs.{IsDag}
 use Rattle.bv_dag.specs.Queries.{AreBits, Condition, holds, IsUnsatisfiable}
 use Rattle.bit_blast.specs.Circuits.{clauses}
 use Rattle.bit_blast.proofs.Completeness.{has_valuation}
-use Rattle.query_decide.specs.Occurring.{IsAlone, asserted_inputs}
+use Rattle.bv_dag.specs.Inputs.{asserted_inputs}
+use Rattle.query_decide.specs.Occurring.{IsAlone}
 use Rattle.query_decide.proofs.Agreeing.{same_holds}
 
 byte_below : (input : List ℕ) (place : ℕ) → All (λ b. b < 256) input → slice_index input place < 256

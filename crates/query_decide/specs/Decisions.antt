@@ -4,7 +4,7 @@ use Rattle.cnf_form.specs.Refutations.{Step, follows_all, is_fresh}
 use Rattle.cdcl_core.specs.Searches.{has_no_empty}
 use Rattle.bv_dag.specs.Queries.{Condition, holds, IsUnsatisfiable}
 use Rattle.bit_blast.specs.Circuits.{clauses}
-use Rattle.query_decide.specs.Occurring.{HasTwo, asserted_inputs}
+use Rattle.bv_dag.specs.Inputs.{HasTwo, asserted_inputs}
 use Rattle.query_decide.specs.declared.decision.Decision.{Decision}
 use Rattle.query_decide.specs.declared.decision.Decision.TheVariants.{Sat, Unsat, Spent}
 
