@@ -7,3 +7,4 @@ pub mod Same
 pub mod Meaning
 pub mod AllOnes
 pub mod TermLaws
+pub mod Resting

@@ -6,6 +6,7 @@ use Rattle.cnf_form.specs.Literals.{Literal}
 use Rattle.cnf_form.specs.Propagation.{assign, is_falsified, numbered, unit_of_hint, hint_is_falsified, and_then_holds, reaches_conflict}
 use Rattle.cdcl_core.specs.declared.trail.Entry.{Entry}
 use Rattle.cdcl_core.specs.Trails.{assigned, IsMadeTrue, IsTrailFrom, if_decided, decisions, if_forced, reasons}
+use Rattle.cdcl_core.proofs.Lists.{none_from}
 use Rattle.cdcl_core.proofs.Values.{Extends, assign-same, assign-other, assign-extends, differ, hint_kept}
 
 -- the assignment with the decisions of these entries, and no others of them
@@ -72,14 +73,14 @@ conflict clauses [] a k h fails = fails
 conflict clauses (e ∷ es) a k h fails =
     conflict_by clauses es a e.literal e.reason k h.0 h.1 h.2 (conflict clauses es (assign a e.literal) k h.2 fails)
 
--- right after the last decision no clause was false
+-- right after the last decision no clause was false, since each was calm before it
 abbrev pub HasCalm : List (List Literal) → (ℕ → Option Bool) → Type 0
 HasCalm clauses a = (b : ℕ → Option Bool) × (list_any (is_falsified b) clauses ≡ false) × Extends a b
 
 calm_by : (clauses : List (List Literal)) (es : List Entry) (a : ℕ → Option Bool) (l : Literal) (o : Option ℕ) (ls : List Literal) → decisions es ≡ ls → a l.variable ≡ None → IsMadeTrue clauses a l o → IsTrailFrom clauses (assign a l) es
     → ((decisions es ≡ [] → ⊥) → HasCalm clauses (with_decisions (assign a l) es))
     → (if_decided o l (decisions es) ≡ [] → ⊥) → HasCalm clauses (fold assign a (if_decided o l (decisions es)))
-calm_by clauses es a l None [] is free made h rest some = (assign a l, made, λ x t has. sym (ap (λ ks. fold assign (assign a l) ks x) is) ∙ has)
+calm_by clauses es a l None [] is free made h rest some = (assign a l, none_from (is_falsified (assign a l)) clauses (λ k c at. made k c at l free), λ x t has. sym (ap (λ ks. fold assign (assign a l) ks x) is) ∙ has)
 calm_by clauses es a l None (d ∷ ds) is free made h rest some = rest (λ none. cc)
 calm_by clauses es a l (Some n) ls is free made h rest some =
     let calm : HasCalm clauses (with_decisions (assign a l) es) = rest some in

@@ -1,4 +1,4 @@
-use Rattle.std.proofs.Common.{◌≡◌, ℕ, Bool, true, false, not, List, [], ◌∷◌, ◌++◌, length, replicate, Option, None, Some, append-nil, append_assoc, refl, ap, sym, ◌∙◌, subst, inl, inr}
+use Rattle.std.proofs.Common.{◌≡◌, ℕ, ◌≤◌, Bool, true, false, not, List, [], ◌∷◌, ◌++◌, length, replicate, Option, None, Some, append-nil, append_assoc, refl, ap, sym, ◌∙◌, arith, inl, inr}
 use Rattle.std.specs.List.{list_all, list_any}
 use Rattle.std.proofs.lemmas.Bool.{and_parts, and_from, or_cases, or_left, or_right, not_from_false, false≢true}
 use Rattle.std.proofs.lemmas.List.{length-replicate}
@@ -7,11 +7,11 @@ use Rattle.cnf_form.specs.Literals.{Literal}
 use Rattle.cnf_form.specs.Propagation.{unassigned, is_true, follows}
 use Rattle.cnf_form.specs.Refutations.{Step, clauses_of, follows_all, is_new, is_fresh, is_empty_clause, ends_empty, refutes}
 use Rattle.cnf_form.specs.Valuations.{literal_value, satisfies_clause, satisfies}
-use Rattle.cdcl_core.specs.declared.trail.Entry.{Entry}
-use Rattle.cdcl_core.specs.Trails.{Assignment, values_of, IsTrail}
+use Rattle.proof_check.proofs.Chains.{at_more}
+use Rattle.cdcl_core.specs.Trails.{Assignment, values_of, IsTrail, AreCalmFirst}
 use Rattle.cdcl_core.specs.Passes.{is_below, has_true}
-use Rattle.cdcl_core.specs.Searches.{has_no_empty, IsSearch, IsLesson, IsFront, IsOpenOrBegun, IsDescent}
-use Rattle.cdcl_core.proofs.Values.{front_is_trail, trail_with, no_trail}
+use Rattle.cdcl_core.specs.Searches.{has_no_empty, IsSearch, IsLesson, IsDescent}
+use Rattle.cdcl_core.proofs.Values.{no_trail}
 
 regroup : (before : List (List Literal)) (c : List Literal) (cs : List (List Literal)) → (before ++ c ∷ []) ++ cs ≡ before ++ c ∷ cs
 regroup [] c cs = refl
@@ -59,38 +59,41 @@ no_log_empty : has_no_empty [] ≡ true
 unfolding has_no_empty
 no_log_empty = refl
 
-pub begins : (f clauses : List (List Literal)) (log : List Step) (now : Assignment) (n : ℕ) → clauses ≡ f → log ≡ [] → now ≡ record { marks = replicate n None; entries = [] } → list_all (is_below n) f ≡ true → IsSearch f clauses log now
-begins f clauses log now n same none is below =
-    rw (same, none, is) record {
+pub begins : (f clauses : List (List Literal)) (log : List Step) (now : Assignment) (n k : ℕ) → clauses ≡ f → log ≡ [] → now ≡ record { marks = replicate n None; entries = [] } → list_all (is_below n) f ≡ true → k ≡ 0 → IsSearch f clauses log now k
+begins f clauses log now n k same none is below first =
+    rw (same, none, is, first) record {
       all = sym (append-nil f);
       follows = no_log_follows f;
       fresh = no_log_fresh f;
       no_empty = no_log_empty;
       below = rw (length-replicate {A = Option Bool} n None) below;
       trail = no_trail f unassigned;
+      calm = λ i c early. absurd (omega (arith, early));
     }
 
 -- a step that is learnt
-still_trail : (clauses : List (List Literal)) (old now : List Entry) (c : List Literal) → IsTrail clauses old → IsFront now old → IsOpenOrBegun now c → IsTrail (clauses ++ c ∷ []) now
-unfolding values_of
-still_trail clauses old now c h front (inl none) = subst (λ (es : List Entry). IsTrail (clauses ++ c ∷ []) es) (sym none) (no_trail (clauses ++ c ∷ []) unassigned)
-still_trail clauses old now c h front (inr opens) =
-    trail_with clauses now unassigned c (front_is_trail clauses now front.0 unassigned (subst (λ (es : List Entry). IsTrail clauses es) front.1 h)) opens
+calm_more : (clauses : List (List Literal)) (a : ℕ → Option Bool) (c : List Literal) (n : ℕ) → n ≤ length clauses → AreCalmFirst n a clauses → AreCalmFirst n a (clauses ++ c ∷ [])
+calm_more clauses a c n within calm k d early at =
+    elim (at_more clauses c d k at) [
+      | inl before ↦ calm k d early before
+      | inr last ↦ absurd (omega (arith, early, within, last.0))
+    ]
 
-pub learns : (f clauses more : List (List Literal)) (log longer : List Step) (old now : Assignment) (s : Step) → IsSearch f clauses log old → IsLesson clauses (length old.marks) s → is_empty_clause s.clause ≡ false
-    → IsFront now.entries old.entries → length now.marks ≡ length old.marks → IsOpenOrBegun now.entries s.clause → more ≡ clauses ++ s.clause ∷ [] → longer ≡ log ++ s ∷ [] → IsSearch f more longer now
-learns f clauses more log longer old now s h lesson some front size opens made put =
+pub learns : (f clauses more : List (List Literal)) (log longer : List Step) (old now : Assignment) (s : Step) (m n : ℕ) → IsSearch f clauses log old m → IsLesson clauses (length old.marks) s → is_empty_clause s.clause ≡ false
+    → IsTrail (clauses ++ s.clause ∷ []) now.entries → length now.marks ≡ length old.marks → n ≤ length clauses → AreCalmFirst n (values_of now.entries) clauses → more ≡ clauses ++ s.clause ∷ [] → longer ≡ log ++ s ∷ [] → IsSearch f more longer now n
+learns f clauses more log longer old now s m n h lesson some trail size count calm made put =
     rw (made, put) record {
       all = ap (λ (cs : List (List Literal)). cs ++ s.clause ∷ []) h.all ∙ append_assoc f (clauses_of log) (s.clause ∷ []) ∙ ap (λ (cs : List (List Literal)). f ++ cs) (sym (clauses_more log s));
       follows = follows_more f log s h.follows (ap (λ (cs : List (List Literal)). follows cs s.clause s.hints) (sym h.all) ∙ lesson.follows);
       fresh = fresh_more f log s h.fresh (ap (λ (cs : List (List Literal)). is_new cs s.clause) (sym h.all) ∙ lesson.is_new some);
       no_empty = no_empty_more log s h.no_empty some;
       below = list_all-append (is_below (length now.marks)) clauses (s.clause ∷ []) ∙ and_from _ _ (rw size h.below) (and_from _ _ (rw size lesson.below) refl);
-      trail = still_trail clauses old.entries now.entries s.clause h.trail front opens;
+      trail = trail;
+      calm = calm_more clauses (values_of now.entries) s.clause n count calm;
     }
 
-pub ends : (f clauses : List (List Literal)) (log longer : List Step) (now : Assignment) (s : Step) → IsSearch f clauses log now → IsLesson clauses (length now.marks) s → is_empty_clause s.clause ≡ true → longer ≡ log ++ s ∷ [] → refutes f longer ≡ true
-ends f clauses log longer now s h lesson none put =
+pub ends : (f clauses : List (List Literal)) (log longer : List Step) (now : Assignment) (n : ℕ) (s : Step) → IsSearch f clauses log now n → IsLesson clauses (length now.marks) s → is_empty_clause s.clause ≡ true → longer ≡ log ++ s ∷ [] → refutes f longer ≡ true
+ends f clauses log longer now n s h lesson none put =
     rw put (and_from _ _ (follows_more f log s h.follows (ap (λ (cs : List (List Literal)). follows cs s.clause s.hints) (sym h.all) ∙ lesson.follows)) (ends_with log s ∙ none))
 
 -- where each clause has a literal that is true, a valuation with these literals satisfies all
@@ -114,6 +117,6 @@ unfolding satisfies
 is_found v a f clauses log all means h =
     (and_parts _ _ (sym (list_all-append (satisfies_clause v) f (clauses_of log)) ∙ ap (list_all (satisfies_clause v)) (sym all) ∙ satisfied_by v a clauses means h)).0
 
-pub is_found_at : (v : ℕ → Bool) (f clauses : List (List Literal)) (log : List Step) (now : Assignment) (o : Option ℕ) → IsSearch f clauses log now → ((l : Literal) → is_true (values_of now.entries) l ≡ true → literal_value v l ≡ true) → IsDescent clauses (values_of now.entries) o → ((k : ℕ) → o ≡ Some k → ⊥) → satisfies v f ≡ true
-is_found_at v f clauses log now None h means all never = is_found v (values_of now.entries) f clauses log h.all means all
-is_found_at v f clauses log now (Some k) h means all never = absurd (never k refl)
+pub is_found_at : (v : ℕ → Bool) (f clauses : List (List Literal)) (log : List Step) (now : Assignment) (n : ℕ) (o : Option ℕ) → IsSearch f clauses log now n → ((l : Literal) → is_true (values_of now.entries) l ≡ true → literal_value v l ≡ true) → IsDescent clauses (values_of now.entries) o → ((k : ℕ) → o ≡ Some k → ⊥) → satisfies v f ≡ true
+is_found_at v f clauses log now n None h means all never = is_found v (values_of now.entries) f clauses log h.all means all
+is_found_at v f clauses log now n (Some k) h means all never = absurd (never k refl)

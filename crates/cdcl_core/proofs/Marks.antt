@@ -1,13 +1,17 @@
-use Rattle.std.proofs.Common.{◌≡◌, ℕ, zero, suc, ◌<◌, Bool, List, [], ◌∷◌, ◌++◌, length, get_or, set, replicate, Option, Some, None, ap, sym, ◌∙◌, subst, arith, inl, inr}
+-- The values and numbers of variables that a trail keeps beside its entries.
+use Rattle.std.proofs.Common.{◌≡◌, ℕ, zero, suc, ◌+◌, ◌<◌, Bool, List, [], ◌∷◌, ◌++◌, length, get_or, set, take, replicate, Option, Some, None, slice_get, refl, ap, sym, ◌∙◌, subst, arith, inl, inr}
 use Rattle.std.proofs.Math.Path.{fun_ext}
-use Rattle.std.proofs.Math.ListN.{get_or-eq_default}
+use Rattle.std.proofs.Math.ListN.{get_or-eq_default, length-set}
 use Rattle.std.proofs.lemmas.Bool.{cases_lt, cases_eq}
 use Rattle.std.proofs.lemmas.List.{get_or-set_same, get_or-set_other, get_or-replicate, length-replicate}
 use Rattle.std.proofs.lemmas.List.Sums.{fold-append}
+use Rattle.std.proofs.lemmas.Option.{slice_get_within}
 use Rattle.cnf_form.specs.Propagation.{unassigned, assign}
 use Rattle.proof_check.specs.Marking.{marked}
+use Rattle.proof_check.proofs.Chains.{at_more}
 use Rattle.cdcl_core.specs.declared.trail.Entry.{Entry}
-use Rattle.cdcl_core.specs.Trails.{assigned, values_of, AreApart, free_count}
+use Rattle.cdcl_core.specs.Trails.{assigned, values_of, IsKept, free_count}
+use Rattle.cdcl_core.proofs.Lists.{got_more, got_last, got_take}
 use Rattle.cdcl_core.proofs.Values.{assign-same, assign-other}
 
 unmarked : (n : ℕ) (v : ℕ) → marked (replicate n None) v ≡ None
@@ -49,19 +53,9 @@ last_has_place marks es all e v is parts variable =
     has_place marks v e.literal.positive
     (ap (λ (a : ℕ → Option Bool). a v) (is ∙ ap values_of parts ∙ values_more es e) ∙ assign-same (values_of es) e.literal v variable)
 
-apart_from : (es : List Entry) (e : Entry) (a : ℕ → Option Bool) → AreApart a (es ++ e ∷ []) → assigned a es e.literal.variable ≡ None
-unfolding AreApart
-apart_from [] e a h = h.0
-apart_from (d ∷ ds) e a h = apart_from ds e (assign a d.literal) h.1
-
-last_is_apart : (es : List Entry) (e : Entry) → AreApart unassigned (es ++ e ∷ []) → values_of es e.literal.variable ≡ None
-unfolding values_of
-last_is_apart es e h = apart_from es e unassigned h
-
-pub marked_less : (marks : List (Option Bool)) (es all : List Entry) (e : Entry) (v : ℕ) → marked marks ≡ values_of all → all ≡ es ++ e ∷ [] → v ≡ e.literal.variable → AreApart unassigned all → marked (set marks v None) ≡ values_of es
-marked_less marks es all e v is parts variable apart =
+pub marked_less : (marks : List (Option Bool)) (es all : List Entry) (e : Entry) (v : ℕ) → marked marks ≡ values_of all → all ≡ es ++ e ∷ [] → v ≡ e.literal.variable → values_of es e.literal.variable ≡ None → marked (set marks v None) ≡ values_of es
+marked_less marks es all e v is parts variable free =
     let within : v < length marks = last_has_place marks es all e v is parts variable in
-    let free : values_of es e.literal.variable ≡ None = last_is_apart es e (subst (λ (ds : List Entry). AreApart unassigned ds) parts apart) in
     let more : values_of all ≡ assign (values_of es) e.literal = ap values_of parts ∙ values_more es e in
     fun_ext (λ w.
     elim (cases_eq w v) [
@@ -71,6 +65,84 @@ marked_less marks es all e v is parts variable apart =
       | inr other ↦
           get_or-set_other marks v w None None other ∙ ap (λ (a : ℕ → Option Bool). a w) (is ∙ more) ∙ assign-other (values_of es) e.literal w (λ h. other (h ∙ sym variable))
     ])
+
+-- a variable that has an entry has a value
+valued_from : (es : List Entry) (a : ℕ → Option Bool) (v : ℕ) (t : Bool) → a v ≡ Some t → (u : Bool) × (assigned a es v ≡ Some u)
+valued_from [] a v t has = (t, has)
+valued_from (e ∷ es) a v t has =
+    elim (cases_eq v e.literal.variable) [
+      | inl same ↦ valued_from es (assign a e.literal) v e.literal.positive (assign-same a e.literal v same)
+      | inr other ↦ valued_from es (assign a e.literal) v t (assign-other a e.literal v other ∙ has)
+    ]
+
+valued : (es : List Entry) (a : ℕ → Option Bool) (p : ℕ) (d : Entry) → slice_get es p ≡ Some d → (u : Bool) × (assigned a es d.literal.variable ≡ Some u)
+valued [] a p d at = let e : None ≡ Some d = at in cc
+valued (e ∷ es) a zero d at =
+    let same : e ≡ d = cc in
+    valued_from es (assign a e.literal) d.literal.variable e.literal.positive (assign-same a e.literal d.literal.variable (ap (λ (k : Entry). k.literal.variable) (sym same)))
+valued (e ∷ es) a (suc p) d at = valued es (assign a e.literal) p d at
+
+has_none : (es : List Entry) (p : ℕ) (d : Entry) (v : ℕ) → slice_get es p ≡ Some d → values_of es v ≡ None → d.literal.variable ≡ v → ⊥
+unfolding values_of
+has_none es p d v at free same =
+    let some : (u : Bool) × (assigned unassigned es d.literal.variable ≡ Some u) = valued es unassigned p d at in
+    let both : Some some.0 ≡ None = sym some.1 ∙ ap (assigned unassigned es) same ∙ free in
+    cc
+
+-- and one that has none has no value
+valueless : (es : List Entry) (a : ℕ → Option Bool) (v : ℕ) → a v ≡ None → ((p : ℕ) (d : Entry) → slice_get es p ≡ Some d → d.literal.variable ≡ v → ⊥) → assigned a es v ≡ None
+valueless [] a v free none = free
+valueless (e ∷ es) a v free none = valueless es (assign a e.literal) v (assign-other a e.literal v (λ same. none 0 e refl (sym same)) ∙ free) (λ p. none (suc p))
+
+-- before its entry a variable has no value
+pub free_before : (marks : List (Option Bool)) (numbers : List ℕ) (es : List Entry) (v number n : ℕ) → IsKept marks numbers es → number ≡ get_or numbers v 0 → n < number → values_of (take n es) v ≡ None
+unfolding values_of
+free_before marks numbers es v number n kept is early =
+    valueless (take n es) unassigned v refl (λ p d at same.
+    let there : (p < n) × (slice_get es p ≡ Some d) = got_take es n p d at in
+    absurd (omega (arith, there.0, early, is, kept.numbered p d there.1, ap (λ w. get_or numbers w 0) same)))
+
+last_is_free : (marks : List (Option Bool)) (numbers : List ℕ) (es all : List Entry) (e : Entry) → IsKept marks numbers all → all ≡ es ++ e ∷ [] → values_of es e.literal.variable ≡ None
+unfolding values_of
+last_is_free marks numbers es all e kept parts =
+    let last : get_or numbers e.literal.variable 0 ≡ length es + 1 = kept.numbered (length es) e (ap (λ (ds : List Entry). slice_get ds (length es)) parts ∙ got_last es e) in
+    valueless es unassigned e.literal.variable refl (λ p d at same.
+    let there : get_or numbers d.literal.variable 0 ≡ p + 1 = kept.numbered p d (ap (λ (ds : List Entry). slice_get ds p) parts ∙ got_more es (e ∷ []) p d at) in
+    absurd (omega (arith, slice_get_within es p d at, there, last, ap (λ w. get_or numbers w 0) same)))
+
+pub kept_less : (marks : List (Option Bool)) (numbers : List ℕ) (es all : List Entry) (e : Entry) (v : ℕ) → IsKept marks numbers all → all ≡ es ++ e ∷ [] → v ≡ e.literal.variable → IsKept (set marks v None) numbers es
+kept_less marks numbers es all e v kept parts variable = record {
+  values = marked_less marks es all e v kept.values parts variable (last_is_free marks numbers es all e kept parts);
+  room = kept.room ∙ sym (length-set marks v None);
+  numbered = λ p d at. kept.numbered p d (ap (λ (ds : List Entry). slice_get ds p) parts ∙ got_more es (e ∷ []) p d at);
+}
+
+number_more : (numbers : List ℕ) (es : List Entry) (e : Entry) (v number : ℕ) → ((p : ℕ) (d : Entry) → slice_get es p ≡ Some d → get_or numbers d.literal.variable 0 ≡ p + 1) → v ≡ e.literal.variable → v < length numbers → values_of es e.literal.variable ≡ None → number ≡ length es + 1
+    → (p : ℕ) (d : Entry) → slice_get (es ++ e ∷ []) p ≡ Some d → get_or (set numbers v number) d.literal.variable 0 ≡ p + 1
+number_more numbers es e v number numbered variable within free is p d at =
+    elim (at_more es e d p at) [
+      | inl before ↦ get_or-set_other numbers v d.literal.variable number 0 (λ same. has_none es p d e.literal.variable before free (same ∙ variable)) ∙ numbered p d before
+      | inr end ↦
+          ap (λ w. get_or (set numbers v number) w 0) (ap (λ (k : Entry). k.literal.variable) (sym end.1) ∙ sym variable)
+          ∙ get_or-set_same numbers v number 0 within ∙ is ∙ ap (λ n. n + 1) end.0
+    ]
+
+pub kept_more : (marks : List (Option Bool)) (numbers : List ℕ) (es more : List Entry) (e : Entry) (v number : ℕ) (value : Option Bool) → IsKept marks numbers es → v ≡ e.literal.variable → v < length marks → value ≡ Some e.literal.positive → values_of es e.literal.variable ≡ None → number ≡ length es + 1 → more ≡ es ++ e ∷ []
+    → IsKept (set marks v value) (set numbers v number) more
+kept_more marks numbers es more e v number value kept variable within made free is put =
+    subst (λ (ds : List Entry). IsKept (set marks v value) (set numbers v number) ds) (sym put)
+    record {
+      values = marked_more marks es e v value kept.values variable within made;
+      room = length-set numbers v number ∙ kept.room ∙ sym (length-set marks v value);
+      numbered = number_more numbers es e v number kept.numbered variable (omega (arith, within, kept.room)) free is;
+    }
+
+pub none_kept : (n : ℕ) (marks : List (Option Bool)) (numbers : List ℕ) (es : List Entry) → marks ≡ replicate n None → length numbers ≡ n → es ≡ [] → IsKept marks numbers es
+none_kept n marks numbers es none size first = record {
+  values = none_marked n marks es none first;
+  room = size ∙ sym (ap (λ (ms : List (Option Bool)). length ms) none ∙ length-replicate {A = Option Bool} n None);
+  numbered = λ p d at. absurd (let e : None ≡ Some d = sym (ap (λ (ds : List Entry). slice_get ds p) first) ∙ at in cc);
+}
 
 fewer_by : (marks : List (Option Bool)) (v : ℕ) (b : Bool) → v < length marks → get_or marks v None ≡ None → free_count (set marks v (Some b)) < free_count marks
 fewer_by [] v b within free = absurd (omega (arith, within))

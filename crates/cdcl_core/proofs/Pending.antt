@@ -1,20 +1,20 @@
 -- A clause that is calm stays so unless a literal of it becomes false: so only the clauses of such literals are to be
 -- looked at.
-use Rattle.std.proofs.Common.{◌≡◌, ℕ, zero, suc, ◌+◌, ◌<◌, ◌≤◌, ◌==◌, ◌⊎◌, Bool, true, false, not, ◌&&◌, if◌then◌else◌, List, [], ◌∷◌, ◌++◌, length, get_or, drop, Option, Some, None, slice_get, refl, ap, sym, ◌∙◌, subst, arith, inl, inr}
+use Rattle.std.proofs.Common.{◌≡◌, ℕ, zero, suc, ◌+◌, ◌<◌, ◌≤◌, ◌==◌, ◌⊎◌, Bool, true, false, not, ◌&&◌, ◌||◌, nat_le, if◌then◌else◌, List, [], ◌∷◌, ◌++◌, length, get_or, drop, Option, Some, None, slice_get, refl, ap, sym, ◌∙◌, subst, arith, inl, inr}
 use Rattle.std.specs.List.{list_all, list_any}
-use Rattle.std.proofs.lemmas.Bool.{and_parts, and_from, or_cases, or_parts, eq-eqb, eqb-true, cases_eq, true≢false, false≢true, false_from_ne_true, not_from_false}
+use Rattle.std.proofs.lemmas.Bool.{and_parts, and_from, or_cases, or_parts, or_left, or_right, eq-eqb, eqb-true, cases_eq, cases_lt, leb-true, le-leb, true≢false, false≢true, false_from_ne_true, not_from_false}
 use Rattle.std.proofs.Math.Seq.{drop-cons}
-use Rattle.std.proofs.lemmas.Option.{slice_get-get_or}
+use Rattle.std.proofs.lemmas.Option.{slice_get-get_or, slice_get_within}
 use Rattle.cnf_form.specs.Literals.{Literal, negation, same_truth, same_literal}
 use Rattle.cnf_form.specs.Propagation.{assign, has_value, is_true, is_false, is_falsified, open_literals, only_literal, unit_literal}
 use Rattle.cdcl_core.specs.declared.trail.Entry.{Entry}
 use Rattle.cdcl_core.specs.Places.{is_among}
-use Rattle.cdcl_core.specs.Trails.{values_of}
-use Rattle.cdcl_core.specs.Passes.{IsCalm, AreCalm, has_true, IsLiteralAt, IsTouched, ArePending}
+use Rattle.cdcl_core.specs.Trails.{values_of, IsCalm, AreCalm, AreCalmFirst}
+use Rattle.cdcl_core.specs.Passes.{has_true, IsLiteralAt, IsTouched, ArePending}
+use Rattle.cdcl_core.proofs.Lists.{got_more, got_last}
 use Rattle.cdcl_core.proofs.Values.{assign-same, assign-other}
 use Rattle.cdcl_core.proofs.Marks.{values_more}
 use Rattle.cdcl_core.proofs.Scanning.{open_all, calm_satisfied}
-use Rattle.cdcl_core.proofs.Passing.{none_from}
 
 either : (b : Bool) → (b ≡ true) ⊎ (b ≡ false)
 either true = inl refl
@@ -99,29 +99,10 @@ forced_calm es e c l same is =
     subst (λ (a : ℕ → Option Bool). IsCalm a c) (ap (assign (values_of es)) (sym same) ∙ sym (values_more es e)) (calm_satisfied (assign (values_of es) l) c (forced_true (values_of es) c l is))
 
 -- places of lists
-got_more : {X : Type 0} (xs more : List X) (i : ℕ) (x : X) → slice_get xs i ≡ Some x → slice_get (xs ++ more) i ≡ Some x
-got_more [] more i x h = cc
-got_more (y ∷ ys) more zero x h = h
-got_more (y ∷ ys) more (suc i) x h = got_more ys more i x h
-
-got_last : {X : Type 0} (xs : List X) (x : X) → slice_get (xs ++ x ∷ []) (length xs) ≡ Some x
-got_last [] x = refl
-got_last (y ∷ ys) x = got_last ys x
-
 pub none_past : {X : Type 0} (xs : List X) (i : ℕ) (x : X) → length xs ≤ i → slice_get xs i ≡ Some x → ⊥
 none_past [] i x past h = let e : None ≡ Some x = h in cc
 none_past (y ∷ ys) zero x past h = absurd (omega (arith, past))
 none_past (y ∷ ys) (suc i) x past h = none_past ys i x (omega (arith, past)) h
-
-pub got_within : {X : Type 0} (xs : List X) (i : ℕ) (x : X) → slice_get xs i ≡ Some x → i < length xs
-got_within [] i x h = let e : None ≡ Some x = h in cc
-got_within (y ∷ ys) zero x h = omega arith
-got_within (y ∷ ys) (suc i) x h = let within : i < length ys = got_within ys i x h in omega (arith, within)
-
-none_at : {X : Type 0} (q : X → Bool) (xs : List X) (i : ℕ) (x : X) → list_any q xs ≡ false → slice_get xs i ≡ Some x → q x ≡ false
-none_at q [] i x none h = let e : None ≡ Some x = h in cc
-none_at q (y ∷ ys) zero x none h = let same : y ≡ x = cc in ap q (sym same) ∙ (or_parts _ _ none).0
-none_at q (y ∷ ys) (suc i) x none h = none_at q ys i x (or_parts _ _ none).1 h
 
 pub drop_next : (ks : List ℕ) (i : ℕ) → i < length ks → drop i ks ≡ get_or ks i 0 ∷ drop (i + 1) ks
 drop_next ks i within = let next : suc i ≡ i + 1 = omega arith in drop-cons ks i 0 within ∙ ap (λ n. get_or ks i 0 ∷ drop n ks) next
@@ -146,36 +127,36 @@ touched_last : (es : List Entry) (e : Entry) (first : ℕ) (c : List Literal) �
 touched_last es e first c late has = record { place = length es; entry = e; late = late; there = got_last es e; has = has }
 
 -- a clause that was calm before the last entry
-calm_before : (es : List Entry) (e : Entry) (first : ℕ) (c : List Literal) (P : Type 0) → first ≤ length es → IsCalm (values_of es) c → IsCalm (values_of (es ++ e ∷ [])) c ⊎ IsTouched (es ++ e ∷ []) first c ⊎ P
-calm_before es e first c P late calm =
+calm_last : (es : List Entry) (e : Entry) (first : ℕ) (c : List Literal) (P : Type 0) → first ≤ length es → IsCalm (values_of es) c → IsCalm (values_of (es ++ e ∷ [])) c ⊎ IsTouched (es ++ e ∷ []) first c ⊎ P
+calm_last es e first c P late calm =
     elim (calm_or_touched (values_of es) e.literal c calm) [
       | inl still ↦ inl (subst (λ (a : ℕ → Option Bool). IsCalm a c) (sym (values_more es e)) still)
       | inr has ↦ inr (inl (touched_last es e first c late has))
     ]
 
 -- the clause at a place was looked at, and is calm
-pub looked : (clauses : List (List Literal)) (es : List Entry) (first place : ℕ) (ks : List ℕ) → ((c : List Literal) → slice_get clauses place ≡ Some c → IsCalm (values_of es) c) → ArePending clauses es first (place ∷ ks) → ArePending clauses es first ks
+pub looked : (clauses : List (List Literal)) (es : List Entry) (first place : ℕ) (ks : ℕ → Bool) → ((c : List Literal) → slice_get clauses place ≡ Some c → IsCalm (values_of es) c) → ArePending clauses es first (λ k. (place == k) || ks k) → ArePending clauses es first ks
 looked clauses es first place ks calm pending k c at =
     elim (pending k c at) [
       | inl is ↦ inl is
       | inr (inl touched) ↦ inr (inl touched)
-      | inr (inr among) ↦ elim (or_cases (place == k) (is_among ks k) among) [
+      | inr (inr among) ↦ elim (or_cases (place == k) (ks k) among) [
         | inl same ↦ inl (calm c (ap (slice_get clauses) (eqb-true place k same) ∙ at))
         | inr later ↦ inr (inr later)
       ]
     ]
 
-pub looked_within : (clauses : List (List Literal)) (es : List Entry) (first place : ℕ) (ks : List ℕ) (c : List Literal) → place < length clauses → c ≡ get_or clauses place c → IsCalm (values_of es) c → ArePending clauses es first (place ∷ ks) → ArePending clauses es first ks
+pub looked_within : (clauses : List (List Literal)) (es : List Entry) (first place : ℕ) (ks : ℕ → Bool) (c : List Literal) → place < length clauses → c ≡ get_or clauses place c → IsCalm (values_of es) c → ArePending clauses es first (λ k. (place == k) || ks k) → ArePending clauses es first ks
 looked_within clauses es first place ks c within at calm pending =
     looked clauses es first place ks (λ d got. subst (λ (b : List Literal). IsCalm (values_of es) b) (sym (clause_at clauses place c d within at got)) calm) pending
 
 -- and it forced a literal
-pub looked_forced : (clauses : List (List Literal)) (es : List Entry) (e : Entry) (first place : ℕ) (ks : List ℕ) (c : List Literal) → first ≤ length es → place < length clauses → c ≡ get_or clauses place c → IsCalm (values_of (es ++ e ∷ [])) c
-    → ArePending clauses es first (place ∷ ks) → ArePending clauses (es ++ e ∷ []) first ks
+pub looked_forced : (clauses : List (List Literal)) (es : List Entry) (e : Entry) (first place : ℕ) (ks : ℕ → Bool) (c : List Literal) → first ≤ length es → place < length clauses → c ≡ get_or clauses place c → IsCalm (values_of (es ++ e ∷ [])) c
+    → ArePending clauses es first (λ k. (place == k) || ks k) → ArePending clauses (es ++ e ∷ []) first ks
 looked_forced clauses es e first place ks c late within at calm pending =
     looked_within clauses (es ++ e ∷ []) first place ks c within at calm (λ k d got.
     elim (pending k d got) [
-      | inl is ↦ calm_before es e first d (is_among (place ∷ ks) k ≡ true) late is
+      | inl is ↦ calm_last es e first d (((place == k) || ks k) ≡ true) late is
       | inr (inl touched) ↦ inr (inl (touched_more es e first d touched))
       | inr (inr among) ↦ inr (inr among)
     ])
@@ -183,7 +164,7 @@ looked_forced clauses es e first place ks c late within at calm pending =
 -- an entry's clauses are those to come
 pub entry_looked : (clauses : List (List Literal)) (es : List Entry) (place : ℕ) (l : Literal) (ks : List ℕ) → IsLiteralAt es place l
     → ((k : ℕ) (c : List Literal) → slice_get clauses k ≡ Some c → list_any (same_literal (negation l)) c ≡ true → is_among ks k ≡ true)
-    → ArePending clauses es place [] → ArePending clauses es (place + 1) ks
+    → ArePending clauses es place (λ k. false) → ArePending clauses es (place + 1) (is_among ks)
 entry_looked clauses es place l ks (e, there, made) noted pending k c at =
     elim (pending k c at) [
       | inl is ↦ inl is
@@ -197,17 +178,52 @@ entry_looked clauses es place l ks (e, there, made) noted pending k c at =
       | inr (inr none) ↦ absurd (false≢true none)
     ]
 
+-- no place in these lists, and the places from one on
+pub among_none : (clauses : List (List Literal)) (es : List Entry) (first : ℕ) (ks : List ℕ) → ks ≡ [] → ArePending clauses es first (is_among ks) → ArePending clauses es first (λ k. false)
+among_none clauses es first ks none pending = subst (λ (js : List ℕ). ArePending clauses es first (is_among js)) none pending
+
+pub among_next : (clauses : List (List Literal)) (es : List Entry) (first j : ℕ) (ks js : List ℕ) → ks ≡ j ∷ js → ArePending clauses es first (is_among ks) → ArePending clauses es first (λ k. (j == k) || is_among js k)
+among_next clauses es first j ks js is pending = subst (λ (is : List ℕ). ArePending clauses es first (is_among is)) is pending
+
+from_by : (i k : ℕ) → nat_le i k ≡ true → ((i == k) || nat_le (i + 1) k) ≡ true
+from_by i k h =
+    elim (cases_eq i k) [
+      | inl same ↦ or_left _ _ (eq-eqb i k same)
+      | inr apart ↦ or_right _ _ (le-leb (i + 1) k (omega (arith, leb-true i k h, apart)))
+    ]
+
+pub from_next : (clauses : List (List Literal)) (es : List Entry) (first i : ℕ) → ArePending clauses es first (nat_le i) → ArePending clauses es first (λ k. (i == k) || nat_le (i + 1) k)
+from_next clauses es first i pending k c at =
+    elim (pending k c at) [
+      | inl is ↦ inl is
+      | inr (inl touched) ↦ inr (inl touched)
+      | inr (inr late) ↦ inr (inr (from_by i k late))
+    ]
+
+pub from_end : (clauses : List (List Literal)) (es : List Entry) (first i : ℕ) → length clauses ≤ i → ArePending clauses es first (nat_le i) → ArePending clauses es first (λ k. false)
+from_end clauses es first i past pending k c at =
+    elim (pending k c at) [
+      | inl is ↦ inl is
+      | inr (inl touched) ↦ inr (inl touched)
+      | inr (inr late) ↦ absurd (omega (arith, past, slice_get_within clauses k c at, leb-true i k late))
+    ]
+
+pub from_first : (clauses : List (List Literal)) (es : List Entry) (first n : ℕ) → AreCalmFirst n (values_of es) clauses → ArePending clauses es first (nat_le n)
+from_first clauses es first n calm k c at =
+    elim (cases_lt k n) [
+      | inl early ↦ inl (calm k c early at)
+      | inr late ↦ inr (inr (le-leb n k late))
+    ]
+
 -- a decision, where each clause is calm
-pub decided : (clauses : List (List Literal)) (es : List Entry) (e : Entry) → AreCalm (values_of es) clauses → ArePending clauses (es ++ e ∷ []) (length es) []
-decided clauses es e calm k c at =
-    calm_before es e (length es) c (is_among [] k ≡ true) (omega arith) (λ l free. none_at (is_falsified (assign (values_of es) l)) clauses k c (calm l free) at)
+pub decided : (clauses : List (List Literal)) (es : List Entry) (e : Entry) → AreCalm (values_of es) clauses → ArePending clauses (es ++ e ∷ []) (length es) (λ k. false)
+decided clauses es e calm k c at = calm_last es e (length es) c (false ≡ true) (omega arith) (calm k c at)
 
 -- no entry is left
-pub all_looked : (clauses : List (List Literal)) (es : List Entry) (place : ℕ) → length es ≤ place → ArePending clauses es place [] → AreCalm (values_of es) clauses
-all_looked clauses es place past pending l free =
-    none_from (is_falsified (assign (values_of es) l)) clauses (λ k within.
-    elim (pending k (get_or clauses k []) (slice_get-get_or clauses k [] within)) [
-      | inl is ↦ is l free
+pub all_looked : (clauses : List (List Literal)) (es : List Entry) (place : ℕ) → length es ≤ place → ArePending clauses es place (λ k. false) → AreCalm (values_of es) clauses
+all_looked clauses es place past pending k c at =
+    elim (pending k c at) [
+      | inl is ↦ is
       | inr (inl touched) ↦ absurd (none_past es touched.place touched.entry (omega (arith, past, touched.late)) touched.there)
       | inr (inr none) ↦ absurd (false≢true none)
-    ])
+    ]

@@ -1,33 +1,31 @@
-use Rattle.std.proofs.Common.{◌≡◌, ℕ, zero, suc, ◌+◌, ◌<◌, ◌≤◌, ◌==◌, nat_lt, Bool, true, false, not, ◌&&◌, cond, List, [], ◌∷◌, ◌++◌, length, get_or, take, Option, Some, None, filter, is_none, refl, ap, sym, ◌∙◌, subst, arith, inl, inr}
+-- The state of a clause, read up to its first literal that is true or its second without a value.
+use Rattle.std.proofs.Common.{◌≡◌, ℕ, zero, suc, ◌+◌, ◌<◌, ◌≤◌, ◌==◌, nat_lt, Bool, true, false, not, ◌&&◌, cond, List, [], ◌∷◌, ◌++◌, length, get_or, take, drop, Option, Some, None, filter, is_none, refl, ap, sym, ◌∙◌, subst, arith, inl, inr}
 use Rattle.std.specs.List.{list_all, list_any}
 use Rattle.std.proofs.lemmas.Bool.{and_parts, and_from, or_left, or_right, or_cases, and_left, and_right, ltb-true, ne_eqb, not_from_false, not-true, cases_eq, false≢true, eqb-false}
-use Rattle.std.proofs.lemmas.List.{take_more, take_all}
+use Rattle.std.proofs.lemmas.List.{take_more, take_all, take-append-drop}
 use Rattle.std.proofs.lemmas.List.Elements.{filter-append}
 use Rattle.std.proofs.lemmas.List.Folds.{list_any-append}
 use Rattle.cnf_form.specs.Literals.{Literal, same_truth}
 use Rattle.cnf_form.specs.Clauses.{are_increasing}
-use Rattle.cnf_form.specs.Propagation.{assign, has_value, is_true, is_false, is_falsified, open_literals, only_literal}
+use Rattle.cnf_form.specs.Propagation.{assign, has_value, is_true, is_false, is_falsified, open_literals, only_literal, unit_literal}
 use Rattle.cnf_form.proofs.Inserting.{all_above}
-use Rattle.cdcl_core.specs.declared.propagation.State.{State}
-use Rattle.cdcl_core.specs.declared.propagation.State.TheVariants.{Falsified, Forces, Open, Satisfied}
-use Rattle.cdcl_core.specs.Passes.{is_below, IsFree, IsCalm, has_true, with_open, IsState}
+use Rattle.cdcl_core.specs.Trails.{IsCalm}
+use Rattle.cdcl_core.specs.Passes.{is_below, IsFree, has_true}
 use Rattle.cdcl_core.proofs.Values.{assign-other}
 
 -- a literal without a value, of another variable than x
 abbrev pub is_beside : (ℕ → Option Bool) → ℕ → Literal → Bool
 is_beside a x k = is_none (a k.variable) && not (k.variable == x)
 
--- what is known of a clause of which the literals p were seen, none of them true
-abbrev pub IsScan : (ℕ → Option Bool) → ℕ → List Literal → State → Type 0
-IsScan a n p Falsified = open_literals a p ≡ []
-IsScan a n p (Forces l) = (open_literals a p ≡ l ∷ []) × IsFree a n l × ((x : ℕ) → (x ≡ l.variable → ⊥) → list_any (is_beside a x) p ≡ true)
-IsScan a n p (Open l) = IsFree a n l × ((x : ℕ) → list_any (is_beside a x) p ≡ true)
-IsScan a n p Satisfied = ⊥
+-- what is known of a clause of which the literals p were seen, none of them true and at most one without a value
+abbrev pub IsScan : (ℕ → Option Bool) → ℕ → List Literal → Option Literal → Type 0
+IsScan a n p None = open_literals a p ≡ []
+IsScan a n p (Some l) = (open_literals a p ≡ l ∷ []) × IsFree a n l × ((x : ℕ) → (x ≡ l.variable → ⊥) → list_any (is_beside a x) p ≡ true)
 
-any_more : (q : Literal → Bool) (p : List Literal) (k : Literal) → list_any q p ≡ true → list_any q (p ++ k ∷ []) ≡ true
+pub any_more : (q : Literal → Bool) (p : List Literal) (k : Literal) → list_any q p ≡ true → list_any q (p ++ k ∷ []) ≡ true
 any_more q p k h = list_any-append q p (k ∷ []) ∙ or_left _ _ h
 
-any_last : (q : Literal → Bool) (p : List Literal) (k : Literal) → q k ≡ true → list_any q (p ++ k ∷ []) ≡ true
+pub any_last : (q : Literal → Bool) (p : List Literal) (k : Literal) → q k ≡ true → list_any q (p ++ k ∷ []) ≡ true
 any_last q p k h = list_any-append q p (k ∷ []) ∙ or_right _ _ (or_left _ _ h)
 
 open_more : (a : ℕ → Option Bool) (p : List Literal) (k : Literal) (t : Bool) → is_false a k ≡ t → open_literals a (p ++ k ∷ []) ≡ open_literals a p ++ cond (not t) (k ∷ []) []
@@ -42,7 +40,7 @@ has_none : (o : Option Bool) (p : Bool) → o ≡ None → has_value o p ≡ fal
 has_none None p h = refl
 has_none (Some t) p h = cc
 
-beside : (a : ℕ → Option Bool) (x : ℕ) (k : Literal) → a k.variable ≡ None → (k.variable ≡ x → ⊥) → is_beside a x k ≡ true
+pub beside : (a : ℕ → Option Bool) (x : ℕ) (k : Literal) → a k.variable ≡ None → (k.variable ≡ x → ⊥) → is_beside a x k ≡ true
 beside a x k free other = and_from _ _ (ap (λ (o : Option Bool). is_none o) free) (not_from_false _ (ne_eqb k.variable x other))
 
 kept_all_by : (q r : Literal → Bool) (l : Literal) (kept : List Literal) (t : Bool) → q l ≡ true → list_all q kept ≡ true → list_all q (cond t (l ∷ kept) kept) ≡ true
@@ -60,28 +58,25 @@ unfolding open_literals
 open_all q a p l is h =
     (and_parts (q l) true (sym (ap (list_all q) is) ∙ kept_all q (λ k. not (is_false a k)) p h)).0
 
-pub scan_open : (a : ℕ → Option Bool) (n : ℕ) (p : List Literal) (k : Literal) (s : State) → IsScan a n p s → IsFree a n k → list_all (λ j. nat_lt j.variable k.variable) p ≡ true → IsScan a n (p ++ k ∷ []) (with_open s k)
-scan_open a n p k Falsified h free below = (
+scan_first : (a : ℕ → Option Bool) (n : ℕ) (p : List Literal) (k : Literal) → IsScan a n p None → IsFree a n k → IsScan a n (p ++ k ∷ []) (Some k)
+scan_first a n p k h free = (
   open_more a p k false (has_none (a k.variable) (not k.positive) free.1) ∙ ap (λ ls. ls ++ k ∷ []) h,
   free,
   λ x other. any_last (is_beside a x) p k (beside a x k free.1 (λ e. other (sym e))),
 )
-scan_open a n p k (Forces l) h free below =
-    let less : l.variable < k.variable = ltb-true _ _ (open_all (λ j. nat_lt j.variable k.variable) a p l h.0 below) in (
-      h.1,
-      λ x. elim (cases_eq x l.variable) [
-        | inl same ↦ any_last (is_beside a x) p k (beside a x k free.1 (λ e. absurd (omega (arith, e, same, less))))
-        | inr other ↦ any_more (is_beside a x) p k (h.2 x other)
-      ],
-    )
-scan_open a n p k (Open l) h free below = (h.0, λ x. any_more (is_beside a x) p k (h.1 x))
-scan_open a n p k Satisfied h free below = absurd h
 
-pub scan_false : (a : ℕ → Option Bool) (n : ℕ) (p : List Literal) (k : Literal) (s : State) → IsScan a n p s → is_false a k ≡ true → IsScan a n (p ++ k ∷ []) s
-scan_false a n p k Falsified h fails = open_more a p k true fails ∙ append_none (open_literals a p) ∙ h
-scan_false a n p k (Forces l) h fails = (open_more a p k true fails ∙ append_none (open_literals a p) ∙ h.0, h.1, λ x other. any_more (is_beside a x) p k (h.2 x other))
-scan_false a n p k (Open l) h fails = (h.0, λ x. any_more (is_beside a x) p k (h.1 x))
-scan_false a n p k Satisfied h fails = absurd h
+-- two literals without a value, the variable of the one below that of the other
+scan_second : (a : ℕ → Option Bool) (n : ℕ) (p : List Literal) (k l : Literal) → IsScan a n p (Some l) → a k.variable ≡ None → list_all (λ j. nat_lt j.variable k.variable) p ≡ true → (x : ℕ) → list_any (is_beside a x) (p ++ k ∷ []) ≡ true
+scan_second a n p k l h free below x =
+    let less : l.variable < k.variable = ltb-true _ _ (open_all (λ j. nat_lt j.variable k.variable) a p l h.0 below) in
+    elim (cases_eq x l.variable) [
+      | inl same ↦ any_last (is_beside a x) p k (beside a x k free (λ e. absurd (omega (arith, e, same, less))))
+      | inr other ↦ any_more (is_beside a x) p k (h.2 x other)
+    ]
+
+scan_false : (a : ℕ → Option Bool) (n : ℕ) (p : List Literal) (k : Literal) (o : Option Literal) → IsScan a n p o → is_false a k ≡ true → IsScan a n (p ++ k ∷ []) o
+scan_false a n p k None h fails = open_more a p k true fails ∙ append_none (open_literals a p) ∙ h
+scan_false a n p k (Some l) h fails = (open_more a p k true fails ∙ append_none (open_literals a p) ∙ h.0, h.1, λ x other. any_more (is_beside a x) p k (h.2 x other))
 
 -- the end of the walk
 none_open_by : (a : ℕ → Option Bool) (l : Literal) (ls kept : List Literal) (t : Bool) → is_false a l ≡ t → (kept ≡ [] → list_all (is_false a) ls ≡ true) → cond (not t) (l ∷ kept) kept ≡ [] → list_all (is_false a) (l ∷ ls) ≡ true
@@ -131,7 +126,7 @@ pub calm_satisfied : (a : ℕ → Option Bool) (c : List Literal) → has_true a
 unfolding is_falsified
 calm_satisfied a c h m free = not_all_false (assign a m) c (is_true a) (λ l is. stays_true a m l free is) h
 
-calm_open : (a : ℕ → Option Bool) (c : List Literal) → ((x : ℕ) → list_any (is_beside a x) c ≡ true) → IsCalm a c
+pub calm_open : (a : ℕ → Option Bool) (c : List Literal) → ((x : ℕ) → list_any (is_beside a x) c ≡ true) → IsCalm a c
 unfolding is_falsified
 calm_open a c h m free = not_all_false (assign a m) c (is_beside a m.variable) (λ l is. stays_open a m l is) (h m.variable)
 
@@ -139,13 +134,10 @@ falsified_end : (a : ℕ → Option Bool) (c : List Literal) → open_literals a
 unfolding open_literals is_falsified
 falsified_end a c h = none_open a c h
 
-pub scan_end : (a : ℕ → Option Bool) (n : ℕ) (c : List Literal) (s : State) → IsScan a n c s → IsState a n c s
-scan_end a n c Falsified h = falsified_end a c h
-scan_end a n c (Forces l) h = (ap (only_literal a) h.0 ∙ rw (has_none (a l.variable) l.positive h.1.1) refl, h.1)
-scan_end a n c (Open l) h = (calm_open a c h.1, h.0)
-scan_end a n c Satisfied h = absurd h
-
 -- places of a clause
+any_of_first : (q : Literal → Bool) (c : List Literal) (i : ℕ) → list_any q (take i c) ≡ true → list_any q c ≡ true
+any_of_first q c i h = ap (list_any q) (sym (take-append-drop i c)) ∙ list_any-append q (take i c) (drop i c) ∙ or_left _ _ h
+
 pub all_at : {X : Type 0} (q : X → Bool) (ls : List X) (i : ℕ) (d : X) → i < length ls → list_all q ls ≡ true → q (get_or ls i d) ≡ true
 all_at q [] i d within h = absurd (omega (arith, within))
 all_at q (l ∷ ls) zero d within h = (and_parts _ _ h).0
@@ -156,7 +148,7 @@ any_at q [] i d within h = absurd (omega (arith, within))
 any_at q (l ∷ ls) zero d within h = or_left _ _ h
 any_at q (l ∷ ls) (suc i) d within h = or_right _ _ (any_at q ls i d (omega (arith, within)) h)
 
-front_is_below : (c : List Literal) (i : ℕ) (d : Literal) → i < length c → are_increasing c ≡ true → list_all (λ j. nat_lt j.variable (get_or c i d).variable) (take i c) ≡ true
+pub front_is_below : (c : List Literal) (i : ℕ) (d : Literal) → i < length c → are_increasing c ≡ true → list_all (λ j. nat_lt j.variable (get_or c i d).variable) (take i c) ≡ true
 unfolding are_increasing
 front_is_below [] i d within h = absurd (omega (arith, within))
 front_is_below (l ∷ ls) zero d within h = refl
@@ -176,29 +168,54 @@ pub walk_true : (a : ℕ → Option Bool) (c seen : List Literal) (i : ℕ) (l :
 walk_true a c seen i l b same within at is so =
     ap (has_true a) (sym same) ∙ any_at (is_true a) seen i l within (ap (is_true a) (sym at) ∙ sym is ∙ so)
 
-pub walk_open : (a : ℕ → Option Bool) (n : ℕ) (c seen : List Literal) (i : ℕ) (l : Literal) (s after : State) (t f : Bool) → seen ≡ c → are_increasing c ≡ true → is_below n c ≡ true → i < length seen → l ≡ get_or seen i l → t ≡ is_true a l → t ≡ false → f ≡ is_false a l → f ≡ false
-    → IsScan a n (take i seen) s → after ≡ with_open s l → IsScan a n (take (i + 1) seen) after
+-- a literal that isn't true or false
+free_at : (a : ℕ → Option Bool) (n : ℕ) (c seen : List Literal) (i : ℕ) (l : Literal) (t f : Bool) → seen ≡ c → is_below n c ≡ true → i < length seen → l ≡ get_or seen i l → t ≡ is_true a l → t ≡ false → f ≡ is_false a l → f ≡ false → IsFree a n l
 unfolding is_below
-walk_open a n c seen i l s after t f same order below within at is_t not_t is_f not_f h made =
-    let free : IsFree a n l = (
-      ltb-true _ _ (ap (λ (k : Literal). nat_lt k.variable n) at ∙ all_at (λ k. nat_lt k.variable n) seen i l within (ap (list_all (λ k. nat_lt k.variable n)) same ∙ below)),
-      no_value_by (a l.variable) l.positive (sym is_t ∙ not_t) (sym is_f ∙ not_f),
-    ) in
+free_at a n c seen i l t f same below within at is_t not_t is_f not_f = (
+  ltb-true _ _ (ap (λ (k : Literal). nat_lt k.variable n) at ∙ all_at (λ k. nat_lt k.variable n) seen i l within (ap (list_all (λ k. nat_lt k.variable n)) same ∙ below)),
+  no_value_by (a l.variable) l.positive (sym is_t ∙ not_t) (sym is_f ∙ not_f),
+)
+
+pub walk_first : (a : ℕ → Option Bool) (n : ℕ) (c seen : List Literal) (i : ℕ) (l : Literal) (o after : Option Literal) (t f : Bool) → seen ≡ c → is_below n c ≡ true → i < length seen → l ≡ get_or seen i l → t ≡ is_true a l → t ≡ false → f ≡ is_false a l → f ≡ false
+    → IsScan a n (take i seen) o → o ≡ None → after ≡ Some l → IsScan a n (take (i + 1) seen) after
+walk_first a n c seen i l o after t f same below within at is_t not_t is_f not_f h none made =
+    let free : IsFree a n l = free_at a n c seen i l t f same below within at is_t not_t is_f not_f in
+    subst (λ (p : List Literal). IsScan a n p after) (ap (λ k. take i seen ++ k ∷ []) at ∙ sym (take_more seen i l within))
+    (subst (λ (u : Option Literal). IsScan a n (take i seen ++ l ∷ []) u) (sym made)
+    (scan_first a n (take i seen) l (subst (λ (u : Option Literal). IsScan a n (take i seen) u) none h) free))
+
+pub walk_second : (a : ℕ → Option Bool) (n : ℕ) (c seen : List Literal) (i : ℕ) (l first : Literal) (o : Option Literal) (t f : Bool) → seen ≡ c → are_increasing c ≡ true → is_below n c ≡ true → i < length seen → l ≡ get_or seen i l → t ≡ is_true a l → t ≡ false → f ≡ is_false a l → f ≡ false
+    → IsScan a n (take i seen) o → o ≡ Some first → IsCalm a c × IsFree a n first
+walk_second a n c seen i l first o t f same order below within at is_t not_t is_f not_f h some =
+    let free : IsFree a n l = free_at a n c seen i l t f same below within at is_t not_t is_f not_f in
+    let scan : IsScan a n (take i seen) (Some first) = subst (λ (u : Option Literal). IsScan a n (take i seen) u) some h in
     let front : list_all (λ j. nat_lt j.variable l.variable) (take i seen) ≡ true
-    = ap (λ (k : Literal). list_all (λ j. nat_lt j.variable k.variable) (take i seen)) at ∙ front_is_below seen i l within (ap are_increasing same ∙ order) in
+    = ap (λ (k : Literal). list_all (λ j. nat_lt j.variable k.variable) (take i seen)) at ∙ front_is_below seen i l within (ap are_increasing same ∙ order) in (
+      calm_open a c (λ x.
+          ap (list_any (is_beside a x)) (sym same)
+          ∙ any_of_first (is_beside a x) seen (i + 1) (ap (list_any (is_beside a x)) (sym (ap (λ k. take i seen ++ k ∷ []) at ∙ sym (take_more seen i l within))) ∙ scan_second a n (take i seen) l first scan free.1 front x)),
+      scan.1,
+    )
+
+pub walk_false : (a : ℕ → Option Bool) (n : ℕ) (seen : List Literal) (i : ℕ) (l : Literal) (o after : Option Literal) (f : Bool) → i < length seen → l ≡ get_or seen i l → f ≡ is_false a l → f ≡ true
+    → IsScan a n (take i seen) o → after ≡ o → IsScan a n (take (i + 1) seen) after
+walk_false a n seen i l o after f within at is_f so h made =
     subst (λ (p : List Literal). IsScan a n p after) (ap (λ k. take i seen ++ k ∷ []) at ∙ sym (take_more seen i l within))
-    (subst (λ (u : State). IsScan a n (take i seen ++ l ∷ []) u) (sym made) (scan_open a n (take i seen) l s h free front))
+    (subst (λ (u : Option Literal). IsScan a n (take i seen ++ l ∷ []) u) (sym made) (scan_false a n (take i seen) l o h (sym is_f ∙ so)))
 
-pub walk_false : (a : ℕ → Option Bool) (n : ℕ) (seen : List Literal) (i : ℕ) (l : Literal) (s after : State) (f : Bool) → i < length seen → l ≡ get_or seen i l → f ≡ is_false a l → f ≡ true
-    → IsScan a n (take i seen) s → after ≡ s → IsScan a n (take (i + 1) seen) after
-walk_false a n seen i l s after f within at is_f so h made =
-    subst (λ (p : List Literal). IsScan a n p after) (ap (λ k. take i seen ++ k ∷ []) at ∙ sym (take_more seen i l within))
-    (subst (λ (u : State). IsScan a n (take i seen ++ l ∷ []) u) (sym made) (scan_false a n (take i seen) l s h (sym is_f ∙ so)))
+-- the end: each literal is false, or each but one
+scan_of_all : (a : ℕ → Option Bool) (n : ℕ) (c seen : List Literal) (i : ℕ) (o u : Option Literal) → seen ≡ c → length seen ≤ i → IsScan a n (take i seen) o → o ≡ u → IsScan a n c u
+scan_of_all a n c seen i o u same past h is =
+    subst (λ (w : Option Literal). IsScan a n c w) is (subst (λ (p : List Literal). IsScan a n p o) (take_all i seen past ∙ same) h)
 
-pub walk_end : (a : ℕ → Option Bool) (n : ℕ) (c seen : List Literal) (i : ℕ) (s : State) → seen ≡ c → length seen ≤ i → IsScan a n (take i seen) s → IsState a n c s
-walk_end a n c seen i s same past h =
-    scan_end a n c s (subst (λ (p : List Literal). IsScan a n p s) (take_all i seen past ∙ same) h)
+pub walk_none : (a : ℕ → Option Bool) (n : ℕ) (c seen : List Literal) (i : ℕ) (o : Option Literal) → seen ≡ c → length seen ≤ i → IsScan a n (take i seen) o → o ≡ None → is_falsified a c ≡ true
+walk_none a n c seen i o same past h none = falsified_end a c (scan_of_all a n c seen i o None same past h none)
 
-pub walk_begin : (a : ℕ → Option Bool) (n : ℕ) → IsScan a n [] Falsified
+pub walk_one : (a : ℕ → Option Bool) (n : ℕ) (c seen : List Literal) (i : ℕ) (l : Literal) (o : Option Literal) → seen ≡ c → length seen ≤ i → IsScan a n (take i seen) o → o ≡ Some l → (unit_literal a c ≡ Some l) × IsFree a n l
+walk_one a n c seen i l o same past h some =
+    let scan : IsScan a n c (Some l) = scan_of_all a n c seen i o (Some l) same past h some in
+    (ap (only_literal a) scan.0 ∙ rw (has_none (a l.variable) l.positive scan.1.1) refl, scan.1)
+
+pub walk_begin : (a : ℕ → Option Bool) (n : ℕ) → IsScan a n [] None
 unfolding open_literals
 walk_begin a n = refl

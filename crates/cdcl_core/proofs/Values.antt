@@ -1,11 +1,13 @@
-use Rattle.std.proofs.Common.{◌≡◌, ℕ, zero, suc, ◌-◌, ◌==◌, Bool, true, false, not, cond, if◌then◌else◌, List, [], ◌∷◌, ◌++◌, Option, Some, None, filter, refl, ap, sym, ◌∙◌, slice_get}
+use Rattle.std.proofs.Common.{◌≡◌, ℕ, zero, suc, ◌-◌, ◌==◌, Bool, true, false, not, cond, if◌then◌else◌, List, [], ◌∷◌, ◌++◌, take, drop, Option, Some, None, filter, refl, ap, sym, ◌∙◌, subst, slice_get, inl, inr}
 use Rattle.std.specs.List.{list_all}
-use Rattle.std.proofs.lemmas.Bool.{eq-eqb, ne_eqb, and_parts, and_from, or_from, true≢false, false≢true, false_from_ne_true}
-use Rattle.std.proofs.lemmas.List.Folds.{list_any-append}
+use Rattle.std.proofs.lemmas.Bool.{eq-eqb, ne_eqb, and_parts, and_from, false≢true}
+use Rattle.std.proofs.lemmas.List.{take-append-drop}
 use Rattle.cnf_form.specs.Literals.{Literal}
 use Rattle.cnf_form.specs.Propagation.{assign, has_value, is_true, is_false, is_falsified, open_literals, only_literal, unit_literal, numbered, unit_of_hint, hint_is_falsified}
 use Rattle.cdcl_core.specs.declared.trail.Entry.{Entry}
-use Rattle.cdcl_core.specs.Trails.{assigned, IsMadeTrue, IsTrailFrom, AreApart}
+use Rattle.proof_check.proofs.Chains.{at_more}
+use Rattle.cdcl_core.specs.Trails.{assigned, IsCalm, AreCalm, IsMadeTrue, IsTrailFrom, IsDecisionAt}
+use Rattle.cdcl_core.proofs.Lists.{got_more}
 
 -- the values that a keeps in b
 abbrev pub Extends : (ℕ → Option Bool) → (ℕ → Option Bool) → Type 0
@@ -96,17 +98,7 @@ unfolding IsTrailFrom
 trail_more clauses [] a e h free made = (free, made, tt)
 trail_more clauses (d ∷ ds) a e h free made = (h.0, h.1, trail_more clauses ds (assign a d.literal) e h.2 free made)
 
-pub trail_apart : (clauses : List (List Literal)) (es : List Entry) (a : ℕ → Option Bool) → IsTrailFrom clauses a es → AreApart a es
-unfolding IsTrailFrom AreApart
-trail_apart clauses [] a h = tt
-trail_apart clauses (e ∷ es) a h = (h.0, trail_apart clauses es (assign a e.literal) h.2)
-
--- one more clause, which isn't false at the end
-got_more : (clauses more : List (List Literal)) (i : ℕ) (c : List Literal) → slice_get clauses i ≡ Some c → slice_get (clauses ++ more) i ≡ Some c
-got_more [] more i c h = cc
-got_more (d ∷ ds) more zero c h = h
-got_more (d ∷ ds) more (suc i) c h = got_more ds more i c h
-
+-- one more clause, which is calm before each decision
 numbered_by : (clauses more : List (List Literal)) (i : ℕ) (c : List Literal) (t : Bool) → (if t then None else slice_get clauses i) ≡ Some c → (if t then None else slice_get (clauses ++ more) i) ≡ Some c
 numbered_by clauses more i c true h = h
 numbered_by clauses more i c false h = got_more clauses more i c h
@@ -118,28 +110,44 @@ hint_more clauses more n a l h = hint_by (numbered clauses n) refl h
     hint_by None is k = cc
     hint_by (Some c) is k = ap (unit_of_hint a) (numbered_by clauses more (n - 1) c (n == 0) is) ∙ k
 
-made_with : (clauses : List (List Literal)) (a : ℕ → Option Bool) (l : Literal) (o : Option ℕ) (c : List Literal) → IsMadeTrue clauses a l o → is_falsified (assign a l) c ≡ false → IsMadeTrue (clauses ++ c ∷ []) a l o
-made_with clauses a l None c made opens = list_any-append (is_falsified (assign a l)) clauses (c ∷ []) ∙ or_from _ _ made (or_from _ _ opens refl)
-made_with clauses a l (Some n) c made opens = hint_more clauses (c ∷ []) n a l made
+calm_with : (clauses : List (List Literal)) (a : ℕ → Option Bool) (c : List Literal) → AreCalm a clauses → IsCalm a c → AreCalm a (clauses ++ c ∷ [])
+calm_with clauses a c calm here k d at =
+    elim (at_more clauses c d k at) [
+      | inl before ↦ calm k d before
+      | inr last ↦ subst (λ (b : List Literal). IsCalm a b) last.1 here
+    ]
 
-pub trail_with : (clauses : List (List Literal)) (es : List Entry) (a : ℕ → Option Bool) (c : List Literal) → IsTrailFrom clauses a es → is_falsified (assigned a es) c ≡ false → IsTrailFrom (clauses ++ c ∷ []) a es
+made_with : (clauses : List (List Literal)) (a : ℕ → Option Bool) (l : Literal) (o : Option ℕ) (c : List Literal) → IsMadeTrue clauses a l o → (o ≡ None → IsCalm a c) → IsMadeTrue (clauses ++ c ∷ []) a l o
+made_with clauses a l None c made calm = calm_with clauses a c made (calm refl)
+made_with clauses a l (Some n) c made calm = hint_more clauses (c ∷ []) n a l made
+
+pub trail_with : (clauses : List (List Literal)) (es : List Entry) (a : ℕ → Option Bool) (c : List Literal) → IsTrailFrom clauses a es → ((p : ℕ) → IsDecisionAt es p → IsCalm (assigned a (take p es)) c) → IsTrailFrom (clauses ++ c ∷ []) a es
 unfolding IsTrailFrom
-trail_with clauses [] a c h opens = tt
-trail_with clauses (e ∷ es) a c h opens =
-    let now : is_falsified (assign a e.literal) c ≡ false
-    = false_from_ne_true (is_falsified (assign a e.literal) c) (λ yes. true≢false (sym (falsified_kept (assign a e.literal) (assigned a (e ∷ es)) c (trail_extends clauses es (assign a e.literal) h.2) yes) ∙ opens)) in
-    (h.0, made_with clauses a e.literal e.reason c h.1 now, trail_with clauses es (assign a e.literal) c h.2 opens)
+trail_with clauses [] a c h calm = tt
+trail_with clauses (e ∷ es) a c h calm =
+    (h.0, made_with clauses a e.literal e.reason c h.1 (λ none. calm 0 (e, refl, none)), trail_with clauses es (assign a e.literal) c h.2 (λ p is. calm (suc p) is))
+
+-- before a decision each clause is calm
+decided_calm : (clauses : List (List Literal)) (a : ℕ → Option Bool) (l : Literal) (o : Option ℕ) → o ≡ None → IsMadeTrue clauses a l o → AreCalm a clauses
+decided_calm clauses a l None none made = made
+decided_calm clauses a l (Some n) none made = cc
+
+pub calm_before : (clauses : List (List Literal)) (es : List Entry) (a : ℕ → Option Bool) (p : ℕ) → IsTrailFrom clauses a es → IsDecisionAt es p → AreCalm (assigned a (take p es)) clauses
+unfolding IsTrailFrom
+calm_before clauses [] a p h (e, at, none) = absurd (let k : None ≡ Some e = at in cc)
+calm_before clauses (d ∷ ds) a zero h (e, at, none) =
+    let same : d ≡ e = cc in
+    decided_calm clauses a d.literal d.reason (ap (λ (k : Entry). k.reason) same ∙ none) h.1
+calm_before clauses (d ∷ ds) a (suc p) h is = calm_before clauses ds (assign a d.literal) p h.2 is
 
 -- a beginning of a trail is one
-pub front_is_trail : (clauses : List (List Literal)) (es rest : List Entry) (a : ℕ → Option Bool) → IsTrailFrom clauses a (es ++ rest) → IsTrailFrom clauses a es
+front_is_trail : (clauses : List (List Literal)) (es rest : List Entry) (a : ℕ → Option Bool) → IsTrailFrom clauses a (es ++ rest) → IsTrailFrom clauses a es
 unfolding IsTrailFrom
 front_is_trail clauses [] rest a h = tt
 front_is_trail clauses (e ∷ es) rest a h = (h.0, h.1, front_is_trail clauses es rest (assign a e.literal) h.2)
 
-pub front_is_apart : (es rest : List Entry) (a : ℕ → Option Bool) → AreApart a (es ++ rest) → AreApart a es
-unfolding AreApart
-front_is_apart [] rest a h = tt
-front_is_apart (e ∷ es) rest a h = (h.0, front_is_apart es rest (assign a e.literal) h.1)
+pub first_is_trail : (clauses : List (List Literal)) (es : List Entry) (a : ℕ → Option Bool) (n : ℕ) → IsTrailFrom clauses a es → IsTrailFrom clauses a (take n es)
+first_is_trail clauses es a n h = front_is_trail clauses (take n es) (drop n es) a (subst (λ (ds : List Entry). IsTrailFrom clauses a ds) (sym (take-append-drop n es)) h)
 
 pub no_trail : (clauses : List (List Literal)) (a : ℕ → Option Bool) → IsTrailFrom clauses a []
 unfolding IsTrailFrom

@@ -1,17 +1,14 @@
--- What clauses are under a partial assignment, and what a pass over them comes to.
-use Rattle.std.specs.Prelude.{◌≡◌, ℕ, ◌+◌, ◌<◌, ◌≤◌, ◌⊎◌, nat_lt, length, Bool, true, false, List, Option, Some, None, slice_get}
+-- What clauses are under a partial assignment, and what looking at them comes to.
+use Rattle.std.specs.Prelude.{◌≡◌, ℕ, ◌+◌, ◌<◌, ◌≤◌, ◌⊎◌, nat_lt, length, Bool, true, List, Option, Some, None, slice_get}
 use Rattle.std.specs.List.{list_any, list_all}
 use Rattle.cnf_form.specs.Literals.{Literal, negation, same_literal}
-use Rattle.cnf_form.specs.Propagation.{assign, is_true, is_falsified, unit_literal, numbered, hint_is_falsified}
+use Rattle.cnf_form.specs.Propagation.{is_true, is_falsified, unit_literal, numbered, hint_is_falsified}
 use Rattle.cdcl_core.specs.declared.trail.Entry.{Entry}
 use Rattle.cdcl_core.specs.declared.propagation.State.{State}
 use Rattle.cdcl_core.specs.declared.propagation.State.TheVariants.{Falsified, Forces, Open, Satisfied}
-use Rattle.cdcl_core.specs.declared.propagation.Passed.{Passed}
-use Rattle.cdcl_core.specs.declared.propagation.Passed.TheVariants.{Conflict, Changed, Quiet}
 use Rattle.cdcl_core.specs.declared.descent.Settled.{Settled}
 use Rattle.cdcl_core.specs.declared.descent.Settled.TheVariants.{AtConflict, AtChoice, AtEnd}
-use Rattle.cdcl_core.specs.Trails.{Assignment, values_of, IsTrail, free_count}
-use Rattle.cdcl_core.specs.Places.{is_among}
+use Rattle.cdcl_core.specs.Trails.{Assignment, values_of, IsTrail, IsCalm, AreCalm, free_count}
 
 -- whether each variable of the clause is below n
 unfoldable pub is_below : ℕ → List Literal → Bool
@@ -20,10 +17,6 @@ is_below n c = list_all (λ l. nat_lt l.variable n) c
 -- a literal of a variable below n that has no value
 abbrev pub IsFree : (ℕ → Option Bool) → ℕ → Literal → Type 0
 IsFree a n l = (l.variable < n) × (a l.variable ≡ None)
-
--- no literal that is made true now makes the clause false
-abbrev pub IsCalm : (ℕ → Option Bool) → List Literal → Type 0
-IsCalm a c = (l : Literal) → a l.variable ≡ None → is_falsified (assign a l) c ≡ false
 
 -- some literal of the clause is true
 abbrev pub has_true : (ℕ → Option Bool) → List Literal → Bool
@@ -35,17 +28,6 @@ IsState a n c Falsified = is_falsified a c ≡ true
 IsState a n c (Forces l) = (unit_literal a c ≡ Some l) × IsFree a n l
 IsState a n c (Open l) = IsCalm a c × IsFree a n l
 IsState a n c Satisfied = has_true a c ≡ true
-
--- a state with one more literal that has no value
-abbrev pub with_open : State → Literal → State
-with_open Falsified l = Forces l
-with_open (Forces k) l = Open k
-with_open (Open k) l = Open k
-with_open Satisfied l = Satisfied
-
--- no clause becomes false by one more literal
-abbrev pub AreCalm : (ℕ → Option Bool) → List (List Literal) → Type 0
-AreCalm a clauses = (l : Literal) → a l.variable ≡ None → list_any (is_falsified (assign a l)) clauses ≡ false
 
 -- the entry at this place makes the literal true
 abbrev pub IsLiteralAt : List Entry → ℕ → Literal → Type 0
@@ -60,22 +42,10 @@ pub record IsTouched (entries : List Entry) (first : ℕ) (c : List Literal) : T
   pub has : list_any (same_literal (negation entry.literal)) c ≡ true
 
 -- each clause is calm, or has yet to be looked at: for an entry from this place on, or since it is one of those to come
-abbrev pub ArePending : List (List Literal) → List Entry → (first : ℕ) → (to_come : List ℕ) → Type 0
-ArePending clauses entries first to_come = (k : ℕ) (c : List Literal) → slice_get clauses k ≡ Some c → IsCalm (values_of entries) c ⊎ IsTouched entries first c ⊎ (is_among to_come k ≡ true)
+abbrev pub ArePending : List (List Literal) → List Entry → (first : ℕ) → (to_come : ℕ → Bool) → Type 0
+ArePending clauses entries first to_come = (k : ℕ) (c : List Literal) → slice_get clauses k ≡ Some c → IsCalm (values_of entries) c ⊎ IsTouched entries first c ⊎ (to_come k ≡ true)
 
--- a literal to choose, and none where each clause is satisfied
-abbrev pub IsChoice : (ℕ → Option Bool) → ℕ → List (List Literal) → Option Literal → Type 0
-IsChoice a n clauses None = list_all (has_true a) clauses ≡ true
-IsChoice a n clauses (Some l) = IsFree a n l
-
--- what a pass over the clauses did, from one trail to another
-abbrev pub IsPass : List (List Literal) → ℕ → Assignment → Assignment → Passed → Type 0
-IsPass clauses n old now (Conflict k) = hint_is_falsified (values_of now.entries) (numbered clauses k) ≡ true
-IsPass clauses n old now Changed = free_count now.marks < free_count old.marks
-IsPass clauses n old now (Quiet choice) = AreCalm (values_of now.entries) clauses × IsChoice (values_of now.entries) n clauses choice
-
--- where unit propagation ends: at a clause that is false, at a choice with no clause that a literal makes false, or
--- with each clause satisfied
+-- where unit propagation ends: at a clause that is false, at a choice with each clause calm, or with each satisfied
 abbrev pub IsSettled : List (List Literal) → ℕ → (ℕ → Option Bool) → Settled → Type 0
 IsSettled clauses n a (AtConflict k) = hint_is_falsified a (numbered clauses k) ≡ true
 IsSettled clauses n a (AtChoice l) = AreCalm a clauses × IsFree a n l

@@ -1,13 +1,12 @@
 -- What a search keeps, and what its answers carry.
-use Rattle.std.specs.Prelude.{◌≡◌, ℕ, Bool, true, false, not, ◌⊎◌, List, [], ◌++◌, Option, Some, None, length}
+use Rattle.std.specs.Prelude.{◌≡◌, ℕ, Bool, true, false, not, List, ◌++◌, Option, Some, None, length}
 use Rattle.std.specs.List.{list_all}
 use Rattle.cnf_form.specs.Literals.{Literal}
-use Rattle.cnf_form.specs.Propagation.{is_falsified, numbered, hint_is_falsified, follows}
+use Rattle.cnf_form.specs.Propagation.{numbered, hint_is_falsified, follows}
 use Rattle.cnf_form.specs.Refutations.{Step, clauses_of, follows_all, is_new, is_fresh, is_empty_clause}
 use Rattle.cdcl_core.specs.declared.solver.Answer.{Answer}
 use Rattle.cdcl_core.specs.declared.solver.Answer.TheVariants.{Found, Refuted, Spent}
-use Rattle.cdcl_core.specs.declared.trail.Entry.{Entry}
-use Rattle.cdcl_core.specs.Trails.{Assignment, values_of, IsTrail}
+use Rattle.cdcl_core.specs.Trails.{Assignment, values_of, IsTrail, AreCalmFirst}
 use Rattle.cdcl_core.specs.Passes.{is_below, has_true}
 
 -- what holds of a valuation that was found
@@ -32,15 +31,16 @@ IfSpent (Spent log) P = P log
 unfoldable pub has_no_empty : List Step → Bool
 has_no_empty log = list_all (λ s. not (is_empty_clause s.clause)) log
 
--- what a search keeps: its clauses are the formula's and those learnt, each of which follows and was new, and the trail
--- is one over these clauses
-pub record IsSearch (formula : List (List Literal)) (clauses : List (List Literal)) (log : List Step) (now : Assignment) : Type 0 where
+-- what a search keeps: its clauses are the formula's and those learnt, each of which follows and was new, the trail is one
+-- over these clauses, and the first n of them are calm
+pub record IsSearch (formula : List (List Literal)) (clauses : List (List Literal)) (log : List Step) (now : Assignment) (n : ℕ) : Type 0 where
   pub all : clauses ≡ formula ++ clauses_of log
   pub follows : follows_all formula log ≡ true
   pub fresh : is_fresh formula log ≡ true
   pub no_empty : has_no_empty log ≡ true
   pub below : list_all (is_below (length now.marks)) clauses ≡ true
   pub trail : IsTrail clauses now.entries
+  pub calm : AreCalmFirst n (values_of now.entries) clauses
 
 -- where choices and propagation end: at a clause that is false, or with each clause satisfied
 abbrev pub IsDescent : List (List Literal) → (ℕ → Option Bool) → Option ℕ → Type 0
@@ -52,11 +52,3 @@ pub record IsLesson (clauses : List (List Literal)) (n : ℕ) (step : Step) : Ty
   pub follows : follows clauses step.clause step.hints ≡ true
   pub is_new : is_empty_clause step.clause ≡ false → is_new clauses step.clause ≡ true
   pub below : is_below n step.clause ≡ true
-
--- the first list is a beginning of the second
-abbrev pub IsFront : List Entry → List Entry → Type 0
-IsFront front entries = (rest : List Entry) × (entries ≡ front ++ rest)
-
--- a clause isn't false, unless nothing has a value
-abbrev pub IsOpenOrBegun : List Entry → List Literal → Type 0
-IsOpenOrBegun entries clause = (entries ≡ []) ⊎ (is_falsified (values_of entries) clause ≡ false)

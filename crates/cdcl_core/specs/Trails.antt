@@ -1,8 +1,8 @@
 -- Trails: the literals that are true, in their order, each decided or forced by a clause.
-use Rattle.std.specs.Prelude.{◌≡◌, ℕ, ◌+◌, Bool, false, ◌++◌, List, [], ◌∷◌, Option, Some, None, fold, slice_set}
-use Rattle.std.specs.List.{list_any}
+use Rattle.std.specs.Prelude.{◌≡◌, ℕ, ◌+◌, ◌<◌, Bool, false, ◌++◌, List, [], ◌∷◌, Option, Some, None, fold, take, length, slice_get, slice_set, slice_index_or}
 use Rattle.cnf_form.specs.Literals.{Literal}
 use Rattle.cnf_form.specs.Propagation.{unassigned, assign, is_falsified, numbered, unit_of_hint}
+use Rattle.proof_check.specs.Marking.{marked}
 use Rattle.cdcl_core.specs.declared.trail.Entry.{Entry}
 
 -- the partial assignment after these entries, where it was `a` before them
@@ -22,10 +22,28 @@ pub record Assignment : Type 0 where
 abbrev pub with_entry : Assignment → Entry → Assignment
 with_entry t e = record { marks = slice_set t.marks e.literal.variable (Some e.literal.positive); entries = t.entries ++ e ∷ [] }
 
--- what a literal is made true by, after the values `a`: a decision makes no clause false, and else the clause of the
--- entry's number forces it
+-- the values by number are those of the trail, and each of its variables has the number of its entry, from 1
+pub record IsKept (marks : List (Option Bool)) (numbers : List ℕ) (entries : List Entry) : Type 0 where
+  pub values : marked marks ≡ values_of entries
+  pub room : length numbers ≡ length marks
+  pub numbered : (p : ℕ) (e : Entry) → slice_get entries p ≡ Some e → slice_index_or numbers e.literal.variable 0 ≡ p + 1
+
+-- no literal that is made true now makes the clause false
+abbrev pub IsCalm : (ℕ → Option Bool) → List Literal → Type 0
+IsCalm a c = (l : Literal) → a l.variable ≡ None → is_falsified (assign a l) c ≡ false
+
+-- each of the first clauses is calm
+abbrev pub AreCalmFirst : ℕ → (ℕ → Option Bool) → List (List Literal) → Type 0
+AreCalmFirst n a clauses = (k : ℕ) (c : List Literal) → k < n → slice_get clauses k ≡ Some c → IsCalm a c
+
+-- each clause is calm
+abbrev pub AreCalm : (ℕ → Option Bool) → List (List Literal) → Type 0
+AreCalm a clauses = (k : ℕ) (c : List Literal) → slice_get clauses k ≡ Some c → IsCalm a c
+
+-- what a literal is made true by, after the values `a`: right before a decision each clause is calm, and else the clause
+-- of the entry's number forces it
 abbrev pub IsMadeTrue : List (List Literal) → (ℕ → Option Bool) → Literal → Option ℕ → Type 0
-IsMadeTrue clauses a l None = list_any (is_falsified (assign a l)) clauses ≡ false
+IsMadeTrue clauses a l None = AreCalm a clauses
 IsMadeTrue clauses a l (Some n) = unit_of_hint a (numbered clauses n) ≡ Some l
 
 -- each entry's variable has no value before it, and each literal is made true by a decision or by its clause
@@ -36,10 +54,13 @@ IsTrailFrom clauses a (e ∷ es) = (a e.literal.variable ≡ None) × IsMadeTrue
 abbrev pub IsTrail : List (List Literal) → List Entry → Type 0
 IsTrail clauses entries = IsTrailFrom clauses unassigned entries
 
--- each entry's variable has no value before it
-unfoldable pub AreApart : (ℕ → Option Bool) → List Entry → Type 0
-AreApart a [] = Unit {0}
-AreApart a (e ∷ es) = (a e.literal.variable ≡ None) × AreApart (assign a e.literal) es
+-- the entry at this place is a decision
+abbrev pub IsDecisionAt : List Entry → ℕ → Type 0
+IsDecisionAt entries p = (e : Entry) × (slice_get entries p ≡ Some e) × (e.reason ≡ None)
+
+-- the clause is calm before each of the first entries
+abbrev pub IsCalmBefore : ℕ → List Entry → List Literal → Type 0
+IsCalmBefore n entries c = (p : ℕ) → p < n → IsCalm (values_of (take p entries)) c
 
 -- a literal in front of others, if it was decided
 abbrev pub if_decided : Option ℕ → Literal → List Literal → List Literal

@@ -5,8 +5,7 @@
 //!
 //! Whether the clause follows, and whether it is new, is tested where it is learnt: nothing rests on how it was found.
 
-use crate::levels::Levels;
-use crate::trail::Entry;
+use crate::trail::{Entry, Trail};
 use cnf_form::{Clause, Lit, LogStep};
 use std::alloc::{AllocError as NoMemory, Global};
 
@@ -21,6 +20,8 @@ pub struct Analysis {
     hints: Vec<usize>,
     /// How many variables of the last level were met and not yet replaced.
     pending: usize,
+    /// The place of the last decision.
+    last: usize,
 }
 
 fn clause_of(clauses: &[Clause], number: usize) -> Option<&Clause> {
@@ -28,12 +29,13 @@ fn clause_of(clauses: &[Clause], number: usize) -> Option<&Clause> {
 }
 
 impl Analysis {
-    fn new(alloc: Global, size: usize) -> Result<Analysis, NoMemory> {
+    fn new(alloc: Global, size: usize, last: usize) -> Result<Analysis, NoMemory> {
         Ok(Analysis {
             seen: vec![in alloc; false; size]?,
             literals: Vec::new(alloc),
             hints: Vec::new(alloc),
             pending: 0,
+            last,
         })
     }
 
@@ -57,9 +59,9 @@ impl Analysis {
     }
 
     // Meets a literal of a clause for the first time.
-    fn meet(&mut self, literal: Lit, levels: &Levels) -> Result<(), NoMemory> {
+    fn meet(&mut self, literal: Lit, trail: &Trail) -> Result<(), NoMemory> {
         self.see(literal);
-        if levels.is_last(literal) {
+        if trail.number(literal) > self.last {
             self.pending = self.pending.checked_add(1).ok_or(NoMemory)?;
         } else {
             self.literals.push(literal)?;
@@ -67,10 +69,10 @@ impl Analysis {
         Ok(())
     }
 
-    fn meet_clause(&mut self, clause: &Clause, levels: &Levels) -> Result<(), NoMemory> {
+    fn meet_clause(&mut self, clause: &Clause, trail: &Trail) -> Result<(), NoMemory> {
         for literal in clause.literals() {
             if !self.is_seen(*literal) {
-                self.meet(*literal, levels)?;
+                self.meet(*literal, trail)?;
             }
         }
         Ok(())
@@ -79,29 +81,24 @@ impl Analysis {
     // Puts the clause that forced a literal in its place.
     fn replace(
         &mut self,
+        trail: &Trail,
         clauses: &[Clause],
-        levels: &Levels,
         reason: usize,
     ) -> Result<(), NoMemory> {
         self.hints.push(reason)?;
         self.pending = self.pending.saturating_sub(1);
         match clause_of(clauses, reason) {
-            Some(clause) => self.meet_clause(clause, levels),
+            Some(clause) => self.meet_clause(clause, trail),
             None => Ok(()),
         }
     }
 
     // Goes backwards to the first point.
-    fn walk(
-        &mut self,
-        entries: &[Entry],
-        clauses: &[Clause],
-        levels: &Levels,
-    ) -> Result<(), NoMemory> {
-        for entry in entries.iter().rev() {
+    fn walk(&mut self, trail: &Trail, clauses: &[Clause]) -> Result<(), NoMemory> {
+        for entry in trail.entries().iter().rev() {
             if self.is_seen(entry.literal) {
                 match entry.reason {
-                    Some(reason) if self.pending > 1 => self.replace(clauses, levels, reason)?,
+                    Some(reason) if self.pending > 1 => self.replace(trail, clauses, reason)?,
                     _ => {
                         self.literals.push(entry.literal.negated())?;
                         return Ok(());
@@ -125,19 +122,25 @@ impl Analysis {
     }
 }
 
-/// Analyses the conflict at the clause of this number.
+// The place of the last decision.
+fn last_decision(entries: &[Entry]) -> Option<usize> {
+    entries.iter().rposition(|e| e.reason.is_none())
+}
+
+/// Analyses the conflict at the clause of this number, if a literal was decided.
 pub fn analyse(
     alloc: Global,
-    size: usize,
-    entries: &[Entry],
+    trail: &Trail,
     clauses: &[Clause],
-    levels: &Levels,
     conflict: usize,
-) -> Result<Analysis, NoMemory> {
-    let mut analysis = Analysis::new(alloc, size)?;
+) -> Result<Option<Analysis>, NoMemory> {
+    let Some(last) = last_decision(trail.entries()) else {
+        return Ok(None);
+    };
+    let mut analysis = Analysis::new(alloc, trail.size(), last)?;
     if let Some(clause) = clause_of(clauses, conflict) {
-        analysis.meet_clause(clause, levels)?;
+        analysis.meet_clause(clause, trail)?;
     }
-    analysis.walk(entries, clauses, levels)?;
-    Ok(analysis)
+    analysis.walk(trail, clauses)?;
+    Ok(Some(analysis))
 }

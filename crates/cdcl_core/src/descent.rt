@@ -1,20 +1,20 @@
-//! Choices and propagation in turn, until a clause is false or each is satisfied. Passes over all clauses come first, until
-//! none is false or forces a literal: it is *calm*. After that only the clauses are looked at in which a literal becomes
-//! false, and the others stay calm.
+//! Choices and propagation in turn, until a clause is false or each is satisfied. A choice is made where each clause is
+//! *calm*: none is false or forces a literal. After that only the clauses are looked at in which a literal becomes false,
+//! and the others stay calm.
 
 ghost use Rattle.std.specs.Prelude.{◌≡◌, ◌<◌, true, length, IfOk, IfSome, OnOk, None};
 ghost use Rattle.std.specs.List.{list_all};
 ghost use Rattle.cnf_form.specs.Propagation.{numbered, hint_is_falsified};
-ghost use Rattle.cdcl_core.specs.Trails.{values_of, IsTrail, free_count};
-ghost use Rattle.cdcl_core.specs.Passes.{is_below, IsFree, AreCalm, IsSettled, IsFollowed};
+ghost use Rattle.cdcl_core.specs.Trails.{values_of, IsTrail, AreCalm, AreCalmFirst, free_count};
+ghost use Rattle.cdcl_core.specs.Passes.{is_below, IsFree, IsSettled};
 ghost use Rattle.cdcl_core.specs.Searches.{IsDescent};
 
 use crate::clause_list::ClauseList;
-use crate::following::{follow, follow_last};
+use crate::following::{follow, settle};
 use crate::order::Order;
-use crate::propagation::{Passed, pass};
+use crate::propagation::{State, state_of};
 use crate::trail::{Entry, Trail};
-use cnf_form::Lit;
+use cnf_form::{Clause, Lit};
 use std::alloc::AllocError as NoMemory;
 
 /// Where unit propagation ends.
@@ -22,46 +22,39 @@ use std::alloc::AllocError as NoMemory;
 pub enum Settled {
     /// The clause of this number is false.
     AtConflict(usize),
-    /// No clause is false or forces a literal, and this literal has no value.
+    /// Each clause is calm, and this literal has no value.
     AtChoice(Lit),
     /// Each clause is satisfied.
     AtEnd,
 }
 
-/// Passes over the clauses, and makes all true that they force, until a clause is false or none forces a literal.
-pub fn propagate(trail: &mut Trail, clauses: &ClauseList) -> Result<Settled, NoMemory>
-    requires below { list_all (is_below (length trail.old.marks)) clauses.now ≡ true }
-    requires trail { IsTrail clauses.now trail.old.entries }
-    ensures followed { OnOk result (IsFollowed clauses.now trail.old trail.new) }
-    ensures settled { IfOk result (IsSettled clauses.now (length trail.old.marks) (values_of trail.new.entries)) }
+// A literal without a value of a clause that isn't satisfied, where each clause is calm.
+fn open_literal(trail: &Trail, clauses: &[Clause]) -> Settled
+    requires below { list_all (is_below (length trail.now.marks)) clauses.now ≡ true }
+    requires calm { AreCalm (values_of trail.now.entries) clauses.now }
+    ensures { IsSettled clauses.now (length trail.now.marks) (values_of trail.now.entries) result }
 {
-    'passes: loop {
-        let first = trail.entries().len();
-        match pass(trail, clauses.as_slice())? {
-            Passed::Conflict(number) => return Ok(Settled::AtConflict(number)),
-            Passed::Changed => {
-                if let Some(number) = follow(trail, clauses, first)? {
-                    return Ok(Settled::AtConflict(number));
-                }
-            }
-            Passed::Quiet(Some(literal)) => return Ok(Settled::AtChoice(literal)),
-            Passed::Quiet(None) => return Ok(Settled::AtEnd),
+    for i in 0..clauses.len() {
+        match state_of(trail, &clauses[i]) {
+            State::Falsified => return Settled::AtConflict(i + 1),
+            State::Forces(literal) => return Settled::AtChoice(literal),
+            State::Open(literal) => return Settled::AtChoice(literal),
+            State::Satisfied => {}
         }
     }
+    Settled::AtEnd
 }
 
-// The literal to choose where no clause is false or forces one: the first of the order, or if it has none what a pass
-// over the clauses finds.
-fn next_choice(trail: &mut Trail, clauses: &ClauseList, order: &Order) -> Result<Settled, NoMemory>
-    requires below { list_all (is_below (length trail.old.marks)) clauses.now ≡ true }
-    requires trail { IsTrail clauses.now trail.old.entries }
-    requires calm { AreCalm (values_of trail.old.entries) clauses.now }
-    ensures followed { OnOk result (IsFollowed clauses.now trail.old trail.new) }
-    ensures settled { IfOk result (IsSettled clauses.now (length trail.old.marks) (values_of trail.new.entries)) }
+// The literal to choose where each clause is calm: the first of the order, or if it has none one of a clause that isn't
+// satisfied.
+fn next_choice(trail: &Trail, clauses: &ClauseList, order: &Order) -> Settled
+    requires below { list_all (is_below (length trail.now.marks)) clauses.now ≡ true }
+    requires calm { AreCalm (values_of trail.now.entries) clauses.now }
+    ensures { IsSettled clauses.now (length trail.now.marks) (values_of trail.now.entries) result }
 {
     match order.pick(trail) {
-        Some(literal) => Ok(Settled::AtChoice(literal)),
-        None => propagate(trail, clauses),
+        Some(literal) => Settled::AtChoice(literal),
+        None => open_literal(trail, clauses.as_slice()),
     }
 }
 
@@ -86,7 +79,7 @@ fn choose(trail: &mut Trail, clauses: &ClauseList, literal: Lit) -> Result<Optio
     follow(trail, clauses, first)
 }
 
-// Chooses literals where no clause is false or forces one, and so on, as `descend` does.
+// Chooses literals where each clause is calm, and so on, as `descend` does.
 fn descend_from(
     trail: &mut Trail,
     clauses: &ClauseList,
@@ -100,7 +93,7 @@ fn descend_from(
     ensures descent { IfOk result (IsDescent clauses.now (values_of trail.new.entries)) }
 {
     'choices: loop {
-        match next_choice(trail, clauses, order)? {
+        match next_choice(trail, clauses, order) {
             Settled::AtConflict(number) => return Ok(Some(number)),
             Settled::AtEnd => return Ok(None),
             Settled::AtChoice(literal) => {
@@ -112,26 +105,23 @@ fn descend_from(
     }
 }
 
-/// Makes all true that clauses force, the last one first, since that is the one that was learnt. Then it chooses literals
-/// and makes those true that follow, until a clause is false, whose number is the answer, or each clause is satisfied.
+/// Where the first clauses are calm, makes literals true that the others force and that follow. Then it chooses literals and
+/// makes those true that follow, until a clause is false, whose number is the answer, or each clause is satisfied.
 pub fn descend(
     trail: &mut Trail,
     clauses: &ClauseList,
     order: &Order,
+    calm: usize,
 ) -> Result<Option<usize>, NoMemory>
     requires below { list_all (is_below (length trail.old.marks)) clauses.now ≡ true }
     requires trail { IsTrail clauses.now trail.old.entries }
+    requires calm { AreCalmFirst calm (values_of trail.old.entries) clauses.now }
     ensures trail { OnOk result (IsTrail clauses.now trail.new.entries) }
     ensures size { OnOk result (length trail.new.marks ≡ length trail.old.marks) }
     ensures descent { IfOk result (IsDescent clauses.now (values_of trail.new.entries)) }
 {
-    let conflict = follow_last(trail, clauses)?;
-    if conflict.is_some() {
-        return Ok(conflict);
+    if let Some(number) = settle(trail, clauses, calm)? {
+        return Ok(Some(number));
     }
-    match propagate(trail, clauses)? {
-        Settled::AtConflict(number) => Ok(Some(number)),
-        Settled::AtEnd => Ok(None),
-        Settled::AtChoice(_) => descend_from(trail, clauses, order),
-    }
+    descend_from(trail, clauses, order)
 }

@@ -1,11 +1,12 @@
-//! What follows from the literals that have become true: only the clauses are looked at in which one became false. Where
-//! each other clause was calm before, that is enough: then none is false or forces a literal at the end.
+//! What follows from the literals that have become true: only the clauses are looked at in which one became false, and those
+//! that weren't looked at before. Where each other clause was calm, that is enough: then all are calm at the end.
 
-ghost use Rattle.std.specs.Prelude.{◌≡◌, ℕ, ◌≤◌, ◌<◌, ◌+◌, ◌^◌, ◌∷◌, List, [], true, length, IfOk, IfSome, OnOk, None};
+ghost use Rattle.std.specs.Prelude.{◌≡◌, ℕ, ◌≤◌, ◌<◌, ◌+◌, ◌^◌, ◌||◌, ◌==◌, nat_le, Bool, false, true, length, IfOk, IfSome, OnOk, None};
 ghost use Rattle.std.specs.List.{list_all};
 ghost use Rattle.cnf_form.specs.Propagation.{numbered, hint_is_falsified};
-ghost use Rattle.cdcl_core.specs.Trails.{values_of, IsTrail};
-ghost use Rattle.cdcl_core.specs.Passes.{is_below, AreCalm, IsLiteralAt, ArePending, IsFollowed};
+ghost use Rattle.cdcl_core.specs.Places.{is_among};
+ghost use Rattle.cdcl_core.specs.Trails.{values_of, IsTrail, AreCalm, AreCalmFirst};
+ghost use Rattle.cdcl_core.specs.Passes.{is_below, IsLiteralAt, ArePending, IsFollowed};
 
 use crate::clause_list::ClauseList;
 use crate::propagation::{State, state_of};
@@ -19,7 +20,7 @@ fn look(trail: &mut Trail, clauses: &[Clause], place: usize) -> Result<Option<us
     requires trail { IsTrail clauses.now trail.old.entries }
     ensures followed { OnOk result (IsFollowed clauses.now trail.old trail.new) }
     ensures conflict { IfOk result (λ o. IfSome o (λ k. hint_is_falsified (values_of trail.new.entries) (numbered clauses.now k) ≡ true)) }
-    ensures looked { (first : ℕ) (to_come : List ℕ) → first ≤ length trail.old.entries → ArePending clauses.now trail.old.entries first (place ∷ to_come) → IfOk result (λ o. o ≡ None → ArePending clauses.now trail.new.entries first to_come) }
+    ensures looked { (first : ℕ) (to_come : ℕ → Bool) → first ≤ length trail.old.entries → ArePending clauses.now trail.old.entries first (λ k. (place == k) || to_come k) → IfOk result (λ o. o ≡ None → ArePending clauses.now trail.new.entries first to_come) }
 {
     if place >= clauses.len() {
         return Ok(None);
@@ -46,7 +47,7 @@ fn look_at(
     requires trail { IsTrail clauses.now trail.old.entries }
     ensures followed { OnOk result (IsFollowed clauses.now trail.old trail.new) }
     ensures conflict { IfOk result (λ o. IfSome o (λ k. hint_is_falsified (values_of trail.new.entries) (numbered clauses.now k) ≡ true)) }
-    ensures looked { (first : ℕ) → first ≤ length trail.old.entries → ArePending clauses.now trail.old.entries first places.now → IfOk result (λ o. o ≡ None → ArePending clauses.now trail.new.entries first []) }
+    ensures looked { (first : ℕ) → first ≤ length trail.old.entries → ArePending clauses.now trail.old.entries first (is_among places.now) → IfOk result (λ o. o ≡ None → ArePending clauses.now trail.new.entries first (λ k. false)) }
 {
     for place in places {
         if let Some(number) = look(trail, clauses, *place)? {
@@ -66,7 +67,7 @@ fn look_after(
     requires trail { IsTrail clauses.now trail.old.entries }
     ensures followed { OnOk result (IsFollowed clauses.now trail.old trail.new) }
     ensures conflict { IfOk result (λ o. IfSome o (λ k. hint_is_falsified (values_of trail.new.entries) (numbered clauses.now k) ≡ true)) }
-    ensures looked { (place : ℕ) → IsLiteralAt trail.old.entries place literal → ArePending clauses.now trail.old.entries place [] → IfOk result (λ o. o ≡ None → ArePending clauses.now trail.new.entries (place + 1) []) }
+    ensures looked { (place : ℕ) → IsLiteralAt trail.old.entries place literal → ArePending clauses.now trail.old.entries place (λ k. false) → IfOk result (λ o. o ≡ None → ArePending clauses.now trail.new.entries (place + 1) (λ k. false)) }
 {
     look_at(trail, clauses.as_slice(), clauses.places(literal.negated()))
 }
@@ -93,7 +94,7 @@ pub fn follow(
     requires trail { IsTrail clauses.now trail.old.entries }
     ensures followed { OnOk result (IsFollowed clauses.now trail.old trail.new) }
     ensures conflict { IfOk result (λ o. IfSome o (λ k. hint_is_falsified (values_of trail.new.entries) (numbered clauses.now k) ≡ true)) }
-    ensures calm { ArePending clauses.now trail.old.entries first [] → IfOk result (λ o. o ≡ None → AreCalm (values_of trail.new.entries) clauses.now) }
+    ensures calm { ArePending clauses.now trail.old.entries first (λ k. false) → IfOk result (λ o. o ≡ None → AreCalm (values_of trail.new.entries) clauses.now) }
 {
     let mut place = first;
     while let Some(literal) = literal_at(trail, place) {
@@ -106,19 +107,39 @@ pub fn follow(
     Ok(None)
 }
 
-/// Looks at the last clause, and makes literals true that follow from the one that it forces, until a clause is false,
-/// whose number is the answer, or nothing more is found.
-pub fn follow_last(trail: &mut Trail, clauses: &ClauseList) -> Result<Option<usize>, NoMemory>
+// Looks at the clauses from this place on.
+fn look_from(trail: &mut Trail, clauses: &[Clause], start: usize) -> Result<Option<usize>, NoMemory>
     requires below { list_all (is_below (length trail.old.marks)) clauses.now ≡ true }
     requires trail { IsTrail clauses.now trail.old.entries }
     ensures followed { OnOk result (IsFollowed clauses.now trail.old trail.new) }
     ensures conflict { IfOk result (λ o. IfSome o (λ k. hint_is_falsified (values_of trail.new.entries) (numbered clauses.now k) ≡ true)) }
+    ensures looked { (first : ℕ) → first ≤ length trail.old.entries → ArePending clauses.now trail.old.entries first (nat_le start) → IfOk result (λ o. o ≡ None → ArePending clauses.now trail.new.entries first (λ k. false)) }
+{
+    for place in start..clauses.len() {
+        if let Some(number) = look(trail, clauses, place)? {
+            return Ok(Some(number));
+        }
+    }
+    Ok(None)
+}
+
+/// Where the first clauses are calm, looks at the others, and makes literals true that follow, until a clause is false,
+/// whose number is the answer, or each is calm.
+pub fn settle(
+    trail: &mut Trail,
+    clauses: &ClauseList,
+    calm: usize,
+) -> Result<Option<usize>, NoMemory>
+    requires below { list_all (is_below (length trail.old.marks)) clauses.now ≡ true }
+    requires trail { IsTrail clauses.now trail.old.entries }
+    requires calm { AreCalmFirst calm (values_of trail.old.entries) clauses.now }
+    ensures followed { OnOk result (IsFollowed clauses.now trail.old trail.new) }
+    ensures conflict { IfOk result (λ o. IfSome o (λ k. hint_is_falsified (values_of trail.new.entries) (numbered clauses.now k) ≡ true)) }
+    ensures calm { IfOk result (λ o. o ≡ None → AreCalm (values_of trail.new.entries) clauses.now) }
 {
     let first = trail.entries().len();
-    let last = clauses.as_slice().len().saturating_sub(1);
-    let conflict = look(trail, clauses.as_slice(), last)?;
-    if conflict.is_some() {
-        return Ok(conflict);
+    if let Some(number) = look_from(trail, clauses.as_slice(), calm)? {
+        return Ok(Some(number));
     }
     follow(trail, clauses, first)
 }

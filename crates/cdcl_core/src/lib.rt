@@ -3,13 +3,14 @@
 //!
 //! - `solver`: the search: it runs until a clause is false, learns from that, goes back, and runs again
 //! - `descent`: choices and propagation in turn
-//! - `propagation`: what a clause is while some variables have values, and passes over all clauses
+//! - `propagation`: what a clause is while some variables have values
 //! - `clause_list`: the clauses, with the places in which each literal stands
 //! - `following`: what follows from literals that have become true, by the clauses in which their negations stand
 //! - `trail`: the literals that are true, in their order, with the clauses that forced them
 //! - `lesson`: what is learnt: the clause that the analysis found, if it follows and is new, or the negated decisions
 //! - `analysis`: the first point through which all led to a conflict
-//! - `levels`, `order`, `restarts`: how far to go back, what to choose, when to begin again. No answer rests on them
+//! - `backjump`: how far to go back, so that each clause but the learnt one is calm there
+//! - `order`, `restarts`: what to choose, when to begin again. No answer rests on them
 //! - `bounds`: the greatest variable of a formula
 //!
 //! Literals that were false before any decision are kept in a clause that is learnt, so that its hints need not force
@@ -17,12 +18,12 @@
 #![tactic(auto)]
 
 mod analysis;
+mod backjump;
 mod bounds;
 mod clause_list;
 mod descent;
 mod following;
 mod lesson;
-mod levels;
 mod order;
 mod propagation;
 mod restarts;

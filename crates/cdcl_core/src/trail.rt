@@ -1,14 +1,13 @@
 //! The trail: the literals that are true, in the order in which they became so.
 
-ghost use Rattle.std.specs.Prelude.{◌≡◌, ℕ, ◌-◌, ◌<◌, ◌↔◌, min, Bool, [], ◌++◌, IfOk, OnOk, OnErr, None, true, false, replicate, length, map, unwrap_or, option_to_list, IsTrue};
+ghost use Rattle.std.specs.Prelude.{◌≡◌, ℕ, ◌-◌, ◌<◌, ◌↔◌, Bool, [], ◌++◌, IfOk, OnOk, OnErr, None, true, false, replicate, length, map, take, unwrap_or, option_to_list, slice_index_or, IsTrue};
 ghost use Rattle.cnf_form.specs.Literals.{Literal};
 ghost use Rattle.cnf_form.specs.Valuations.{literal_value, valuation};
-ghost use Rattle.cnf_form.specs.Propagation.{unassigned, is_true, is_false, is_falsified};
-ghost use Rattle.cdcl_core.specs.Trails.{values_of, with_entry, AreApart, free_count};
+ghost use Rattle.cnf_form.specs.Propagation.{is_true, is_false};
+ghost use Rattle.cdcl_core.specs.Trails.{values_of, with_entry, free_count};
 ghost use Rattle.cdcl_core.specs.Passes.{IsFree};
-ghost use Rattle.cdcl_core.specs.Searches.{IsFront};
 
-use cnf_form::{Clause, Lit, Val};
+use cnf_form::{Lit, Val};
 use std::alloc::{AllocError as NoMemory, Global};
 use std::marker::Model;
 
@@ -19,23 +18,22 @@ pub struct Entry {
     pub reason: Option<usize>,
 }
 
-/// Entries in their order, with the values of the variables by number.
+/// Entries in their order, with the values of the variables and the numbers of their entries, by the variables' numbers.
 #[derive(Debug, Drop)]
 pub struct Trail {
     marks: Vec<Option<bool>>,
+    numbers: Vec<usize>,
     entries: Vec<Entry>,
 }
 
 impl Model for Trail {
-    ghost use Rattle.std.specs.Prelude.{◌≡◌};
-    ghost use Rattle.proof_check.specs.Marking.{marked};
-    ghost use Rattle.cdcl_core.specs.Trails.{Assignment, values_of};
+    ghost use Rattle.cdcl_core.specs.Trails.{Assignment, IsKept};
 
     ghost Value = { Assignment };
 
     ghost view = { λ t. record { marks = t.marks.items; entries = t.entries.items } };
 
-    ghost invariant = { λ t. marked t.marks.items ≡ values_of t.entries.items };
+    ghost invariant = { λ t. IsKept t.marks.items t.numbers.items t.entries.items };
 }
 
 impl Trail {
@@ -45,6 +43,7 @@ impl Trail {
     {
         Ok(Trail {
             marks: vec![in alloc; None; size]?,
+            numbers: vec![in alloc; 0; size]?,
             entries: Vec::new(alloc),
         })
     }
@@ -91,31 +90,30 @@ impl Trail {
         }
     }
 
-    /// Whether each literal of the clause is false.
-    #[tactic(auto, unfolding(cnf_form::specs::Propagation::is_falsified))]
-    pub fn is_falsified(&self, clause: &Clause) -> bool
-        ensures { result ≡ is_falsified (values_of self.now.entries) clause.now }
+    /// The number, from 1, of the entry that gave the literal's variable its value.
+    pub fn number(&self, literal: Lit) -> usize
+        ensures { (n : ℕ) → n < result → values_of (take n self.now.entries) literal.variable ≡ None }
     {
-        clause.literals().iter().all(|l| self.is_false(*l))
+        number_of(&self.numbers, literal.variable())
     }
 
     /// Makes a literal true.
     pub fn push(&mut self, entry: Entry) -> Result<(), NoMemory>
-        requires { entry.literal.variable < length self.old.marks }
+        requires { IsFree (values_of self.old.entries) (length self.old.marks) entry.literal }
         ensures ok { OnOk result (self.new ≡ with_entry self.old entry) }
         ensures err { OnErr result (self.new ≡ self.old) }
-        ensures fewer { OnOk result (values_of self.old.entries entry.literal.variable ≡ None → free_count self.new.marks < free_count self.old.marks) }
+        ensures fewer { OnOk result (free_count self.new.marks < free_count self.old.marks) }
     {
         let place = entry.literal.variable() as usize;
         let value = Some(entry.literal.is_positive());
         self.entries.push(entry)?;
         self.marks[place] = value;
+        self.numbers[place] = self.entries.len();
         Ok(())
     }
 
     /// Takes the last entry away, if there is one.
     pub fn pop(&mut self) -> Option<Entry>
-        requires { AreApart unassigned self.old.entries }
         ensures entries { self.old.entries ≡ self.new.entries ++ option_to_list result }
         ensures one_less { length self.new.entries ≡ length self.old.entries - 1 }
         ensures size { length self.new.marks ≡ length self.old.marks }
@@ -128,9 +126,7 @@ impl Trail {
 
     /// Keeps the first `len` entries.
     pub fn cut(&mut self, len: usize)
-        requires { AreApart unassigned self.old.entries }
-        ensures front { IsFront self.new.entries self.old.entries }
-        ensures len { length self.new.entries ≡ min len (length self.old.entries) }
+        ensures entries { self.new.entries ≡ take len self.old.entries }
         ensures size { length self.new.marks ≡ length self.old.marks }
     {
         while self.entries().len() > len {
@@ -150,6 +146,15 @@ impl Trail {
         ensures { IfOk result (λ v. (l : Literal) → is_true (values_of self.now.entries) l ≡ true → literal_value (valuation v) l ≡ true) }
     {
         Ok(Val::new(values(alloc, &self.marks)?))
+    }
+}
+
+fn number_of(numbers: &[usize], variable: u32) -> usize
+    ensures { result ≡ slice_index_or numbers.now variable 0 }
+{
+    match numbers.get(variable as usize) {
+        Some(number) => *number,
+        None => 0,
     }
 }
 

@@ -1,5 +1,5 @@
 -- The memory of a symbolic run: pages by their numbers, and the bytes at addresses.
-use Rattle.std.specs.Prelude.{◌≡◌, ℕ, ◌⊎◌, ◌/◌, ◌%◌, List, map, length, Option, Some, None, slice_set, slice_index_or, refl}
+use Rattle.std.specs.Prelude.{◌≡◌, ℕ, ◌⊎◌, ◌+◌, ◌*◌, ◌/◌, ◌%◌, ◌^◌, List, map, length, Option, Some, None, slice_set, slice_index_or, refl}
 use Rattle.std.specs.Coded.{Coded, code_by, coded×, coded⊎, coded_ℕ, coded_list}
 use Rattle.std.specs.FinMap.{FinMap, get, insert, code}
 use Rattle.std.specs.Ordering.{nat_cmp}
@@ -50,6 +50,18 @@ page_byte (Some page) offset = slice_index_or page.bytes offset (Number 0)
 -- the byte at an address, 0 where no page is mapped
 abbrev pub memory_byte : SymbolicMemory → ℕ → Byte
 memory_byte memory address = page_byte (get memory (address / 256)) (address % 256)
+
+-- four numbers stand from here on, and make this word, low byte first
+pub record IsWordAt (byte : ℕ → Byte) (at word : ℕ) : Type 0 where
+  pub b0 : ℕ
+  pub b1 : ℕ
+  pub b2 : ℕ
+  pub b3 : ℕ
+  pub is0 : byte at ≡ Number b0
+  pub is1 : byte (at + 1) ≡ Number b1
+  pub is2 : byte (at + 2) ≡ Number b2
+  pub is3 : byte (at + 3) ≡ Number b3
+  pub is : word ≡ b0 + 2 ^ 8 * b1 + 2 ^ 16 * b2 + 2 ^ 24 * b3
 
 -- memory with another page in the place of one, if there was one
 abbrev pub with_page : SymbolicMemory → ℕ → Option SymbolicPage → SymbolicMemory

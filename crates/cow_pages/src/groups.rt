@@ -22,12 +22,28 @@ fn search(groups: &[(u32, Arc<Group>)], number: u32) -> Result<usize, usize>
     groups.binary_search_by_key(&number, |group| group.0)
 }
 
-/// The page of this number, if it is mapped.
-pub(crate) fn page_of(groups: &[(u32, Arc<Group>)], number: u32) -> Option<&Page>
+/// The same. It is found at once where it stands at this place.
+pub(crate) fn search_near(
+    groups: &[(u32, Arc<Group>)],
+    recent: usize,
+    number: u32,
+) -> Result<usize, usize>
+    requires { AreGroups (shared_groups groups.now) }
+    ensures found { IfOk result (IsGroupAt (shared_groups groups.now) number) }
+    ensures gap { IfErr result (IsGapFor (shared_groups groups.now) number) }
+{
+    match groups.get(recent) {
+        Some(group) if group.0 == number => Ok(recent),
+        _ => search(groups, number),
+    }
+}
+
+/// The page of this number, if it is mapped. It is found at once where its group stands at this place.
+pub(crate) fn page_of(groups: &[(u32, Arc<Group>)], recent: usize, number: u32) -> Option<&Page>
     requires { AreGroups (shared_groups groups.now) }
     ensures { option_copied result ≡ page_in (shared_groups groups.now) number }
 {
-    match search(groups, number / GROUP_SIZE) {
+    match search_near(groups, recent, number / GROUP_SIZE) {
         Ok(group) => groups[group].1.page((number % GROUP_SIZE) as usize),
         Err(_) => None,
     }

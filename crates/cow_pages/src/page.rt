@@ -50,7 +50,9 @@ fn mixed(alloc: Global, numbers: &[u8]) -> Result<Vec<Byte>, NoMemory>
 }
 
 impl Content {
+    ghost use Rattle.std.specs.Prelude.{◌+◌, IfSome, slice_index_or};
     ghost use Rattle.cow_pages.specs.Contents.{content_bytes};
+    ghost use Rattle.cow_pages.specs.SymbolicMemory.{IsWordAt};
 
     /// The byte at this offset.
     fn byte(&self, offset: usize) -> Byte
@@ -60,6 +62,22 @@ impl Content {
         match self {
             Content::Numbers(numbers) => Byte::Number(numbers[offset]),
             Content::Mixed(bytes) => bytes[offset],
+        }
+    }
+
+    /// The four bytes from this offset on as a word, low byte first, if all bytes are bare numbers.
+    fn word(&self, offset: usize) -> Option<u32>
+        requires { offset + 3 < length (content_bytes self.now) }
+        ensures { IfSome result (IsWordAt (λ at. slice_index_or (content_bytes self.now) at (Byte.Number 0)) offset) }
+    {
+        match self {
+            Content::Numbers(numbers) => Some(
+                u32::from(numbers[offset])
+                    + 0x100 * u32::from(numbers[offset + 1])
+                    + 0x1_0000 * u32::from(numbers[offset + 2])
+                    + 0x100_0000 * u32::from(numbers[offset + 3]),
+            ),
+            Content::Mixed(_) => None,
         }
     }
 
@@ -101,6 +119,9 @@ impl Content {
 }
 
 impl Page {
+    ghost use Rattle.std.specs.Prelude.{◌%◌, IfSome};
+    ghost use Rattle.cow_pages.specs.SymbolicMemory.{IsWordAt};
+
     /// A page of these numbers.
     pub(crate) fn of_numbers(alloc: Global, flags: u8, numbers: &[u8]) -> Result<Page, NoMemory>
         requires { length numbers.now ≡ 256 }
@@ -125,6 +146,14 @@ impl Page {
         ensures value { result ≡ page_byte (Some self.now) offset }
     {
         self.content.byte(offset as usize)
+    }
+
+    /// The word at this offset, low byte first, if all bytes of the page are bare numbers.
+    pub fn word(&self, offset: u8) -> Option<u32>
+        requires aligned { offset % 4 ≡ 0 }
+        ensures { IfSome result (IsWordAt (page_byte (Some self.now)) offset) }
+    {
+        self.content.word(offset as usize)
     }
 
     /// Puts a byte at this offset.

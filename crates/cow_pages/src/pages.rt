@@ -7,8 +7,8 @@ ghost use Rattle.rv_spec.specs.Memory.{byte_of, flags_of};
 ghost use Rattle.cow_pages.specs.SymbolicMemory.{HasAllBytes, as_symbolic, memory_byte, memory_flags, memory_with};
 
 use crate::byte::Byte;
-use crate::group::Group;
-use crate::groups::{add_page, page_of, share, write};
+use crate::group::{GROUP_SIZE, Group};
+use crate::groups::{add_page, page_of, search_near, share, write};
 use crate::page::{PAGE_SIZE, Page};
 use elf_load::Image;
 use std::alloc::{AllocError as NoMemory, Global};
@@ -23,6 +23,8 @@ use std::sync::Arc;
 pub struct Pages {
     /// The groups of pages with their numbers, which rise.
     groups: Vec<(u32, Arc<Group>)>,
+    /// The place of the group that is looked at first.
+    recent: usize,
 }
 
 impl Model for Pages {
@@ -54,7 +56,7 @@ impl Pages {
             let page = Page::of_numbers(alloc, page.flags, &page.bytes)?;
             add_page(&mut groups, *number, page)?;
         }
-        Ok(Pages { groups })
+        Ok(Pages { groups, recent: 0 })
     }
 
     /// The page of this number, if it is mapped.
@@ -63,7 +65,16 @@ impl Pages {
         ensures mapped { is_some result ≡ is_some (memory_flags self.now number) }
         ensures whole { IfSome (map.get self.now number) HasAllBytes }
     {
-        page_of(&self.groups, number)
+        page_of(&self.groups, self.recent, number)
+    }
+
+    /// Looks for pages near this one first from now on.
+    pub fn turn_to(&mut self, number: u32)
+        ensures { self.new ≡ self.old }
+    {
+        if let Ok(place) = search_near(&self.groups, self.recent, number / GROUP_SIZE) {
+            self.recent = place;
+        }
     }
 
     /// What may be done on the page of this number, if it is mapped.
@@ -103,6 +114,7 @@ impl Pages {
     {
         Ok(Pages {
             groups: share(*self.groups.allocator(), &self.groups)?,
+            recent: self.recent,
         })
     }
 }

@@ -5,11 +5,11 @@ use Rattle.bit_blast.proofs.Scopes.{All-at}
 use Rattle.std.proofs.lemmas.Bool.Decides.{Decides-eqb}
 use Rattle.cnf_form.specs.Valuations.{satisfies}
 use Rattle.bv_dag.specs.Graphs.{IsDag}
-use Rattle.bv_dag.specs.Queries.{AreBits, Condition, holds}
+use Rattle.bv_dag.specs.Queries.{AreBits, Condition, holds, IsUnsatisfiable}
 use Rattle.bit_blast.specs.Circuits.{clauses}
 use Rattle.bit_blast.proofs.Completeness.{has_valuation}
-use Rattle.query_decide.specs.Decisions.{IsUnsatisfiable}
-use Rattle.query_decide.specs.Occurring.{IsAlone, asserted_inputs}
+use Rattle.bv_dag.specs.Inputs.{asserted_inputs}
+use Rattle.query_decide.specs.Occurring.{IsAlone}
 use Rattle.query_decide.proofs.Agreeing.{same_holds}
 
 byte_below : (input : List ℕ) (place : ℕ) → All (λ b. b < 256) input → slice_index input place < 256

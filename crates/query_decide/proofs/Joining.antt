@@ -7,7 +7,8 @@ use Rattle.std.proofs.lemmas.List.{append-nil}
 use Rattle.std.proofs.lemmas.List.Elements.{Contains-append_left, Contains-append_right}
 use Rattle.bv_dag.specs.declared.nodes.Node.{Node}
 use Rattle.bv_dag.proofs.InTurn.{map_in_turn_more}
-use Rattle.query_decide.specs.Occurring.{HasTwo, IsOccurrence, inputs_at, inputs_of, node_inputs}
+use Rattle.bv_dag.specs.Inputs.{HasTwo, inputs_at, inputs_of, node_inputs}
+use Rattle.query_decide.specs.Occurring.{IsOccurrence}
 use Rattle.query_decide.specs.declared.occurrence.Occurrence.{Occurrence}
 use Rattle.query_decide.specs.declared.occurrence.Occurrence.TheVariants.{NoInput, OneInput}
 

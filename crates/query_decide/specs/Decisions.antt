@@ -1,16 +1,12 @@
 -- What the answer to a question shows.
-use Rattle.std.specs.Prelude.{◌≡◌, ℕ, ◌<◌, true, false, List, All, length}
+use Rattle.std.specs.Prelude.{◌≡◌, ℕ, true, List, length}
 use Rattle.cnf_form.specs.Refutations.{Step, follows_all, is_fresh}
 use Rattle.cdcl_core.specs.Searches.{has_no_empty}
-use Rattle.bv_dag.specs.Queries.{Condition, holds}
+use Rattle.bv_dag.specs.Queries.{Condition, holds, IsUnsatisfiable}
 use Rattle.bit_blast.specs.Circuits.{clauses}
-use Rattle.query_decide.specs.Occurring.{HasTwo, asserted_inputs}
+use Rattle.bv_dag.specs.Inputs.{HasTwo, asserted_inputs}
 use Rattle.query_decide.specs.declared.decision.Decision.{Decision}
 use Rattle.query_decide.specs.declared.decision.Decision.TheVariants.{Sat, Unsat, Spent}
-
--- no input bytes meet the condition
-abbrev pub IsUnsatisfiable : Condition → Type 0
-IsUnsatisfiable q = (input : List ℕ) → All (λ b. b < 256) input → holds q input ≡ false
 
 -- the budget was spent on a question that rests on two input bytes at least: so many clauses were derived, each new, and
 -- none empty

@@ -1,45 +1,9 @@
--- Which input bytes a condition rests on: those that stand under its asserted terms.
-use Rattle.std.specs.Prelude.{◌≡◌, ◌≢◌, ℕ, List, [], ◌∷◌, ◌++◌, All, slice_index_or}
-use Rattle.std.specs.List.{flat_map, Contains, AllZip}
-use Rattle.bv_dag.specs.Nodes.{map_in_turn}
-use Rattle.bv_dag.specs.Queries.{Condition}
-use Rattle.bv_dag.specs.declared.nodes.Node.{Node}
-use Rattle.bv_dag.specs.declared.nodes.Node.TheVariants.{Num, Input, Not, Neg, Binary, Compare, Ite, Extract, Extend, Concat}
+-- What is said of the input bytes under terms, as far as it matters how many they are.
+use Rattle.std.specs.Prelude.{◌≡◌, ℕ, List, [], All}
+use Rattle.std.specs.List.{Contains, AllZip}
+use Rattle.bv_dag.specs.Inputs.{HasTwo}
 use Rattle.query_decide.specs.declared.occurrence.Occurrence.{Occurrence}
 use Rattle.query_decide.specs.declared.occurrence.Occurrence.TheVariants.{NoInput, OneInput, MoreInputs}
-
--- the input bytes under a term, from those under its operands
-abbrev pub node_inputs : (operand : ℕ → List ℕ) → Node → List ℕ
-node_inputs operand (Num w v) = []
-node_inputs operand (Input i) = i ∷ []
-node_inputs operand (Not a) = operand a
-node_inputs operand (Neg a) = operand a
-node_inputs operand (Binary op a b) = operand a ++ operand b
-node_inputs operand (Compare op a b) = operand a ++ operand b
-node_inputs operand (Ite c a b) = operand c ++ operand a ++ operand b
-node_inputs operand (Extract high low a) = operand a
-node_inputs operand (Extend by signed a) = operand a
-node_inputs operand (Concat high low) = operand high ++ operand low
-
--- those under the term at a place
-abbrev pub inputs_at : List (List ℕ) → ℕ → List ℕ
-inputs_at under k = slice_index_or under k []
-
--- those under each term of a table
-unfoldable pub inputs_of : List Node → List (List ℕ)
-inputs_of nodes = map_in_turn (λ before n. node_inputs (inputs_at before) n) nodes
-
--- those under the terms that a condition asserts
-abbrev pub asserted_inputs : Condition → List ℕ
-asserted_inputs q = flat_map (inputs_at (inputs_of q.graph.nodes)) q.asserted
-
--- two different bytes are among these
-pub record HasTwo (inputs : List ℕ) : Type 0 where
-  pub first : ℕ
-  pub second : ℕ
-  pub differ : first ≢ second
-  pub first_there : Contains inputs first
-  pub second_there : Contains inputs second
 
 -- each of these is this byte
 abbrev pub IsAlone : List ℕ → ℕ → Type 0

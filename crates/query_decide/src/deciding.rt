@@ -4,7 +4,8 @@ ghost use Rattle.std.specs.Prelude.{ℕ, IfOk};
 ghost use Rattle.bv_dag.specs.Graphs.{IsDag};
 ghost use Rattle.bv_dag.specs.Queries.{AreBits};
 ghost use Rattle.query_decide.specs.Decisions.{IsDecided};
-ghost use Rattle.query_decide.specs.Occurring.{asserted_inputs, HasTwo, IsAlone};
+ghost use Rattle.bv_dag.specs.Inputs.{asserted_inputs, HasTwo};
+ghost use Rattle.query_decide.specs.Occurring.{IsAlone};
 
 use crate::decision::Decision;
 use crate::occurrence::{Occurrence, occurring};

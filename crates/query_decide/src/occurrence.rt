@@ -3,7 +3,8 @@
 
 ghost use Rattle.std.specs.Prelude.{◌≡◌, ℕ, ◌++◌, List, IfOk};
 ghost use Rattle.std.specs.List.{flat_map};
-ghost use Rattle.query_decide.specs.Occurring.{node_inputs, inputs_at, inputs_of, IsOccurrence, AreOccurrences};
+ghost use Rattle.bv_dag.specs.Inputs.{node_inputs, inputs_at, inputs_of};
+ghost use Rattle.query_decide.specs.Occurring.{IsOccurrence, AreOccurrences};
 
 use bv_dag::Node;
 use std::alloc::{AllocError as NoMemory, Global};

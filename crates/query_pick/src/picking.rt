@@ -8,11 +8,10 @@ ghost use Rattle.term_trees.specs.Trees.{trees, tree_of};
 ghost use Rattle.query_pick.specs.Cones.{IsCone};
 ghost use Rattle.query_pick.specs.Picks.{IsFromCone};
 
-use crate::cone::cone;
+use crate::finding::cone;
 use crate::operands::{number_of, renumbered};
-use bv_dag::{Dag, Query};
+use bv_dag::{Dag, Query, Table};
 use std::alloc::{AllocError as NoMemory, Global};
-use term_table::Terms;
 
 /// Some terms of a table in a graph of their own, over only what they stand on.
 #[derive(Debug, Drop)]
@@ -23,11 +22,11 @@ pub struct Picked {
 }
 
 // The terms at these places, in a graph of their own.
-fn copied(alloc: Global, terms: &Terms, places: &[usize]) -> Result<Dag, NoMemory>
-    requires { (tops : List ℕ) × IsCone terms.now tops places.now }
-    ensures inputs { IfOk result (λ dag. dag.inputs ≡ terms.now.inputs) }
+fn copied<T: Table>(alloc: Global, terms: &T, places: &[usize]) -> Result<Dag, NoMemory>
+    requires { (tops : List ℕ) × IsCone (T.graph terms.now) tops places.now }
+    ensures inputs { IfOk result (λ dag. dag.inputs ≡ (T.graph terms.now).inputs) }
     ensures dag { IfOk result (λ dag. IsDag dag) }
-    ensures same { IfOk result (λ dag. trees dag.nodes ≡ map (tree_of terms.now) places.now) }
+    ensures same { IfOk result (λ dag. trees dag.nodes ≡ map (tree_of (T.graph terms.now)) places.now) }
 {
     let mut dag = Dag::new(alloc, terms.inputs());
     for id in places {
@@ -52,18 +51,18 @@ fn numbers_of(alloc: Global, places: &[usize], some: &[usize]) -> Result<Vec<usi
 
 /// Some terms of a table in a graph of their own, over only what they stand on, renumbered.
 /// It costs in proportion to these, and not to the table.
-pub fn pick_terms(alloc: Global, terms: &Terms, ids: &[usize]) -> Result<Picked, NoMemory>
-    requires { All (λ id. id < length terms.now.nodes) ids.now }
-    ensures inputs { IfOk result (λ p. p.graph.inputs ≡ terms.now.inputs) }
+pub fn pick_terms<T: Table>(alloc: Global, terms: &T, ids: &[usize]) -> Result<Picked, NoMemory>
+    requires { All (λ id. id < length (T.graph terms.now).nodes) ids.now }
+    ensures inputs { IfOk result (λ p. p.graph.inputs ≡ (T.graph terms.now).inputs) }
     ensures dag { IfOk result (λ p. IsDag p.graph) }
     ensures there { IfOk result (λ p. All (λ id. id < length p.graph.nodes) p.ids.items) }
     ensures same_trees { IfOk result (λ p.
-        map (tree_of p.graph) p.ids.items ≡ map (tree_of terms.now) ids.now) }
+        map (tree_of p.graph) p.ids.items ≡ map (tree_of (T.graph terms.now)) ids.now) }
     ensures same_widths { IfOk result (λ p.
-        map (width_of p.graph) p.ids.items ≡ map (width_of terms.now) ids.now) }
+        map (width_of p.graph) p.ids.items ≡ map (width_of (T.graph terms.now)) ids.now) }
     ensures same_values { IfOk result (λ p. (input : List ℕ) →
-        map (λ id. val p.graph id input) p.ids.items ≡ map (λ id. val terms.now id input) ids.now) }
-    ensures only_cone { IfOk result (λ p. IsFromCone terms.now ids.now p.graph) }
+        map (λ id. val p.graph id input) p.ids.items ≡ map (λ id. val (T.graph terms.now) id input) ids.now) }
+    ensures only_cone { IfOk result (λ p. IsFromCone (T.graph terms.now) ids.now p.graph) }
 {
     let places = cone(alloc, terms, ids)?;
     let graph = copied(alloc, terms, &places)?;
@@ -76,13 +75,13 @@ pub fn pick_terms(alloc: Global, terms: &Terms, ids: &[usize]) -> Result<Picked,
 
 /// The question whether terms of one bit can all be 1, over only the terms that they stand on, renumbered.
 /// It costs in proportion to these, and not to the table.
-pub fn pick(alloc: Global, terms: &Terms, conditions: &[usize]) -> Result<Query, NoMemory>
-    requires { AreBits terms.now conditions.now }
-    ensures inputs { IfOk result (λ query. query.graph.inputs ≡ terms.now.inputs) }
-    ensures same_trees { IfOk result (λ query. map (tree_of query.graph) query.asserted ≡ map (tree_of terms.now) conditions.now) }
+pub fn pick<T: Table>(alloc: Global, terms: &T, conditions: &[usize]) -> Result<Query, NoMemory>
+    requires { AreBits (T.graph terms.now) conditions.now }
+    ensures inputs { IfOk result (λ query. query.graph.inputs ≡ (T.graph terms.now).inputs) }
+    ensures same_trees { IfOk result (λ query. map (tree_of query.graph) query.asserted ≡ map (tree_of (T.graph terms.now)) conditions.now) }
     ensures same_meaning { IfOk result (λ query. (input : List ℕ) →
-        holds query input ≡ holds (record { graph = terms.now; asserted = conditions.now }) input) }
-    ensures only_cone { IfOk result (λ query. IsFromCone terms.now conditions.now query.graph) }
+        holds query input ≡ holds (record { graph = (T.graph terms.now); asserted = conditions.now }) input) }
+    ensures only_cone { IfOk result (λ query. IsFromCone (T.graph terms.now) conditions.now query.graph) }
 {
     let picked = pick_terms(alloc, terms, conditions)?;
     Ok(Query::new(picked.graph, picked.ids))

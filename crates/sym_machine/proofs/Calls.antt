@@ -142,7 +142,7 @@ number_first s decides = record {
 }
 
 -- a run that stops where it is has not changed
-grown-refl : (s : Symbolic) → IsFormed s → IsGrown s s
+pub grown-refl : (s : Symbolic) → IsFormed s → IsGrown s s
 grown-refl s formed = record { before = formed; same = refl; continues = Continues-refl s.terms; formed = formed }
 
 stops_here : (s : Symbolic) (halt : Halt) → IsFormed s → StopsAt s halt → Stops s s halt

@@ -2,7 +2,7 @@
 use Rattle.std.proofs.Common.{◌≡◌, ℕ, ◌%◌, true, false, List, [], ◌∷◌, refl, sym, ap, ◌∙◌, rules}
 use Rattle.std.specs.Prelude.{◌==◌, Option, None, Some, Err, IfSome}
 use Rattle.std.specs.Option.{ok_or}
-use Rattle.cow_pages.specs.SymbolicMemory.{memory_flags}
+use Rattle.cow_pages.specs.SymbolicMemory.{IsWordAt, memory_byte, memory_flags}
 use Rattle.rv_decode.specs.Instructions.{instr, ShiftsBelow32}
 use Rattle.rv_decode.specs.declared.ends.Trap.TheVariants.{Illegal, FetchAccess, FetchMisaligned}
 use Rattle.rv_decode.specs.declared.instr.Instr.{Instr}
@@ -11,7 +11,7 @@ use Rattle.rv_spec.specs.Machine.{State, fetch}
 use Rattle.rv_spec.specs.Memory.{can_execute, word_at}
 use Rattle.sym_state.specs.Moves.{IsGrown}
 use Rattle.sym_state.specs.Symbolic.{Symbolic, concrete, stands_for}
-use Rattle.sym_state.specs.Values.{worth_of}
+use Rattle.sym_state.specs.Values.{byte_worth, worth_of}
 use Rattle.sym_state.specs.declared.value.Value.{Value}
 use Rattle.sym_state.specs.Unfolded.{Unfolded}
 use Rattle.sym_state.specs.Unfolding.{execute_word, next_unfolded}
@@ -129,3 +129,12 @@ fetch_word s w i aligned can word is shifts = record {
       ap (next_unfolded u) (known_decides (concrete s input) w (zero_true (s.pc % 4) aligned) can (word input stands))
       ∙ word_next u (concrete s input) w i (sym is);
 }
+
+-- a word of bare numbers is the same on all assignments
+pub code_word : (s : Symbolic) (w : ℕ) (input : List ℕ) → IsWordAt (memory_byte s.memory) s.pc w → word_at (concrete s input).byte s.pc ≡ w
+code_word s w input at =
+    let b0 = ap (byte_worth s.terms input) at.is0 in
+    let b1 = ap (byte_worth s.terms input) at.is1 in
+    let b2 = ap (byte_worth s.terms input) at.is2 in
+    let b3 = ap (byte_worth s.terms input) at.is3 in
+    cc (b0, b1, b2, b3) ∙ sym at.is

@@ -2,8 +2,7 @@
 
 ghost use Rattle.std.specs.Prelude.{◌≡◌, ◌+◌, ◌%◌, Ok, Err, IfOk, IfErr, OnErr};
 ghost use Rattle.rv_spec.specs.Machine as machine;
-ghost use Rattle.cow_pages.specs.SymbolicMemory.{memory_flags};
-ghost use Rattle.rv_spec.specs.Memory.{can_execute, word_at};
+ghost use Rattle.rv_spec.specs.Memory.{word_at};
 ghost use Rattle.sym_state.specs.Expressions.{value_expression, word_of};
 ghost use Rattle.sym_state.specs.Moves.{IsGrown, MakesValue};
 ghost use Rattle.sym_state.specs.Runs.{IsReady};
@@ -16,23 +15,7 @@ use crate::halt::Halt;
 use crate::needs::number_at;
 use rv_decode::{Instr, Trap, decode};
 use std::alloc::AllocError as NoMemory;
-use sym_state::{State, Value};
-
-/// The bytes of a page.
-const PAGE: u32 = 256;
-
-/// The flag of a page whose instructions can be executed.
-const EXECUTE: u8 = 1;
-
-/// Whether instructions can be executed at an address.
-fn can_execute(state: &State, address: u32) -> bool
-    ensures { result ≡ can_execute (memory_flags state.now.memory) address }
-{
-    match state.flags(address / PAGE) {
-        None => false,
-        Some(flags) => flags % 2 == EXECUTE,
-    }
-}
+use sym_state::{Code, State, Value};
 
 /// The word at an address, low byte first.
 pub(crate) fn word(state: &mut State, address: u32) -> Result<Value, NoMemory>
@@ -57,10 +40,13 @@ pub(crate) fn fetch(state: &mut State) -> Result<Result<Instr, Trap>, Halt>
     if pc % 4 != 0 {
         return Ok(Err(Trap::FetchMisaligned));
     }
-    if !can_execute(state, pc) {
-        return Ok(Err(Trap::FetchAccess));
-    }
-    let value = word(state, pc)?;
-    let word = number_at(state, 0, value)?;
+    let word = match state.code(pc) {
+        Code::Closed => return Ok(Err(Trap::FetchAccess)),
+        Code::Word(word) => word,
+        Code::Bytes => {
+            let value = word(state, pc)?;
+            number_at(state, 0, value)?
+        }
+    };
     Ok(decode(word).ok_or(Trap::Illegal))
 }

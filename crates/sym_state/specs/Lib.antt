@@ -8,3 +8,4 @@ pub mod Places
 pub mod Expressions
 pub mod Unfolded
 pub mod Unfolding
+pub mod Codes

@@ -7,6 +7,7 @@
 //! - `operations`: values made of values
 //! - `values`: the same, of a run's values
 //! - `bytes`: bytes of memory as values, and values as bytes
+//! - `code`: what stands where an instruction is fetched
 //! - `lists`: what copies share, copied out
 //! - `first`: the run of all assignments
 //! - `program`, `decided`: what is run; what is known of a decision
@@ -15,6 +16,7 @@
 #![tactic(auto)]
 
 mod bytes;
+mod code;
 mod decided;
 mod evidence;
 mod first;
@@ -30,6 +32,7 @@ mod tests;
 mod value;
 mod values;
 
+pub use code::Code;
 pub use decided::Decided;
 pub use evidence::{Evidence, Found, Spent};
 pub use leaf_part::LeafPart;

@@ -23,7 +23,7 @@ use tree_core::Choice;
 pub(crate) const MOST_DECISIONS: usize = 5;
 
 /// The bytes of a page.
-const PAGE: u32 = 256;
+pub(crate) const PAGE: u32 = 256;
 
 /// A symbolic run, somewhere before its end. Copies share what they hold until one of them changes.
 #[derive(Drop)]

@@ -5,7 +5,7 @@ ghost use Rattle.bv_dag.specs.Nodes.{Fits, widths_of};
 
 use crate::entry::{TableEntry, entry_at, width_at};
 use crate::values::words_of_first;
-use bv_dag::{Node, Widths};
+use bv_dag::{Node, Table, Widths};
 use cow_vec::CowVec;
 use std::alloc::{AllocError as NoMemory, Global};
 use std::marker::Model;
@@ -38,6 +38,18 @@ impl Widths for Terms {
 
     fn width_at(&self, id: usize) -> u32 {
         width_at(&self.entries, id)
+    }
+}
+
+impl Table for Terms {
+    ghost graph = { λ t. t };
+
+    fn inputs(&self) -> usize {
+        self.inputs
+    }
+
+    fn node(&self, id: usize) -> Node {
+        entry_at(&self.entries, id).node
     }
 }
 

@@ -2,3 +2,4 @@ pub mod TreeLaws
 pub mod Terms
 pub mod Ranges
 pub mod Conditions
+pub mod InputLaws

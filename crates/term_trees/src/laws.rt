@@ -2,9 +2,11 @@
 
 ghost use Rattle.std.specs.Prelude.{◌≡◌, ◌<◌, ℕ, List, Some, All, length, map, slice_get};
 ghost use Rattle.bv_dag.specs.Graphs.{Graph, IsDag, val, width_of, with_node};
+ghost use Rattle.bv_dag.specs.Inputs.{inputs_under};
 ghost use Rattle.bv_dag.specs.Queries.{Condition, holds};
 ghost use Rattle.bv_dag.specs.declared.nodes.Node.{Node};
 ghost use Rattle.term_trees.specs.Growth.{Continues};
+ghost use Rattle.term_trees.specs.TreeInputs.{tree_inputs};
 ghost use Rattle.term_trees.specs.Trees.{Tree, node_tree, tree_of, tree_width, tree_value, IsTerm, IsOfWidth};
 
 /// The tree of each node is by its case, from the trees of its operands.
@@ -49,4 +51,10 @@ pub fn values_are_of_their_width()
 /// Conditions over as many input bytes whose asserted terms are the same trees hold on the same bytes.
 pub fn conditions_of_the_same_trees_are_one()
     ensures { (c d : Condition) (input : List ℕ) → c.graph.inputs ≡ d.graph.inputs → map (tree_of c.graph) c.asserted ≡ map (tree_of d.graph) d.asserted → holds c input ≡ holds d input }
+{}
+
+/// A tree names just the input bytes that stand under its term, so terms of one tree rest on the same.
+pub fn a_tree_names_the_inputs_under_its_term()
+    ensures own { (graph : Graph) (id : ℕ) → tree_inputs (tree_of graph id) ≡ inputs_under graph id }
+    ensures same { (graph other : Graph) (a b : ℕ) → tree_of graph a ≡ tree_of other b → inputs_under graph a ≡ inputs_under other b }
 {}

@@ -1,6 +1,5 @@
 use Rattle.std.proofs.Common.{◌≡◌, length}
-use Rattle.cdcl_core.specs.Trails.{IsTrail, values_of, free_count}
-use Rattle.cdcl_core.specs.Passes.{AreCalm}
+use Rattle.cdcl_core.specs.Trails.{IsTrail, AreCalm, values_of, free_count}
 use Rattle.cdcl_core.proofs.descent.descend_from.Given as goal
 
 abbrev pub invariant-choices : goal.invariant-choices

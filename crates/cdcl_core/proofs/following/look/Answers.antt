@@ -2,7 +2,7 @@ use Rattle.std.proofs.Common.{◌+◌, refl, subst, sym, Some}
 use Rattle.cdcl_core.specs.declared.trail.Entry.{Entry}
 use Rattle.cdcl_core.specs.Trails.{Assignment, values_of}
 use Rattle.cdcl_core.specs.Passes.{ArePending}
-use Rattle.cdcl_core.proofs.Passing.{below_at, false_clause, followed_forced}
+use Rattle.cdcl_core.proofs.Forcing.{below_at, false_clause, followed_forced}
 use Rattle.cdcl_core.proofs.Scanning.{calm_satisfied}
 use Rattle.cdcl_core.proofs.Pending.{none_past, looked, looked_within, looked_forced, forced_calm}
 use Rattle.cdcl_core.proofs.following.look.Goals as goal

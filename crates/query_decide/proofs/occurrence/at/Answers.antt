@@ -1,6 +1,7 @@
 use Rattle.std.proofs.Common.{sym, subst}
 use Rattle.std.proofs.lemmas.List.{get_or_past}
-use Rattle.query_decide.specs.Occurring.{IsOccurrence, inputs_at}
+use Rattle.bv_dag.specs.Inputs.{inputs_at}
+use Rattle.query_decide.specs.Occurring.{IsOccurrence}
 use Rattle.query_decide.specs.declared.occurrence.Occurrence.TheVariants.{NoInput}
 use Rattle.query_decide.proofs.Joining.{occurrence_at}
 use Rattle.query_decide.proofs.occurrence.at.Goals as goal

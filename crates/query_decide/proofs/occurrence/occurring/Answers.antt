@@ -1,6 +1,6 @@
 use Rattle.std.proofs.Common.{take, get_or}
 use Rattle.std.specs.List.{flat_map}
-use Rattle.query_decide.specs.Occurring.{inputs_at, inputs_of}
+use Rattle.bv_dag.specs.Inputs.{inputs_at, inputs_of}
 use Rattle.query_decide.proofs.Joining.{one_asserted_more}
 use Rattle.query_decide.proofs.occurrence.occurring.Goals as goal
 

@@ -1,6 +1,7 @@
 use Rattle.std.proofs.Common.{take}
 use Rattle.std.specs.List.{flat_map}
-use Rattle.query_decide.specs.Occurring.{inputs_at, inputs_of, IsOccurrence}
+use Rattle.bv_dag.specs.Inputs.{inputs_at, inputs_of}
+use Rattle.query_decide.specs.Occurring.{IsOccurrence}
 use Rattle.query_decide.proofs.occurrence.occurring.Given as goal
 
 abbrev pub invariant-loop-id : goal.invariant-loop-id

@@ -1,4 +1,4 @@
-use Rattle.query_decide.specs.Occurring.{inputs_at}
+use Rattle.bv_dag.specs.Inputs.{inputs_at}
 use Rattle.query_decide.proofs.occurrence.of_node.Goals as goal
 
 pub returns-in-Binary : goal.returns-in-Binary

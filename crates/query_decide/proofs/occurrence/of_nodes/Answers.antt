@@ -2,7 +2,8 @@ use Rattle.std.proofs.Common.{◌≡◌, List, [], ◌∷◌, ◌++◌, refl, su
 use Rattle.bv_dag.specs.Nodes.{map_in_turn}
 use Rattle.bv_dag.specs.declared.nodes.Node.TheVariants.{Num}
 use Rattle.bv_dag.proofs.InTurn.{map_in_turn_more}
-use Rattle.query_decide.specs.Occurring.{inputs_of, AreOccurrences}
+use Rattle.bv_dag.specs.Inputs.{inputs_of}
+use Rattle.query_decide.specs.Occurring.{AreOccurrences}
 use Rattle.query_decide.proofs.Joining.{one_more, one_node_more}
 use Rattle.query_decide.proofs.occurrence.of_nodes.Goals as goal
 

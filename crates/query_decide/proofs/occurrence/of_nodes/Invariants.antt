@@ -1,5 +1,6 @@
 use Rattle.std.proofs.Common.{take}
-use Rattle.query_decide.specs.Occurring.{inputs_of, AreOccurrences}
+use Rattle.bv_dag.specs.Inputs.{inputs_of}
+use Rattle.query_decide.specs.Occurring.{AreOccurrences}
 use Rattle.query_decide.proofs.occurrence.of_nodes.Given as goal
 
 abbrev pub invariant-loop-node : goal.invariant-loop-node

@@ -1,4 +1,4 @@
-use Rattle.std.proofs.Common.{◌≡◌, ◌<◌, ◌+◌, ◌++◌, ◌∷◌, [], List, ℕ, length, get_or, set, ap, sym, ◌∙◌, subst, refl, arith, length-append}
+use Rattle.std.proofs.Common.{◌≡◌, ◌<◌, ◌+◌, ◌++◌, ◌∷◌, [], List, ℕ, length, get_or, ap, sym, ◌∙◌, subst, refl, arith, length-append}
 use Rattle.std.proofs.lemmas.List.{get_or_default}
 use Rattle.proof_check.specs.Filing.{Chains, AreFiled}
 use Rattle.proof_check.proofs.Chains.{filed_same, filed_more}

@@ -6,9 +6,9 @@ ghost use Rattle.std.specs.Ordering.{nat_cmp};
 ghost use Rattle.query_pick.specs.Cones.{IsCone};
 
 use crate::operands::add_operands;
+use bv_dag::Table;
 use std::alloc::{AllocError as NoMemory, Global};
 use std::collections::BTreeSet;
-use term_table::Terms;
 
 // These places as a set.
 fn set_of(alloc: Global, places: &[usize]) -> Result<BTreeSet<usize>, NoMemory>
@@ -26,9 +26,9 @@ fn places_of(alloc: Global, set: &BTreeSet<usize>) -> Result<Vec<usize>, NoMemor
 }
 
 /// The places of all terms under some terms of a table, in order. It looks at these terms only, and at each once.
-pub(crate) fn cone(alloc: Global, terms: &Terms, tops: &[usize]) -> Result<Vec<usize>, NoMemory>
-    requires { All (λ id. id < length terms.now.nodes) tops.now }
-    ensures { IfOk result (λ places. IsCone terms.now tops.now places.items) }
+pub fn cone<T: Table>(alloc: Global, terms: &T, tops: &[usize]) -> Result<Vec<usize>, NoMemory>
+    requires { All (λ id. id < length (T.graph terms.now).nodes) tops.now }
+    ensures { IfOk result (λ places. IsCone (T.graph terms.now) tops.now places.items) }
 {
     let mut pending = set_of(alloc, tops)?;
     let mut found = BTreeSet::new(alloc);

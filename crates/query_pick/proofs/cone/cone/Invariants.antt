@@ -1,8 +1,0 @@
-use Rattle.query_pick.proofs.Searching.{IsSearched, bound_of}
-use Rattle.query_pick.proofs.cone.cone.Given as goal
-
-abbrev pub invariant-loop-id : goal.invariant-loop-id
-invariant-loop-id l = IsSearched l.terms l.tops l.pending.keys l.found.keys
-
-abbrev pub decreases-loop-id : goal.decreases-loop-id
-decreases-loop-id l = bound_of l.pending.keys
