@@ -40,10 +40,12 @@ returns-clause-ok c =
           rw w.word-is (code.0, λ input stands. code_word old w.in-Word.word input code.1)
       | in-Bytes+in_ok-value-in-Bytes+in_ok-word-in-Bytes w ↦
           let made = rw (c.code.ensures.same, pc) at w.in_ok-value-in-Bytes.ensures.ok in
-          rw w.word-is (rw (w.in-Bytes.is, pc) at c.code.ensures.code,
-          λ input stands.
-          sym (made.gives.worth input (bytes_of old input stands))
-          ∙ w.in_ok-word-in-Bytes.ensures.ok input (still_stands old w.word.new.state input made.grown stands))
+          rw w.word-is (
+            rw (w.in-Bytes.is, pc) at c.code.ensures.code,
+            λ input stands.
+                sym (made.gives.worth input (bytes_of old input stands))
+                ∙ w.in_ok-word-in-Bytes.ensures.ok input (still_stands old w.word.new.state input made.grown stands),
+          )
     ] in
     subst (IsFetched old) (sym c.ok_or.ensures.value)
     (fetch_word old c.match-code.word c.decode.result (rw pc at c.if-pc-ne0.false) known.0 known.1 c.decode.ensures.value c.decode.ensures.amount)
