@@ -1,0 +1,4 @@
+pub mod Reaching
+pub mod Slices
+pub mod Merging
+pub mod Classes
