@@ -64,7 +64,7 @@ holds_where_one q input long each =
     (list_all-from_AllPass (λ k. number_of q.graph k input == 1) q.asserted
     (All-from_contains (λ k. (number_of q.graph k input == 1) ≡ true) q.asserted (λ id h. eq-eqb (number_of q.graph id input) 1 (each id h))))
 
-number-same : (g h : Graph) (a b : ℕ) (input : List ℕ) → tree_of g a ≡ tree_of h b → number_of g a input ≡ number_of h b input
+pub number-same : (g h : Graph) (a b : ℕ) (input : List ℕ) → tree_of g a ≡ tree_of h b → number_of g a input ≡ number_of h b input
 number-same g h a b input e = ap (λ (w : BitVector). w.number) (value-same g h a b input e)
 
 number-agrees : (g : Graph) (id : ℕ) (one other : List ℕ) → AgreeOn one other (inputs_under g id) → number_of g id one ≡ number_of g id other
@@ -75,14 +75,14 @@ apart b is isnt = (let both : true ≡ false = sym is ∙ isnt in cc)
 
 module _ (q : Condition) (new : ℕ) (s : Condition) (cut : IsSlice q new s) where
   -- a term of the slice is one that is reached
-  from_slice : (v : ℕ) → Contains s.asserted v → (u : ℕ) × Contains q.asserted u × IsReached q new u × (tree_of q.graph u ≡ tree_of s.graph v)
+  pub from_slice : (v : ℕ) → Contains s.asserted v → (u : ℕ) × Contains q.asserted u × IsReached q new u × (tree_of q.graph u ≡ tree_of s.graph v)
   from_slice v h =
       let m = matched (tree_of q.graph) (tree_of s.graph) cut.kept s.asserted (sym cut.same_trees) v h in
       let f = filtered cut.reaches q.asserted m.0 (subst (λ (ks : List ℕ). Contains ks m.0) cut.in_order m.1) in
       (m.0, f.0, (cut.just m.0 f.0).0 f.1, m.2)
 
   -- one that passes the test is in the slice
-  to_slice : (u : ℕ) → Contains q.asserted u → cut.reaches u ≡ true → (v : ℕ) × Contains s.asserted v × (tree_of s.graph v ≡ tree_of q.graph u)
+  pub to_slice : (u : ℕ) → Contains q.asserted u → cut.reaches u ≡ true → (v : ℕ) × Contains s.asserted v × (tree_of s.graph v ≡ tree_of q.graph u)
   to_slice u h passes =
       matched (tree_of s.graph) (tree_of q.graph) s.asserted cut.kept cut.same_trees u
       (subst (λ (ks : List ℕ). Contains ks u) (sym cut.in_order) (in_filtered cut.reaches q.asserted u h passes))

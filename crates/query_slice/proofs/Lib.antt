@@ -7,4 +7,5 @@ pub mod Walked
 pub mod Reached
 pub mod Merged
 pub mod Kept
+pub mod SliceTrees
 pub mod Asked

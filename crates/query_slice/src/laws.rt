@@ -1,12 +1,14 @@
 //! What a slice shows of the question that it is cut from.
 
-ghost use Rattle.std.specs.Prelude.{◌≡◌, ◌<◌, ℕ, List, All, Contains, false, true, length};
+ghost use Rattle.std.specs.Prelude.{◌≡◌, ◌<◌, ℕ, List, All, Contains, false, true, length, map};
 ghost use Rattle.bv_dag.specs.Graphs.{number_of};
 ghost use Rattle.bv_dag.specs.Inputs.{asserted_inputs};
 ghost use Rattle.bv_dag.specs.Queries.{Condition, holds};
 ghost use Rattle.query_slice.specs.Merging.{merged};
 ghost use Rattle.query_slice.specs.Reaching.{IsReached};
 ghost use Rattle.query_slice.specs.Slices.{IsSlice};
+ghost use Rattle.query_slice.specs.TreeSlices.{IsSliceOfTrees};
+ghost use Rattle.term_trees.specs.Trees.{tree_of};
 
 /// Where a sample meets every asserted term that isn't reached, and the answer meets the slice, the sample with the
 /// answer's bytes meets the whole question.
@@ -25,4 +27,10 @@ pub fn a_slice_asks_less()
 /// A slice rests on no other input bytes than the question.
 pub fn a_slice_rests_on_no_more()
     ensures { (q : Condition) (new : ℕ) (s : Condition) → IsSlice q new s → All (Contains (asserted_inputs q)) (asserted_inputs s) }
+{}
+
+/// Unfolded, a slice asserts just what is reached from the new term.
+pub fn a_slice_unfolds_to_what_is_reached()
+    ensures { (q : Condition) (new : ℕ) (s : Condition) → Contains q.asserted new → IsSlice q new s
+        → IsSliceOfTrees (map (tree_of q.graph) q.asserted) (tree_of q.graph new) (map (tree_of s.graph) s.asserted) }
 {}
