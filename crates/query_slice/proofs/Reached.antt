@@ -78,7 +78,7 @@ module _ (q : Condition) (new : ℕ) (firsts : List (Option ℕ)) (labels : List
             let bytes = bytes_of_same labels q.graph.inputs (get_or firsts id None) (get_or firsts new None) classes.each (first_below id) (first_below new) same in
             let link = classes.linked bytes.1 bytes.0 (first_below new bytes.1 bytes.3) (first_below id bytes.0 bytes.2) (sym bytes.4) in
             let last = reached_by_link q new bytes.1 bytes.0 (first_in new bytes.1 bytes.3) link in
-            sharing last.1 asserted (bytes.0, last.2, first_in id bytes.0 bytes.2)
+            sharing {a = last.0} last.1 asserted (bytes.0, last.2, first_in id bytes.0 bytes.2)
       ]
 
   -- so what is kept is a slice
