@@ -1,6 +1,6 @@
 //! Questions that are put and found again, and a full cache.
 
-use crate::{Satisfiability, Cache, MOST_KEPT, Solved};
+use crate::{Cache, MOST_KEPT, Satisfiability, Solved};
 use bv_dag::{Dag, Node, Query};
 use std::alloc::{AllocError as NoMemory, Global};
 use std::process::Abort;
@@ -21,7 +21,8 @@ fn met(rt: &impl Abort, alloc: Global, query: Query, byte: u8) -> Result<Solved,
     let input = [byte];
     let yes = query.holds(alloc, &input)?;
     assert!(rt; yes);
-    Ok(Solved::new(query, Satisfiability::Sat(Bytes::from_slice(alloc, &input)?)))
+    let answer = Satisfiability::Sat(Bytes::from_slice(alloc, &input)?);
+    Ok(Solved::new(query, answer))
 }
 
 // The bytes of the answer that is kept, if there is one.

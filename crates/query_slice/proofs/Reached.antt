@@ -1,10 +1,10 @@
 -- Which terms are reached is told by the labels of the bytes under them.
-use Rattle.std.proofs.Common.{◌≡◌, ◌==◌, ◌||◌, ◌⊎◌, ℕ, ◌<◌, Bool, true, false, inl, inr, List, length, map, filter, get_or, Option, Some, None, refl, sym, ap, subst, ◌∙◌, slice_index, arith}
-use Rattle.std.specs.Prelude.{◌↔◌, All, Contains, IsTrue}
+use Rattle.std.proofs.Common.{◌≡◌, ◌==◌, ◌⊎◌, ℕ, ◌<◌, true, false, inl, inr, List, length, map, filter, get_or, Option, Some, None, refl, sym, ap, subst, ◌∙◌, slice_index, arith}
+use Rattle.std.specs.Prelude.{Contains}
 use Rattle.std.specs.List.{slice_get}
 use Rattle.std.proofs.lemmas.Bool.{eq-eqb, eqb-true, or_cases, or_left, or_right}
 use Rattle.std.proofs.lemmas.Option.{slice_get-get_or}
-use Rattle.bv_dag.specs.Graphs.{Graph, IsDag}
+use Rattle.bv_dag.specs.Graphs.{IsDag}
 use Rattle.bv_dag.specs.Inputs.{inputs_of, inputs_under}
 use Rattle.bv_dag.specs.Queries.{Condition}
 use Rattle.term_trees.specs.Trees.{tree_of}
