@@ -1,4 +1,4 @@
--- What a cache finds is true of the question that is asked, and stays so where a verdict is put.
+-- What a cache finds is true of the question that is asked, and stays so where another question is put.
 use Rattle.std.proofs.Common.{◌≡◌, ℕ, ◌+◌, ◌≤◌, Bool, true, false, ◌||◌, cond, [], ◌∷◌, length, Less, Equal, Greater, is_eq, refl, sym, ap, subst, ◌∙◌, arith, nat_lt}
 use Rattle.std.specs.Prelude.{All, Option, Some, None, IfSome, is_some, if◌then◌else◌}
 use Rattle.std.specs.Borrow.{Bor}
@@ -12,24 +12,24 @@ use Rattle.bv_dag.specs.Queries.{Condition}
 use Rattle.bv_dag.proofs.Same.{condition_same}
 use Rattle.query_cache.specs.Answers.{IsAnswer}
 use Rattle.query_cache.specs.Caches.{Kept, kept_for, has_room, IsCache}
-use Rattle.query_cache.specs.declared.answer.Answer.{Answer}
+use Rattle.query_cache.specs.declared.satisfiability.Satisfiability.{Satisfiability}
 use Rattle.query_cache.specs.declared.cache.TheConstants.{MOST_KEPT}
 
 -- questions that compare as equal are one
 one_question : (x y : Condition) → is_eq (condition_cmp x y) ≡ true → x ≡ y
 one_question x y e = condition_same x y (condition_ties x y ∙ e)
 
-abbrev pub IsRight : Condition × Answer → Type 0
+abbrev pub IsRight : Condition × Satisfiability → Type 0
 IsRight e = IsAnswer e.0 e.1
 
-here : (q : Condition) (e : Condition × Answer) (a : Answer) → IsRight e → is_at (condition_cmp q) e.0 ≡ true → Some e.1 ≡ Some a → IsAnswer q a
+here : (q : Condition) (e : Condition × Satisfiability) (a : Satisfiability) → IsRight e → is_at (condition_cmp q) e.0 ≡ true → Some e.1 ≡ Some a → IsAnswer q a
 here q e a right same found =
     let k : e.0 ≡ q = sym (one_question q e.0 same) in
     let v : e.1 ≡ a = cc in
     subst (λ x. IsAnswer q x) v (subst (λ x. IsAnswer x e.1) k right)
 
 -- the answer that is kept for a question is true of it
-found_is_right : (kept : Kept) (q : Condition) (a : Answer) → All IsRight kept → kept_for kept q ≡ Some a → IsAnswer q a
+found_is_right : (kept : Kept) (q : Condition) (a : Satisfiability) → All IsRight kept → kept_for kept q ≡ Some a → IsAnswer q a
 found_is_right [] q a right found = let no : ⊥ = cc in absurd no
 found_is_right (e ∷ kept) q a right found =
     elim (is_at (condition_cmp q) e.0) as (λ b. is_at (condition_cmp q) e.0 ≡ b → cond b (Some e.1) (kept_for kept q) ≡ Some a → IsAnswer q a) [
@@ -37,11 +37,11 @@ found_is_right (e ∷ kept) q a right found =
       | false ↦ λ _ later. found_is_right kept q a (All-tail IsRight e kept right) later
     ] refl found
 
-pub IfSome-found : (kept : Kept) (q : Condition) (found : Option (Bor Answer)) → IsCache kept → option_copied found ≡ kept_for kept q → IfSome found (λ a. IsAnswer q a.now)
+pub IfSome-found : (kept : Kept) (q : Condition) (found : Option (Bor Satisfiability)) → IsCache kept → option_copied found ≡ kept_for kept q → IfSome found (λ a. IsAnswer q a.now)
 IfSome-found kept q None is e = tt
 IfSome-found kept q (Some a) is e = found_is_right kept q a.now is.right (sym e)
 
-All-insert_entry : (kept : Kept) (q : Condition) (a : Answer) → IsAnswer q a → All IsRight kept → All IsRight (insert_entry condition_cmp kept q a)
+All-insert_entry : (kept : Kept) (q : Condition) (a : Satisfiability) → IsAnswer q a → All IsRight kept → All IsRight (insert_entry condition_cmp kept q a)
 All-insert_entry [] q a right all = All-cons IsRight (q, a) [] right all
 All-insert_entry (e ∷ kept) q a right all =
     elim (condition_cmp q e.0) as (λ o. condition_cmp q e.0 ≡ o → All IsRight (match_ordering o ((q, a) ∷ e ∷ kept) ((e.0, a) ∷ kept) (e ∷ insert_entry condition_cmp kept q a))) [
@@ -58,7 +58,7 @@ room_at : (kept v : Kept) (q p k : Condition) (r : Bool) → kept ≡ v → q �
 room_at kept v q p k r e a b is has = subst (λ es. has_room es k ≡ true) (sym e) (subst (λ x. has_room v x ≡ true) (a ∙ sym b) (sym is ∙ has))
 
 -- where there was room, what is kept with an answer that is true is a cache
-pub IsCache-inserted : (kept kept' v : Kept) (q p k : Condition) (a : Answer) (r : Bool) (there : Option Answer) → kept ≡ v → q ≡ p → k ≡ p → r ≡ has_room v q → r ≡ true → IsCache kept → IsAnswer k a → there ≡ kept_for kept k → kept' ≡ insert_entry condition_cmp kept k a → length kept' ≡ length kept + (if is_some there then 0 else 1) → IsCache kept'
+pub IsCache-inserted : (kept kept' v : Kept) (q p k : Condition) (a : Satisfiability) (r : Bool) (there : Option Satisfiability) → kept ≡ v → q ≡ p → k ≡ p → r ≡ has_room v q → r ≡ true → IsCache kept → IsAnswer k a → there ≡ kept_for kept k → kept' ≡ insert_entry condition_cmp kept k a → length kept' ≡ length kept + (if is_some there then 0 else 1) → IsCache kept'
 IsCache-inserted kept kept' v q p k a r there view asked put room has is right was new len =
     record {
       few = few_after (length kept) (length kept') (is_some there) (ap (λ o. is_some o || nat_lt (length kept) MOST_KEPT) was ∙ room_at kept v q p k r view asked put room has) is.few len;

@@ -5,15 +5,15 @@ use Rattle.std.specs.Map.{lookup}
 use Rattle.bv_dag.specs.Comparing.{condition_cmp}
 use Rattle.bv_dag.specs.Queries.{Condition}
 use Rattle.query_cache.specs.Answers.{IsAnswer, Answered}
-use Rattle.query_cache.specs.declared.answer.Answer.{Answer}
+use Rattle.query_cache.specs.declared.satisfiability.Satisfiability.{Satisfiability}
 use Rattle.query_cache.specs.declared.cache.TheConstants.{MOST_KEPT}
 
 -- questions with their answers, in the order of the questions
 abbrev pub Kept : Type 0
-Kept = List (Condition × Answer)
+Kept = List (Condition × Satisfiability)
 
 -- the answer that is kept for a question
-abbrev pub kept_for : Kept → Condition → Option Answer
+abbrev pub kept_for : Kept → Condition → Option Satisfiability
 kept_for kept q = lookup (is_at (condition_cmp q)) kept
 
 -- there are no more answers than may be kept, and each is true of its question
@@ -25,6 +25,6 @@ pub record IsCache (kept : Kept) : Type 0 where
 abbrev pub has_room : Kept → Condition → Bool
 has_room kept q = is_some (kept_for kept q) || nat_lt (length kept) MOST_KEPT
 
--- what is kept after a verdict is put: it too, where there is room
+-- what is kept after a question is put with its answer: these too, where there is room
 abbrev pub kept_after : Kept → Answered → Kept
-kept_after kept v = if has_room kept v.query then insert_entry condition_cmp kept v.query v.answer else kept
+kept_after kept s = if has_room kept s.query then insert_entry condition_cmp kept s.query s.answer else kept

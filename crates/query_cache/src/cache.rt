@@ -3,8 +3,8 @@
 ghost use Rattle.std.specs.Prelude.{◌≡◌, [], IfSome, OnOk, OnErr};
 ghost use Rattle.std.specs.Option.{option_copied};
 
-use crate::answer::Answer;
-use crate::verdict::Verdict;
+use crate::satisfiability::Satisfiability;
+use crate::solved::Solved;
 use bv_dag::Query;
 use std::alloc::{AllocError as NoMemory, Global};
 use std::collections::BTreeMap;
@@ -16,7 +16,7 @@ pub const MOST_KEPT: usize = 4096;
 /// Questions with their answers, each of which is true.
 #[derive(Debug, Drop)]
 pub struct Cache {
-    answers: BTreeMap<Query, Answer>,
+    answers: BTreeMap<Query, Satisfiability>,
 }
 
 impl Model for Cache {
@@ -45,7 +45,7 @@ impl Cache {
     }
 
     /// The answer that is kept for this question, if there is one.
-    pub fn get(&self, query: &Query) -> Option<&Answer>
+    pub fn get(&self, query: &Query) -> Option<&Satisfiability>
         ensures value { option_copied result ≡ kept_for self.now query.now }
         ensures right { IfSome result (λ answer. IsAnswer query.now answer.now) }
     {
@@ -59,14 +59,14 @@ impl Cache {
         self.answers.contains_key(query) || self.answers.len() < MOST_KEPT
     }
 
-    /// Keeps the verdict, in the place of one on the same question; or changes nothing, where it would be one too many.
-    pub fn put(&mut self, verdict: Verdict) -> Result<(), NoMemory>
-        ensures ok { OnOk result (self.new ≡ kept_after self.old verdict) }
+    /// Keeps the answer to a question, in the place of one to the same; or changes nothing, where it would be one too many.
+    pub fn put(&mut self, solved: Solved) -> Result<(), NoMemory>
+        ensures ok { OnOk result (self.new ≡ kept_after self.old solved) }
         ensures err { OnErr result (self.new ≡ self.old) }
     {
-        if self.has_room_for(verdict.query()) {
-            let (query, answer) = verdict.into_parts();
-            self.answers.insert(query, answer)?;
+        if self.has_room_for(solved.query()) {
+            let (query, answer) = solved.into_parts();
+            drop(self.answers.insert(query, answer)?);
         }
         Ok(())
     }

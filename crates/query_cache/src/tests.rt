@@ -1,6 +1,6 @@
 //! Questions that are put and found again, and a full cache.
 
-use crate::{Answer, Cache, MOST_KEPT, Verdict};
+use crate::{Cache, MOST_KEPT, Satisfiability, Solved};
 use bv_dag::{Dag, Node, Query};
 use std::alloc::{AllocError as NoMemory, Global};
 use std::process::Abort;
@@ -16,19 +16,20 @@ fn about(rt: &impl Abort, alloc: Global, value: u64) -> Result<Query, NoMemory> 
     Ok(Query::new(dag, vec![in alloc]?))
 }
 
-// The verdict that this byte meets the condition.
-fn met(rt: &impl Abort, alloc: Global, query: Query, byte: u8) -> Result<Verdict, NoMemory> {
+// The question, with the answer that this byte meets it.
+fn met(rt: &impl Abort, alloc: Global, query: Query, byte: u8) -> Result<Solved, NoMemory> {
     let input = [byte];
     let yes = query.holds(alloc, &input)?;
     assert!(rt; yes);
-    Ok(Verdict::new(query, Answer::Sat(Bytes::from_slice(alloc, &input)?)))
+    let answer = Satisfiability::Sat(Bytes::from_slice(alloc, &input)?);
+    Ok(Solved::new(query, answer))
 }
 
 // The bytes of the answer that is kept, if there is one.
 fn sample<'a>(cache: &'a Cache, query: &Query) -> Option<&'a [u8]> {
     match cache.get(query)? {
-        Answer::Sat(input) => Some(input.as_slice()),
-        Answer::Unsat => None,
+        Satisfiability::Sat(input) => Some(input.as_slice()),
+        Satisfiability::Unsat => None,
     }
 }
 
@@ -51,12 +52,12 @@ fn a_question_is_found_again(rt: HostRuntime) -> Result<(), Fail> {
 #[test]
 fn an_answer_is_copied(rt: HostRuntime) -> Result<(), Fail> {
     let alloc = rt.alloc();
-    let verdict = met(&rt, alloc, about(&rt, alloc, 1)?, 7)?;
-    let Answer::Sat(copied) = verdict.answer().copy(alloc)? else {
+    let solved = met(&rt, alloc, about(&rt, alloc, 1)?, 7)?;
+    let Satisfiability::Sat(copied) = solved.answer().copy(alloc)? else {
         return Err(Fail::from("another answer"));
     };
     assert_eq!(rt; copied.as_slice(), [7].as_slice());
-    assert_eq!(rt; verdict.query().inputs(), 1);
+    assert_eq!(rt; solved.query().inputs(), 1);
     Ok(())
 }
 

@@ -1,5 +1,5 @@
 -- A byte joined with one under each of some operands.
-use Rattle.std.proofs.Common.{◌≡◌, ℕ, ◌<◌, inl, inr, List, [], ◌∷◌, length, get_or, Option, Some, None, refl, sym, ap, subst, ◌∙◌, slice_index, arith}
+use Rattle.std.proofs.Common.{◌≡◌, ℕ, ◌<◌, inl, inr, List, [], ◌∷◌, length, get_or, Option, Some, None, refl, sym, subst, ◌∙◌, slice_index, arith}
 use Rattle.std.specs.Prelude.{Contains}
 use Rattle.query_pick.proofs.Lists.{Contains-here, Contains-later, Contains-none, Contains-uncons}
 use Rattle.query_slice.specs.Classes.{joined, joined_all}

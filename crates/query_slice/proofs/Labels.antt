@@ -12,7 +12,7 @@ use Rattle.query_slice.specs.Classes.{joined, label_of, relabelled}
 length-relabelled : (kept gone : Option ℕ) (labels : List ℕ) → length (relabelled kept gone labels) ≡ length labels
 length-relabelled (Some kept) (Some gone) labels = length-map labels (λ l. cond (l == gone) kept l)
 length-relabelled (Some kept) None labels = refl
-length-relabelled None gone labels = refl
+length-relabelled None _ labels = refl
 
 pub length-joined : (labels : List ℕ) (a b : Option ℕ) → length (joined labels a b) ≡ length labels
 length-joined labels a b = length-relabelled (label_of labels a) (label_of labels b) labels

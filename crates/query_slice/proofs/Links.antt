@@ -1,5 +1,5 @@
 -- Input bytes that asserted terms lead to.
-use Rattle.std.proofs.Common.{◌≡◌, ℕ, ◌<◌, inl, inr, List, [], ◌∷◌, length, get_or, Option, Some, None, refl, sym, subst, ◌∙◌, arith}
+use Rattle.std.proofs.Common.{◌≡◌, ℕ, ◌<◌, List, Option, Some, None, sym, subst}
 use Rattle.std.specs.Prelude.{Contains}
 use Rattle.bv_dag.specs.Inputs.{inputs_under}
 use Rattle.bv_dag.specs.Queries.{Condition}

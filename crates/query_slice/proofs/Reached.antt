@@ -1,10 +1,10 @@
 -- Which terms are reached is told by the labels of the bytes under them.
-use Rattle.std.proofs.Common.{◌≡◌, ◌==◌, ◌||◌, ◌⊎◌, ℕ, ◌<◌, Bool, true, false, inl, inr, List, length, map, filter, get_or, Option, Some, None, refl, sym, ap, subst, ◌∙◌, slice_index, arith}
-use Rattle.std.specs.Prelude.{◌↔◌, All, Contains, IsTrue}
+use Rattle.std.proofs.Common.{◌≡◌, ◌==◌, ◌⊎◌, ℕ, ◌<◌, true, false, inl, inr, List, length, map, filter, get_or, Option, Some, None, refl, sym, ap, subst, ◌∙◌, slice_index, arith}
+use Rattle.std.specs.Prelude.{Contains}
 use Rattle.std.specs.List.{slice_get}
 use Rattle.std.proofs.lemmas.Bool.{eq-eqb, eqb-true, or_cases, or_left, or_right}
 use Rattle.std.proofs.lemmas.Option.{slice_get-get_or}
-use Rattle.bv_dag.specs.Graphs.{Graph, IsDag}
+use Rattle.bv_dag.specs.Graphs.{IsDag}
 use Rattle.bv_dag.specs.Inputs.{inputs_of, inputs_under}
 use Rattle.bv_dag.specs.Queries.{Condition}
 use Rattle.term_trees.specs.Trees.{tree_of}
@@ -78,7 +78,7 @@ module _ (q : Condition) (new : ℕ) (firsts : List (Option ℕ)) (labels : List
             let bytes = bytes_of_same labels q.graph.inputs (get_or firsts id None) (get_or firsts new None) classes.each (first_below id) (first_below new) same in
             let link = classes.linked bytes.1 bytes.0 (first_below new bytes.1 bytes.3) (first_below id bytes.0 bytes.2) (sym bytes.4) in
             let last = reached_by_link q new bytes.1 bytes.0 (first_in new bytes.1 bytes.3) link in
-            sharing last.1 asserted (bytes.0, last.2, first_in id bytes.0 bytes.2)
+            sharing {a = last.0} last.1 asserted (bytes.0, last.2, first_in id bytes.0 bytes.2)
       ]
 
   -- so what is kept is a slice

@@ -1,21 +1,16 @@
 -- The input bytes under a term and under its operands.
-use Rattle.std.proofs.Common.{◌≡◌, ℕ, zero, suc, ◌<◌, ◌⊎◌, inl, inr, List, [], ◌∷◌, ◌++◌, length, Some, refl, sym, ap, subst, ◌∙◌, arith}
+use Rattle.std.proofs.Common.{◌≡◌, ℕ, ◌⊎◌, inl, inr, List, [], ◌∷◌, ◌++◌, Some, refl, sym, ap, subst}
 use Rattle.std.specs.Prelude.{Contains}
 use Rattle.std.specs.List.{flat_map, slice_get}
 use Rattle.std.proofs.lemmas.List.Elements.{Contains-append_left, Contains-append_right, Contains-append_cases}
-use Rattle.std.proofs.lemmas.Option.{slice_get_within}
 use Rattle.bv_dag.specs.Graphs.{Graph, IsDag}
-use Rattle.bv_dag.specs.Inputs.{node_inputs, inputs_at, inputs_of, inputs_under, asserted_inputs}
-use Rattle.bv_dag.specs.Nodes.{Fits}
-use Rattle.bv_dag.specs.Queries.{Condition}
+use Rattle.bv_dag.specs.Inputs.{node_inputs, inputs_under}
 use Rattle.bv_dag.specs.declared.nodes.Node.{Node}
 use Rattle.bv_dag.specs.declared.nodes.Node.TheVariants.{Num, Input, Not, Neg, Binary, Compare, Ite, Extract, Extend, Concat}
-use Rattle.bv_dag.proofs.Fitting.{some_at}
 use Rattle.bv_dag.proofs.Resting.{inputs_by_cases}
 use Rattle.query_pick.specs.Cones.{IsUnder, top, operand}
 use Rattle.query_pick.specs.Operands.{operands}
 use Rattle.query_pick.proofs.Lists.{Contains-here, Contains-later, Contains-none, Contains-uncons}
-use Rattle.query_pick.proofs.Searching.{operand_before}
 
 -- a byte under a node: the node is that byte, or it stands under an operand
 abbrev ComesFrom : (ℕ → List ℕ) → Node → ℕ → Type 0

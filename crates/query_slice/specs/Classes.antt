@@ -16,7 +16,7 @@ label_of labels input = option_and_then (slice_get labels) input
 abbrev pub relabelled : (kept gone : Option ℕ) → List ℕ → List ℕ
 relabelled (Some kept) (Some gone) labels = map (λ label. if label == gone then kept else label) labels
 relabelled (Some kept) None labels = labels
-relabelled None gone labels = labels
+relabelled None _ labels = labels
 
 -- the bytes in the classes of these two are now in one
 abbrev pub joined : List ℕ → (first second : Option ℕ) → List ℕ

@@ -70,7 +70,7 @@ fn all_but_the_fourth_byte_is_reached(rt: HostRuntime) -> Result<(), Fail> {
     let answer = Bytes::from_slice(alloc, &[0x01, 0x02, 0x03, 0x00])?;
     assert!(rt; part.inputs() == 4);
     let merged = merge(alloc, &sample, &answer, &part)?;
-    assert_eq!(rt; merged.as_slice(), &[0x01, 0x02, 0x03, 0x40]);
+    assert_eq!(rt; merged.as_slice(), [0x01, 0x02, 0x03, 0x40].as_slice());
     assert!(rt; query.holds(alloc, merged.as_slice())?);
     Ok(())
 }

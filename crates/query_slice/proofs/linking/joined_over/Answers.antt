@@ -1,4 +1,4 @@
-use Rattle.std.proofs.Common.{◌<◌, ℕ, List, length, get_or, take, sym, ap, subst, ◌∙◌, Some, ◌≡◌, arith}
+use Rattle.std.proofs.Common.{◌<◌, ℕ, length, get_or, take, sym, ap, subst, ◌∙◌, Some, ◌≡◌, arith}
 use Rattle.std.specs.List.{range_with_len, slice_get}
 use Rattle.std.proofs.lemmas.List.{take_more}
 use Rattle.std.proofs.lemmas.List.Elements.{All-get_or}

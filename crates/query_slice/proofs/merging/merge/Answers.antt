@@ -1,5 +1,4 @@
-use Rattle.std.proofs.Common.{◌≡◌, ℕ, List, length, ap, sym, subst, ◌∙◌}
-use Rattle.bv_dag.specs.Graphs.{Graph, IsDag, AllFit}
+use Rattle.std.proofs.Common.{◌∙◌}
 use Rattle.query_slice.proofs.Asked.{asserted_bits, bits_there}
 use Rattle.query_slice.proofs.Merged.{merged_whole}
 use Rattle.query_slice.proofs.merging.merge.Goals as goal

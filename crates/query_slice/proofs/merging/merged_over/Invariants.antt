@@ -1,4 +1,4 @@
-use Rattle.std.proofs.Common.{◌≡◌, length, take}
+use Rattle.std.proofs.Common.{◌≡◌, take}
 use Rattle.query_slice.specs.Merging.{merged, own_inputs}
 use Rattle.query_slice.proofs.merging.merged_over.Given as goal
 

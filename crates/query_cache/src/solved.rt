@@ -2,35 +2,35 @@
 
 ghost use Rattle.std.specs.Prelude.{◌≡◌};
 
-use crate::answer::Answer;
+use crate::satisfiability::Satisfiability;
 use bv_dag::Query;
 use std::marker::Model;
 
 /// A question with an answer that is true of it.
 #[derive(Debug, Drop)]
-pub struct Verdict {
+pub struct Solved {
     query: Query,
-    answer: Answer,
+    answer: Satisfiability,
 }
 
-impl Model for Verdict {
+impl Model for Solved {
     ghost use Rattle.query_cache.specs.Answers.{Answered, IsAnswer};
 
     ghost Value = { Answered };
 
-    ghost view = { λ v. record { query = v.query; answer = v.answer } };
+    ghost view = { λ s. record { query = s.query; answer = s.answer } };
 
-    ghost invariant = { λ v. IsAnswer v.query v.answer };
+    ghost invariant = { λ s. IsAnswer s.query s.answer };
 }
 
-impl Verdict {
+impl Solved {
     ghost use Rattle.query_cache.specs.Answers.{IsAnswer};
 
-    pub fn new(query: Query, answer: Answer) -> Verdict
+    pub fn new(query: Query, answer: Satisfiability) -> Solved
         requires { IsAnswer query answer }
         ensures { result ≡ record { query = query; answer = answer } }
     {
-        Verdict { query, answer }
+        Solved { query, answer }
     }
 
     pub fn query(&self) -> &Query
@@ -39,7 +39,7 @@ impl Verdict {
         &self.query
     }
 
-    pub fn answer(&self) -> &Answer
+    pub fn answer(&self) -> &Satisfiability
         ensures value { result.now ≡ self.now.answer }
         ensures right { IsAnswer self.now.query self.now.answer }
     {
@@ -47,7 +47,7 @@ impl Verdict {
     }
 
     /// The question and its answer, each on its own.
-    pub fn into_parts(self) -> (Query, Answer)
+    pub fn into_parts(self) -> (Query, Satisfiability)
         ensures query { result.0 ≡ self.query }
         ensures answer { result.1 ≡ self.answer }
         ensures right { IsAnswer result.0 result.1 }
