@@ -1,8 +1,6 @@
 //! Terms as trees, as the rows of a table have them.
 
-ghost use Rattle.std.specs.Prelude.{◌≡◌, ◌<◌, IfOk, OnOk, length};
-
-use bv_dag::{BinaryOp, Comparison, Dag, Node, Query};
+use bv_dag::{BinaryOp, Comparison, Dag, Node};
 use std::alloc::{AllocError as NoMemory, Global};
 use std::process::Abort;
 
@@ -69,27 +67,17 @@ fn push_term(rt: &impl Abort, dag: &mut Dag, term: &Term) -> Result<usize, NoMem
     dag.push(node)
 }
 
-/// The condition over so many input bytes that each of these terms is 1. The others stand in its table too.
-pub fn query_of(
+/// A graph over so many input bytes that has these terms, and the places where they stand.
+pub fn graph_of(
     rt: &impl Abort,
     alloc: Global,
     inputs: usize,
     terms: &[Term],
-    others: &[Term],
-) -> Result<Query, NoMemory> {
+) -> Result<(Dag, Vec<usize>), NoMemory> {
     let mut dag = Dag::new(alloc, inputs);
-    for other in others {
-        push_term(rt, &mut dag, other)?;
-    }
     let mut places = Vec::new(alloc);
     for term in terms {
         places.push(push_term(rt, &mut dag, term)?)?;
     }
-    let mut query = Query::new(dag, Vec::new(alloc));
-    for place in &places {
-        assert!(rt; *place < query.dag().len());
-        assert!(rt; query.dag().width_of(*place) == 1);
-        query.assert(*place)?;
-    }
-    Ok(query)
+    Ok((dag, places))
 }
