@@ -1,5 +1,5 @@
 -- How far the search for a cone has come.
-use Rattle.std.proofs.Common.{◌≡◌, ℕ, ◌+◌, ◌*◌, ◌<◌, ◌≤◌, ◌⊎◌, ◌↔◌, List, [], ◌∷◌, ◌++◌, length, get_or, refl, sym, ap, ◌∙◌, arith, inl, inr, Some, subst}
+use Rattle.std.proofs.Common.{◌≡◌, ℕ, ◌+◌, ◌*◌, ◌<◌, ◌≤◌, ◌⊎◌, List, [], ◌∷◌, ◌++◌, length, get_or, refl, sym, ap, ◌∙◌, arith, inl, inr, Some, subst}
 use Rattle.std.specs.Prelude.{All, Contains, IsPermutation}
 use Rattle.std.specs.List.{slice_get}
 use Rattle.std.specs.List.Sorted.{IsStrictlyIncreasing}
@@ -149,7 +149,9 @@ module _ (graph : Graph) (tops old popped found : List ℕ) (id : ℕ)
     pub left_of-more : left_of graph pending (id ∷ found) < left_of graph old found
     left_of-more =
         omega (
-          arith, less, length-operands n,
+          arith,
+          less,
+          length-operands n,
           length_permutation old (id ∷ popped) taken,
           length_permutation (operands n ++ popped) pending added,
           length-append (operands n) popped,

@@ -3,7 +3,7 @@ use Rattle.std.specs.BinaryHeap.{heap_items}
 use Rattle.std.proofs.lemmas.List.Sorted.{le_from_greatest}
 use Rattle.query_pick.specs.Cones.{IsCone}
 use Rattle.query_pick.proofs.Heaps.{below_found, found_before, none_left, reverse-push}
-use Rattle.query_pick.proofs.Searching.{IsSearched, left_of, left_of-before, left_of-more, searched_all, searched_before, searched_first, searched_more, taken_not_above, taken_there}
+use Rattle.query_pick.proofs.Searching.{IsSearched, left_of, left_of-more, searched_all, searched_before, searched_first, searched_more, taken_not_above, taken_there}
 use Rattle.query_pick.proofs.finding.cone.Goals as goal
 
 pub loop-id-init : goal.loop-id-init
@@ -32,10 +32,10 @@ loop-id-preserved-in-Continue-branch-3 g c = (
   subst (λ (found : List ℕ). IsSearched (g.T.Table.graph c.args.terms.now) c.args.tops.now (heap_items c.add_operands.new.places) found)
       (sym (reverse-push c.loop-id.found.items c.push.new.self.items c.in-Some.id c.in_ok-push.ensures.items))
       (searched_more (g.T.Table.graph c.args.terms.now) c.args.tops.now (heap_items c.loop-id.pending) (heap_items c.pop.new.self) (reverse c.loop-id.found.items) c.in-Some.id c.in-Some.ensures.permutation c.loop-id.invariant.1
-    (heap_items c.add_operands.new.places) c.node.result c.node.ensures.fit c.node.ensures.is
-    (le_from_greatest c.in-Some.id (heap_items c.loop-id.pending) (c.in-Some.ensures.heap_order c.loop-id.invariant.0).1)
-    (below_found c.loop-id.found.items c.deref.result.now c.in-Some.id (length (g.T.Table.graph c.args.terms.now).nodes) c.is_last.result c.deref.ensures.value c.is_last.ensures c.if-not-is_last.true (taken_there (g.T.Table.graph c.args.terms.now) c.args.tops.now (heap_items c.loop-id.pending) (heap_items c.pop.new.self) (reverse c.loop-id.found.items) c.in-Some.id c.in-Some.ensures.permutation c.loop-id.invariant.1) (taken_not_above (g.T.Table.graph c.args.terms.now) c.args.tops.now (heap_items c.loop-id.pending) (heap_items c.pop.new.self) (reverse c.loop-id.found.items) c.in-Some.id c.in-Some.ensures.permutation c.loop-id.invariant.1))
-    c.in_ok-add_operands.ensures.adds),
+      (heap_items c.add_operands.new.places) c.node.result c.node.ensures.fit c.node.ensures.is
+      (le_from_greatest c.in-Some.id (heap_items c.loop-id.pending) (c.in-Some.ensures.heap_order c.loop-id.invariant.0).1)
+      (below_found c.loop-id.found.items c.deref.result.now c.in-Some.id (length (g.T.Table.graph c.args.terms.now).nodes) c.is_last.result c.deref.ensures.value c.is_last.ensures c.if-not-is_last.true (taken_there (g.T.Table.graph c.args.terms.now) c.args.tops.now (heap_items c.loop-id.pending) (heap_items c.pop.new.self) (reverse c.loop-id.found.items) c.in-Some.id c.in-Some.ensures.permutation c.loop-id.invariant.1) (taken_not_above (g.T.Table.graph c.args.terms.now) c.args.tops.now (heap_items c.loop-id.pending) (heap_items c.pop.new.self) (reverse c.loop-id.found.items) c.in-Some.id c.in-Some.ensures.permutation c.loop-id.invariant.1))
+      c.in_ok-add_operands.ensures.adds),
 )
 
 pub loop-id-preserved : goal.loop-id-preserved
