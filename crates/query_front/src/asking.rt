@@ -82,10 +82,7 @@ pub fn ask_part(
     ensures { IfOk result (λ asked. (q : Condition) (new : ℕ) → IsPart q new part → holds q sample.now ≡ true → IsAsked q new budget asked) }
 {
     match known(rt, alloc, shared, &part, sample)? {
-        Some(Answer::Sat(input)) => {
-            let merged = merge(alloc, sample, &input, &part)?;
-            Ok(Asked::Sat(merged))
-        }
+        Some(Answer::Sat(input)) => Ok(Asked::Sat(merge(alloc, sample, &input, &part)?)),
         Some(Answer::Unsat) => Ok(Asked::Unsat),
         None => decided(rt, alloc, shared, part, sample, budget),
     }
