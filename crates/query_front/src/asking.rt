@@ -12,7 +12,7 @@ use crate::asked::Asked;
 use crate::part::part_of;
 use crate::shared::Shared;
 use bv_dag::Query;
-use query_cache::{Answer, Verdict};
+use query_cache::{Satisfiability, Solved};
 use query_decide::{Decision, decide};
 use query_slice::merge;
 use std::alloc::{AllocError as NoMemory, Global};
@@ -27,7 +27,7 @@ fn known(
     shared: &Shared,
     part: &Query,
     sample: &Bytes,
-) -> Result<Option<Answer>, NoMemory>
+) -> Result<Option<Satisfiability>, NoMemory>
     ensures { IfOk result (λ found. IfSome found (IsAnswer part.now)) }
 {
     let found = shared.look(rt, alloc, part)?;
@@ -35,7 +35,7 @@ fn known(
         return Ok(found);
     }
     match shared.sample(alloc, part, sample)? {
-        Some(input) => Ok(Some(Answer::Sat(input))),
+        Some(input) => Ok(Some(Satisfiability::Sat(input))),
         None => Ok(None),
     }
 }
@@ -57,11 +57,11 @@ fn decided(
         Decision::Sat(input) => {
             let merged = merge(alloc, sample, &input, &part)?;
             shared.offer(rt, alloc, &merged)?;
-            shared.keep(rt, Verdict::new(part, Answer::Sat(input)))?;
+            shared.keep(rt, Solved::new(part, Satisfiability::Sat(input)))?;
             Ok(Asked::Sat(merged))
         }
         Decision::Unsat => {
-            shared.keep(rt, Verdict::new(part, Answer::Unsat))?;
+            shared.keep(rt, Solved::new(part, Satisfiability::Unsat))?;
             Ok(Asked::Unsat)
         }
         Decision::Spent(log) => Ok(Asked::Spent(part, log)),
@@ -82,8 +82,8 @@ pub fn ask_part(
     ensures { IfOk result (λ asked. (q : Condition) (new : ℕ) → IsPart q new part → holds q sample.now ≡ true → IsAsked q new budget asked) }
 {
     match known(rt, alloc, shared, &part, sample)? {
-        Some(Answer::Sat(input)) => Ok(Asked::Sat(merge(alloc, sample, &input, &part)?)),
-        Some(Answer::Unsat) => Ok(Asked::Unsat),
+        Some(Satisfiability::Sat(input)) => Ok(Asked::Sat(merge(alloc, sample, &input, &part)?)),
+        Some(Satisfiability::Unsat) => Ok(Asked::Unsat),
         None => decided(rt, alloc, shared, part, sample, budget),
     }
 }

@@ -6,7 +6,7 @@ ghost use Rattle.query_cache.specs.Answers.{IsAnswer};
 
 use bv_dag::Query;
 use model_pool::Pool;
-use query_cache::{Answer, Cache, Verdict};
+use query_cache::{Cache, Satisfiability, Solved};
 use std::alloc::{AllocError as NoMemory, Global};
 use std::sync::atomic::{AtomicU64, Ordering};
 use std::sync::{Mutex, Wait};
@@ -65,7 +65,7 @@ impl Shared {
         rt: &impl Wait,
         alloc: Global,
         query: &Query,
-    ) -> Result<Option<Answer>, NoMemory>
+    ) -> Result<Option<Satisfiability>, NoMemory>
         ensures { IfOk result (λ found. IfSome found (IsAnswer query.now)) }
     {
         let answers = self.answers.lock(rt);
@@ -104,9 +104,9 @@ impl Shared {
     }
 
     /// Keeps an answer for when its question is asked again.
-    pub(crate) fn keep(&self, rt: &impl Wait, verdict: Verdict) -> Result<(), NoMemory> {
+    pub(crate) fn keep(&self, rt: &impl Wait, solved: Solved) -> Result<(), NoMemory> {
         let mut answers = self.answers.lock(rt);
-        answers.put(verdict)
+        answers.put(solved)
     }
 
     /// Offers a copy of a sample to the pool.
