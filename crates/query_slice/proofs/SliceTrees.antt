@@ -50,13 +50,14 @@ module _ (q : Condition) (new : ℕ) where
 pub slice_of_trees : (q : Condition) (new : ℕ) (s : Condition) → Contains q.asserted new → IsSlice q new s
     → IsSliceOfTrees (asserted_trees q) (tree_of q.graph new) (asserted_trees s)
 slice_of_trees q new s there cut t = (
-    (λ h.
-        let v = mapped (tree_of s.graph) s.asserted t h in
-        let u = from_slice q new s cut v.0 v.1 in
-        (subst (Contains (asserted_trees q)) (u.3 ∙ v.2) (in_mapped (tree_of q.graph) q.asserted u.0 u.1),
-         subst (IsReachedTree (asserted_trees q) (tree_of q.graph new)) (u.3 ∙ v.2) (tree_reached q new u.0 u.2))),
-    (λ h.
-        let u = term_reached q new there t h.1 in
-        let v = to_slice q new s cut u.0 u.1 ((cut.just u.0 u.1).1 u.2) in
-        subst (Contains (map (tree_of s.graph) s.asserted)) (v.2 ∙ u.3) (in_mapped (tree_of s.graph) s.asserted v.0 v.1)),
-  )
+  (λ h.
+      let v = mapped (tree_of s.graph) s.asserted t h in
+      let u = from_slice q new s cut v.0 v.1 in (
+        subst (Contains (asserted_trees q)) (u.3 ∙ v.2) (in_mapped (tree_of q.graph) q.asserted u.0 u.1),
+        subst (IsReachedTree (asserted_trees q) (tree_of q.graph new)) (u.3 ∙ v.2) (tree_reached q new u.0 u.2),
+      )),
+  (λ h.
+      let u = term_reached q new there t h.1 in
+      let v = to_slice q new s cut u.0 u.1 ((cut.just u.0 u.1).1 u.2) in
+      subst (Contains (map (tree_of s.graph) s.asserted)) (v.2 ∙ u.3) (in_mapped (tree_of s.graph) s.asserted v.0 v.1)),
+)
