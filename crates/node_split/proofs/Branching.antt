@@ -1,6 +1,6 @@
 -- The sides of a branch.
-use Rattle.std.proofs.Common.{◌≡◌, ℕ, ◌<◌, Bool, true, false, List, [], ◌∷◌, refl, sym, ap, ◌∙◌}
-use Rattle.std.specs.Prelude.{All, Some, ◌==◌, not}
+use Rattle.std.proofs.Common.{◌≡◌, ℕ, ◌<◌, Bool, true, false, [], ◌∷◌, refl, sym, ap, ◌∙◌}
+use Rattle.std.specs.Prelude.{Some, ◌==◌, not}
 use Rattle.bv_dag.specs.Graphs.{Graph, number_of}
 use Rattle.bv_dag.specs.Queries.{holds}
 use Rattle.fork_spec.specs.Leaves.{are_bytes}
@@ -10,7 +10,6 @@ use Rattle.sym_machine.specs.Stops.{IsBranch}
 use Rattle.sym_state.specs.Symbolic.{Symbolic, IsFormed, stands_for}
 use Rattle.sym_state.specs.Values.{GivesTerm}
 use Rattle.sym_state.specs.declared.decided.Decided.TheVariants.{Side}
-use Rattle.term_trees.specs.Growth.{Continues}
 use Rattle.tree_core.specs.declared.choice.Choice.TheVariants.{No, Yes}
 use Rattle.sym_state.proofs.Grown.{Continues-refl}
 use Rattle.node_split.specs.Copies.{IsAsked}

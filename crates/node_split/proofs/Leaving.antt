@@ -10,7 +10,7 @@ use Rattle.bv_dag.proofs.TermLaws.{there}
 use Rattle.cow_pages.specs.declared.byte.Byte.{Byte}
 use Rattle.elf_load.specs.declared.region.Region.{Region}
 use Rattle.rv_decode.specs.declared.ends.End.{End}
-use Rattle.rv_decode.specs.declared.ends.End.TheVariants.{Exit, Trapped}
+use Rattle.rv_decode.specs.declared.ends.End.TheVariants.{Exit}
 use Rattle.rv_decode.specs.declared.ends.Trap.{Trap}
 use Rattle.rv_spec.specs.Memory.{IsAssignment}
 use Rattle.rv_spec.specs.Runs.{Run, IsRunOf, run}
@@ -22,7 +22,7 @@ use Rattle.fork_spec.specs.Evidence.{IsSample}
 use Rattle.fork_spec.specs.Leaves.{AreBytes, IsByteStatus, IsFull, are_bytes, covers, worth}
 use Rattle.fork_spec.specs.Partings.{DecidesAlike}
 use Rattle.fork_spec.specs.Parts.{Part}
-use Rattle.fork_spec.specs.Runs.{IsFaithful, end_on}
+use Rattle.fork_spec.specs.Runs.{end_on}
 use Rattle.fork_spec.specs.declared.end.LeafEnd.{LeafEnd}
 use Rattle.fork_spec.specs.declared.end.LeafEnd.TheVariants.{Exits as LeafExits, Traps as LeafTraps, Cut}
 use Rattle.fork_tree.specs.Works.{EndsAs}
@@ -32,7 +32,7 @@ use Rattle.sym_state.specs.Moves.{IsGrown, MakesByte, MakesTerm, with_terms}
 use Rattle.sym_state.specs.Places.{run_place}
 use Rattle.sym_state.specs.Programs.{Program}
 use Rattle.sym_state.specs.Runs.{DecidedAlike, IsOpen}
-use Rattle.sym_state.specs.Symbolic.{Symbolic, IsFormed, concrete, condition_of, stands_for, value_at}
+use Rattle.sym_state.specs.Symbolic.{Symbolic, IsFormed, condition_of, stands_for, value_at}
 use Rattle.sym_state.specs.Values.{GivesTerm, IsByte, byte_worth, worth_of}
 use Rattle.sym_state.proofs.Growing.{Continues-trans, byte_worth-grown, number-grown, width-kept}
 use Rattle.sym_state.specs.declared.value.Value.{Value}

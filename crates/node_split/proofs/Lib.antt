@@ -1,8 +1,8 @@
 pub mod Apart
-pub mod Asking
 pub mod Branching
 pub mod Bytes
 pub mod Copying
+pub mod Evaluating
 pub mod Increasing
 pub mod Parting
 pub mod Pinning

@@ -12,7 +12,6 @@ use Rattle.fork_spec.specs.Written.{side_of_kid}
 use Rattle.fork_tree.specs.Contents.{choices_in, cut_in}
 use Rattle.fork_tree.specs.Works.{IsPart}
 use Rattle.sym_machine.specs.Stops.{IsBranch}
-use Rattle.sym_state.specs.Places.{run_place}
 use Rattle.sym_state.specs.Programs.{Program}
 use Rattle.sym_state.specs.Runs.{IsOpen, left_to_do}
 use Rattle.sym_state.specs.Symbolic.{Symbolic, stands_for}

@@ -1,6 +1,6 @@
 -- The side of a fork on which a term has a value.
-use Rattle.std.proofs.Common.{◌≡◌, ℕ, ◌<◌, Bool, true, false, List, [], ◌∷◌, refl, ap, ◌∙◌, rules}
-use Rattle.std.specs.Prelude.{All, ◌==◌}
+use Rattle.std.proofs.Common.{ℕ, [], ◌∷◌, ap, ◌∙◌}
+use Rattle.std.specs.Prelude.{◌==◌}
 use Rattle.bv_dag.specs.Graphs.{Graph, number_of}
 use Rattle.rv_spec.specs.Arithmetic.{one_where}
 use Rattle.rv_spec.specs.Decisions.{Number as Needs}

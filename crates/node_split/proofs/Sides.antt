@@ -1,6 +1,6 @@
 -- A run of whose next step one decision more is known: as it is, or on one side of a fork.
-use Rattle.std.proofs.Common.{◌≡◌, ◌≢◌, ℕ, zero, suc, ◌+◌, ◌-◌, ◌*◌, ◌<◌, ◌≤◌, inl, inr, Bool, true, false, ◌&&◌, cond, List, [], ◌∷◌, ◌++◌, get_or, set, length, refl, sym, ap, subst, ◌∙◌, arith}
-use Rattle.std.specs.Prelude.{All, Option, None, Some, ◌==◌, count_by, is_none, slice_get, slice_set}
+use Rattle.std.proofs.Common.{◌≡◌, ℕ, zero, suc, ◌<◌, inl, inr, Bool, true, ◌&&◌, cond, List, [], ◌∷◌, ◌++◌, get_or, set, length, refl, sym, ap, subst, ◌∙◌, arith}
+use Rattle.std.specs.Prelude.{All, Option, None, Some, ◌==◌, is_none, slice_get, slice_set}
 use Rattle.std.specs.List.{list_all}
 use Rattle.std.proofs.lemmas.Bool.{cases_eq}
 use Rattle.std.proofs.lemmas.List.{get_or-set_same, get_or-set_other, length-set}
@@ -15,8 +15,8 @@ use Rattle.rv_spec.specs.Runs.{Run, run}
 use Rattle.sym_machine.specs.Stops.{IsOpenAt, StandsAt}
 use Rattle.sym_state.specs.Moves.{informed, narrowed, with_terms}
 use Rattle.sym_state.specs.Programs.{Program}
-use Rattle.sym_state.specs.Runs.{DecidedAlike, IsOpen, IsReady, left_to_do}
-use Rattle.sym_state.specs.Symbolic.{Symbolic, IsFormed, IsTrulyKnown, KnowsTruth, concrete, decision_of, known_at, most_decisions, most_steps, stands_for}
+use Rattle.sym_state.specs.Runs.{IsOpen, IsReady, left_to_do}
+use Rattle.sym_state.specs.Symbolic.{Symbolic, IsFormed, IsTrulyKnown, KnowsTruth, concrete, decision_of, known_at, most_decisions, stands_for}
 use Rattle.sym_state.specs.Unfolded.{unfolded}
 use Rattle.sym_state.specs.Unfolding.{unfolded_run}
 use Rattle.sym_state.specs.declared.decided.Decided.{Decided}

@@ -1,15 +1,13 @@
 -- The sides of values, and what is left.
-use Rattle.std.proofs.Common.{◌≡◌, ◌≢◌, ℕ, suc, ◌+◌, ◌-◌, ◌^◌, ◌<◌, ◌≤◌, Bool, true, false, ◌&&◌, ◌||◌, cond, List, [], ◌∷◌, ◌++◌, get_or, length, map, take, refl, sym, ap, subst, ◌∙◌, arith, rules}
-use Rattle.std.specs.Prelude.{All, IfOk, IsTrue, Result, Ok, Err, Option, None, Some, ◌==◌, nat_lt, not, count_by, if◌then◌else◌}
-use Rattle.std.specs.List.{list_all}
+use Rattle.std.proofs.Common.{◌≡◌, ◌≢◌, ℕ, suc, ◌+◌, ◌^◌, ◌<◌, ◌≤◌, Bool, true, false, ◌&&◌, ◌||◌, cond, List, [], ◌∷◌, ◌++◌, get_or, length, map, take, refl, sym, ap, subst, ◌∙◌, arith, rules}
+use Rattle.std.specs.Prelude.{All, IfOk, IsTrue, Result, Ok, Err, Option, None, Some, ◌==◌, nat_lt, not, count_by}
 use Rattle.std.proofs.lemmas.Bool.Decides.{nat_tests}
 use Rattle.std.proofs.lemmas.Grind.{take_at_read}
 use Rattle.std.proofs.lemmas.List.{append_assoc, append-nil, length-map, map-append, length-append}
 use Rattle.std.proofs.lemmas.List.Elements.{All-nil, All-cons, All-append, All-head, All-push, All-tail}
 use Rattle.std.proofs.lemmas.List.Folds.{list_all-append, list_any-append}
 use Rattle.std.proofs.lemmas.List.Sums.{sum_by-append, sum_by-cons}
-use Rattle.bv_dag.specs.Graphs.{Graph, IsDag, number_of, width_of}
-use Rattle.bv_dag.specs.Queries.{AreBits}
+use Rattle.bv_dag.specs.Graphs.{Graph, number_of, width_of}
 use Rattle.rv_spec.specs.Decisions.{Decision, Number as Needs}
 use Rattle.tree_core.specs.Covers.{one_if}
 use Rattle.tree_core.specs.declared.cause.Cause.TheVariants.{Targets}
@@ -30,9 +28,7 @@ use Rattle.fork_tree.specs.Works.{IsPart}
 use Rattle.fork_tree.specs.declared.content.Content.TheVariants.{Shut}
 use Rattle.sym_machine.specs.Stops.{IsPin, StandsAt}
 use Rattle.sym_state.specs.declared.decided.Decided.TheVariants.{Number}
-use Rattle.term_trees.specs.Growth.{Continues}
 use Rattle.sym_state.specs.Moves.{with_terms}
-use Rattle.sym_state.specs.Places.{run_place}
 use Rattle.sym_state.specs.Programs.{Program}
 use Rattle.sym_state.specs.Runs.{IsOpen, left_to_do}
 use Rattle.sym_state.specs.Symbolic.{Symbolic, stands_for}

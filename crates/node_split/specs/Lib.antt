@@ -2,6 +2,7 @@ pub mod Values
 pub mod Rules
 pub mod Narrowing
 pub mod Copies
+pub mod Evaluations
 pub mod Leaving
 pub mod Splits
 pub mod Resting

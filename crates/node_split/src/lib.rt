@@ -3,6 +3,7 @@
 
 mod asked;
 mod branch;
+mod evaluation;
 mod finish;
 mod forked;
 mod leaf;

@@ -9,19 +9,11 @@ ghost use Rattle.fork_spec.specs.Evidence.{AreIncreasing, is_among};
 ghost use Rattle.node_split.specs.Narrowing.{answers, is_side};
 ghost use Rattle.node_split.specs.Values.{AreValues, HasValue, IsAdded, IsPlace, numbers_in};
 
-use bv_dag::{Dag, Word, are_ones};
+use crate::evaluation::{are_met, evaluate_to, is_one};
+use bv_dag::{Dag, Word};
 use std::alloc::{AllocError as NoMemory, Global};
 
-// Whether these words meet the condition, and are on this side of the term.
-fn is_met(words: &[Word], condition: &[usize], term: usize, side: bool) -> bool
-    requires condition { All (λ id. id < length words.now) condition.now }
-    requires term { term < length words.now }
-    ensures { result ≡ (list_all (λ id. (word_at words.now id).number == 1) condition.now && is_side side (word_at words.now term).number) }
-{
-    are_ones(words, condition) && (words[term].number() == 1) == side
-}
-
-// Whether an assignment meets the condition, and is on this side of the term. Each term is evaluated once.
+// Whether an assignment meets the condition, and is on this side of the term. Each term is evaluated once at most.
 fn is_answer(
     alloc: Global,
     terms: &Dag,
@@ -35,8 +27,11 @@ fn is_answer(
     requires bit { width_of terms.now term ≡ 1 }
     ensures { IfOk result (λ yes. yes ≡ answers terms.now condition.now term side input.now) }
 {
-    let words = terms.words(alloc, input)?;
-    Ok(is_met(&words, condition, term, side))
+    let mut words = Vec::with_capacity(alloc, terms.len())?;
+    if !are_met(&mut words, terms, condition, input)? {
+        return Ok(false);
+    }
+    Ok(is_one(&mut words, terms, input, term)? == side)
 }
 
 /// The first byte that meets the condition and is on this side of the term, if there is one.
@@ -126,10 +121,11 @@ fn value_on(
     ensures some { IfOk result (λ value. IfSome value (λ v. HasValue terms.now condition.now term (record { value = v; byte = byte }))) }
     ensures none { IfOk result (λ value. IfNone value (holds (record { graph = terms.now; asserted = condition.now }) (byte ∷ []) ≡ false)) }
 {
-    let words = terms.words(alloc, &[byte])?;
-    if !are_ones(&words, condition) {
+    let mut words = Vec::with_capacity(alloc, terms.len())?;
+    if !are_met(&mut words, terms, condition, &[byte])? {
         return Ok(None);
     }
+    evaluate_to(&mut words, terms, &[byte], term)?;
     Ok(Some(number_in(&words, term)))
 }
 

@@ -1,115 +1,133 @@
-//! Questions with known answers: what is found is tried.
+//! Questions whose answers are known, decided: what is found is tried.
 
-mod table;
-mod terms;
-
-use crate::tests::table::{COMPARISONS, Known, PRODUCTS, QUOTIENTS, Row, SHIFTS, SUMS};
-use crate::tests::terms::Term::{Byte, Is, Num, Of};
-use crate::tests::terms::{Term, query_of};
 use crate::{Decision, decide};
 use bv_dag::BinaryOp::{Add, Mul, Sub};
 use bv_dag::Comparison::Eq;
-use bv_dag::Query;
+use bv_dag::Node::{Binary, Compare, Input, Num};
+use bv_dag::{Dag, Node, Query};
 use std::alloc::{AllocError as NoMemory, Global};
 use std::process::Abort;
 use std::test::Fail;
 
-// The answer, if the budget was not spent. What is found is tried.
-fn answered(
-    rt: &impl Abort,
-    alloc: Global,
-    query: &Query,
+/// What is known of a question within its budget.
+#[derive(Clone, Copy, Debug, PartialEq, Eq)]
+enum Known {
+    Sat,
+    Unsat,
+    Spent,
+}
+
+/// A question over two input bytes: its terms, those that are to be 1, the budget, and the answer.
+struct Row {
+    terms: &'static [Node],
+    asserted: &'static [usize],
     budget: u32,
-) -> Result<Option<Known>, NoMemory> {
+    known: Known,
+}
+
+// Two bytes have one sum.
+const TWO_SUMS: Row = Row {
+    terms: &[
+        Input(0),
+        Input(1),
+        Binary(Add, 0, 1),
+        Num { width: 8, value: 5 },
+        Compare(Eq, 2, 3),
+        Num { width: 8, value: 6 },
+        Compare(Eq, 2, 5),
+    ],
+    asserted: &[4, 6],
+    budget: 2000,
+    known: Known::Unsat,
+};
+
+// No square is 2 modulo 256. It rests on one byte, though its table names another, so it spends no budget.
+const SQUARE: Row = Row {
+    terms: &[
+        Input(0),
+        Input(1),
+        Binary(Add, 0, 1),
+        Binary(Mul, 0, 0),
+        Num { width: 8, value: 2 },
+        Compare(Eq, 3, 4),
+    ],
+    asserted: &[5],
+    budget: 1,
+    known: Known::Unsat,
+};
+
+// A sum and a difference are both even or both odd. Unit propagation alone doesn't show it, nor does one clause.
+const PARITIES: Row = Row {
+    terms: &[
+        Input(0),
+        Input(1),
+        Binary(Add, 0, 1),
+        Num { width: 8, value: 5 },
+        Compare(Eq, 2, 3),
+        Binary(Sub, 0, 1),
+        Num { width: 8, value: 2 },
+        Compare(Eq, 5, 6),
+    ],
+    asserted: &[4, 7],
+    budget: 1,
+    known: Known::Spent,
+};
+
+// 9 and 251 have the sum 4 modulo 256, and the difference 14.
+const DIFFERENCE: Row = Row {
+    terms: &[
+        Input(0),
+        Input(1),
+        Binary(Add, 0, 1),
+        Num { width: 8, value: 4 },
+        Compare(Eq, 2, 3),
+        Binary(Sub, 0, 1),
+        Num {
+            width: 8,
+            value: 14,
+        },
+        Compare(Eq, 5, 6),
+    ],
+    asserted: &[4, 7],
+    budget: 2000,
+    known: Known::Sat,
+};
+
+fn question(rt: &impl Abort, alloc: Global, row: &Row) -> Result<Query, NoMemory> {
+    let mut dag = Dag::new(alloc, 2);
+    for node in row.terms {
+        assert!(rt; dag.fits(node));
+        dag.push(*node)?;
+    }
+    let mut query = Query::new(dag, Vec::new(alloc));
+    for place in row.asserted {
+        assert!(rt; *place < query.dag().len());
+        assert!(rt; query.dag().width_of(*place) == 1);
+        query.assert(*place)?;
+    }
+    Ok(query)
+}
+
+// What is answered. What is found is tried.
+fn answered(rt: &impl Abort, alloc: Global, query: &Query, budget: u32) -> Result<Known, NoMemory> {
     match decide(alloc, query, budget)? {
         Decision::Sat(input) => {
             assert!(rt; query.holds(alloc, input.as_slice())?);
-            Ok(Some(Known::Sat))
+            Ok(Known::Sat)
         }
-        Decision::Unsat => Ok(Some(Known::Unsat)),
+        Decision::Unsat => Ok(Known::Unsat),
         Decision::Spent(log) => {
             assert_eq!(rt; log.steps().len(), budget as usize);
-            Ok(None)
+            Ok(Known::Spent)
         }
     }
 }
 
-fn are_answered(rt: &impl Abort, alloc: Global, rows: &[Row]) -> Result<(), NoMemory> {
-    for (known, because, terms) in rows {
-        let query = query_of(rt, alloc, 4, terms, &[])?;
-        assert_eq!(rt;
-            answered(rt, alloc, &query, 2000)?,
-            Some(*known),
-            "{because}"
-        );
+#[test]
+fn questions_have_the_known_answers(rt: HostRuntime) -> Result<(), Fail> {
+    for row in &[TWO_SUMS, SQUARE, PARITIES, DIFFERENCE] {
+        let query = question(&rt, rt.alloc(), row)?;
+        assert_eq!(rt; answered(&rt, rt.alloc(), &query, row.budget)?, row.known);
     }
-    Ok(())
-}
-
-#[test]
-fn sums_have_the_known_answers(rt: HostRuntime) -> Result<(), Fail> {
-    are_answered(&rt, rt.alloc(), &SUMS)?;
-    Ok(())
-}
-
-#[test]
-fn products_have_the_known_answers(rt: HostRuntime) -> Result<(), Fail> {
-    are_answered(&rt, rt.alloc(), &PRODUCTS)?;
-    Ok(())
-}
-
-#[test]
-fn quotients_have_the_known_answers(rt: HostRuntime) -> Result<(), Fail> {
-    are_answered(&rt, rt.alloc(), &QUOTIENTS)?;
-    Ok(())
-}
-
-#[test]
-fn shifts_have_the_known_answers(rt: HostRuntime) -> Result<(), Fail> {
-    are_answered(&rt, rt.alloc(), &SHIFTS)?;
-    Ok(())
-}
-
-#[test]
-fn comparisons_have_the_known_answers(rt: HostRuntime) -> Result<(), Fail> {
-    are_answered(&rt, rt.alloc(), &COMPARISONS)?;
-    Ok(())
-}
-
-const SUM: Term = Of(Add, &Byte(0), &Byte(1));
-
-const DIFFERENCE: Term = Of(Sub, &Byte(0), &Byte(1));
-
-const SQUARE: Term = Of(Mul, &Byte(0), &Byte(0));
-
-const TWO_SUMS: [Term; 2] = [Is(Eq, &SUM, &Num(5)), Is(Eq, &SUM, &Num(6))];
-
-#[test]
-fn no_bytes_have_two_sums(rt: HostRuntime) -> Result<(), Fail> {
-    let query = query_of(&rt, rt.alloc(), 2, &TWO_SUMS, &[])?;
-    assert_eq!(rt;
-        answered(&rt, rt.alloc(), &query, 2000)?,
-        Some(Known::Unsat)
-    );
-    Ok(())
-}
-
-const TWO_IS_A_SQUARE: [Term; 1] = [Is(Eq, &SQUARE, &Num(2))];
-
-// A question that rests on one byte spends no budget, also where its table names another byte.
-#[test]
-fn no_square_is_two(rt: HostRuntime) -> Result<(), Fail> {
-    let query = query_of(&rt, rt.alloc(), 2, &TWO_IS_A_SQUARE, &[SUM])?;
-    assert_eq!(rt; answered(&rt, rt.alloc(), &query, 1)?, Some(Known::Unsat));
-    Ok(())
-}
-
-const OF_TWO_PARITIES: [Term; 2] = [Is(Eq, &SUM, &Num(5)), Is(Eq, &DIFFERENCE, &Num(2))];
-
-// Unit propagation alone doesn't show that a sum and a difference are both even or both odd.
-#[test]
-fn one_clause_may_not_be_enough(rt: HostRuntime) -> Result<(), Fail> {
-    let query = query_of(&rt, rt.alloc(), 2, &OF_TWO_PARITIES, &[])?;
-    assert_eq!(rt; answered(&rt, rt.alloc(), &query, 1)?, None);
     Ok(())
 }

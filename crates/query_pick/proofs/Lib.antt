@@ -1,5 +1,5 @@
-pub mod Sets
 pub mod Lists
+pub mod Heaps
 pub mod Naming
 pub mod Searching
 pub mod Copying

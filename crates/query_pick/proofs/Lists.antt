@@ -1,17 +1,16 @@
 -- What lists of places hold.
-use Rattle.std.proofs.Common.{◌≡◌, ℕ, zero, suc, ◌<◌, ◌≤◌, ◌⊎◌, ◌↔◌, List, [], ◌∷◌, ◌++◌, length, get_or, refl, sym, ap, ◌∙◌, arith, inl, inr}
+use Rattle.std.proofs.Common.{◌≡◌, ℕ, zero, suc, ◌<◌, ◌≤◌, ◌⊎◌, List, [], ◌∷◌, length, get_or, sym, ap, ◌∙◌, arith, inl, inr}
 use Rattle.std.specs.Prelude.{All, Contains}
 use Rattle.std.specs.List.Sorted.{IsStrictlyIncreasing}
 use Rattle.std.specs.List.{slice_get}
 use Rattle.std.specs.List.Sorted.{IsBinarySearchResult}
 use Rattle.std.specs.Ordering.{nat_cmp}
-use Rattle.std.specs.Prelude.{Ok, Err, Option, Some, None, IfNone, IsSome}
+use Rattle.std.specs.Prelude.{Ok, Err, Some}
 use Rattle.std.proofs.lemmas.Bool.{cases_lt}
 use Rattle.std.proofs.lemmas.List.{get_or_default}
 use Rattle.std.proofs.lemmas.List.Sorted.{searched}
 use Rattle.std.proofs.lemmas.Option.{slice_get-get_or}
-use Rattle.std.proofs.lemmas.List.Elements.{Contains-get_or, Contains-append_left, Contains-append_right, Contains-append_cases}
-use Rattle.query_pick.specs.Operands.{Adds}
+use Rattle.std.proofs.lemmas.List.Elements.{Contains-get_or}
 use Rattle.std.proofs.lemmas.Map.Keys.{sorted_from_strictly_increasing, below_from_sorted}
 
 module _ {X : Type 0} where
@@ -62,41 +61,3 @@ number_missing xs x i up there search =
       | inl l ↦ omega (arith, apart.1 there.0 l, at_k)
       | inr l ↦ omega (arith, apart.2 there.0 l there.1, at_k)
     ]
-
--- more are added, one after the other
-pub added_in_turn : (before between after xs ys : List ℕ) → Adds before between xs → Adds between after ys → Adds before after (xs ++ ys)
-added_in_turn before between after xs ys first second id = (
-  λ h. elim ((second id).0 h) [
-    | inl among ↦ inl (Contains-append_right xs ys id among)
-    | inr was ↦ elim ((first id).0 was) [ inl among ↦ inl (Contains-append_left xs ys id among) | inr old ↦ inr old ]
-  ],
-  λ either. elim either [
-    | inl h ↦ elim (Contains-append_cases xs ys id h) [ inl among ↦ (second id).1 (inr ((first id).1 (inl among))) | inr among ↦ (second id).1 (inl among) ]
-    | inr old ↦ (second id).1 (inr ((first id).1 (inr old)))
-  ],
-)
-
--- one is added
-pub added_one : (before after : List ℕ) (a : ℕ) → ((id : ℕ) → Contains after id ↔ ((id ≡ a) ⊎ Contains before id)) → Adds before after (a ∷ [])
-added_one before after a only id = (
-  λ h. elim ((only id).0 h) [ inl e ↦ inl (Contains-here a [] id e) | inr old ↦ inr old ],
-  λ either. elim either [
-    | inl h ↦ elim (Contains-uncons a [] id h) [ inl e ↦ (only id).1 (inl e) | inr none ↦ Contains-none id none _ ]
-    | inr old ↦ (only id).1 (inr old)
-  ],
-)
-
-pub one_added : (before after : List ℕ) (a id : ℕ) → Adds before after (a ∷ []) → Contains after id ↔ ((id ≡ a) ⊎ Contains before id)
-one_added before after a id adds = (
-  λ h. elim ((adds id).0 h) [
-    | inl among ↦ elim (Contains-uncons a [] id among) [ inl e ↦ inl e | inr none ↦ Contains-none id none _ ]
-    | inr old ↦ inr old
-  ],
-  λ either. elim either [ inl e ↦ (adds id).1 (inl (Contains-here a [] id e)) | inr old ↦ (adds id).1 (inr old) ],
-)
-
--- where the last of a set is not there, it is empty, and stays so
-pub none_left : (old new : List ℕ) (r : Option ℕ) → ((id : ℕ) → r ≡ Some id → ⊥) → (IsSome r ↔ (0 < length old)) → IfNone r (new ≡ old) → (new ≡ old) × (new ≡ [])
-none_left [] new None none some same = (same, same)
-none_left (id ∷ ids) new None none some same = let there : IsSome {T = ℕ} None = some.1 (omega arith) in cc
-none_left old new (Some last) none some same = absurd (none last refl)

@@ -2,31 +2,36 @@
 
 ghost use Rattle.std.specs.Prelude.{◌≡◌, ◌<◌, ◌∷◌, [], All, Contains, OnOk, length, slice_get, slice_index};
 ghost use Rattle.std.specs.List.Sorted.{IsStrictlyIncreasing};
+ghost use Rattle.std.specs.BinaryHeap.{KeepsHeap, heap_items};
+ghost use Rattle.std.specs.Ordering.{nat_cmp};
 ghost use Rattle.query_pick.specs.Operands.{operands, renamed, Adds};
 
 use bv_dag::Node;
 use std::alloc::AllocError as NoMemory;
-use std::collections::BTreeSet;
+use std::collections::BinaryHeap;
 
-// Adds a place to a set.
-fn add(places: &mut BTreeSet<usize>, id: usize) -> Result<(), NoMemory>
-    ensures { OnOk result (Adds places.old.keys places.new.keys (id ∷ [])) }
+// Adds a place to a heap.
+fn add(places: &mut BinaryHeap<usize>, id: usize) -> Result<(), NoMemory>
+    ensures adds { OnOk result (Adds (heap_items places.old) (heap_items places.new) (id ∷ [])) }
+    ensures ordered { OnOk result (KeepsHeap nat_cmp (heap_items places.old) (heap_items places.new)) }
 {
-    places.insert(id)?;
+    places.push(id)?;
     Ok(())
 }
 
-// Adds two places to a set.
-fn add_both(places: &mut BTreeSet<usize>, first: usize, second: usize) -> Result<(), NoMemory>
-    ensures { OnOk result (Adds places.old.keys places.new.keys (first ∷ second ∷ [])) }
+// Adds two places to a heap.
+fn add_both(places: &mut BinaryHeap<usize>, first: usize, second: usize) -> Result<(), NoMemory>
+    ensures adds { OnOk result (Adds (heap_items places.old) (heap_items places.new) (first ∷ second ∷ [])) }
+    ensures ordered { OnOk result (KeepsHeap nat_cmp (heap_items places.old) (heap_items places.new)) }
 {
     add(places, first)?;
     add(places, second)
 }
 
-/// Adds the operands of a node to a set of places.
-pub(crate) fn add_operands(places: &mut BTreeSet<usize>, node: Node) -> Result<(), NoMemory>
-    ensures { OnOk result (Adds places.old.keys places.new.keys (operands node)) }
+/// Adds the operands of a node to a heap of places.
+pub(crate) fn add_operands(places: &mut BinaryHeap<usize>, node: Node) -> Result<(), NoMemory>
+    ensures adds { OnOk result (Adds (heap_items places.old) (heap_items places.new) (operands node)) }
+    ensures ordered { OnOk result (KeepsHeap nat_cmp (heap_items places.old) (heap_items places.new)) }
 {
     match node {
         Node::Num { .. } => Ok(()),

@@ -3,10 +3,13 @@
 //! - `words`: the words of the command line
 //! - `questions`: the questions, with their names
 //! - `ordering`, `parsing`, `checksums`, `products`: what each question asks, as firmware would come to it
+//! - `small`: questions over one and two bytes
+//! - `asking`: questions that are asked term by term
 //! - `building`: terms, pushed where they fit
 //! - `printing`: formulas and logs as text
 #![tactic(auto)]
 
+mod asking;
 mod building;
 mod checksums;
 mod ordering;
@@ -14,21 +17,34 @@ mod parsing;
 mod printing;
 mod products;
 mod questions;
+mod small;
 mod words;
 
+use crate::asking::{Ended, ask_in_turn};
 use crate::printing::{count_variables, write_formula, write_log};
 use crate::questions::{QUESTIONS, Question};
+use crate::small::{byte_is, sum_is};
 use crate::words::{Job, read_job};
 use anyhow::{Result, bail};
 use bit_blast::{bytes_of, clauses};
+use bv_dag::Query;
 use cdcl_core::{Answer, search};
 use cnf_form::Log;
+use query_front::Shared;
 use std::alloc::Global;
 use std::io::{BufWriter, Write};
 use std::rt::Env;
+use std::sync::Wait;
 use std::{env, io};
 
-const USAGE: &str = "names | clauses NAME | formula NAME | search BUDGET NAME.. | log BUDGET NAME";
+const USAGE: &str =
+    "names | clauses NAME | formula NAME | search BUDGET NAME.. | log BUDGET NAME | ask BUDGET ROUNDS NAME.. | ask-small ROUNDS";
+
+/// More clauses than a question over two bytes needs.
+const BUDGET: u32 = 2000;
+
+/// Small questions ask for each number below this one: more of them than a byte is, and than some sums are.
+const VALUES: u32 = 300;
 
 // The name of each question.
 fn print_names(rt: &impl Print) -> Result<()> {
@@ -110,6 +126,58 @@ fn print_log<R: Print + AllocGlobal>(rt: &R, budget: u32, question: Question) ->
     Ok(())
 }
 
+// How many questions ended in each way, and by what they were answered: a question that was asked in turn was answered once
+// for each of its terms.
+fn print_ends(rt: &impl Print, shared: &Shared, ends: &[Ended]) -> Result<()> {
+    let counted = |end: Ended| ends.iter().filter(|e| **e == end).count();
+    let counts = shared.counts();
+    println!(rt;
+        "found {} refuted {} spent {} cached {} sampled {} decided {}",
+        counted(Ended::Found),
+        counted(Ended::Refuted),
+        counted(Ended::Spent),
+        counts.cached,
+        counts.sampled,
+        counts.decided
+    )?;
+    Ok(())
+}
+
+fn ask_questions<R: Print + AllocGlobal + Wait>(
+    rt: &R,
+    budget: u32,
+    rounds: u32,
+    questions: &[Query],
+) -> Result<()> {
+    let alloc = rt.alloc();
+    let shared = Shared::new(alloc)?;
+    let mut ends = Vec::new(alloc);
+    for _ in 0..rounds {
+        for question in questions {
+            ends.push(ask_in_turn(rt, alloc, &shared, question, budget)?)?;
+        }
+    }
+    print_ends(rt, &shared, &ends)
+}
+
+fn queries_of(alloc: Global, questions: &[Question]) -> Result<Vec<Query>> {
+    let mut queries = Vec::new(alloc);
+    for question in questions {
+        queries.push(question.query(alloc)?)?;
+    }
+    Ok(queries)
+}
+
+// A question over one byte and one over two for each number up to this one.
+fn small_queries(alloc: Global, values: u32) -> Result<Vec<Query>> {
+    let mut queries = Vec::new(alloc);
+    for value in 0..values {
+        queries.push(byte_is(alloc, value)?)?;
+        queries.push(sum_is(alloc, value)?)?;
+    }
+    Ok(queries)
+}
+
 // The words behind the name of the program.
 fn gather<R: Env + AllocGlobal>(rt: &R) -> io::Result<Vec<String>> {
     let mut words = Vec::new(rt.alloc());
@@ -127,6 +195,12 @@ fn main(rt: HostRuntime) -> Result<()> {
         Some(Job::Formula(question)) => print_formula(&rt, question),
         Some(Job::Search(budget, questions)) => print_answers(&rt, budget, &questions),
         Some(Job::Log(budget, question)) => print_log(&rt, budget, question),
+        Some(Job::Ask(budget, rounds, questions)) => {
+            ask_questions(&rt, budget, rounds, &queries_of(rt.alloc(), &questions)?)
+        }
+        Some(Job::AskSmall(rounds)) => {
+            ask_questions(&rt, BUDGET, rounds, &small_queries(rt.alloc(), VALUES)?)
+        }
         None => bail!("the words are one of: {USAGE}"),
     }
 }

@@ -16,6 +16,10 @@ pub enum Job {
     Search(u32, Vec<Question>),
     /// The log of a search with this budget.
     Log(u32, Question),
+    /// What decides questions that are asked term by term with this budget, so many times.
+    Ask(u32, u32, Vec<Question>),
+    /// The same of questions over one and two bytes.
+    AskSmall(u32),
 }
 
 // The questions of these names, or none where one names no question.
@@ -43,6 +47,19 @@ fn log_job(budget: &str, name: &str) -> Option<Job> {
     Some(Job::Log(budget, Question::from_name(name)?))
 }
 
+fn ask_job(
+    alloc: Global,
+    budget: &str,
+    rounds: &str,
+    names: &[String],
+) -> Result<Option<Job>, NoMemory> {
+    let (Ok(budget), Ok(rounds)) = (budget.parse::<u32>(), rounds.parse::<u32>()) else {
+        return Ok(None);
+    };
+    let questions = questions_of(alloc, names)?;
+    Ok(questions.map(|questions| Job::Ask(budget, rounds, questions)))
+}
+
 /// The job of the words, or none.
 pub fn read_job(alloc: Global, words: &[String]) -> Result<Option<Job>, NoMemory> {
     let Some(command) = words.first() else {
@@ -54,6 +71,8 @@ pub fn read_job(alloc: Global, words: &[String]) -> Result<Option<Job>, NoMemory
         ("formula", [name]) => Ok(Question::from_name(name).map(Job::Formula)),
         ("search", [budget, names @ ..]) => search_job(alloc, budget, names),
         ("log", [budget, name]) => Ok(log_job(budget, name)),
+        ("ask", [budget, rounds, names @ ..]) => ask_job(alloc, budget, rounds, names),
+        ("ask-small", [rounds]) => Ok(rounds.parse::<u32>().ok().map(Job::AskSmall)),
         _ => Ok(None),
     }
 }

@@ -1,5 +1,4 @@
-use Rattle.std.proofs.Common.{arith, ap, refl, sym, ◌∙◌}
-use Rattle.sym_state.specs.declared.decided.Decided.TheVariants.{Side}
+use Rattle.std.proofs.Common.{arith}
 use Rattle.node_split.proofs.Branching.{yes_narrower}
 use Rattle.node_split.proofs.branch.yes_side.Goals as goal
 

@@ -2,7 +2,7 @@ use Rattle.std.proofs.Common.{subst, sym}
 use Rattle.std.specs.Prelude.{None}
 use Rattle.fork_spec.specs.declared.end.LeafEnd.TheVariants.{Exits}
 use Rattle.sym_machine.proofs.Standing.{IsGrown-trans}
-use Rattle.node_split.proofs.Leaving.{IsStatus, ends_as, exited_whole, first_there, full-left, full_as, leaf_ok, left_part, status_picked, status_there, terms_before}
+use Rattle.node_split.proofs.Leaving.{IsStatus, ends_as, exited_whole, full-left, full_as, leaf_ok, left_part, status_picked, status_there, terms_before}
 use Rattle.node_split.proofs.finish.exited.Goals as goal
 
 pub leaf_terms-requires : goal.leaf_terms-requires

@@ -1,4 +1,3 @@
-use Rattle.std.proofs.Common.{arith}
 use Rattle.node_split.proofs.Pinning.{value_narrower}
 use Rattle.node_split.proofs.pin.value_side.Goals as goal
 

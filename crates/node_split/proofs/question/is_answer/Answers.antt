@@ -1,14 +1,10 @@
 use Rattle.std.proofs.Common.{arith}
-use Rattle.bv_dag.proofs.TermLaws.{asserted_there, among_values}
-use Rattle.node_split.proofs.Asking.{answers_by_words}
+use Rattle.bv_dag.proofs.TermLaws.{there}
+use Rattle.node_split.proofs.Evaluating.{none_first}
 use Rattle.node_split.proofs.question.is_answer.Goals as goal
 
-pub is_met-requires-clause-condition : goal.is_met-requires-clause-condition
-is_met-requires-clause-condition c = rw c.deref.ensures.value (asserted_there c.args.terms.now c.args.condition.now _ _ c.requires.bits c.in_ok-words.ensures)
+pub are_met-requires-clause-first : goal.are_met-requires-clause-first
+are_met-requires-clause-first c = none_first c.args.terms.now c.args.input.now c.in_ok-words.words.items c.in_ok-words.ensures.items
 
-pub is_met-requires-clause-term : goal.is_met-requires-clause-term
-is_met-requires-clause-term c = rw c.deref.ensures.value (among_values c.args.terms.now c.args.term 1 c.args.input.now _ c.requires.bit (omega arith) c.in_ok-words.ensures)
-
-pub returns : goal.returns
-returns c = answers_by_words c.args.terms.now c.args.condition.now c.args.term c.args.side c.args.input.now _ c.is_met.result c.requires.each_input c.in_ok-words.ensures
-    (rw c.deref.ensures.value at c.is_met.ensures)
+pub is_one-requires-clause-there : goal.is_one-requires-clause-there
+is_one-requires-clause-there c = there c.args.terms.now c.args.term 1 c.requires.bit (omega arith)

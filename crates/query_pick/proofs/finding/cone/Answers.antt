@@ -1,38 +1,51 @@
-use Rattle.std.proofs.Common.{List, ℕ, sym, inl, subst}
-use Rattle.std.specs.Prelude.{Contains}
-use Rattle.std.proofs.lemmas.List.Elements.{Contains-push}
-use Rattle.query_pick.proofs.Sets.{Contains-collected, Contains-inserted, below_last}
-use Rattle.query_pick.proofs.Lists.{none_left}
-use Rattle.query_pick.proofs.Searching.{IsSearched, searched_first, searched_more, bound_of-less, searched}
+use Rattle.std.proofs.Common.{◌<◌, List, ℕ, length, reverse, sym, subst}
+use Rattle.std.specs.BinaryHeap.{heap_items}
+use Rattle.std.proofs.lemmas.List.Sorted.{le_from_greatest}
+use Rattle.query_pick.specs.Cones.{IsCone}
+use Rattle.query_pick.proofs.Heaps.{below_found, found_before, none_left, reverse-push}
+use Rattle.query_pick.proofs.Searching.{IsSearched, left_of, left_of-more, searched_all, searched_before, searched_first, searched_more, taken_not_above, taken_there}
 use Rattle.query_pick.proofs.finding.cone.Goals as goal
 
 pub loop-id-init : goal.loop-id-init
-loop-id-init g c =
-    subst (λ (found : List ℕ). IsSearched (g.T.Table.graph c.args.terms.now) c.args.tops.now c.in_ok-pending.pending.keys found) (sym c.new-found.ensures.empty)
-    (searched_first (g.T.Table.graph c.args.terms.now) c.args.tops.now c.in_ok-pending.pending.keys c.requires (λ id. Contains-collected c.args.tops.now c.in_ok-pending.pending id c.in_ok-pending.ensures))
+loop-id-init g c = (
+  c.in_ok-pending.ensures.ordered,
+  subst (λ (found : List ℕ). IsSearched (g.T.Table.graph c.args.terms.now) c.args.tops.now (heap_items c.in_ok-pending.pending) (reverse found)) (sym c.new-found.ensures.items)
+      (searched_first (g.T.Table.graph c.args.terms.now) c.args.tops.now (heap_items c.in_ok-pending.pending) c.requires c.in_ok-pending.ensures.same),
+)
 
 pub node-requires : goal.node-requires
-node-requires g c =
-    c.loop-id.invariant.there c.in-Some.id
-    (inl (subst (λ (ks : List ℕ). Contains ks c.in-Some.id) (sym c.in-Some.ensures.removal) (Contains-push c.pop_last.new.self.keys c.in-Some.id)))
+node-requires g c = taken_there (g.T.Table.graph c.args.terms.now) c.args.tops.now (heap_items c.loop-id.pending) (heap_items c.pop.new.self) (reverse c.loop-id.found.items) c.in-Some.id c.in-Some.ensures.permutation c.loop-id.invariant.1
 
-pub loop-id-smaller : goal.loop-id-smaller
-loop-id-smaller g c =
-    bound_of-less (g.T.Table.graph c.args.terms.now) c.loop-id.pending.keys c.pop_last.new.self.keys c.add_operands.new.places.keys c.in-Some.id c.node.result
-    c.node.ensures.fit c.node.ensures.is c.in-Some.ensures.removal
-    (below_last c.pop_last.new.self.keys c.in-Some.id c.in-Some.ensures.all_below)
-    c.in_ok-add_operands.ensures
+pub loop-id-smaller-in-Continue-branch-3 : goal.loop-id-smaller-in-Continue-branch-3
+loop-id-smaller-in-Continue-branch-3 g c =
+    subst (λ (found : List ℕ). left_of (g.T.Table.graph c.args.terms.now) (heap_items c.add_operands.new.places) found < left_of (g.T.Table.graph c.args.terms.now) (heap_items c.loop-id.pending) (reverse c.loop-id.found.items))
+    (sym (reverse-push c.loop-id.found.items c.push.new.self.items c.in-Some.id c.in_ok-push.ensures.items))
+    (left_of-more (g.T.Table.graph c.args.terms.now) c.args.tops.now (heap_items c.loop-id.pending) (heap_items c.pop.new.self) (reverse c.loop-id.found.items) c.in-Some.id c.in-Some.ensures.permutation c.loop-id.invariant.1
+    (heap_items c.add_operands.new.places) c.node.result c.node.ensures.fit c.node.ensures.is
+    (le_from_greatest c.in-Some.id (heap_items c.loop-id.pending) (c.in-Some.ensures.heap_order c.loop-id.invariant.0).1)
+    (below_found c.loop-id.found.items c.deref.result.now c.in-Some.id (length (g.T.Table.graph c.args.terms.now).nodes) c.is_last.result c.deref.ensures.value c.is_last.ensures c.if-not-is_last.true (taken_there (g.T.Table.graph c.args.terms.now) c.args.tops.now (heap_items c.loop-id.pending) (heap_items c.pop.new.self) (reverse c.loop-id.found.items) c.in-Some.id c.in-Some.ensures.permutation c.loop-id.invariant.1) (taken_not_above (g.T.Table.graph c.args.terms.now) c.args.tops.now (heap_items c.loop-id.pending) (heap_items c.pop.new.self) (reverse c.loop-id.found.items) c.in-Some.id c.in-Some.ensures.permutation c.loop-id.invariant.1))
+    c.in_ok-add_operands.ensures.adds)
+
+pub loop-id-preserved-in-Continue-branch-3 : goal.loop-id-preserved-in-Continue-branch-3
+loop-id-preserved-in-Continue-branch-3 g c = (
+  c.in_ok-add_operands.ensures.ordered (c.in-Some.ensures.heap_order c.loop-id.invariant.0).0,
+  subst (λ (found : List ℕ). IsSearched (g.T.Table.graph c.args.terms.now) c.args.tops.now (heap_items c.add_operands.new.places) found)
+      (sym (reverse-push c.loop-id.found.items c.push.new.self.items c.in-Some.id c.in_ok-push.ensures.items))
+      (searched_more (g.T.Table.graph c.args.terms.now) c.args.tops.now (heap_items c.loop-id.pending) (heap_items c.pop.new.self) (reverse c.loop-id.found.items) c.in-Some.id c.in-Some.ensures.permutation c.loop-id.invariant.1
+      (heap_items c.add_operands.new.places) c.node.result c.node.ensures.fit c.node.ensures.is
+      (le_from_greatest c.in-Some.id (heap_items c.loop-id.pending) (c.in-Some.ensures.heap_order c.loop-id.invariant.0).1)
+      (below_found c.loop-id.found.items c.deref.result.now c.in-Some.id (length (g.T.Table.graph c.args.terms.now).nodes) c.is_last.result c.deref.ensures.value c.is_last.ensures c.if-not-is_last.true (taken_there (g.T.Table.graph c.args.terms.now) c.args.tops.now (heap_items c.loop-id.pending) (heap_items c.pop.new.self) (reverse c.loop-id.found.items) c.in-Some.id c.in-Some.ensures.permutation c.loop-id.invariant.1) (taken_not_above (g.T.Table.graph c.args.terms.now) c.args.tops.now (heap_items c.loop-id.pending) (heap_items c.pop.new.self) (reverse c.loop-id.found.items) c.in-Some.id c.in-Some.ensures.permutation c.loop-id.invariant.1))
+      c.in_ok-add_operands.ensures.adds),
+)
 
 pub loop-id-preserved : goal.loop-id-preserved
-loop-id-preserved g c =
-    searched_more (g.T.Table.graph c.args.terms.now) c.args.tops.now c.loop-id.pending.keys c.pop_last.new.self.keys c.add_operands.new.places.keys c.loop-id.found.keys c.insert.new.self.keys c.in-Some.id c.node.result
-    c.node.ensures.fit c.node.ensures.is c.in-Some.ensures.removal
-    (λ k. Contains-inserted c.loop-id.found c.insert.new.self c.in-Some.id k c.in_ok-insert.ensures.updates)
-    c.in_ok-add_operands.ensures c.loop-id.invariant
+loop-id-preserved g c = (
+  (c.in-Some.ensures.heap_order c.loop-id.invariant.0).0,
+  searched_before (g.T.Table.graph c.args.terms.now) c.args.tops.now (heap_items c.loop-id.pending) (heap_items c.pop.new.self) (reverse c.loop-id.found.items) c.in-Some.id c.in-Some.ensures.permutation c.loop-id.invariant.1
+      (found_before c.loop-id.found.items c.deref.result.now c.in-Some.id c.deref.ensures.value (c.is_last.ensures.0 c.if-not-is_last.false)),
+)
 
 pub returns : goal.returns
 returns g c =
-    let left = none_left c.loop-id.pending.keys c.pop_last.new.self.keys c.pop_last.result c.in_default.not-Some c.pop_last.ensures.variant c.pop_last.ensures.unchanged in
-    searched (g.T.Table.graph c.args.terms.now) c.args.tops.now c.pop_last.new.self.keys c.loop-id.found.keys c.places_of.result left.1
-    c.places_of.ensures.same c.places_of.ensures.ordered
-    (subst (λ (pending : List ℕ). IsSearched (g.T.Table.graph c.args.terms.now) c.args.tops.now pending c.loop-id.found.keys) (sym left.0) c.loop-id.invariant)
+    subst (λ (places : List ℕ). IsCone (g.T.Table.graph c.args.terms.now) c.args.tops.now places) (sym c.reverse.ensures.items)
+    (searched_all (g.T.Table.graph c.args.terms.now) c.args.tops.now (heap_items c.loop-id.pending) (reverse c.loop-id.found.items) (none_left (heap_items c.loop-id.pending) c.loop-id.pending.data.len c.pop.result c.loop-id.pending.data.ok.0 c.in_default.not-Some c.pop.ensures.variant) c.loop-id.invariant.1)

@@ -1,0 +1,57 @@
+//! A question with its answer.
+
+ghost use Rattle.std.specs.Prelude.{◌≡◌};
+
+use crate::satisfiability::Satisfiability;
+use bv_dag::Query;
+use std::marker::Model;
+
+/// A question with an answer that is true of it.
+#[derive(Debug, Drop)]
+pub struct Solved {
+    query: Query,
+    answer: Satisfiability,
+}
+
+impl Model for Solved {
+    ghost use Rattle.query_cache.specs.Answers.{Answered, IsAnswer};
+
+    ghost Value = { Answered };
+
+    ghost view = { λ s. record { query = s.query; answer = s.answer } };
+
+    ghost invariant = { λ s. IsAnswer s.query s.answer };
+}
+
+impl Solved {
+    ghost use Rattle.query_cache.specs.Answers.{IsAnswer};
+
+    pub fn new(query: Query, answer: Satisfiability) -> Solved
+        requires { IsAnswer query answer }
+        ensures { result ≡ record { query = query; answer = answer } }
+    {
+        Solved { query, answer }
+    }
+
+    pub fn query(&self) -> &Query
+        ensures { result.now ≡ self.now.query }
+    {
+        &self.query
+    }
+
+    pub fn answer(&self) -> &Satisfiability
+        ensures value { result.now ≡ self.now.answer }
+        ensures right { IsAnswer self.now.query self.now.answer }
+    {
+        &self.answer
+    }
+
+    /// The question and its answer, each on its own.
+    pub fn into_parts(self) -> (Query, Satisfiability)
+        ensures query { result.0 ≡ self.query }
+        ensures answer { result.1 ≡ self.answer }
+        ensures right { IsAnswer result.0 result.1 }
+    {
+        (self.query, self.answer)
+    }
+}

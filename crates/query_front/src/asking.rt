@@ -1,0 +1,107 @@
+//! Asking a question.
+
+ghost use Rattle.std.specs.Prelude.{◌≡◌, ℕ, true, IfOk, IfSome, length};
+ghost use Rattle.bv_dag.specs.Graphs.{width_of};
+ghost use Rattle.bv_dag.specs.Queries.{Condition, holds};
+ghost use Rattle.query_cache.specs.Answers.{IsAnswer};
+ghost use Rattle.query_front.specs.Asks.{IsAsked};
+ghost use Rattle.query_front.specs.Parts.{IsPart};
+ghost use Rattle.sym_state.specs.Symbolic.{condition_of};
+
+use crate::asked::Asked;
+use crate::part::part_of;
+use crate::shared::Shared;
+use bv_dag::Query;
+use query_cache::{Satisfiability, Solved};
+use query_decide::{Decision, decide};
+use query_slice::merge;
+use std::alloc::{AllocError as NoMemory, Global};
+use std::sync::Wait;
+use sym_state::{State, listed};
+use tool_io::Bytes;
+
+// An answer to a question that need not be decided: one that was given before, or a sample that meets it.
+fn known(
+    rt: &impl Wait,
+    alloc: Global,
+    shared: &Shared,
+    part: &Query,
+    sample: &Bytes,
+) -> Result<Option<Satisfiability>, NoMemory>
+    ensures { IfOk result (λ found. IfSome found (IsAnswer part.now)) }
+{
+    let found = shared.look(rt, alloc, part)?;
+    if found.is_some() {
+        return Ok(found);
+    }
+    match shared.sample(alloc, part, sample)? {
+        Some(input) => Ok(Some(Satisfiability::Sat(input))),
+        None => Ok(None),
+    }
+}
+
+// Decides a question that is the part of a condition which a sample meets, and keeps the answer.
+fn decided(
+    rt: &impl Wait,
+    alloc: Global,
+    shared: &Shared,
+    part: Query,
+    sample: &Bytes,
+    budget: u32,
+) -> Result<Asked, NoMemory>
+    requires { length sample.now ≡ part.graph.inputs }
+    ensures { IfOk result (λ asked. (q : Condition) (new : ℕ) → IsPart q new part → holds q sample.now ≡ true → IsAsked q new budget asked) }
+{
+    shared.count_decided();
+    match decide(alloc, &part, budget)? {
+        Decision::Sat(input) => {
+            let merged = merge(alloc, sample, &input, &part)?;
+            shared.offer(rt, alloc, &merged)?;
+            shared.keep(rt, Solved::new(part, Satisfiability::Sat(input)))?;
+            Ok(Asked::Sat(merged))
+        }
+        Decision::Unsat => {
+            shared.keep(rt, Solved::new(part, Satisfiability::Unsat))?;
+            Ok(Asked::Unsat)
+        }
+        Decision::Spent(log) => Ok(Asked::Spent(part, log)),
+    }
+}
+
+/// Whether a condition and one more term can hold, from the part that matters for the term, and from a sample that meets
+/// the condition. A question that needs a search may cost `budget` learnt clauses.
+pub fn ask_part(
+    rt: &impl Wait,
+    alloc: Global,
+    shared: &Shared,
+    part: Query,
+    sample: &Bytes,
+    budget: u32,
+) -> Result<Asked, NoMemory>
+    requires { length sample.now ≡ part.graph.inputs }
+    ensures { IfOk result (λ asked. (q : Condition) (new : ℕ) → IsPart q new part → holds q sample.now ≡ true → IsAsked q new budget asked) }
+{
+    match known(rt, alloc, shared, &part, sample)? {
+        Some(Satisfiability::Sat(input)) => Ok(Asked::Sat(merge(alloc, sample, &input, &part)?)),
+        Some(Satisfiability::Unsat) => Ok(Asked::Unsat),
+        None => decided(rt, alloc, shared, part, sample, budget),
+    }
+}
+
+/// Whether a run can go on where one more term is 1.
+pub fn ask(
+    rt: &impl Wait,
+    alloc: Global,
+    shared: &Shared,
+    state: &State,
+    new: usize,
+    budget: u32,
+) -> Result<Asked, NoMemory>
+    requires bit { width_of state.now.terms new ≡ 1 }
+    requires sampled { holds (condition_of state.now) state.now.sample ≡ true }
+    ensures { IfOk result (IsAsked (condition_of state.now) new budget) }
+{
+    let condition = listed(alloc, state.condition())?;
+    let part = part_of(alloc, state.terms(), condition, new)?;
+    ask_part(rt, alloc, shared, part, state.sample(), budget)
+}

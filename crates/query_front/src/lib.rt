@@ -1,0 +1,21 @@
+//! Questions about symbolic runs: whether a run can go on where one more term is 1. A question is cut to the part that
+//! matters for the term, looked for among those that were answered before, tried on samples, and only then decided.
+//!
+//! - `asked`: what is answered
+//! - `shared`: the answers and samples that workers share
+//! - `part`: the part of a question that matters
+//! - `asking`: `ask`
+#![tactic(auto)]
+
+mod asked;
+mod asking;
+mod part;
+mod shared;
+
+pub use asked::Asked;
+pub use asking::{ask, ask_part};
+pub use part::part_of;
+pub use shared::{Counts, Shared};
+
+#[cfg(test)]
+mod tests;

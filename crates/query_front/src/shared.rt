@@ -1,0 +1,122 @@
+//! What workers share: the questions that were answered, and samples that met one.
+
+ghost use Rattle.std.specs.Prelude.{◌≡◌, true, IfOk, IfSome};
+ghost use Rattle.bv_dag.specs.Queries.{holds};
+ghost use Rattle.query_cache.specs.Answers.{IsAnswer};
+
+use bv_dag::Query;
+use model_pool::Pool;
+use query_cache::{Cache, Satisfiability, Solved};
+use std::alloc::{AllocError as NoMemory, Global};
+use std::sync::atomic::{AtomicU64, Ordering};
+use std::sync::{Mutex, Wait};
+use tool_io::Bytes;
+
+/// How many questions were answered by each means.
+#[derive(Clone, Copy, Debug, PartialEq, Eq)]
+pub struct Counts {
+    /// They had been answered before.
+    pub cached: u64,
+    /// A sample met them.
+    pub sampled: u64,
+    /// They were decided, or their budget was spent.
+    pub decided: u64,
+}
+
+/// Answers, each true of its question, and samples. Threads look through them and add to them behind a `&`.
+#[derive(Drop)]
+pub struct Shared {
+    answers: Mutex<Cache>,
+    samples: Pool,
+    cached: AtomicU64,
+    sampled: AtomicU64,
+    decided: AtomicU64,
+}
+
+// Counts one more.
+fn count(counter: &AtomicU64) {
+    counter.fetch_add(1, Ordering::SeqCst);
+}
+
+impl Shared {
+    /// No answers and no samples yet.
+    pub fn new(alloc: Global) -> Result<Shared, NoMemory> {
+        Ok(Shared {
+            answers: Mutex::new(Cache::new(alloc)),
+            samples: Pool::new(alloc)?,
+            cached: AtomicU64::new(0),
+            sampled: AtomicU64::new(0),
+            decided: AtomicU64::new(0),
+        })
+    }
+
+    /// How many questions were answered so far, by each means.
+    pub fn counts(&self) -> Counts {
+        Counts {
+            cached: self.cached.load(Ordering::SeqCst),
+            sampled: self.sampled.load(Ordering::SeqCst),
+            decided: self.decided.load(Ordering::SeqCst),
+        }
+    }
+
+    /// A copy of the answer to a question, where it was answered before.
+    pub(crate) fn look(
+        &self,
+        rt: &impl Wait,
+        alloc: Global,
+        query: &Query,
+    ) -> Result<Option<Satisfiability>, NoMemory>
+        ensures { IfOk result (λ found. IfSome found (IsAnswer query.now)) }
+    {
+        let answers = self.answers.lock(rt);
+        match answers.get(query) {
+            Some(answer) => {
+                count(&self.cached);
+                Ok(Some(answer.copy(alloc)?))
+            }
+            None => Ok(None),
+        }
+    }
+
+    /// A copy of a sample that meets a question, this one or one of the pool.
+    pub(crate) fn sample(
+        &self,
+        alloc: Global,
+        query: &Query,
+        sample: &Bytes,
+    ) -> Result<Option<Bytes>, NoMemory>
+        ensures { IfOk result (λ found. IfSome found (λ input. holds query.now input ≡ true)) }
+    {
+        if query.holds(alloc, sample.as_slice())? {
+            count(&self.sampled);
+            return Ok(Some(Bytes::from_slice(alloc, sample.as_slice())?));
+        }
+        let found = self.samples.find(alloc, query)?;
+        if found.is_some() {
+            count(&self.sampled);
+        }
+        Ok(found)
+    }
+
+    /// Counts a question that has to be decided.
+    pub(crate) fn count_decided(&self) {
+        count(&self.decided);
+    }
+
+    /// Keeps an answer for when its question is asked again.
+    pub(crate) fn keep(&self, rt: &impl Wait, solved: Solved) -> Result<(), NoMemory> {
+        let mut answers = self.answers.lock(rt);
+        answers.put(solved)
+    }
+
+    /// Offers a copy of a sample to the pool.
+    pub(crate) fn offer(
+        &self,
+        rt: &impl Wait,
+        alloc: Global,
+        sample: &Bytes,
+    ) -> Result<(), NoMemory> {
+        let copy = Bytes::from_slice(alloc, sample.as_slice())?;
+        self.samples.offer(rt, copy)
+    }
+}

@@ -1,0 +1,11 @@
+pub mod Firsts
+pub mod Labels
+pub mod Joining
+pub mod Under
+pub mod Links
+pub mod Walked
+pub mod Reached
+pub mod Merged
+pub mod Kept
+pub mod SliceTrees
+pub mod Asked
