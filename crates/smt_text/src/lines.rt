@@ -1,14 +1,18 @@
 //! The lines of a leaf's text of each kind.
 
-ghost use Rattle.std.specs.Prelude.{◌≡◌, IfOk, map, string_bytes};
+ghost use Rattle.std.specs.Prelude.{◌≡◌, ◌++◌, IfOk, OnOk, map, string_bytes};
 ghost use Rattle.smt_text.specs.LeafLines as spec;
 ghost use Rattle.smt_text.specs.Lines.{AssertLine, InputLine, NodeLine, OutputLine, line_text, lines_text};
 
-use crate::node_text::node_string;
+use crate::node_text::write_node;
+use crate::numbered::push_numbered;
 use bv_dag::{Dag, Node};
 use fork_spec::LeafEnd;
 use itoa::Buffer;
 use std::alloc::{AllocError as NoMemory, Global};
+
+/// The room that is made for the line of a term, which most lines fit in.
+const BYTES_A_TERM: usize = 64;
 
 /// The line of an input.
 fn input_line(alloc: Global, i: usize) -> Result<String, NoMemory>
@@ -31,24 +35,24 @@ pub fn input_lines(alloc: Global, inputs: usize) -> Result<String, NoMemory>
     Ok(lines)
 }
 
-/// The line of a term, by its place and width.
-fn node_line(alloc: Global, id: usize, width: u32, node: Node) -> Result<String, NoMemory>
-    ensures { IfOk result (λ line. string_bytes line ≡ line_text (NodeLine id width node)) }
+/// Appends the line of a term, by its place and width.
+fn write_node_line(text: &mut String, id: usize, width: u32, node: Node) -> Result<(), NoMemory>
+    ensures ok { OnOk result (string_bytes text.new ≡ string_bytes text.old ++ line_text (NodeLine id width node)) }
 {
-    let (mut place, mut bits) = (Buffer::new(), Buffer::new());
-    let (id, width) = (place.format(id), bits.format(width));
-    let term = node_string(alloc, node)?;
-    format!(in alloc; "(define-fun n{id} () (_ BitVec {width}) {term})\n")
+    push_numbered(text, "(define-fun n", id)?;
+    push_numbered(text, " () (_ BitVec ", width)?;
+    text.push_str(") ")?;
+    write_node(text, node)?;
+    text.push_str(")\n")
 }
 
 /// A line for each term.
 pub fn node_lines(alloc: Global, dag: &Dag) -> Result<String, NoMemory>
     ensures { IfOk result (λ lines. string_bytes lines ≡ lines_text (spec.node_lines dag.now)) }
 {
-    let mut lines = String::new(alloc);
+    let mut lines = String::with_capacity(alloc, dag.len().saturating_mul(BYTES_A_TERM))?;
     for (id, node) in dag.nodes().iter().enumerate() {
-        let line = node_line(alloc, id, dag.width_of(id), *node)?;
-        lines.push_str(&line)?;
+        write_node_line(&mut lines, id, dag.width_of(id), *node)?;
     }
     Ok(lines)
 }
