@@ -3,10 +3,10 @@ use Rattle.bv_dag.specs.Graphs.{width_of}
 use Rattle.bv_dag.specs.declared.nodes.Node.TheVariants.{Num}
 use Rattle.smt_text.specs.Lines.{NodeLine, line_text}
 use Rattle.smt_text.proofs.TextLines.{no_lines, numbered_step, pushed}
-use Rattle.smt_text.proofs.lines.node_lines.Goals as goal
+use Rattle.smt_text.proofs.lines.write_node_lines.Goals as goal
 
 pub loop-id-init : goal.loop-id-init
-loop-id-init c = no_lines _ c.in_ok-lines.ensures.bytes
+loop-id-init c = no_lines _ _ c.in_ok-reserve.ensures.bytes
 
 pub loop-id-preserved : goal.loop-id-preserved
 loop-id-preserved c =
@@ -19,4 +19,4 @@ loop-id-preserved c =
     in
     let there : id < length graph.nodes =
     rw c.nodes-node-items.ensures.value at c.loop-id-test.true in
-    numbered_step (λ (id, node). NodeLine id (width_of graph id) node) graph.nodes id (Num 0 0) _ _ there c.loop-id.invariant (pushed _ _ _ _ c.in_ok-write_node_line.ensures.ok line)
+    numbered_step (λ (id, node). NodeLine id (width_of graph id) node) graph.nodes id (Num 0 0) _ _ _ there c.loop-id.invariant (pushed _ _ _ _ c.in_ok-write_node_line.ensures.ok line)
