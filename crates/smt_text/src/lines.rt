@@ -1,4 +1,4 @@
-//! The lines of a leaf's text of each kind.
+//! Appending the lines of a leaf's text of each kind. After an error a part of them may stand there.
 
 ghost use Rattle.std.specs.Prelude.{◌≡◌, ◌++◌, OnOk, map, string_bytes};
 ghost use Rattle.smt_text.specs.LeafLines as spec;

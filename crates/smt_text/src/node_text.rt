@@ -1,4 +1,4 @@
-//! The text of a term.
+//! Appending the text of a term. After an error a part of it may stand there.
 
 ghost use Rattle.std.specs.Prelude.{◌≡◌, ◌++◌, OnOk, string_bytes};
 ghost use Rattle.smt_text.specs.NodeText.{binary_name, comparison_name, extension_name, node_text};

@@ -1,4 +1,4 @@
-//! Words with numbers behind them.
+//! Appending a word and the number behind it. After an error a part of them may stand there.
 
 ghost use Rattle.std.specs.Prelude.{◌≡◌, ◌++◌, OnOk, codes, string_bytes};
 
