@@ -6,6 +6,7 @@ mod leaf;
 mod lines;
 mod names;
 mod node_text;
+mod numbered;
 mod printing;
 #[cfg(test)]
 mod tests;

@@ -1,11 +1,11 @@
-//! The text of a term.
+//! Appending the text of a term. After an error a part of it may stand there.
 
-ghost use Rattle.std.specs.Prelude.{◌≡◌, IfOk, string_bytes};
+ghost use Rattle.std.specs.Prelude.{◌≡◌, ◌++◌, OnOk, string_bytes};
 ghost use Rattle.smt_text.specs.NodeText.{binary_name, comparison_name, extension_name, node_text};
 
+use crate::numbered::{push_closed, push_numbered};
 use bv_dag::{BinaryOp, Comparison, Node};
-use itoa::Buffer;
-use std::alloc::{AllocError as NoMemory, Global};
+use std::alloc::AllocError as NoMemory;
 
 /// The name of an operation.
 fn name_of_binary(op: BinaryOp) -> &'static str
@@ -44,58 +44,54 @@ fn name_of_extension(signed: bool) -> &'static str
     if signed { "sign_extend" } else { "zero_extend" }
 }
 
-/// The term of a node, whose operands are named by their places.
-pub fn node_string(alloc: Global, node: Node) -> Result<String, NoMemory>
-    ensures { IfOk result (λ text. string_bytes text ≡ node_text node) }
+/// Appends the term of a node, whose operands are named by their places.
+pub fn write_node(text: &mut String, node: Node) -> Result<(), NoMemory>
+    ensures ok { OnOk result (string_bytes text.new ≡ string_bytes text.old ++ node_text node) }
 {
-    let (mut first, mut second, mut third) = (Buffer::new(), Buffer::new(), Buffer::new());
     match node {
         Node::Num { width, value } => {
-            let (value, width) = (first.format(value), second.format(width));
-            format!(in alloc; "(_ bv{value} {width})")
+            push_numbered(text, "(_ bv", value)?;
+            push_closed(text, " ", width)
         }
-        Node::Input(index) => {
-            let index = first.format(index);
-            format!(in alloc; "b{index}")
-        }
-        Node::Not(a) => {
-            let a = first.format(a);
-            format!(in alloc; "(bvnot n{a})")
-        }
-        Node::Neg(a) => {
-            let a = first.format(a);
-            format!(in alloc; "(bvneg n{a})")
-        }
+        Node::Input(index) => push_numbered(text, "b", index),
+        Node::Not(a) => push_closed(text, "(bvnot n", a),
+        Node::Neg(a) => push_closed(text, "(bvneg n", a),
         Node::Binary(op, a, b) => {
-            let (name, a, b) = (name_of_binary(op), first.format(a), second.format(b));
-            format!(in alloc; "({name} n{a} n{b})")
+            text.push_str("(")?;
+            text.push_str(name_of_binary(op))?;
+            push_numbered(text, " n", a)?;
+            push_closed(text, " n", b)
         }
         Node::Compare(op, a, b) => {
-            let (name, a, b) = (name_of_comparison(op), first.format(a), second.format(b));
-            format!(in alloc; "(ite ({name} n{a} n{b}) (_ bv1 1) (_ bv0 1))")
+            text.push_str("(ite (")?;
+            text.push_str(name_of_comparison(op))?;
+            push_numbered(text, " n", a)?;
+            push_numbered(text, " n", b)?;
+            text.push_str(") (_ bv1 1) (_ bv0 1))")
         }
         Node::Ite { condition, yes, no } => {
-            let condition = first.format(condition);
-            let (yes, no) = (second.format(yes), third.format(no));
-            format!(in alloc; "(ite (= n{condition} (_ bv1 1)) n{yes} n{no})")
+            push_numbered(text, "(ite (= n", condition)?;
+            push_numbered(text, " (_ bv1 1)) n", yes)?;
+            push_closed(text, " n", no)
         }
         Node::Extract { high, low, operand } => {
-            let (high, low) = (first.format(high), second.format(low));
-            let operand = third.format(operand);
-            format!(in alloc; "((_ extract {high} {low}) n{operand})")
+            push_numbered(text, "((_ extract ", high)?;
+            push_numbered(text, " ", low)?;
+            push_closed(text, ") n", operand)
         }
         Node::Extend {
             by,
             signed,
             operand,
         } => {
-            let (by, operand) = (first.format(by), second.format(operand));
-            let name = name_of_extension(signed);
-            format!(in alloc; "((_ {name} {by}) n{operand})")
+            text.push_str("((_ ")?;
+            text.push_str(name_of_extension(signed))?;
+            push_numbered(text, " ", by)?;
+            push_closed(text, ") n", operand)
         }
         Node::Concat { high, low } => {
-            let (high, low) = (first.format(high), second.format(low));
-            format!(in alloc; "(concat n{high} n{low})")
+            push_numbered(text, "(concat n", high)?;
+            push_closed(text, " n", low)
         }
     }
 }

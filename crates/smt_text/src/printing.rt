@@ -1,72 +1,75 @@
 //! The text of a leaf.
 
-ghost use Rattle.std.specs.Prelude.{◌≡◌, IfOk, string_bytes};
+ghost use Rattle.std.specs.Prelude.{◌≡◌, ◌++◌, IfOk, OnOk, string_bytes};
 ghost use Rattle.smt_text.specs.LeafLines as spec;
 ghost use Rattle.smt_text.specs.Lines.{lines_text};
 
 use crate::leaf::LeafText;
-use crate::lines::{assert_lines, input_lines, node_lines, output_lines, status_lines};
+use crate::lines::{
+    write_assert_lines, write_input_lines, write_node_lines, write_output_lines, write_status_lines,
+};
 use crate::names::{end_name, kind_name, write_choices, write_path};
+use crate::numbered::push_numbered;
 use bv_dag::{Dag, Query};
 use fork_spec::LeafEnd;
-use itoa::Buffer;
 use rv_decode::PathStep;
 use std::alloc::{AllocError as NoMemory, Global};
 use tool_io::Bytes;
 use tree_core::Choice;
 
-/// What runs a leaf is about: its kind, choices, path, steps and end.
-fn runs_heading(
+/// Appends what runs a leaf is about: its kind, choices, path, steps and end.
+fn write_runs_heading(
     alloc: Global,
+    text: &mut String,
     choices: &[Choice],
     path: &[PathStep],
     steps: u32,
     end: LeafEnd,
-) -> Result<String, NoMemory>
-    ensures { IfOk result (λ lines. string_bytes lines ≡ lines_text (spec.runs_heading choices.now path.now steps end)) }
+) -> Result<(), NoMemory>
+    ensures ok { OnOk result (string_bytes text.new ≡ string_bytes text.old ++ lines_text (spec.runs_heading choices.now path.now steps end)) }
 {
-    let (mut sides, mut entries) = (String::new(alloc), String::new(alloc));
-    write_choices(alloc, &mut sides, choices)?;
-    write_path(alloc, &mut entries, path)?;
-    let mut buffer = Buffer::new();
-    let steps = buffer.format(steps);
-    let (kind, end) = (kind_name(end), end_name(end));
-    format!(in alloc;
-        "; rvklee leaf 1\n; kind {kind}\n; choices {sides}.\n; path {entries}.\n; steps {steps}\n; end {end}\n"
-    )
+    text.push_str("; rvklee leaf 1\n; kind ")?;
+    text.push_str(kind_name(end))?;
+    text.push_str("\n; choices ")?;
+    write_choices(alloc, text, choices)?;
+    text.push_str(".\n; path ")?;
+    write_path(alloc, text, path)?;
+    push_numbered(text, ".\n; steps ", steps)?;
+    text.push_str("\n; end ")?;
+    text.push_str(end_name(end))?;
+    text.push_str("\n")
 }
 
-/// How many inputs, terms and bytes of the output follow.
-fn counts_heading(
-    alloc: Global,
+/// Appends how many inputs, terms and bytes of the output follow.
+fn write_counts_heading(
+    text: &mut String,
     inputs: usize,
     nodes: usize,
     outputs: usize,
-) -> Result<String, NoMemory>
-    ensures { IfOk result (λ lines. string_bytes lines ≡ lines_text (spec.counts_heading inputs nodes outputs)) }
+) -> Result<(), NoMemory>
+    ensures ok { OnOk result (string_bytes text.new ≡ string_bytes text.old ++ lines_text (spec.counts_heading inputs nodes outputs)) }
 {
-    let (mut first, mut second, mut third) = (Buffer::new(), Buffer::new(), Buffer::new());
-    let (inputs, nodes) = (first.format(inputs), second.format(nodes));
-    let outputs = third.format(outputs);
-    format!(in alloc; "; inputs {inputs}\n; nodes {nodes}\n; outputs {outputs}\n")
+    push_numbered(text, "; inputs ", inputs)?;
+    push_numbered(text, "\n; nodes ", nodes)?;
+    push_numbered(text, "\n; outputs ", outputs)?;
+    text.push_str("\n")
 }
 
-/// The inputs, and what is defined over them.
-fn definitions(
-    alloc: Global,
+/// Appends the inputs, and what is defined over them.
+fn write_definitions(
+    text: &mut String,
     dag: &Dag,
     end: LeafEnd,
     outputs: &[usize],
-) -> Result<String, NoMemory>
-    ensures { IfOk result (λ lines. string_bytes lines ≡ lines_text (spec.definitions dag.now end outputs.now)) }
+) -> Result<(), NoMemory>
+    ensures ok { OnOk result (string_bytes text.new ≡ string_bytes text.old ++ lines_text (spec.definitions dag.now end outputs.now)) }
 {
-    let inputs = input_lines(alloc, dag.inputs())?;
-    let nodes = node_lines(alloc, dag)?;
-    let status = status_lines(alloc, end)?;
-    let outputs = output_lines(alloc, outputs)?;
-    format!(in alloc;
-        "(set-logic QF_ABV)\n{inputs}(declare-fun base () (Array (_ BitVec 8) (_ BitVec 8)))\n{nodes}{status}{outputs}"
-    )
+    text.push_str("(set-logic QF_ABV)\n")?;
+    write_input_lines(text, dag.inputs())?;
+    text.push_str("(declare-fun base () (Array (_ BitVec 8) (_ BitVec 8)))\n")?;
+    write_node_lines(text, dag)?;
+    write_status_lines(text, end)?;
+    write_output_lines(text, outputs)
 }
 
 /// The text of a leaf, from its parts.
@@ -89,11 +92,12 @@ pub fn print_parts(
     })) }
 {
     let dag = condition.dag();
-    let runs = runs_heading(alloc, choices, path, steps, end)?;
-    let counts = counts_heading(alloc, dag.inputs(), dag.len(), outputs.len())?;
-    let defined = definitions(alloc, dag, end, outputs)?;
-    let asserted = assert_lines(alloc, condition.asserted())?;
-    let text = format!(in alloc; "{runs}{counts}{defined}{asserted}(check-sat)\n(exit)\n")?;
+    let mut text = String::new(alloc);
+    write_runs_heading(alloc, &mut text, choices, path, steps, end)?;
+    write_counts_heading(&mut text, dag.inputs(), dag.len(), outputs.len())?;
+    write_definitions(&mut text, dag, end, outputs)?;
+    write_assert_lines(&mut text, condition.asserted())?;
+    text.push_str("(check-sat)\n(exit)\n")?;
     Ok(Bytes::from_vec(text.into_bytes()))
 }
 

@@ -1,7 +1,0 @@
-use Rattle.std.proofs.Common.{append_assoc}
-use Rattle.smt_text.proofs.TextLines.{made_text}
-use Rattle.smt_text.proofs.lines.output_line.Goals as goal
-
-pub returns : goal.returns
-returns c =
-    made_text c.format.result _ _ c.format.ensures.ok (simp (c.format-i.ensures.text, c.format-id.ensures.text, append_assoc))

@@ -1,7 +1,0 @@
-use Rattle.std.proofs.Common.{◌≡◌, string_bytes, take}
-use Rattle.smt_text.specs.LeafLines.{output_lines}
-use Rattle.smt_text.specs.Lines.{lines_text}
-use Rattle.smt_text.proofs.lines.output_lines.Given as goal
-
-abbrev pub invariant-loop-i : goal.invariant-loop-i
-invariant-loop-i l = string_bytes l.lines ≡ lines_text (output_lines (take l.i l.outputs))
