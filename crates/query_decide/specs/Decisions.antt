@@ -1,7 +1,6 @@
 -- What the answer to a question shows.
 use Rattle.std.specs.Prelude.{◌≡◌, ℕ, true, List, length}
-use Rattle.cnf_form.specs.Refutations.{Step, follows_all, is_fresh}
-use Rattle.cdcl_core.specs.Searches.{has_no_empty}
+use Rattle.cnf_form.specs.Refutations.{Step, follows_all, has_no_empty, is_fresh}
 use Rattle.bv_dag.specs.Queries.{Condition, holds, IsUnsatisfiable}
 use Rattle.bit_blast.specs.Circuits.{clauses}
 use Rattle.bv_dag.specs.Inputs.{HasTwo, asserted_inputs}

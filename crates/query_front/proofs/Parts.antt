@@ -13,7 +13,7 @@ use Rattle.term_trees.specs.Trees.{Tree, tree_of}
 use Rattle.query_slice.specs.Merging.{merged}
 use Rattle.query_slice.specs.Reaching.{IsReached, itself}
 use Rattle.query_slice.specs.Slices.{IsSlice}
-use Rattle.query_slice.specs.TreeSlices.{IsSliceOfTrees}
+use Rattle.term_trees.specs.TreeSlices.{IsSliceOfTrees}
 use Rattle.query_slice.proofs.Kept.{holds_less, long_where_holds, merged_holds, number-same, one_where_holds}
 use Rattle.query_slice.proofs.SliceTrees.{slice_of_trees}
 use Rattle.query_front.specs.Asks.{IsPartFor, asserted_trees, with_term}

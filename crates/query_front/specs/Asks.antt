@@ -3,7 +3,7 @@ use Rattle.std.specs.Prelude.{◌≡◌, ℕ, true, List, [], ◌∷◌, ◌++�
 use Rattle.bv_dag.specs.Queries.{Condition, holds, IsUnsatisfiable}
 use Rattle.term_trees.specs.Trees.{Tree, tree_of}
 use Rattle.query_decide.specs.Decisions.{IsSpent}
-use Rattle.query_slice.specs.TreeSlices.{IsSliceOfTrees}
+use Rattle.term_trees.specs.TreeSlices.{IsSliceOfTrees}
 use Rattle.query_front.specs.declared.asked.Asked.{Asked}
 use Rattle.query_front.specs.declared.asked.Asked.TheVariants.{Sat, Unsat, Spent}
 
