@@ -14,6 +14,8 @@ use std::alloc::{AllocError as NoMemory, Global};
 pub struct Analysis {
     /// Whether a variable was met, by its number.
     seen: Vec<bool>,
+    /// The literals of these variables, as they were met.
+    met: Vec<Lit>,
     /// Literals of the clause, all of earlier levels until the first point is there.
     literals: Vec<Lit>,
     /// The clauses that forced literals, the last first.
@@ -32,6 +34,7 @@ impl Analysis {
     fn new(alloc: Global, size: usize, last: usize) -> Result<Analysis, NoMemory> {
         Ok(Analysis {
             seen: vec![in alloc; false; size]?,
+            met: Vec::new(alloc),
             literals: Vec::new(alloc),
             hints: Vec::new(alloc),
             pending: 0,
@@ -39,9 +42,9 @@ impl Analysis {
         })
     }
 
-    /// Whether each variable was met, by its number.
-    pub fn seen(&self) -> &[bool] {
-        self.seen.as_slice()
+    /// Literals of the variables that were met, each once.
+    pub fn met(&self) -> &[Lit] {
+        self.met.as_slice()
     }
 
     fn is_seen(&self, literal: Lit) -> bool {
@@ -51,16 +54,17 @@ impl Analysis {
         }
     }
 
-    fn see(&mut self, literal: Lit) {
-        let place = literal.variable() as usize;
-        if place < self.seen.len() {
-            self.seen[place] = true;
+    fn see(&mut self, literal: Lit) -> Result<(), NoMemory> {
+        self.met.push(literal)?;
+        if let Some(seen) = self.seen.get_mut(literal.variable() as usize) {
+            *seen = true;
         }
+        Ok(())
     }
 
     // Meets a literal of a clause for the first time.
     fn meet(&mut self, literal: Lit, trail: &Trail) -> Result<(), NoMemory> {
-        self.see(literal);
+        self.see(literal)?;
         if trail.number(literal) > self.last {
             self.pending = self.pending.checked_add(1).ok_or(NoMemory)?;
         } else {
