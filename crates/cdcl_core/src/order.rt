@@ -64,7 +64,7 @@ impl Order {
         })
     }
 
-    /// Takes out the variable of the greatest activity that has no value, with all before it.
+    /// Takes out variables until one has no value, and answers the literal to choose for that one.
     pub fn pick(&mut self, trail: &Trail) -> Option<Lit>
         ensures { IfSome result (IsFree (values_of trail.now.entries) (length trail.now.marks)) }
     {
