@@ -1,8 +1,16 @@
-use Rattle.std.proofs.Common.{Result, Ok, Err, OnOk, is_ok, if◌then◌else◌, ◌≡◌, ℕ, zero, suc, ◌<◌, ◌≤◌, ◌+◌, ◌-◌, refl, List, [], ◌∷◌, ◌++◌, get_or, length, map, take, ap, sym, ◌∙◌, arith, append_assoc, add-one, add-zero}
+use Rattle.std.proofs.Common.{Result, Ok, Err, IfOk, OnOk, String, Global, string_bytes, is_ok, if◌then◌else◌, ◌≡◌, ℕ, zero, suc, ◌<◌, ◌≤◌, ◌+◌, ◌-◌, refl, List, [], ◌∷◌, ◌++◌, get_or, length, map, take, ap, sym, ◌∙◌, arith, append_assoc, add-one, add-zero}
+use Rattle.std.specs.declared.alloc.AllocError.{AllocError}
 use Rattle.std.proofs.lemmas.List.{append-nil, flat_map_more, map-append, take_more}
 use Rattle.std.specs.List.{enumerate_from}
 use Rattle.smt_text.specs.Lines.{LeafLine, InputLine, line_text, lines_text}
 use Rattle.smt_text.specs.LeafLines.{input_lines}
+
+-- a text that was made, by another name
+pub made_text : (made : Result (String Global) AllocError) (one other : List ℕ) →
+    IfOk made (λ text. string_bytes text ≡ one) → one ≡ other →
+    IfOk made (λ text. string_bytes text ≡ other)
+made_text (Ok text) one other h e = h ∙ e
+made_text (Err e) one other h _ = tt
 
 -- what a text is after a call that went well, by another name
 pub behind : {X E : Type 0} (went : Result X E) (new one other : List ℕ) → OnOk went (new ≡ one) →
