@@ -202,9 +202,9 @@ pub const QUOTIENTS: [Row; 7] = [
         Unsat,
         "the quotient by the divisor, and the remainder, are the dividend",
         &[
-            Not(&Is(Eq, &Of(Add, &Of(Mul, &QUOTIENT, &B1), &REMAINDER), &B0)),
             Is(Ult, &B0, &Num(16)),
             Is(Ult, &B1, &Num(16)),
+            Not(&Is(Eq, &Of(Add, &Of(Mul, &QUOTIENT, &B1), &REMAINDER), &B0)),
         ],
     ),
 ];
