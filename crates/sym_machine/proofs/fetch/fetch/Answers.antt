@@ -1,12 +1,7 @@
-use Rattle.std.proofs.Common.{◌≡◌, ℕ, true, List, ◌∙◌, sym, subst}
-use Rattle.cow_pages.specs.SymbolicMemory.{memory_flags}
-use Rattle.rv_spec.specs.Memory.{can_execute, word_at}
-use Rattle.sym_state.specs.Symbolic.{concrete, stands_for}
-use Rattle.sym_machine.specs.Fetching.{IsFetched}
-use Rattle.sym_machine.proofs.Fetches.{code_word, fetch_misaligned, fetch_refused, fetch_word, word_first}
+use Rattle.std.proofs.Common.{◌∙◌, sym}
+use Rattle.sym_machine.proofs.Fetches.{code_word, fetch_misaligned, fetch_refused, word_first}
 use Rattle.sym_machine.proofs.Standing.{bytes_of, ready-grown, still_stands}
 use Rattle.sym_machine.proofs.fetch.fetch.Goals as goal
-use Rattle.sym_machine.proofs.fetch.fetch.Goals.{in-Word, in-Bytes+in_ok-value-in-Bytes+in_ok-word-in-Bytes}
 
 pub returns-then-pc-ne0-clause-ok : goal.returns-then-pc-ne0-clause-ok
 returns-then-pc-ne0-clause-ok c = fetch_misaligned c.args.state.now (rw c.pc-pc.ensures.value at c.if-pc-ne0.true)
@@ -37,8 +32,8 @@ returns-in-Word-clause-ok c =
       is = λ input stands. code_word c.args.state.now c.in-Word.word input code.1;
     }
 
-pub returns-clause-ok : goal.returns-clause-ok
-returns-clause-ok c =
+pub returns-in_ok-number_at-in-Bytes-clause-ok : goal.returns-in_ok-number_at-in-Bytes-clause-ok
+returns-in_ok-number_at-in-Bytes-clause-ok c =
     let old = c.args.state.now in
     let pc = c.pc-pc.ensures.value in
     let made = rw (c.code.ensures.same, pc) at c.in_ok-value-in-Bytes.ensures.ok in
