@@ -9,9 +9,9 @@ use Rattle.query_pick.proofs.picking.copied.Goals as goal
 
 pub loop-id-init : goal.loop-id-init
 loop-id-init g c = record {
-  inputs = ap (λ (g : Graph). g.inputs) c.new-dag.ensures ∙ c.inputs.ensures;
-  dag = subst IsDag (sym c.new-dag.ensures) (IsDag-none c.inputs.result);
-  same = ap (λ (g : Graph). trees g.nodes) c.new-dag.ensures ∙ trees_of_none;
+  inputs = ap (λ (g : Graph). g.inputs) c.in_ok-dag.ensures ∙ c.inputs.ensures;
+  dag = subst IsDag (sym c.in_ok-dag.ensures) (IsDag-none c.inputs.result);
+  same = ap (λ (g : Graph). trees g.nodes) c.in_ok-dag.ensures ∙ trees_of_none;
 }
 
 pub node-requires : goal.node-requires
