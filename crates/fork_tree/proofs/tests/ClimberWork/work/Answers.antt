@@ -262,7 +262,7 @@ two_sides top f low high lt low_choice low_place low_cut low_part high_choice hi
     }
 
 pub returns : goal.returns
-returns c = let r = c.args.state.now in let top = c.args.self.now.top in
+returns g c = let r = c.args.state.now in let top = c.args.self.now.top in
     subst (λ (kids : List (Kid (Content Rung End))). IsSplit (rules top) rung_place end_place r
     kids)
     (sym (c.push_reserved-2.ensures.items
