@@ -188,12 +188,12 @@ abbrev ended : Leaf → Reading
 ended leaf = record (defined leaf) { place = Closed; asserted = leaf.condition.asserted }
 
 tail_read : (leaf : Leaf) → AreBits leaf.condition.graph leaf.condition.asserted →
-    read_lines (past_output (defined leaf)) (assertions leaf ++ (CheckLine ∷ ExitLine ∷ []))
+    read_lines (past_output (defined leaf)) (assertions leaf.condition ++ (CheckLine ∷ ExitLine ∷ []))
     ≡ Some (ended leaf)
 unfolding read_lines
 tail_read leaf bits =
     let r = defined leaf in
-    ap (λ (q : Reading). read_lines q (assertions leaf ++ (CheckLine ∷ ExitLine ∷ []))) (outputs_done r refl)
+    ap (λ (q : Reading). read_lines q (assertions leaf.condition ++ (CheckLine ∷ ExitLine ∷ []))) (outputs_done r refl)
     ∙ asserts_read r [] leaf.condition.asserted (CheckLine ∷ ExitLine ∷ []) bits
     ∙ reads (record r { place = AmongAssertions; asserted = leaf.condition.asserted }) CheckLine (ExitLine ∷ []) refl
     ∙ reads (record r { place = AtExit; asserted = leaf.condition.asserted }) ExitLine [] refl
@@ -203,21 +203,21 @@ unfolding leaf_lines
 all_read leaf h =
     let graph = leaf.condition.graph in
     let tail = CheckLine ∷ ExitLine ∷ [] in
-    let outputs = output_lines leaf.outputs ++ (assertions leaf ++ tail) in
+    let outputs = output_lines leaf.outputs ++ (assertions leaf.condition ++ tail) in
     let status = status_lines leaf.end ++ outputs in
     let nodes = node_lines graph ++ status in
     let inputs = input_lines 0 graph.inputs ++ (BaseLine ∷ nodes) in
     let r = begun leaf in
     let declared = record r { declared = graph.inputs } in
     let built = record declared { nodes = graph.nodes } in
-    ap (read_lines start) (in_a_row (heading leaf) (LogicLine ∷ []) (input_lines 0 graph.inputs) (BaseLine ∷ []) (node_lines graph) (status_lines leaf.end) (output_lines leaf.outputs) (assertions leaf) tail)
+    ap (read_lines start) (in_a_row (heading leaf) (LogicLine ∷ []) (input_lines 0 graph.inputs) (BaseLine ∷ []) (node_lines graph) (status_lines leaf.end) (output_lines leaf.outputs) (assertions leaf.condition) tail)
     ∙ heading_read leaf (LogicLine ∷ inputs) h
     ∙ reads r LogicLine inputs refl
     ∙ inputs_read r graph.inputs 0 (BaseLine ∷ nodes) (omega arith)
     ∙ reads (past_input declared) BaseLine nodes (rw (same graph.inputs) refl)
     ∙ nodes_read declared graph.nodes [] graph.nodes status h.is_dag.all_fit refl refl
     ∙ status_read built leaf.end outputs refl h.status
-    ∙ outputs_read (record built { end = leaf.end }) [] leaf.outputs (assertions leaf ++ tail) h.bytes (omega arith)
+    ∙ outputs_read (record built { end = leaf.end }) [] leaf.outputs (assertions leaf.condition ++ tail) h.bytes (omega arith)
     ∙ tail_read leaf h.bits
 
 pub text_reads : (leaf : Leaf) → IsFull leaf → IsTextOf (leaf_text leaf) leaf

@@ -1,4 +1,4 @@
-use Rattle.std.proofs.Common.{◌≡◌, ◌∙◌, ℕ, List, [], ◌∷◌, ◌++◌, ap, append_assoc, codes, decimal, sym}
+use Rattle.std.proofs.Common.{◌≡◌, ◌∙◌, ℕ, List, [], ◌∷◌, ◌++◌, ap, append_assoc, codes, decimal, refl, sym}
 use Rattle.std.proofs.lemmas.List.{append-nil}
 use Rattle.std.proofs.lemmas.Grind.{flat_map-append}
 use Rattle.rv_decode.specs.declared.ends.PathStep.{PathStep}
@@ -13,9 +13,9 @@ lines_append : (lines others : List LeafLine) → lines_text (lines ++ others)
 unfolding lines_text
 lines_append lines others = flat_map-append line_text lines others
 
-four_runs : (w x y z : List LeafLine) → lines_text (w ++ x ++ y ++ z)
-    ≡ lines_text w ++ lines_text x ++ lines_text y ++ lines_text z
-four_runs w x y z = simp (lines_append, append_assoc)
+three_runs : (x y z : List LeafLine) → lines_text (x ++ y ++ z)
+    ≡ lines_text x ++ lines_text y ++ lines_text z
+three_runs x y z = simp (lines_append, append_assoc)
 
 five_runs : (v w x y z : List LeafLine) → lines_text (v ++ w ++ x ++ y ++ z)
     ≡ lines_text v ++ lines_text w ++ lines_text x ++ lines_text y ++ lines_text z
@@ -32,9 +32,11 @@ three_lines : (old n p1 p2 p3 a b c : List ℕ) →
     ≡ old ++ ((p1 ++ a ++ n) ++ ((p2 ++ b ++ n) ++ ((p3 ++ c ++ n) ++ [])))
 three_lines old n p1 p2 p3 a b c = simp (append_assoc, append-nil)
 
-two_heads : (old l m a b c d : List ℕ) → old ++ l ++ a ++ m ++ b ++ c ++ d
-    ≡ old ++ ((l ++ a) ++ (m ++ b) ++ c ++ d)
-two_heads old l m a b c d = simp append_assoc
+two_heads : (old l m a b : List ℕ) → old ++ l ++ a ++ m ++ b ≡ old ++ ((l ++ a) ++ (m ++ b))
+two_heads old l m a b = simp append_assoc
+
+three_behind : (old a b c : List ℕ) → old ++ a ++ b ++ c ≡ old ++ (a ++ b ++ c)
+three_behind old a b c = simp append_assoc
 
 -- the first six lines behind a text, piece by piece
 pub runs_text : (choices : List Choice) (path : List PathStep) (steps : ℕ) (end : LeafEnd) (old kind word a b c d e f g h i : List ℕ) →
@@ -61,18 +63,28 @@ unfolding lines_text
 counts_text inputs nodes outputs old a b c ea eb ec =
     rw (ec, eb, ea) (three_lines old (codes "\n") (codes "; inputs ") (codes "; nodes ") (codes "; outputs ") (decimal inputs) (decimal nodes) (decimal outputs))
 
--- what is defined
-pub definitions_text : (inputs nodes status outputs : List LeafLine) (old a b c d e : List ℕ) →
+-- the terms
+pub terms_text : (inputs nodes : List LeafLine) (old a b c : List ℕ) →
     a ≡ old ++ codes "(set-logic QF_ABV)\n" → b ≡ a ++ lines_text inputs →
     c ≡ b ++ codes "(declare-fun base () (Array (_ BitVec 8) (_ BitVec 8)))\n" →
-    d ≡ c ++ lines_text nodes → e ≡ d ++ lines_text status →
-    e ++ lines_text outputs
-    ≡ old ++ lines_text (LogicLine ∷ inputs ++ (BaseLine ∷ nodes) ++ status ++ outputs)
+    c ++ lines_text nodes ≡ old ++ lines_text (LogicLine ∷ inputs ++ (BaseLine ∷ nodes))
 unfolding lines_text
-definitions_text inputs nodes status outputs old a b c d e ea eb ec ed ee =
-    rw (ee, ed, ec, eb, ea)
-    (two_heads old (line_text LogicLine) (line_text BaseLine) (lines_text inputs) (lines_text nodes) (lines_text status) (lines_text outputs))
-    ∙ ap (λ t. old ++ t) (sym (four_runs (LogicLine ∷ inputs) (BaseLine ∷ nodes) status outputs))
+terms_text inputs nodes old a b c ea eb ec =
+    rw (ec, eb, ea)
+    (two_heads old (line_text LogicLine) (line_text BaseLine) (lines_text inputs) (lines_text nodes))
+    ∙ ap (λ t. old ++ t) (sym (lines_append (LogicLine ∷ inputs) (BaseLine ∷ nodes)))
+
+-- three runs of lines behind a text
+pub behind_text : (x y z : List LeafLine) (old a b : List ℕ) → a ≡ old ++ lines_text x →
+    b ≡ a ++ lines_text y → b ++ lines_text z ≡ old ++ lines_text (x ++ y ++ z)
+behind_text x y z old a b ea eb =
+    rw (eb, ea) (three_behind old (lines_text x) (lines_text y) (lines_text z))
+    ∙ ap (λ t. old ++ t) (sym (three_runs x y z))
+
+-- the check and the exit
+pub check_text : codes "(check-sat)\n(exit)\n" ≡ lines_text (CheckLine ∷ ExitLine ∷ [])
+unfolding lines_text
+check_text = refl
 
 -- all lines, behind no text
 pub whole_text : (runs counts defined asserted : List LeafLine) (none a b c d : List ℕ) →

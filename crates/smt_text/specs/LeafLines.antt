@@ -1,7 +1,8 @@
--- The lines that a leaf's text has, in their order.
+-- The lines that a leaf's text has, in their order, and those of a condition alone.
 use Rattle.std.specs.Prelude.{ℕ, suc, zero, ◌+◌, List, [], ◌∷◌, ◌++◌, length, map}
 use Rattle.std.specs.List.{enumerate_from}
 use Rattle.bv_dag.specs.Graphs.{Graph, width_of}
+use Rattle.bv_dag.specs.Queries.{Condition}
 use Rattle.fork_spec.specs.Leaves.{Leaf}
 use Rattle.smt_text.specs.Lines.{LeafLine, FormatLine, KindLine, ChoicesLine, PathLine, StepsLine, EndLine, InputsLine, NodesLine, OutputsLine, LogicLine, InputLine, BaseLine, NodeLine, StatusLine, OutputLine, AssertLine, CheckLine, ExitLine, lines_text}
 use Rattle.rv_decode.specs.declared.ends.PathStep.{PathStep}
@@ -51,24 +52,31 @@ heading leaf =
     ++ counts_heading leaf.condition.graph.inputs (length leaf.condition.graph.nodes)
     (length leaf.outputs)
 
--- the inputs, and what is defined over them
-abbrev pub definitions : Graph → LeafEnd → (outputs : List ℕ) → List LeafLine
-definitions graph end outputs =
-    LogicLine ∷ input_lines 0 graph.inputs
-    ++ (BaseLine ∷ node_lines graph)
-    ++ status_lines end
-    ++ output_lines outputs
+-- the inputs, and the terms over them
+abbrev pub term_lines : Graph → List LeafLine
+term_lines graph = LogicLine ∷ input_lines 0 graph.inputs ++ (BaseLine ∷ node_lines graph)
 
--- the condition
-abbrev pub assertions : Leaf → List LeafLine
-assertions leaf = map AssertLine leaf.condition.asserted
+-- the terms, and those of them that the status and the bytes of the output are
+abbrev pub definitions : Graph → LeafEnd → (outputs : List ℕ) → List LeafLine
+definitions graph end outputs = term_lines graph ++ status_lines end ++ output_lines outputs
+
+-- what a condition asserts
+abbrev pub assertions : Condition → List LeafLine
+assertions q = map AssertLine q.asserted
 
 -- all of them
 unfoldable pub leaf_lines : Leaf → List LeafLine
 leaf_lines leaf =
-    heading leaf ++ definitions leaf.condition.graph leaf.end leaf.outputs ++ assertions leaf
-    ++ (CheckLine ∷ ExitLine ∷ [])
+    heading leaf ++ definitions leaf.condition.graph leaf.end leaf.outputs
+    ++ assertions leaf.condition ++ (CheckLine ∷ ExitLine ∷ [])
 
--- the text
+-- those of a condition alone, from the logic on: no heading, no status and no output
+unfoldable pub query_lines : Condition → List LeafLine
+query_lines q = term_lines q.graph ++ assertions q ++ (CheckLine ∷ ExitLine ∷ [])
+
+-- the texts
 unfoldable pub leaf_text : Leaf → List ℕ
 leaf_text leaf = lines_text (leaf_lines leaf)
+
+unfoldable pub query_text : Condition → List ℕ
+query_text q = lines_text (query_lines q)

@@ -1,4 +1,4 @@
-//! The texts of leaves, in SMT-LIB's logic QF_ABV, and the short texts that other files share with them.
+//! The texts of leaves and of conditions, in SMT-LIB's logic QF_ABV, and the short texts that other files share with them.
 #![tactic(auto)]
 
 pub mod laws;
@@ -13,4 +13,5 @@ mod tests;
 
 pub use leaf::LeafText;
 pub use names::{cause_name, end_name, kind_name, write_choice, write_choices, write_path};
-pub use printing::{print_leaf, print_parts};
+pub use numbered::push_numbered;
+pub use printing::{print_leaf, print_parts, write_query};

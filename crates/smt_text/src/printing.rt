@@ -1,4 +1,4 @@
-//! The text of a leaf.
+//! The text of a leaf, and that of a condition alone.
 
 ghost use Rattle.std.specs.Prelude.{◌≡◌, ◌++◌, IfOk, OnOk, string_bytes};
 ghost use Rattle.smt_text.specs.LeafLines as spec;
@@ -55,7 +55,17 @@ fn write_counts_heading(
     text.push_str("\n")
 }
 
-/// Appends the inputs, and what is defined over them.
+/// Appends the inputs, and the terms over them.
+fn write_terms(text: &mut String, dag: &Dag) -> Result<(), NoMemory>
+    ensures ok { OnOk result (string_bytes text.new ≡ string_bytes text.old ++ lines_text (spec.term_lines dag.now)) }
+{
+    text.push_str("(set-logic QF_ABV)\n")?;
+    write_input_lines(text, dag.inputs())?;
+    text.push_str("(declare-fun base () (Array (_ BitVec 8) (_ BitVec 8)))\n")?;
+    write_node_lines(text, dag)
+}
+
+/// Appends the terms, and those of them that the status and the bytes of the output are.
 fn write_definitions(
     text: &mut String,
     dag: &Dag,
@@ -64,12 +74,18 @@ fn write_definitions(
 ) -> Result<(), NoMemory>
     ensures ok { OnOk result (string_bytes text.new ≡ string_bytes text.old ++ lines_text (spec.definitions dag.now end outputs.now)) }
 {
-    text.push_str("(set-logic QF_ABV)\n")?;
-    write_input_lines(text, dag.inputs())?;
-    text.push_str("(declare-fun base () (Array (_ BitVec 8) (_ BitVec 8)))\n")?;
-    write_node_lines(text, dag)?;
+    write_terms(text, dag)?;
     write_status_lines(text, end)?;
     write_output_lines(text, outputs)
+}
+
+/// Appends a condition alone: its terms, and those that it asserts. After an error a part of it may stand there.
+pub fn write_query(text: &mut String, condition: &Query) -> Result<(), NoMemory>
+    ensures ok { OnOk result (string_bytes text.new ≡ string_bytes text.old ++ spec.query_text condition.now) }
+{
+    write_terms(text, condition.dag())?;
+    write_assert_lines(text, condition.asserted())?;
+    text.push_str("(check-sat)\n(exit)\n")
 }
 
 /// The text of a leaf, from its parts.
