@@ -26,11 +26,11 @@ use Rattle.tree_core.specs.declared.event.Event.{Event}
 use Rattle.tree_core.specs.declared.node.Status.{Status}
 use Rattle.tree_core.specs.declared.node.Status.TheVariants.{Free, Held, Parted, Leaf as IsLeaf}
 use Rattle.tree_core.proofs.Counting.{count_at, count_by-map}
-use Rattle.fork_spec.specs.Evidence.{SpendsTargets, values_of}
+use Rattle.fork_spec.specs.Evidence.{SpendsConflicts, SpendsTargets, values_of}
 use Rattle.fork_spec.specs.Histories.{cause_of, IsHistory, IsOwnSplit, IsSideOf, LeafNode, is_leaf_status, standing_of}
 use Rattle.fork_spec.specs.Leaves.{IsFull, Leaf, are_bytes, covers}
 use Rattle.fork_spec.specs.Partings.{ArePlacesApart, DecidesAlike, PartAt, Place, place_of}
-use Rattle.fork_spec.specs.Parts.{Evidence, IsRight, OnTargets, Part, Shows}
+use Rattle.fork_spec.specs.Parts.{Evidence, IsRight, OnConflicts, OnTargets, Part, Shows}
 use Rattle.fork_spec.specs.Ranks.{AreRanked}
 use Rattle.fork_spec.specs.Runs.{AreWithin, IsFaithful}
 use Rattle.fork_spec.specs.Walks.{Line, Standing, is_settled}
@@ -45,7 +45,7 @@ use Rattle.fork_tree.specs.Trees.{choices_at}
 use Rattle.fork_tree.specs.Works.{Rules}
 use Rattle.fork_tree.specs.declared.content.Content.{Content}
 use Rattle.fork_tree.specs.declared.content.Content.TheVariants.{Shut}
-use Rattle.report_text.specs.Claims.{ArePartedAll, Beside, Entry, HasHistory, HasSpent, IsExactCover, IsReport, IsRun, IsTested, Spending, Tested, leaf_nodes_of, leaves_of}
+use Rattle.report_text.specs.Claims.{ArePartedAll, Beside, Entry, HasHistory, HasSpent, IsExactCover, IsReport, IsRun, IsTested, Learning, Spending, Tested, leaf_nodes_of, leaves_of}
 use Rattle.report_text.specs.Entries.{AreEntries, AskAsClaimed, IsBeside, IsEntry, IsLeafAt, leaf_numbers, numbers_where}
 use Rattle.report_text.specs.Files.{test_of}
 
@@ -161,25 +161,35 @@ run_beside image regions leaf rank most input test sample is faithful = subst (I
   runs = faithful.runs input sample.0 sample.1;
 })
 
-tested_beside : (image : Image) (regions : List Region) (most targets : ℕ) (sides : List Choice) (leaf : Leaf) (rank : ℕ) (end : LeafEnd) (sample : Option (List ℕ)) (evidence : Option Evidence) (beside : Beside)
-    → IsFaithful image regions most leaf → Shows regions targets sides leaf end sample evidence → IsBeside regions rank leaf sample evidence beside → IsTested image regions leaf end rank beside
-tested_beside image regions most targets sides leaf rank (Exits status) (Some input) None (Tested test) faithful shows is = run_beside image regions leaf rank most input test shows is faithful
-tested_beside image regions most targets sides leaf rank (Exits status) (Some input) None (Spending spent) faithful shows is = absurd is
-tested_beside image regions most targets sides leaf rank (Exits status) (Some input) (Some e) beside faithful shows is = absurd shows
-tested_beside image regions most targets sides leaf rank (Exits status) None evidence beside faithful shows is = absurd shows
-tested_beside image regions most targets sides leaf rank (Traps trap) (Some input) None (Tested test) faithful shows is = run_beside image regions leaf rank most input test shows is faithful
-tested_beside image regions most targets sides leaf rank (Traps trap) (Some input) None (Spending spent) faithful shows is = absurd is
-tested_beside image regions most targets sides leaf rank (Traps trap) (Some input) (Some e) beside faithful shows is = absurd shows
-tested_beside image regions most targets sides leaf rank (Traps trap) None evidence beside faithful shows is = absurd shows
-tested_beside image regions most targets sides leaf rank (Cut Steps) (Some input) None (Tested test) faithful shows is = run_beside image regions leaf rank most input test shows is faithful
-tested_beside image regions most targets sides leaf rank (Cut Steps) (Some input) None (Spending spent) faithful shows is = absurd is
-tested_beside image regions most targets sides leaf rank (Cut Steps) (Some input) (Some e) beside faithful shows is = absurd shows
-tested_beside image regions most targets sides leaf rank (Cut Steps) None evidence beside faithful shows is = absurd shows
-tested_beside image regions most targets sides leaf rank (Cut Targets) sample (Some (OnTargets spent)) (Spending written) faithful shows is = tt
-tested_beside image regions most targets sides leaf rank (Cut Targets) sample (Some (OnTargets spent)) (Tested test) faithful shows is = absurd is
-tested_beside image regions most targets sides leaf rank (Cut Targets) (Some input) None beside faithful shows is = absurd shows
-tested_beside image regions most targets sides leaf rank (Cut Targets) None None beside faithful shows is = absurd shows
-tested_beside image regions most targets sides leaf rank (Cut Conflicts) sample evidence beside faithful shows is = absurd shows
+tested_beside : (image : Image) (regions : List Region) (budgets : Budgets) (sides : List Choice) (leaf : Leaf) (rank : ℕ) (end : LeafEnd) (sample : Option (List ℕ)) (evidence : Option Evidence) (beside : Beside)
+    → IsFaithful image regions budgets.steps leaf → Shows regions budgets sides leaf end sample evidence → IsBeside regions rank leaf sample evidence beside → IsTested image regions leaf end rank beside
+tested_beside image regions budgets sides leaf rank (Exits status) (Some input) None (Tested test) faithful shows is = run_beside image regions leaf rank budgets.steps input test shows is faithful
+tested_beside image regions budgets sides leaf rank (Exits status) (Some input) None (Spending spent) faithful shows is = absurd is
+tested_beside image regions budgets sides leaf rank (Exits status) (Some input) None (Learning learnt) faithful shows is = absurd is
+tested_beside image regions budgets sides leaf rank (Exits status) (Some input) (Some e) beside faithful shows is = absurd shows
+tested_beside image regions budgets sides leaf rank (Exits status) None evidence beside faithful shows is = absurd shows
+tested_beside image regions budgets sides leaf rank (Traps trap) (Some input) None (Tested test) faithful shows is = run_beside image regions leaf rank budgets.steps input test shows is faithful
+tested_beside image regions budgets sides leaf rank (Traps trap) (Some input) None (Spending spent) faithful shows is = absurd is
+tested_beside image regions budgets sides leaf rank (Traps trap) (Some input) None (Learning learnt) faithful shows is = absurd is
+tested_beside image regions budgets sides leaf rank (Traps trap) (Some input) (Some e) beside faithful shows is = absurd shows
+tested_beside image regions budgets sides leaf rank (Traps trap) None evidence beside faithful shows is = absurd shows
+tested_beside image regions budgets sides leaf rank (Cut Steps) (Some input) None (Tested test) faithful shows is = run_beside image regions leaf rank budgets.steps input test shows is faithful
+tested_beside image regions budgets sides leaf rank (Cut Steps) (Some input) None (Spending spent) faithful shows is = absurd is
+tested_beside image regions budgets sides leaf rank (Cut Steps) (Some input) None (Learning learnt) faithful shows is = absurd is
+tested_beside image regions budgets sides leaf rank (Cut Steps) (Some input) (Some e) beside faithful shows is = absurd shows
+tested_beside image regions budgets sides leaf rank (Cut Steps) None evidence beside faithful shows is = absurd shows
+tested_beside image regions budgets sides leaf rank (Cut Targets) (Some input) (Some (OnTargets spent)) (Spending written) faithful shows is = tt
+tested_beside image regions budgets sides leaf rank (Cut Targets) (Some input) (Some (OnTargets spent)) (Tested test) faithful shows is = absurd is
+tested_beside image regions budgets sides leaf rank (Cut Targets) (Some input) (Some (OnTargets spent)) (Learning learnt) faithful shows is = absurd is
+tested_beside image regions budgets sides leaf rank (Cut Targets) (Some input) (Some (OnConflicts learnt)) beside faithful shows is = absurd shows
+tested_beside image regions budgets sides leaf rank (Cut Targets) (Some input) None beside faithful shows is = absurd shows
+tested_beside image regions budgets sides leaf rank (Cut Targets) None evidence beside faithful shows is = absurd shows
+tested_beside image regions budgets sides leaf rank (Cut Conflicts) None (Some (OnConflicts learnt)) (Learning written) faithful shows is = tt
+tested_beside image regions budgets sides leaf rank (Cut Conflicts) None (Some (OnConflicts learnt)) (Tested test) faithful shows is = absurd is
+tested_beside image regions budgets sides leaf rank (Cut Conflicts) None (Some (OnConflicts learnt)) (Spending spent) faithful shows is = absurd is
+tested_beside image regions budgets sides leaf rank (Cut Conflicts) None (Some (OnTargets spent)) beside faithful shows is = absurd shows
+tested_beside image regions budgets sides leaf rank (Cut Conflicts) None None beside faithful shows is = absurd shows
+tested_beside image regions budgets sides leaf rank (Cut Conflicts) (Some input) evidence beside faithful shows is = absurd shows
 
 own_split : (lines : List Line) (node : ℕ) (sides : List Choice) (vs : List ℕ) → sides ≡ map Value vs ++ Rest ∷ [] → IsOwnSplit lines node sides → IsSideOf lines node sides
 own_split lines node [] [] others own = cc
@@ -187,7 +197,7 @@ own_split lines node [] (v ∷ vs) others own = cc
 own_split lines node (c ∷ cs) vs others own = own
 
 spent_beside : (image : Image) (regions : List Region) (budgets : Budgets) (lines : List Line) (node : ℕ) (sides : List Choice) (leaf : Leaf) (rank : ℕ) (end : LeafEnd) (sample : Option (List ℕ)) (evidence : Option Evidence) (beside : Beside)
-    → leaf.end ≡ end → IsFaithful image regions budgets.steps leaf → IsOwnSplit lines node sides → Shows regions budgets.targets sides leaf end sample evidence → IsBeside regions rank leaf sample evidence beside
+    → leaf.end ≡ end → IsFaithful image regions budgets.steps leaf → IsOwnSplit lines node sides → Shows regions budgets sides leaf end sample evidence → IsBeside regions rank leaf sample evidence beside
     → HasSpent regions budgets lines node leaf end beside
 spent_beside image regions budgets lines node sides leaf rank (Exits status) sample evidence beside is faithful own shows beside_is = tt
 spent_beside image regions budgets lines node sides leaf rank (Traps trap) sample evidence beside is faithful own shows beside_is = tt
@@ -196,9 +206,17 @@ spent_beside image regions budgets lines node sides leaf rank (Cut Steps) sample
 spent_beside image regions budgets lines node sides leaf rank (Cut Targets) (Some input) (Some (OnTargets spent)) (Spending written) is faithful own (sampled, spends) beside_is =
     (sides, own_split lines node sides (values_of spent.found) spends.others own, subst (SpendsTargets regions budgets.targets sides leaf) (sym beside_is) spends)
 spent_beside image regions budgets lines node sides leaf rank (Cut Targets) (Some input) (Some (OnTargets spent)) (Tested test) is faithful own shows beside_is = absurd beside_is
+spent_beside image regions budgets lines node sides leaf rank (Cut Targets) (Some input) (Some (OnTargets spent)) (Learning learnt) is faithful own shows beside_is = absurd beside_is
+spent_beside image regions budgets lines node sides leaf rank (Cut Targets) (Some input) (Some (OnConflicts learnt)) beside is faithful own shows beside_is = absurd shows
 spent_beside image regions budgets lines node sides leaf rank (Cut Targets) (Some input) None beside is faithful own shows beside_is = absurd shows
 spent_beside image regions budgets lines node sides leaf rank (Cut Targets) None evidence beside is faithful own shows beside_is = absurd shows
-spent_beside image regions budgets lines node sides leaf rank (Cut Conflicts) sample evidence beside is faithful own shows beside_is = absurd shows
+spent_beside image regions budgets lines node sides leaf rank (Cut Conflicts) None (Some (OnConflicts learnt)) (Learning written) is faithful own shows beside_is =
+    subst (SpendsConflicts budgets.conflicts leaf) (sym beside_is) shows
+spent_beside image regions budgets lines node sides leaf rank (Cut Conflicts) None (Some (OnConflicts learnt)) (Tested test) is faithful own shows beside_is = absurd beside_is
+spent_beside image regions budgets lines node sides leaf rank (Cut Conflicts) None (Some (OnConflicts learnt)) (Spending spent) is faithful own shows beside_is = absurd beside_is
+spent_beside image regions budgets lines node sides leaf rank (Cut Conflicts) None (Some (OnTargets spent)) beside is faithful own shows beside_is = absurd shows
+spent_beside image regions budgets lines node sides leaf rank (Cut Conflicts) None None beside is faithful own shows beside_is = absurd shows
+spent_beside image regions budgets lines node sides leaf rank (Cut Conflicts) (Some input) evidence beside is faithful own shows beside_is = absurd shows
 
 -- A quiet tree's nodes are settled.
 settled_if : (st : Status) → st ≢ Free → is_held st ≡ false → is_settled st ≡ true
@@ -234,7 +252,7 @@ module _ {S L : Type 0} (part_of : L → Part) (rules : Rules S L) (state_place 
     beside : IsBeside regions rank e.leaf part.sample part.evidence e.beside
     sides : List Choice
     own : IsOwnSplit lines e.node sides
-    right : IsRight image regions budgets.steps budgets.targets sides (record part { leaf = e.leaf })
+    right : IsRight image regions budgets sides (record part { leaf = e.leaf })
 
   right_entry : (rank : ℕ) (e : Entry) → slice_get entries rank ≡ Some e → IsRightEntry rank e
   right_entry rank e found = record {
@@ -244,8 +262,8 @@ module _ {S L : Type 0} (part_of : L → Part) (rules : Rules S L) (state_place 
     beside = subst (λ leaf. IsBeside regions rank leaf entry.part.sample entry.part.evidence e.beside) (sym entry.same_leaf) entry.beside;
     sides = here.sides;
     own = here.own;
-    right = subst (λ leaf. IsRight image regions budgets.steps budgets.targets here.sides (record entry.part { leaf = leaf })) (sym entry.same_leaf)
-        (subst (IsRight image regions budgets.steps budgets.targets here.sides) entry.at.same (asks.right here.sides entry.at.leaf here.right));
+    right = subst (λ leaf. IsRight image regions budgets here.sides (record entry.part { leaf = leaf })) (sym entry.same_leaf)
+        (subst (IsRight image regions budgets here.sides) entry.at.same (asks.right here.sides entry.at.leaf here.right));
   }
     where
       entry : IsEntry part_of regions s rank e
@@ -406,7 +424,7 @@ module _ {S L : Type 0} (part_of : L → Part) (rules : Rules S L) (state_place 
     alike = all_leaves (DecidesAlike image regions) (λ rank e at. (right_entry rank e at).right.alike);
     parted = parted;
     runs = λ rank e at. let r : IsRightEntry rank e = right_entry rank e at in
-        tested_beside image regions budgets.steps budgets.targets r.sides e.leaf rank e.leaf.end r.part.sample r.part.evidence e.beside r.right.faithful r.right.shown r.beside;
+        tested_beside image regions budgets r.sides e.leaf rank e.leaf.end r.part.sample r.part.evidence e.beside r.right.faithful r.right.shown r.beside;
     cuts = all_items (λ (e : Entry). HasSpent regions budgets lines e.node e.leaf e.leaf.end e.beside) entries (λ rank e at. let r : IsRightEntry rank e = right_entry rank e at in
         spent_beside image regions budgets lines e.node r.sides e.leaf rank e.leaf.end r.part.sample r.part.evidence e.beside refl r.right.faithful r.own r.right.shown r.beside);
     history = history workers all;

@@ -5,9 +5,9 @@ use Rattle.elf_load.specs.declared.region.Region.{Region}
 use Rattle.rv_spec.specs.Memory.{IsAssignment}
 use Rattle.rv_spec.specs.Runs.{run, IsRunOf}
 use Rattle.tree_core.specs.declared.budgets.Budgets.{Budgets}
-use Rattle.tree_core.specs.declared.cause.Cause.TheVariants.{Steps, Targets}
+use Rattle.tree_core.specs.declared.cause.Cause.TheVariants.{Conflicts, Steps, Targets}
 use Rattle.tree_core.specs.declared.choice.Choice.{Choice}
-use Rattle.fork_spec.specs.Evidence.{Spent, SpendsTargets}
+use Rattle.fork_spec.specs.Evidence.{Learnt, Spent, SpendsConflicts, SpendsTargets}
 use Rattle.fork_spec.specs.Histories.{IsHistory, IsSideOf, LeafNode}
 use Rattle.fork_spec.specs.Leaves.{IsFull, Leaf, covers}
 use Rattle.fork_spec.specs.Partings.{ArePartedLeaves, DecidesAlike}
@@ -24,6 +24,8 @@ pub data Beside : Type 0 where
   Tested : Test → Beside
   -- the values on which the budget of targets was spent
   Spending : Spent → Beside
+  -- the question on which the budget of conflicts was spent, and its clauses
+  Learning : Learnt → Beside
 
 -- a leaf, the number of its node in the events, and what stands beside it, as they are written
 pub record Entry : Type 0 where
@@ -69,26 +71,29 @@ pub record IsRun (image : Image) (regions : List Region) (leaf : Leaf) (rank : �
   pub covered : IsTrue (covers leaf test.input)
   pub runs : IsRunOf (run image regions test.input test.steps) test.steps test.path test.end test.output
 
--- beside a leaf stands a run of it, unless it was cut where it had spent its targets
+-- beside a leaf stands a run of it, unless it was cut where it had spent its targets or its conflicts
 abbrev pub IsTested : Image → List Region → Leaf → LeafEnd → (rank : ℕ) → Beside → Type 0
 IsTested image regions leaf (Exits status) rank (Tested test) = IsRun image regions leaf rank test
 IsTested image regions leaf (Traps trap) rank (Tested test) = IsRun image regions leaf rank test
 IsTested image regions leaf (Cut Steps) rank (Tested test) = IsRun image regions leaf rank test
 IsTested image regions leaf (Cut Targets) rank (Spending spent) = Unit {0}
+IsTested image regions leaf (Cut Conflicts) rank (Learning learnt) = Unit {0}
 IsTested image regions leaf _ rank _ = ⊥
 
 -- this holds at each rank
 abbrev pub AreRuns : Image → List Region → List Entry → Type 0
 AreRuns image regions entries = (rank : ℕ) (e : Entry) → slice_get entries rank ≡ Some e → IsTested image regions e.leaf e.leaf.end rank e.beside
 
--- a cut leaf has spent its budget: it has made all steps, or beside it stand as many values of a term as it may have,
--- which are the other sides of the split of which, by the events, its node is a side
+-- a cut leaf has spent its budget: it has made all steps; or beside it stand as many values of a term as it may have,
+-- which are the other sides of the split of which, by the events, its node is a side; or beside it stands the question on
+-- the last of its assertions, with as many clauses as may be learnt for one
 abbrev pub HasSpent : List Region → Budgets → List Line → (node : ℕ) → Leaf → LeafEnd → Beside → Type 0
 HasSpent regions budgets lines node leaf (Exits status) beside = Unit {0}
 HasSpent regions budgets lines node leaf (Traps trap) beside = Unit {0}
 HasSpent regions budgets lines node leaf (Cut Steps) beside = leaf.steps ≡ budgets.steps
 HasSpent regions budgets lines node leaf (Cut Targets) (Spending spent) =
     (sides : List Choice) × IsSideOf lines node sides × SpendsTargets regions budgets.targets sides leaf spent
+HasSpent regions budgets lines node leaf (Cut Conflicts) (Learning learnt) = SpendsConflicts budgets.conflicts leaf learnt
 HasSpent regions budgets lines node leaf (Cut _) beside = ⊥
 
 abbrev pub ShowBudgets : List Region → Budgets → List Line → List Entry → Type 0

@@ -12,7 +12,7 @@ use Rattle.tree_core.specs.declared.node.Status.TheVariants.{Leaf as IsLeaf}
 use Rattle.fork_spec.specs.Histories.{LeafNode, cause_of, is_leaf_status}
 use Rattle.fork_spec.specs.Leaves.{Leaf}
 use Rattle.fork_spec.specs.Partings.{Place, place_of}
-use Rattle.fork_spec.specs.Parts.{Evidence, IsRight, OnTargets, Part}
+use Rattle.fork_spec.specs.Parts.{Evidence, IsRight, OnConflicts, OnTargets, Part}
 use Rattle.fork_spec.specs.Ranks.{AreRanked}
 use Rattle.fork_spec.specs.Written.{lines_of}
 use Rattle.fork_tree.specs.Contents.{cut_in}
@@ -21,20 +21,22 @@ use Rattle.tool_io.specs.Told.{Put}
 use Rattle.tree_core.specs.declared.cause.Cause.{Cause}
 use Rattle.fork_tree.specs.declared.content.Content.{Content}
 use Rattle.fork_tree.specs.declared.content.Content.TheVariants.{Shut}
-use Rattle.report_text.specs.Claims.{Beside, Entry, Spending, Tested, leaves_of}
+use Rattle.report_text.specs.Claims.{Beside, Entry, Learning, Spending, Tested, leaves_of}
 use Rattle.report_text.specs.Files.{files_of, summary_of, test_of}
 use Rattle.report_text.specs.declared.leaves.LeafAt.{LeafAt}
 use Rattle.report_text.specs.declared.ranking.RankedLeaf.{RankedLeaf}
 
--- beside a leaf stands the test that its sample makes, or the values on which its targets were spent
+-- beside a leaf stands the test that its sample makes, or what shows the budget that was spent
 abbrev pub IsBeside : List Region → (rank : ℕ) → Leaf → Option (List ℕ) → Option Evidence → Beside → Type 0
 IsBeside regions rank leaf sample (Some (OnTargets spent)) (Spending written) = written ≡ spent
+IsBeside regions rank leaf sample (Some (OnConflicts learnt)) (Learning written) = written ≡ learnt
 IsBeside regions rank leaf (Some input) None (Tested test) = test ≡ test_of regions rank leaf input
 IsBeside regions rank leaf _ _ _ = ⊥
 
--- what stands beside a leaf: what its evidence lists, or the test that its sample makes; each leaf has one or the other
+-- what stands beside a leaf: its evidence, or the test that its sample makes; each leaf has one or the other
 abbrev pub beside_of : List Region → (rank : ℕ) → Leaf → Option (List ℕ) → Option Evidence → Beside
 beside_of regions rank leaf sample (Some (OnTargets spent)) = Spending spent
+beside_of regions rank leaf sample (Some (OnConflicts learnt)) = Learning learnt
 beside_of regions rank leaf (Some input) None = Tested (test_of regions rank leaf input)
 beside_of regions rank leaf None None = Spending (record { term = 0; found = [] })
 
@@ -100,13 +102,13 @@ module _ {S L : Type 0} (part_of : L → Part) where
 
   -- what a worker's rules ask of its leaves is what a report claims of them
   pub record AskAsClaimed (rules : Rules S L) (leaf_place : L → Place) (image : Image) (regions : List Region) (budgets : Budgets) : Type 0 where
-    pub right : (sides : List Choice) (leaf : L) → rules.IsRight sides leaf → IsRight image regions budgets.steps budgets.targets sides (part_of leaf)
+    pub right : (sides : List Choice) (leaf : L) → rules.IsRight sides leaf → IsRight image regions budgets sides (part_of leaf)
     pub cut : (leaf : L) → rules.cut leaf ≡ cause_of (part_of leaf).leaf.end
     pub place : IsPlacedByPart part_of leaf_place
     pub decides : (input : List ℕ) → rules.decides input ≡ decisions image regions input budgets.steps
     pub targets : rules.targets ≡ budgets.targets
 
--- there is what stands beside a leaf: values, or a byte for each place
+-- there is what stands beside a leaf: its evidence, or a byte for each place
 abbrev pub HasBeside : (places : ℕ) → Option (List ℕ) → Option Evidence → Type 0
 HasBeside places sample (Some evidence) = Unit {0}
 HasBeside places (Some input) None = length input ≡ places

@@ -1,5 +1,6 @@
 pub mod Events
 pub mod Spent
+pub mod Learnt
 pub mod Summaries
 pub mod Reports
 pub mod Ranking

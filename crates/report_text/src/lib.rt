@@ -5,6 +5,7 @@
 mod event_lines;
 mod file_names;
 pub mod laws;
+mod learnt;
 mod leaves;
 mod marked;
 mod ranking;
@@ -19,6 +20,7 @@ mod tests;
 
 pub use event_lines::write_events;
 pub use file_names::{events_name, leaf_name, report_name, spent_name, test_name};
+pub use learnt::write_conflicts;
 pub use leaves::HasPart;
 pub use marked::Marked;
 pub use ranking::{RankedLeaf, sort_by_rank};

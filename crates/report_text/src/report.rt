@@ -9,6 +9,7 @@ ghost use Rattle.report_text.specs.Files.{beside_put, events_put, files_from, le
 
 use crate::event_lines::write_events;
 use crate::file_names::{events_name, leaf_name, report_name, spent_name, test_name};
+use crate::learnt::write_conflicts;
 use crate::leaves::{HasPart, LeafAt, by_rank};
 use crate::marked::Marked;
 use crate::report_json::write_report;
@@ -47,7 +48,7 @@ fn leaf_file(alloc: Global, out: &str, rank: usize, part: &LeafPart) -> Result<N
     Ok(NamedFile::new(leaf_name(alloc, out, rank)?, text))
 }
 
-// The file of what stands beside the leaf: its sample's test, or what was spent on it.
+// The file of what stands beside the leaf: what was spent on it, or its sample's test.
 fn beside_file(
     alloc: Global,
     out: &str,
@@ -61,6 +62,10 @@ fn beside_file(
     match (part.evidence(), part.sample()) {
         (Some(Evidence::Targets(spent)), _) => {
             let text = write_targets(alloc, spent)?;
+            Ok(NamedFile::new(spent_name(alloc, out, rank)?, text))
+        }
+        (Some(Evidence::Conflicts(learnt)), _) => {
+            let text = write_conflicts(alloc, learnt)?;
             Ok(NamedFile::new(spent_name(alloc, out, rank)?, text))
         }
         (None, Some(sample)) => {

@@ -1,3 +1,4 @@
 mod events;
+mod learnt;
 mod reports;
 mod spent;
