@@ -1,88 +1,183 @@
--- The sides of a branch.
-use Rattle.std.proofs.Common.{◌≡◌, ℕ, ◌<◌, Bool, true, false, [], ◌∷◌, refl, sym, ap, ◌∙◌}
-use Rattle.std.specs.Prelude.{Some, ◌==◌, not}
-use Rattle.bv_dag.specs.Graphs.{Graph, number_of}
-use Rattle.bv_dag.specs.Queries.{holds}
-use Rattle.fork_spec.specs.Leaves.{are_bytes}
+-- The sides of a branch, and questions about them.
+use Rattle.std.proofs.Common.{◌≡◌, ℕ, ◌<◌, Bool, true, false, ◌&&◌, List, [], ◌∷◌, ◌++◌, length, refl, sym, ap, subst, ◌∙◌}
+use Rattle.std.specs.Prelude.{All, IfOk, None, Some, Result, Ok, Err, ◌==◌, not}
+use Rattle.bv_dag.specs.Graphs.{Graph, number_of, width_of}
+use Rattle.bv_dag.specs.Queries.{IsUnsatisfiable, holds}
+use Rattle.bit_blast.specs.Budgets.{IsSpent}
+use Rattle.fork_spec.specs.Evidence.{Learnt}
+use Rattle.fork_spec.specs.Leaves.{IsSmallChoice, are_bytes}
+use Rattle.query_front.specs.Asks.{with_term}
 use Rattle.rv_spec.specs.Arithmetic.{one_where}
 use Rattle.rv_spec.specs.Decisions.{Side as OnSide}
 use Rattle.sym_machine.specs.Stops.{IsBranch}
-use Rattle.sym_state.specs.Symbolic.{Symbolic, IsFormed, stands_for}
-use Rattle.sym_state.specs.Values.{GivesTerm}
+use Rattle.sym_state.specs.Moves.{MakesTerm}
+use Rattle.sym_state.specs.Symbolic.{Symbolic, IsFormed, condition_of, stands_for}
 use Rattle.sym_state.specs.declared.decided.Decided.TheVariants.{Side}
+use Rattle.sym_state.proofs.Grown.{Continues-refl, holds-grown}
+use Rattle.term_trees.specs.Growth.{Continues}
+use Rattle.term_trees.specs.TreeSlices.{IsPartFor}
+use Rattle.tree_core.specs.declared.budgets.Budgets.{Budgets}
+use Rattle.tree_core.specs.declared.choice.Choice.{Choice}
 use Rattle.tree_core.specs.declared.choice.Choice.TheVariants.{No, Yes}
-use Rattle.sym_state.proofs.Grown.{Continues-refl}
-use Rattle.node_split.specs.Copies.{IsAsked}
-use Rattle.node_split.specs.Narrowing.{IsNarrower, IsSettled, answers, is_side}
-use Rattle.node_split.specs.declared.asked.Question.{Question}
-use Rattle.node_split.proofs.Bytes.{all_true, both_true, not_true, one_byte, one_is, other_side, second_false}
-use Rattle.node_split.proofs.Copying.{answers-asked, asked-number}
-use Rattle.node_split.proofs.Sides.{decision_there, narrower, side_run, stood_byte}
+use Rattle.node_split.specs.Learning.{IsLearntFor}
+use Rattle.node_split.specs.Narrowing.{IsNarrowed, IsNarrower, IsSettled, is_side}
+use Rattle.node_split.specs.Rules.{Piece}
+use Rattle.node_split.specs.Splits.{IsBranchSide, IsRunOn, IsSide, IsTested, choice_of}
+use Rattle.node_split.specs.declared.branch.Tested.{Tested}
+use Rattle.node_split.proofs.Bytes.{all_true, both_true, bytes_of, bytes_true, not_false, not_true, one_is}
+use Rattle.node_split.proofs.Increasing.{equals}
+use Rattle.node_split.proofs.Sharing.{side_in}
+use Rattle.node_split.proofs.Sides.{decision_there, holds-last, narrower, side_run, stands-narrowed}
 
--- a byte that answers is an assignment
-pub answer_stands : (s : Symbolic) (term : ℕ) (side : Bool) (sample : ℕ) → sample < 256
-    → answers s.terms s.condition term side (sample ∷ []) ≡ true
-    → (stands_for s (sample ∷ []) ≡ true) × (is_side side (number_of s.terms term (sample ∷ [])) ≡ true)
-answer_stands s term side sample small answer =
-    let parts = both_true _ (is_side side (number_of s.terms term (sample ∷ []))) answer in
-    (all_true _ _ (one_byte sample small) parts.0, parts.1)
+-- the term itself is 1 where the branch is taken
+pub tested_yes : (s : Symbolic) (term : ℕ) → IsFormed s → width_of s.terms term ≡ 1 → IsTested s term true (record { run = s; test = term })
+tested_yes s term formed bit = record { formed = formed; same = refl; continues = Continues-refl s.terms; bit = bit; tells = λ input bytes. refl }
 
--- the side on which the branch is taken
-pub yes_narrower : (s : Symbolic) (term sample : ℕ) → IsFormed s → IsBranch s term → sample < 256
-    → answers s.terms s.condition term true (sample ∷ []) ≡ true
-    → IsNarrower s (side_run s s.terms 1 (Side true) Yes term (sample ∷ [])) Yes (λ input. is_side true (number_of s.terms term input))
-yes_narrower s term sample formed at small answer =
-    let parts = answer_stands s term true sample small answer in
-    narrower s s.terms 1 1 term (Side true) Yes term (sample ∷ []) (λ input. is_side true (number_of s.terms term input))
-    (λ input. OnSide (number_of s.terms term input == 1)) formed (Continues-refl s.terms) at (λ input bytes. refl)
-    (λ input is. ap OnSide is) parts.0 parts.1
+-- and its other where it isn't
+pub tested_no : (s new : Symbolic) (term negated : ℕ) → MakesTerm s new 1 negated (λ input. one_where (not (number_of s.terms term input == 1)))
+    → IsTested s term false (record { run = new; test = negated })
+tested_no s new term negated makes = record {
+  formed = makes.grown.before;
+  same = makes.grown.same;
+  continues = makes.gives.continues;
+  bit = makes.gives.width;
+  tells = λ input bytes. ap (λ n. n == 1) (makes.gives.worth input bytes) ∙ one_is (not (number_of s.terms term input == 1));
+}
 
--- and the side on which it isn't, where the term's other is 1
-pub no_narrower : (s : Symbolic) (g : Graph) (term negated sample : ℕ) → IsFormed s → IsBranch s term
-    → GivesTerm s.terms g 1 negated (λ input. one_where (not (number_of s.terms term input == 1))) → sample < 256
-    → answers s.terms s.condition term false (sample ∷ []) ≡ true
-    → IsNarrower s (side_run s g 1 (Side false) No negated (sample ∷ [])) No (λ input. is_side false (number_of s.terms term input))
-no_narrower s g term negated sample formed at gives small answer =
-    let parts = answer_stands s term false sample small answer in
-    narrower s g 1 1 term (Side false) No negated (sample ∷ []) (λ input. is_side false (number_of s.terms term input))
-    (λ input. OnSide (number_of s.terms term input == 1)) formed gives.continues at
-    (λ input bytes. ap (λ n. n == 1) (gives.worth input bytes) ∙ one_is (not (number_of s.terms term input == 1)))
-    (λ input is. ap OnSide (not_true _ is)) parts.0 parts.1
+decides_side : (side : Bool) (n : ℕ) → is_side side n ≡ true → OnSide (n == 1) ≡ OnSide side
+decides_side true n is = ap OnSide is
+decides_side false n is = ap OnSide (not_true (n == 1) is)
 
--- where no byte is on the other side, all assignments are on this one
-pub branch_settled : (s : Symbolic) (term : ℕ) (q : Question) (side : Bool) → s.terms.inputs ≡ 1 → IsBranch s term
-    → IsAsked s term q
-    → ((byte : ℕ) → byte < 256 → answers q.graph q.condition.items q.term (not side) (byte ∷ []) ≡ false)
+-- a run on one side of a branch
+pub side_narrower : (s : Symbolic) (g : Graph) (term test : ℕ) (side : Bool) (sample : List ℕ) → IsFormed s → IsBranch s term → Continues s.terms g
+    → ((input : List ℕ) → All (λ b. b < 256) input → (number_of g test input == 1) ≡ is_side side (number_of s.terms term input))
+    → stands_for s sample ≡ true → is_side side (number_of s.terms term sample) ≡ true
+    → IsNarrower s (side_run s g 1 (Side side) (choice_of side) test sample) (choice_of side) (λ input. is_side side (number_of s.terms term input))
+side_narrower s g term test side sample formed at grown tells stands on =
+    narrower s g 1 1 term (Side side) (choice_of side) test sample (λ input. is_side side (number_of s.terms term input))
+    (λ input. OnSide (number_of s.terms term input == 1)) formed grown at tells
+    (λ input is. decides_side side (number_of s.terms term input) is) stands on
+
+-- which is then a side of the fork
+pub side_ok : {E : Type 0} (r : Result Piece E) (run : Symbolic) (choice : Choice) → IfOk r (IsRunOn choice run)
+    → IfOk r (λ kid. (s : Symbolic) (test : List ℕ → Bool) → IsNarrower s run choice test → IsSide s choice test kid)
+side_ok (Ok kid) run choice on = λ s test narrows. record { run = run; on = on; narrower = narrows }
+side_ok (Err e) run choice on = tt
+
+pub sides_ok : {E : Type 0} (r : Result Piece E) (P Q : Piece → Type 0) → IfOk r P → ((kid : Piece) → P kid → Q kid) → IfOk r Q
+sides_ok (Ok kid) P Q is turn = turn kid is
+sides_ok (Err e) P Q is turn = tt
+
+pub small_choice : (side : Bool) → IsSmallChoice (choice_of side)
+small_choice true = tt
+small_choice false = tt
+
+-- the side on which no assignment is known is one of the fork
+pub branch_side : (budgets : Budgets) (s : Symbolic) (term : ℕ) (side : Bool) (kid : Piece)
+    → IsSide s (choice_of side) (λ input. is_side side (number_of s.terms term input)) kid → IsBranchSide budgets s term side kid
+branch_side budgets s term side kid is p was few =
+    (None, refl, side_in p budgets (No ∷ Yes ∷ []) s (choice_of side) (λ input. is_side side (number_of s.terms term input)) kid was few is)
+
+-- ---- What a question about a run with one more term shows.
+module _ (s : Symbolic) (g : Graph) (test : ℕ) (formed : IsFormed s) (grown : Continues s.terms g) where
+  -- an answer is an assignment of the run on which the term is 1
+  pub answered : (input : List ℕ) → All (λ b. b < 256) input → holds (with_term (record { graph = g; asserted = s.condition }) test) input ≡ true
+      → (stands_for s input ≡ true) × ((number_of g test input == 1) ≡ true)
+  answered input bytes is =
+      let parts = both_true (holds (record { graph = g; asserted = s.condition }) input) (number_of g test input == 1) (sym (holds-last g s.condition test input) ∙ is) in
+      (all_true _ _ (bytes_true input bytes) (sym (holds-grown s.terms g s.condition input grown formed.bits) ∙ parts.0), parts.1)
+
+  -- where there is none, the term is 1 on no assignment of the run
+  pub unanswered : IsUnsatisfiable (with_term (record { graph = g; asserted = s.condition }) test) → (input : List ℕ) → stands_for s input ≡ true
+      → (number_of g test input == 1) ≡ false
+  unanswered none input stands =
+      let parts = both_true (are_bytes input) (holds (condition_of s) input) stands in
+      let met : holds (record { graph = g; asserted = s.condition }) input ≡ true = holds-grown s.terms g s.condition input grown formed.bits ∙ parts.1 in
+      second (holds (record { graph = g; asserted = s.condition }) input) (number_of g test input == 1)
+      (sym (holds-last g s.condition test input) ∙ none input (bytes_of input parts.0)) met
+    where
+      second : (a b : Bool) → (a && b) ≡ false → a ≡ true → b ≡ false
+      second true b h is = h
+      second false b h is = absurd (cc is)
+
+-- an assignment of the run has a byte for each input
+pub assigned_each : (s : Symbolic) (input : List ℕ) → stands_for s input ≡ true → length input ≡ s.terms.inputs
+assigned_each s input stands =
+    equals (length input) s.terms.inputs (both_true (length input == s.terms.inputs) _ (both_true (are_bytes input) (holds (condition_of s) input) stands).1).0
+
+-- ---- A branch is settled where the other side has no assignment.
+other_is : (side : Bool) (n : ℕ) → is_side (not side) n ≡ false → (n == 1) ≡ side
+other_is true n h = not_false (n == 1) h
+other_is false n h = h
+
+pub branch_settled : (s : Symbolic) (term : ℕ) (side : Bool) → IsBranch s term
+    → ((input : List ℕ) → stands_for s input ≡ true → is_side (not side) (number_of s.terms term input) ≡ false)
     → IsSettled s 1 (Side side)
-branch_settled s term q side one at asked none = record {
+branch_settled s term side at none = record {
   in_range = at.in_range;
   unknown = at.unknown;
   settled = λ input stands.
-      let parts = both_true (are_bytes input) (holds (record { graph = s.terms; asserted = s.condition }) input) stands in
-      let byte = stood_byte s input one stands in
-      let refused : answers s.terms s.condition term (not side) (byte.byte ∷ []) ≡ false
-      = sym (answers-asked s term q asked (not side) (byte.byte ∷ [])) ∙ none byte.byte byte.small in
-      let met : holds (record { graph = s.terms; asserted = s.condition }) (byte.byte ∷ []) ≡ true
-      = ap (holds (record { graph = s.terms; asserted = s.condition })) (sym byte.is) ∙ parts.1 in
       decision_there s 1 (λ i. OnSide (number_of s.terms term i == 1)) at.stands input stands
-      ∙ ap Some (ap OnSide (ap (λ i. number_of s.terms term i == 1) byte.is ∙ other_side side (number_of s.terms term (byte.byte ∷ [])) (second_false _ _ refused met)));
+      ∙ ap Some (ap OnSide (other_is side (number_of s.terms term input) (none input stands)));
 }
 
-own_side : (b : Bool) (n : ℕ) → b ≡ (n == 1) → is_side b n ≡ true
+-- the sample is on its side
+pub own_side : (b : Bool) (n : ℕ) → b ≡ (n == 1) → is_side b n ≡ true
 own_side true n is = sym is
 own_side false n is = ap not (sym is)
 
--- the sample is on its side
-pub sample_answers : (s : Symbolic) (term sample : ℕ) (q : Question) (side : Bool) → IsAsked s term q
-    → stands_for s s.sample ≡ true → s.sample ≡ sample ∷ [] → side ≡ (number_of q.graph q.term (sample ∷ []) == 1)
-    → answers s.terms s.condition term side (sample ∷ []) ≡ true
-sample_answers s term sample q side asked stands is own =
-    let parts = both_true (are_bytes s.sample) (holds (record { graph = s.terms; asserted = s.condition }) s.sample) stands in
-    all_true _ _ (ap (holds (record { graph = s.terms; asserted = s.condition })) (sym is) ∙ parts.1)
-    (own_side side _ (own ∙ ap (λ n. n == 1) (asked-number s term q asked (sample ∷ []))))
+-- ---- A run that is narrowed by what is 1 on one side.
+pub tested_narrowed : (s u : Symbolic) (term : ℕ) (side : Bool) (t : Tested) → IsTested s term side t
+    → u ≡ record t.run { condition = t.run.condition ++ t.test ∷ [] }
+    → IsNarrowed s u (λ input. is_side side (number_of s.terms term input))
+tested_narrowed s u term side t is at =
+    let g = t.run.terms in
+    let form : u ≡ record s { terms = g; condition = s.condition ++ t.test ∷ [] }
+    = at ∙ ap (λ (r : Symbolic). record r { condition = r.condition ++ t.test ∷ [] }) is.same in record {
+      same = form
+          ∙ ap (λ (r : Symbolic). record s { terms = r.terms; condition = r.condition; sample = r.sample }) (sym form);
+      continues = subst (λ (r : Symbolic). Continues s.terms r.terms) (sym form) is.continues;
+      covers = λ input.
+          ap (λ (r : Symbolic). stands_for r input) form
+          ∙ stands-narrowed s g 1 (Side side) (choice_of side) t.test [] (λ i. is_side side (number_of s.terms term i)) is.formed is.continues is.tells input;
+    }
 
--- a byte that was found is on the other side
-pub other_answers : (s : Symbolic) (term byte : ℕ) (q : Question) (side : Bool) → IsAsked s term q
-    → answers q.graph q.condition.items q.term side (byte ∷ []) ≡ true
-    → answers s.terms s.condition term side (byte ∷ []) ≡ true
-other_answers s term byte q side asked is = sym (answers-asked s term q asked side (byte ∷ [])) ∙ is
+-- ---- The question about the other side.
+module _ (s : Symbolic) (term : ℕ) (side : Bool) (t : Tested) (is : IsTested s term side t) where
+  conditions : t.run.condition ≡ s.condition
+  conditions = ap (λ (r : Symbolic). r.condition) is.same
+
+  -- the sample meets its condition
+  pub tested_sampled : stands_for s s.sample ≡ true → holds (condition_of t.run) t.run.sample ≡ true
+  tested_sampled stands =
+      subst (λ (r : Symbolic). holds (condition_of r) r.sample ≡ true) (sym is.same)
+      (holds-grown s.terms t.run.terms s.condition s.sample is.continues is.formed.bits ∙ (both_true (are_bytes s.sample) (holds (condition_of s) s.sample) stands).1)
+
+  asked_of : (P : List ℕ → Type 0) → P t.run.condition → P s.condition
+  asked_of P = subst P conditions
+
+  -- an answer is on the side
+  pub side_answered : (input : List ℕ) → All (λ b. b < 256) input → holds (with_term (condition_of t.run) t.test) input ≡ true
+      → (stands_for s input ≡ true) × (is_side side (number_of s.terms term input) ≡ true)
+  side_answered input bytes met =
+      let parts = answered s t.run.terms t.test is.formed is.continues input bytes
+      (asked_of (λ ids. holds (with_term (record { graph = t.run.terms; asserted = ids }) t.test) input ≡ true) met) in
+      (parts.0, sym (is.tells input bytes) ∙ parts.1)
+
+  pub answered_each : (input : List ℕ) → holds (with_term (condition_of t.run) t.test) input ≡ true → length input ≡ t.run.terms.inputs
+  answered_each input met = equals (length input) t.run.terms.inputs (both_true (length input == t.run.terms.inputs) _ met).0
+
+  -- where there is none, no assignment is
+  pub side_unanswered : IsUnsatisfiable (with_term (condition_of t.run) t.test) → (input : List ℕ) → stands_for s input ≡ true
+      → is_side side (number_of s.terms term input) ≡ false
+  side_unanswered none input stands =
+      let bytes = bytes_of input (both_true (are_bytes input) (holds (condition_of s) input) stands).0 in
+      sym (is.tells input bytes)
+      ∙ unanswered s t.run.terms t.test is.formed is.continues (asked_of (λ ids. IsUnsatisfiable (with_term (record { graph = t.run.terms; asserted = ids }) t.test)) none) input stands
+
+-- what was learnt for a run's condition with one more term
+pub learnt_for : (conflicts : ℕ) (s u : Symbolic) (test : ℕ) (learnt : Learnt) → u ≡ record s { condition = s.condition ++ test ∷ [] }
+    → IsPartFor (with_term (condition_of s) test) test learnt.question × IsSpent learnt.question conflicts learnt.log → IsLearntFor conflicts (condition_of u) learnt
+learnt_for conflicts s u test learnt at is =
+    subst (λ (r : Symbolic). IsLearntFor conflicts (condition_of r) learnt) (sym at)
+    (record { front = s.condition; last = test; asserted = refl; part = is.0; spent = is.1 })

@@ -1,20 +1,15 @@
 -- Terms of one graph that stand in another one too.
-use Rattle.std.proofs.Common.{◌≡◌, ℕ, ◌<◌, Bool, ◌&&◌, List, [], ◌∷◌, ◌++◌, length, map, take, drop, true, refl, sym, ap, subst, ◌∙◌, arith}
+use Rattle.std.proofs.Common.{◌≡◌, ℕ, ◌<◌, arith, get_or, ◌&&◌, List, [], ◌∷◌, ◌++◌, length, map, take, drop, sym, ap, subst, ◌∙◌, refl}
 use Rattle.std.specs.Prelude.{All, ◌==◌}
 use Rattle.std.specs.List.{list_all}
-use Rattle.std.proofs.lemmas.List.{drop-map, length-append, length-map, take-map}
-use Rattle.std.proofs.lemmas.List.Elements.{All-nil, All-cons, All-head, All-push, All-tail}
+use Rattle.std.proofs.lemmas.List.{drop-map, take-map}
+use Rattle.std.proofs.lemmas.List.Elements.{All-nil, All-cons, All-head, All-tail}
 use Rattle.std.proofs.Math.Seq.{drop-append_seam, take-append_seam}
 use Rattle.bv_dag.specs.BitVectors.{BitVector}
 use Rattle.bv_dag.specs.Graphs.{Graph, number_of, val, width_of}
 use Rattle.bv_dag.specs.Queries.{holds}
-use Rattle.bv_dag.proofs.TermLaws.{there}
-use Rattle.sym_state.specs.Symbolic.{Symbolic, IsFormed, stands_for}
-use Rattle.fork_spec.specs.Leaves.{are_bytes}
-use Rattle.node_split.proofs.Bytes.{both_true}
-use Rattle.node_split.specs.Copies.{AreCopies, IsAsked}
-use Rattle.node_split.specs.Narrowing.{answers, is_side}
-use Rattle.node_split.specs.declared.asked.Question.{Question}
+use Rattle.term_trees.specs.Trees.{tree_of}
+use Rattle.node_split.specs.Copies.{AreCopies}
 
 vals-numbers : (old new : Graph) (input ids copies : List ℕ)
     → map (λ id. val new id input) copies ≡ map (λ id. val old id input) ids
@@ -29,31 +24,32 @@ vals-numbers old new input (i ∷ ids) (c ∷ cs) is =
 
 -- what was picked
 pub picked_copies : (old new : Graph) (ids copies : List ℕ) → new.inputs ≡ old.inputs
-    → map (width_of new) copies ≡ map (width_of old) ids
+    → map (tree_of new) copies ≡ map (tree_of old) ids → map (width_of new) copies ≡ map (width_of old) ids
     → ((input : List ℕ) → map (λ id. val new id input) copies ≡ map (λ id. val old id input) ids)
     → AreCopies old ids new copies
-picked_copies old new ids copies inputs widths vals = record {
+picked_copies old new ids copies inputs trees widths vals = record {
   inputs = inputs;
+  trees = trees;
   widths = widths;
   numbers = λ input. vals-numbers old new input ids copies (vals input);
 }
 
 pub picked_from : {old table new : Graph} {ids some copies all : List ℕ} → table ≡ old → some ≡ ids → all ≡ copies
-    → new.inputs ≡ table.inputs → map (width_of new) all ≡ map (width_of table) some
+    → new.inputs ≡ table.inputs → map (tree_of new) all ≡ map (tree_of table) some → map (width_of new) all ≡ map (width_of table) some
     → ((input : List ℕ) → map (λ id. val new id input) all ≡ map (λ id. val table id input) some)
     → AreCopies old ids new copies
-picked_from {old} {table} {new} {ids} {some} {copies} {all} graph asked got inputs widths vals =
+picked_from {old} {table} {new} {ids} {some} {copies} {all} graph asked got inputs trees widths vals =
     subst (λ g. AreCopies g ids new copies) graph
     (subst (λ is. AreCopies table is new copies) asked
-    (subst (λ cs. AreCopies table some new cs) got (picked_copies table new some all inputs widths vals)))
+    (subst (λ cs. AreCopies table some new cs) got (picked_copies table new some all inputs trees widths vals)))
 
 -- the first ones, and those behind them
-front-same : (f g : ℕ → ℕ) (xs ys zs : List ℕ) → map f zs ≡ map g (xs ++ ys) → map f (take (length xs) zs) ≡ map g xs
+front-same : {A : Type 0} (f g : ℕ → A) (xs ys zs : List ℕ) → map f zs ≡ map g (xs ++ ys) → map f (take (length xs) zs) ≡ map g xs
 front-same f g xs ys zs is =
     sym (take-map f (length xs) zs) ∙ ap (take (length xs)) is ∙ take-map g (length xs) (xs ++ ys)
     ∙ ap (map g) (take-append_seam xs ys)
 
-back-same : (f g : ℕ → ℕ) (xs ys zs : List ℕ) → map f zs ≡ map g (xs ++ ys) → map f (drop (length xs) zs) ≡ map g ys
+back-same : {A : Type 0} (f g : ℕ → A) (xs ys zs : List ℕ) → map f zs ≡ map g (xs ++ ys) → map f (drop (length xs) zs) ≡ map g ys
 back-same f g xs ys zs is =
     sym (drop-map f (length xs) zs) ∙ ap (drop (length xs)) is ∙ drop-map g (length xs) (xs ++ ys)
     ∙ ap (map g) (drop-append_seam xs ys)
@@ -62,6 +58,7 @@ pub copies-front : (old new : Graph) (xs ys zs : List ℕ) → AreCopies old (xs
     → AreCopies old xs new (take (length xs) zs)
 copies-front old new xs ys zs is = record {
   inputs = is.inputs;
+  trees = front-same (tree_of new) (tree_of old) xs ys zs is.trees;
   widths = front-same (width_of new) (width_of old) xs ys zs is.widths;
   numbers = λ input. front-same (λ id. number_of new id input) (λ id. number_of old id input) xs ys zs (is.numbers input);
 }
@@ -70,6 +67,7 @@ pub copies-back : (old new : Graph) (xs ys zs : List ℕ) → AreCopies old (xs 
     → AreCopies old ys new (drop (length xs) zs)
 copies-back old new xs ys zs is = record {
   inputs = is.inputs;
+  trees = back-same (tree_of new) (tree_of old) xs ys zs is.trees;
   widths = back-same (width_of new) (width_of old) xs ys zs is.widths;
   numbers = λ input. back-same (λ id. number_of new id input) (λ id. number_of old id input) xs ys zs (is.numbers input);
 }
@@ -103,53 +101,12 @@ holds-copied old new ids copies input is =
     ap (λ n. (length input == n) && list_all (λ id. number_of new id input == 1) copies) is.inputs
     ∙ ap (λ b. (length input == old.inputs) && b) (ones-copied old new input ids copies (is.numbers input))
 
--- a row, and the one behind it
-last-same : (f g : ℕ → ℕ) (cs xs : List ℕ) (c x : ℕ) → map f (cs ++ c ∷ []) ≡ map g (xs ++ x ∷ [])
-    → (map f cs ≡ map g xs) × (f c ≡ g x)
-last-same f g [] [] c x is = (refl, cc is)
-last-same f g [] (y ∷ ys) c x is =
-    let long = ap length is in absurd (omega (arith, long, length-map (ys ++ x ∷ []) g, length-append ys (x ∷ [])))
-last-same f g (d ∷ ds) [] c x is =
-    let long = ap length is in absurd (omega (arith, long, length-map (ds ++ c ∷ []) f, length-append ds (c ∷ [])))
-last-same f g (d ∷ ds) (y ∷ ys) c x is =
-    let first : f d ≡ g y = cc is in
-    let rest = last-same f g ds ys c x (cc is) in
-    (cc (first, rest.0), rest.1)
+-- the copy of the one term that was asked for
+pub first_copied : (old new : Graph) (term d : ℕ) (copies input : List ℕ)
+    → map (λ id. val new id input) copies ≡ map (λ id. val old id input) (term ∷ []) → val new (get_or copies 0 d) input ≡ val old term input
+first_copied old new term d [] input is = absurd (cc is)
+first_copied old new term d (c ∷ cs) input is = let first : val new c input ≡ val old term input = cc is in first
 
--- the terms of a question are there
-pub asked_there : (s : Symbolic) (term : ℕ) → IsFormed s → term < length s.terms.nodes
-    → All (λ id. id < length s.terms.nodes) (s.condition ++ term ∷ [])
-asked_there s term formed within =
-    All-push (λ id. id < length s.terms.nodes) s.condition term
-    (λ k d below. there s.terms _ 1 (formed.bits k d below) (omega arith)) within
-
-module _ (s : Symbolic) (term : ℕ) (q : Question) (asked : IsAsked s term q) where
-  pub asked-condition : AreCopies s.terms s.condition q.graph q.condition.items
-  asked-condition = record {
-    inputs = asked.inputs;
-    widths = (last-same (width_of q.graph) (width_of s.terms) q.condition.items s.condition q.term term asked.widths).0;
-    numbers = λ input. (last-same (λ id. number_of q.graph id input) (λ id. number_of s.terms id input) q.condition.items s.condition q.term term (asked.numbers input)).0;
-  }
-
-  pub asked-width : width_of q.graph q.term ≡ width_of s.terms term
-  asked-width = (last-same (width_of q.graph) (width_of s.terms) q.condition.items s.condition q.term term asked.widths).1
-
-  pub asked-number : (input : List ℕ) → number_of q.graph q.term input ≡ number_of s.terms term input
-  asked-number input = (last-same (λ id. number_of q.graph id input) (λ id. number_of s.terms id input) q.condition.items s.condition q.term term (asked.numbers input)).1
-
-  pub asked-holds : (input : List ℕ)
-      → holds (record { graph = q.graph; asserted = q.condition.items }) input ≡ holds (record { graph = s.terms; asserted = s.condition }) input
-  asked-holds input = holds-copied s.terms q.graph s.condition q.condition.items input asked-condition
-
-  pub answers-asked : (side : Bool) (input : List ℕ)
-      → answers q.graph q.condition.items q.term side input ≡ answers s.terms s.condition term side input
-  answers-asked side input =
-      ap (λ b. b && is_side side (number_of q.graph q.term input)) (asked-holds input)
-      ∙ ap (λ n. holds (record { graph = s.terms; asserted = s.condition }) input && is_side side n) (asked-number input)
-
--- the sample meets a question's condition
-pub sample_met : (s : Symbolic) (term sample : ℕ) (q : Question) → IsAsked s term q → stands_for s s.sample ≡ true
-    → s.sample ≡ sample ∷ [] → holds (record { graph = q.graph; asserted = q.condition.items }) (sample ∷ []) ≡ true
-sample_met s term sample q asked stands is =
-    asked-holds s term q asked (sample ∷ []) ∙ ap (holds (record { graph = s.terms; asserted = s.condition })) (sym is)
-    ∙ (both_true (are_bytes s.sample) (holds (record { graph = s.terms; asserted = s.condition }) s.sample) stands).1
+pub first_within : {A : Type 0} (f g : ℕ → A) (term : ℕ) (copies : List ℕ) → map f copies ≡ map g (term ∷ []) → 0 < length copies
+first_within f g term [] is = absurd (cc is)
+first_within f g term (c ∷ cs) is = omega arith

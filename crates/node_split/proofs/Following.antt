@@ -1,13 +1,15 @@
 -- A run that goes on until it forks, ends or is cut: what becomes of it then becomes of the run that
 -- it was.
-use Rattle.std.proofs.Common.{◌≡◌, ℕ, ◌*◌, ◌<◌, ◌≤◌, List, [], ◌∷◌, ◌++◌, get_or, length, refl, ap, subst, ◌∙◌, arith}
+use Rattle.std.proofs.Common.{◌≡◌, ℕ, ◌*◌, ◌<◌, ◌≤◌, List, [], ◌∷◌, ◌++◌, get_or, length, refl, sym, ap, subst, ◌∙◌, arith}
 use Rattle.std.specs.Global.{Vec}
 use Rattle.std.specs.Prelude.{Option, Some}
 use Rattle.rv_spec.specs.Memory.{count_of}
 use Rattle.tree_core.specs.Covers.{one_if}
+use Rattle.tree_core.specs.declared.budgets.Budgets.{Budgets}
 use Rattle.tree_core.specs.declared.cause.Cause.{Cause}
 use Rattle.tree_core.specs.declared.cause.Cause.TheVariants.{Steps as StepsSpent}
 use Rattle.tree_core.specs.declared.choice.Choice.{Choice}
+use Rattle.fork_spec.specs.Leaves.{IsSmall}
 use Rattle.fork_spec.specs.Parts.{Part}
 use Rattle.fork_tree.specs.Contents.{choices_in}
 use Rattle.fork_tree.specs.Works.{EndsAs, IsPart}
@@ -50,10 +52,10 @@ onward_along p s t u v was same less now on = record {
 }
 
 -- it has become a leaf
-pub ends_since : (p : Program) (steps targets : ℕ) (cut : Option Cause) (s t u : Symbolic) (part : Part) → IsOnward p s t → IsSame t u
-    → EndsAs (rules_of p steps targets) run_place leaf_place cut u part
-    → EndsAs (rules_of p steps targets) run_place leaf_place cut s part
-ends_since p steps targets cut s t u part on same is = record {
+pub ends_since : (p : Program) (budgets : Budgets) (cut : Option Cause) (s t u : Symbolic) (part : Part) → IsOnward p s t → IsSame t u
+    → EndsAs (rules_of p budgets) run_place leaf_place cut u part
+    → EndsAs (rules_of p budgets) run_place leaf_place cut s part
+ends_since p budgets cut s t u part on same is = record {
   same_choices = is.same_choices ∙ since_choices p s t u on same;
   same_cover = λ input. is.same_cover input ∙ since_covers p s t u on same input;
   right = is.right;
@@ -61,29 +63,29 @@ ends_since p steps targets cut s t u part on same is = record {
 }
 
 -- it has spent its steps
-pub cut_since : (p : Program) (steps targets : ℕ) (s t u : Symbolic) (part : Part) → IsOnward p s t → IsSame t u → IsOpen p u → u.steps ≡ steps
-    → ((p : Program) (targets : ℕ) → IsOpen p u → EndsAs (rules_of p u.steps targets) run_place leaf_place (Some StepsSpent) u part)
-    → EndsAs (rules_of p steps targets) run_place leaf_place (Some StepsSpent) s part
-cut_since p steps targets s t u part on same now spent ends =
-    ends_since p steps targets (Some StepsSpent) s t u part on same
-    (subst (λ n. EndsAs (rules_of p n targets) run_place leaf_place (Some StepsSpent) u part) spent (ends p targets now))
+pub cut_since : (p : Program) (budgets : Budgets) (s t u : Symbolic) (part : Part) → IsOnward p s t → IsSame t u → IsOpen p u → u.steps ≡ budgets.steps
+    → ((p : Program) (budgets : Budgets) → budgets.steps ≡ u.steps → IsOpen p u → EndsAs (rules_of p budgets) run_place leaf_place (Some StepsSpent) u part)
+    → EndsAs (rules_of p budgets) run_place leaf_place (Some StepsSpent) s part
+cut_since p budgets s t u part on same now spent ends =
+    ends_since p budgets (Some StepsSpent) s t u part on same
+    (ends p budgets (sym spent) now)
 
-part_since : (p : Program) (steps targets less more : ℕ) (sides : List Choice) (kid : Piece)
-    (c : Content Symbolic Part) → less ≤ more → IsPart (rules_of p steps targets) less sides kid c
-    → IsPart (rules_of p steps targets) more sides kid c
-part_since p steps targets less more sides kid (Open a) within (no_leaf, well, smaller) =
+part_since : (p : Program) (budgets : Budgets) (less more : ℕ) (sides : List Choice) (kid : Piece)
+    (c : Content Symbolic Part) → less ≤ more → IsPart (rules_of p budgets) less sides kid c
+    → IsPart (rules_of p budgets) more sides kid c
+part_since p budgets less more sides kid (Open a) within (no_leaf, well, smaller) =
     (no_leaf, well, omega (arith, within, smaller))
-part_since p steps targets less more sides kid (Shut part) within is = is
+part_since p budgets less more sides kid (Shut part) within is = is
 
 -- it has parted
-pub split_since : (p : Program) (steps targets : ℕ) (s t u : Symbolic) (kids : List Piece) → IsOnward p s t → IsSame t u
-    → left_to_do u ≤ left_to_do t → IsForkOf p steps targets u kids → IsForkOf p steps targets s kids
-split_since p steps targets s t u kids on same less is = record {
+pub split_since : (p : Program) (budgets : Budgets) (s t u : Symbolic) (kids : List Piece) → IsOnward p s t → IsSame t u
+    → left_to_do u ≤ left_to_do t → IsForkOf p budgets u kids → IsForkOf p budgets s kids
+split_since p budgets s t u kids on same less is = record {
   shared = λ input. is.shared input ∙ ap one_if (since_covers p s t u on same input);
   choices = λ k d within.
       is.choices k d within ∙ ap (λ cs. cs ++ (get_or kids k d).choice ∷ []) (since_choices p s t u on same);
   parts = λ k d within.
-      part_since p steps targets (left_to_do u) (left_to_do s) (choices_in kids) (get_or kids k d) (get_or kids k d).content
+      part_since p budgets (left_to_do u) (left_to_do s) (choices_in kids) (get_or kids k d) (get_or kids k d).content
       (omega (arith, less, on.less)) (is.parts k d within);
   sides = is.sides;
   few = is.few;
@@ -91,49 +93,49 @@ split_since p steps targets s t u kids on same less is = record {
 }
 
 -- ---- There is room for the numbers of its texts.
-writable : (s : Symbolic) (inputs steps : ℕ) → s.terms.inputs ≡ inputs → inputs ≡ 1 → length s.output ≤ 4096 * s.steps
+writable : (s : Symbolic) (inputs steps : ℕ) → s.terms.inputs ≡ inputs → IsSmall inputs → length s.output ≤ 4096 * s.steps
     → s.steps ≤ steps → steps ≤ most_steps → IsWritable s
-writable s inputs steps is one few within most = record {
-  few_inputs = omega (arith, is, one);
+writable s inputs steps is small few within most = record {
+  few_inputs = omega (arith, is, small);
   few_outputs = omega (arith, few, within, most);
 }
 
-pub open_writable : (p : Program) (s : Symbolic) (steps : ℕ) → IsOpen p s → count_of p.regions ≡ 1 → s.steps ≤ steps → steps ≤ most_steps
+pub open_writable : (p : Program) (s : Symbolic) (steps : ℕ) → IsOpen p s → IsSmall (count_of p.regions) → s.steps ≤ steps → steps ≤ most_steps
     → IsWritable s
-open_writable p s steps was one within most =
-    writable s (count_of p.regions) steps was.inputs one was.few_outputs within most
+open_writable p s steps was small within most =
+    writable s (count_of p.regions) steps was.inputs small was.few_outputs within most
 
-pub ended_writable : (p : Program) (s : Symbolic) (end : RunEnd) (steps : ℕ) → IsEnded p s end → count_of p.regions ≡ 1
+pub ended_writable : (p : Program) (s : Symbolic) (end : RunEnd) (steps : ℕ) → IsEnded p s end → IsSmall (count_of p.regions)
     → s.steps ≤ steps → steps ≤ most_steps → IsWritable s
-ended_writable p s end steps was one within most =
-    writable s (count_of p.regions) steps was.inputs one was.few_outputs within most
+ended_writable p s end steps was small within most =
+    writable s (count_of p.regions) steps was.inputs small was.few_outputs within most
 
 -- ---- A run that was stopped at a fork: there is room for a step more, and this is what the fork makes of it.
-pub record IsAtFork (p : Program) (steps targets : ℕ) (s : Symbolic) (forked : Forked) : Type 0 where
-  pub underway : IsUnderway p steps s
-  pub goes : IsForked targets s forked
+pub record IsAtFork (p : Program) (budgets : Budgets) (s : Symbolic) (forked : Forked) : Type 0 where
+  pub underway : IsUnderway p budgets.steps s
+  pub goes : IsForked budgets s forked
 
 -- it goes on along one side
-pub fork_goes : (p : Program) (steps targets : ℕ) (s t u v : Symbolic) (stop : Stop) (forked : Forked) → IsOnward p s t
-    → Advances steps t u stop → IsAtFork p steps targets u forked → forked ≡ One v → IsOnward p s v
-fork_goes p steps targets s t u v stop forked on far at is =
-    onward_along p s t u v on far.same far.less at.underway.is_open (subst (IsForked targets u) is at.goes)
+pub fork_goes : (p : Program) (budgets : Budgets) (s t u v : Symbolic) (stop : Stop) (forked : Forked) → IsOnward p s t
+    → Advances budgets.steps t u stop → IsAtFork p budgets u forked → forked ≡ One v → IsOnward p s v
+fork_goes p budgets s t u v stop forked on far at is =
+    onward_along p s t u v on far.same far.less at.underway.is_open (subst (IsForked budgets u) is at.goes)
 
-pub fork_within : (p : Program) (steps targets : ℕ) (u v : Symbolic) (forked : Forked) → IsAtFork p steps targets u forked
-    → forked ≡ One v → v.steps ≤ steps
-fork_within p steps targets u v forked at is =
-    let on : GoesOn u v = subst (IsForked targets u) is at.goes in
+pub fork_within : (p : Program) (budgets : Budgets) (u v : Symbolic) (forked : Forked) → IsAtFork p budgets u forked
+    → forked ≡ One v → v.steps ≤ budgets.steps
+fork_within p budgets u v forked at is =
+    let on : GoesOn u v = subst (IsForked budgets u) is at.goes in
     omega (arith, on.steps, at.underway.room)
 
-pub fork_smaller : (p : Program) (steps targets : ℕ) (t u v : Symbolic) (stop : Stop) (forked : Forked) → Advances steps t u stop
-    → IsAtFork p steps targets u forked → forked ≡ One v → left_to_do v < left_to_do t
-fork_smaller p steps targets t u v stop forked far at is =
-    let on : GoesOn u v = subst (IsForked targets u) is at.goes in
+pub fork_smaller : (p : Program) (budgets : Budgets) (t u v : Symbolic) (stop : Stop) (forked : Forked) → Advances budgets.steps t u stop
+    → IsAtFork p budgets u forked → forked ≡ One v → left_to_do v < left_to_do t
+fork_smaller p budgets t u v stop forked far at is =
+    let on : GoesOn u v = subst (IsForked budgets u) is at.goes in
     omega (arith, on.less, far.less)
 
 -- it parts
-pub fork_parts : (p : Program) (steps targets : ℕ) (s t u : Symbolic) (stop : Stop) (forked : Forked) (kids : Vec Piece) → IsOnward p s t
-    → Advances steps t u stop → IsAtFork p steps targets u forked → forked ≡ Split kids → IsForkOf p steps targets s kids.items
-fork_parts p steps targets s t u stop forked kids on far at is =
-    split_since p steps targets s t u kids.items on far.same far.less
-    (subst (IsForked targets u) is at.goes p steps at.underway.is_open at.underway.room)
+pub fork_parts : (p : Program) (budgets : Budgets) (s t u : Symbolic) (stop : Stop) (forked : Forked) (kids : Vec Piece) → IsOnward p s t
+    → Advances budgets.steps t u stop → IsAtFork p budgets u forked → forked ≡ Split kids → IsForkOf p budgets s kids.items
+fork_parts p budgets s t u stop forked kids on far at is =
+    split_since p budgets s t u kids.items on far.same far.less
+    (subst (IsForked budgets u) is at.goes p at.underway.is_open at.underway.room)

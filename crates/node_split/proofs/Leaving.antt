@@ -15,7 +15,9 @@ use Rattle.rv_decode.specs.declared.ends.Trap.{Trap}
 use Rattle.rv_spec.specs.Memory.{IsAssignment}
 use Rattle.rv_spec.specs.Runs.{Run, IsRunOf, run}
 use Rattle.term_trees.specs.Growth.{Continues}
-use Rattle.term_trees.proofs.TreeLaws.{value-grown, width-grown}
+use Rattle.term_trees.specs.Trees.{tree_of}
+use Rattle.term_trees.proofs.TreeLaws.{tree-grown, value-grown, width-grown}
+use Rattle.tree_core.specs.declared.budgets.Budgets.{Budgets}
 use Rattle.tree_core.specs.declared.cause.Cause.{Cause}
 use Rattle.tree_core.specs.declared.cause.Cause.TheVariants.{Steps}
 use Rattle.fork_spec.specs.Evidence.{IsSample}
@@ -46,7 +48,7 @@ use Rattle.node_split.proofs.Bytes.{all_true, both_true, bytes_true}
 use Rattle.node_split.proofs.Copying.{all-copied, copies-back, copies-front, holds-copied}
 
 -- ---- Copies of terms that were there before others were added.
-same-each : (P : ℕ → Type 0) (f g : ℕ → ℕ) (ids : List ℕ) → All P ids → ((id : ℕ) → P id → f id ≡ g id)
+same-each : {A : Type 0} (P : ℕ → Type 0) (f g : ℕ → A) (ids : List ℕ) → All P ids → ((id : ℕ) → P id → f id ≡ g id)
     → map f ids ≡ map g ids
 same-each P f g [] all same = refl
 same-each P f g (id ∷ ids) all same =
@@ -56,6 +58,7 @@ pub copies-before : (f g h : Graph) (ids copies : List ℕ) → Continues f g �
     → AreCopies g ids h copies → AreCopies f ids h copies
 copies-before f g h ids copies grown within is = record {
   inputs = is.inputs ∙ grown.inputs;
+  trees = is.trees ∙ same-each (λ id. id < length f.nodes) (tree_of g) (tree_of f) ids within (λ id below. tree-grown f g id grown below);
   widths = is.widths ∙ same-each (λ id. id < length f.nodes) (width_of g) (width_of f) ids within (λ id below. width-grown f g id grown below);
   numbers = λ input. is.numbers input
       ∙ same-each (λ id. id < length f.nodes) (λ id. number_of g id input) (λ id. number_of f id input) ids within
@@ -166,11 +169,11 @@ pub full_as : (s new : Symbolic) (t : LeafTerms) (end : LeafEnd) → IsGrown s n
     → IsFull (left_as new t end)
 full_as s new t end grown full = subst (λ (part : Part). IsFull part.leaf) (sym (left-same s new t end grown)) full
 
-pub ends_as : (p : Program) (steps targets : ℕ) (cut : Option Cause) (s new : Symbolic) (t : LeafTerms) (end : LeafEnd) → IsGrown s new
-    → EndsAs (rules_of p steps targets) run_place leaf_place cut s (left_part s t end)
-    → EndsAs (rules_of p steps targets) run_place leaf_place cut s (left_part new t end)
-ends_as p steps targets cut s new t end grown is =
-    subst (λ (part : Part). EndsAs (rules_of p steps targets) run_place leaf_place cut s part) (sym (left-same s new t end grown)) is
+pub ends_as : (p : Program) (budgets : Budgets) (cut : Option Cause) (s new : Symbolic) (t : LeafTerms) (end : LeafEnd) → IsGrown s new
+    → EndsAs (rules_of p budgets) run_place leaf_place cut s (left_part s t end)
+    → EndsAs (rules_of p budgets) run_place leaf_place cut s (left_part new t end)
+ends_as p budgets cut s new t end grown is =
+    subst (λ (part : Part). EndsAs (rules_of p budgets) run_place leaf_place cut s part) (sym (left-same s new t end grown)) is
 
 -- ---- A run that has spent its steps.
 pub still_runs : (p : Program) (s : Symbolic) (input : List ℕ) → IsOpen p s → stands_for s input ≡ true
@@ -188,15 +191,15 @@ still_left p s t end has was none =
     subst (λ e. IsRunOf (run p.image p.regions input s.steps) s.steps s.path e (map (byte_worth s.terms input) s.output)) (sym (none input))
     (still_runs p s input was stood))
 
-pub cut_whole : (p : Program) (targets : ℕ) (s : Symbolic) (t : LeafTerms) → HasTerms s t → IsFormed s → IsWritable s → IsOpen p s
-    → EndsAs (rules_of p s.steps targets) run_place leaf_place (Some Steps) s (left_part s t (Cut Steps))
-cut_whole p targets s t has formed writable was = record {
+pub cut_whole : (p : Program) (budgets : Budgets) (s : Symbolic) (t : LeafTerms) → HasTerms s t → IsFormed s → IsWritable s → budgets.steps ≡ s.steps
+    → IsOpen p s → EndsAs (rules_of p budgets) run_place leaf_place (Some Steps) s (left_part s t (Cut Steps))
+cut_whole p budgets s t has formed writable spent was = record {
   same_choices = refl;
   same_cover = λ input. ap (λ b. are_bytes input && b) (holds-left s t has input);
   right = record {
     full = full-left s t has (Cut Steps) formed writable tt;
     inputs = has.condition.inputs ∙ was.inputs;
-    faithful = record { within = refl; runs = still_left p s t (Cut Steps) has was (λ input. refl) };
+    faithful = record { within = sym spent; runs = still_left p s t (Cut Steps) has was (λ input. refl) };
     alike = alike-left s t has p (Cut Steps) was.alike;
     shown = sample-left s t has p.regions (Cut Steps) formed (formed.each_input ∙ was.inputs, formed.sample_bytes) was.ready.sampled;
   };
@@ -204,10 +207,10 @@ cut_whole p targets s t has formed writable was = record {
 }
 
 -- ---- A run whose runs have all ended.
-pub trapped_whole : (p : Program) (steps targets : ℕ) (s : Symbolic) (t : LeafTerms) (trap : Trap) → HasTerms s t → IsFormed s
-    → IsWritable s → IsEnded p s (Traps trap) → s.steps ≤ steps
-    → EndsAs (rules_of p steps targets) run_place leaf_place None s (left_part s t (LeafTraps trap))
-trapped_whole p steps targets s t trap has formed writable was within = record {
+pub trapped_whole : (p : Program) (budgets : Budgets) (s : Symbolic) (t : LeafTerms) (trap : Trap) → HasTerms s t → IsFormed s
+    → IsWritable s → IsEnded p s (Traps trap) → s.steps ≤ budgets.steps
+    → EndsAs (rules_of p budgets) run_place leaf_place None s (left_part s t (LeafTraps trap))
+trapped_whole p budgets s t trap has formed writable was within = record {
   same_choices = refl;
   same_cover = λ input. ap (λ b. are_bytes input && b) (holds-left s t has input);
   right = record {
@@ -228,10 +231,10 @@ pub record IsStatus (s : Symbolic) (g : Graph) (status : ℕ) : Type 0 where
   pub byte : width_of g status ≡ 8
   pub worth : (input : List ℕ) → All (λ b. b < 256) input → number_of g status input ≡ worth_of s.terms input (value_at s.registers 10) % 256
 
-pub exited_whole : (p : Program) (steps targets : ℕ) (s : Symbolic) (t : LeafTerms) (status : ℕ) → HasTerms s t → IsFormed s
-    → IsWritable s → IsEnded p s Exits → IsStatus s t.condition.graph status → s.steps ≤ steps
-    → EndsAs (rules_of p steps targets) run_place leaf_place None s (left_part s t (LeafExits status))
-exited_whole p steps targets s t status has formed writable was is within = record {
+pub exited_whole : (p : Program) (budgets : Budgets) (s : Symbolic) (t : LeafTerms) (status : ℕ) → HasTerms s t → IsFormed s
+    → IsWritable s → IsEnded p s Exits → IsStatus s t.condition.graph status → s.steps ≤ budgets.steps
+    → EndsAs (rules_of p budgets) run_place leaf_place None s (left_part s t (LeafExits status))
+exited_whole p budgets s t status has formed writable was is within = record {
   same_choices = refl;
   same_cover = λ input. ap (λ b. are_bytes input && b) (holds-left s t has input);
   right = record {

@@ -2,7 +2,7 @@ pub mod Apart
 pub mod Branching
 pub mod Bytes
 pub mod Copying
-pub mod Evaluating
+pub mod Cutting
 pub mod Increasing
 pub mod Parting
 pub mod Pinning
@@ -12,4 +12,3 @@ pub mod SidesOfValues
 pub mod Valuing
 pub mod Following
 pub mod Leaving
-pub mod Resting

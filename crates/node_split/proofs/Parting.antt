@@ -1,13 +1,16 @@
 -- The two sides of a branch.
 use Rattle.std.proofs.Common.{◌≡◌, ◌≢◌, ℕ, ◌+◌, ◌<◌, ◌≤◌, Bool, true, false, ◌&&◌, List, [], ◌∷◌, ◌++◌, map, refl, sym, ap, ◌∙◌, subst, arith}
-use Rattle.std.specs.Prelude.{IsTrue, None, ◌==◌, not}
+use Rattle.std.specs.Prelude.{IsTrue, Option, None, Some, if◌then◌else◌, ◌==◌, not}
 use Rattle.std.proofs.lemmas.List.Elements.{All-nil, All-cons}
 use Rattle.bv_dag.specs.Graphs.{number_of}
 use Rattle.rv_spec.specs.Decisions.{Side as OnSide}
 use Rattle.tree_core.specs.Covers.{one_if}
+use Rattle.tree_core.specs.declared.budgets.Budgets.{Budgets}
+use Rattle.tree_core.specs.declared.cause.Cause.{Cause}
+use Rattle.tree_core.specs.declared.cause.Cause.TheVariants.{Conflicts, Steps, Targets}
 use Rattle.tree_core.specs.declared.choice.Choice.TheVariants.{No, Yes}
 use Rattle.fork_spec.specs.Partings.{IsOnSide}
-use Rattle.fork_spec.specs.Walks.{Side, are_sides}
+use Rattle.fork_spec.specs.Walks.{Side, are_sides, is_one_cut_at_most}
 use Rattle.fork_spec.specs.Written.{side_of_kid}
 use Rattle.fork_tree.specs.Contents.{choices_in, cut_in}
 use Rattle.fork_tree.specs.Works.{IsPart}
@@ -17,10 +20,10 @@ use Rattle.sym_state.specs.Runs.{IsOpen, left_to_do}
 use Rattle.sym_state.specs.Symbolic.{Symbolic, stands_for}
 use Rattle.node_split.specs.Narrowing.{is_side}
 use Rattle.node_split.specs.Rules.{Piece, content_place, rules_of}
-use Rattle.node_split.specs.Splits.{IsForkOf, IsSide}
+use Rattle.node_split.specs.Splits.{IsBranchSide, IsForkOf, IsSide, IsSideIn, choice_of}
 use Rattle.node_split.proofs.Apart.{AreTwoSides, IsOnFork, kids_apart}
 use Rattle.node_split.proofs.Bytes.{not_true}
-use Rattle.node_split.proofs.Sharing.{count-cons, side-choices, side-covers, side_form, side_on_fork, side_part, two_runs}
+use Rattle.node_split.proofs.Sharing.{count-cons, on_fork_in, placed_in, side_in, two_in}
 
 one_of_two : (met one : Bool) → one_if (met && not one) + (one_if (met && one) + 0) ≡ one_if met
 one_of_two true true = refl
@@ -45,46 +48,75 @@ two_decisions b c is_no is_yes is =
 two_choices : No ≢ Yes
 two_choices is = cc is
 
-branch_form : (targets : ℕ)
-    → IsTrue (are_sides targets (record { choice = No; cut = None } ∷ record { choice = Yes; cut = None } ∷ []))
-branch_form targets = refl
+branch_form : (targets : ℕ) (no_cut yes_cut : Option Cause) → IsTrue (is_one_cut_at_most no_cut yes_cut)
+    → IsTrue (are_sides targets (record { choice = No; cut = no_cut } ∷ record { choice = Yes; cut = yes_cut } ∷ []))
+branch_form targets None None is = refl
+branch_form targets None (Some Steps) is = absurd (cc is)
+branch_form targets None (Some Targets) is = absurd (cc is)
+branch_form targets None (Some Conflicts) is = refl
+branch_form targets (Some Steps) yes_cut is = absurd (cc is)
+branch_form targets (Some Targets) yes_cut is = absurd (cc is)
+branch_form targets (Some Conflicts) None is = refl
+branch_form targets (Some Conflicts) (Some cause) is = absurd (cc is)
 
-forms_are : (p : Program) (steps targets : ℕ) (s : Symbolic) (no_test yes_test : List ℕ → Bool)
-    (left_kid right_kid : Piece) → IsSide s No no_test left_kid
-    → IsSide s Yes yes_test right_kid
-    → map (side_of_kid (cut_in (rules_of p steps targets).cut)) (left_kid ∷ right_kid ∷ []) ≡ record { choice = No; cut = None } ∷ record { choice = Yes; cut = None } ∷ []
-forms_are p steps targets s no_test yes_test left_kid right_kid left right = cc (side_form p steps targets s No no_test left_kid left, side_form p steps targets s Yes yes_test right_kid right)
+abbrev no_test : Symbolic → ℕ → List ℕ → Bool
+no_test s term input = is_side false (number_of s.terms term input)
+
+abbrev yes_test : Symbolic → ℕ → List ℕ → Bool
+yes_test s term input = is_side true (number_of s.terms term input)
 
 -- where a side stands
 abbrev StandsOnSide : Symbolic → Piece → Type 0
 StandsOnSide s k = (content_place k.content).choices ≡ s.choices ++ k.choice ∷ []
 
-pub two_sides : (p : Program) (steps targets : ℕ) (s : Symbolic) (left_kid right_kid : Piece)
-    (term : ℕ) → IsOpen p s → IsBranch s term → s.steps < steps → 1 ≤ targets
-    → IsSide s No (λ input. is_side false (number_of s.terms term input)) left_kid
-    → IsSide s Yes (λ input. is_side true (number_of s.terms term input)) right_kid
-    → IsForkOf p steps targets s (left_kid ∷ right_kid ∷ [])
-two_sides p steps targets s left_kid right_kid term was at few some left right =
-    let no_test = λ (input : List ℕ). is_side false (number_of s.terms term input) in
-    let yes_test = λ (input : List ℕ). is_side true (number_of s.terms term input) in
+pub two_sides : (p : Program) (budgets : Budgets) (s : Symbolic) (left_kid right_kid : Piece) (term : ℕ) (no_cut yes_cut : Option Cause)
+    → IsOpen p s → IsBranch s term → s.steps < budgets.steps → 1 ≤ budgets.targets → IsTrue (is_one_cut_at_most no_cut yes_cut)
+    → IsSideIn p budgets (No ∷ Yes ∷ []) s No no_cut (no_test s term) left_kid
+    → IsSideIn p budgets (No ∷ Yes ∷ []) s Yes yes_cut (yes_test s term) right_kid
+    → IsForkOf p budgets s (left_kid ∷ right_kid ∷ [])
+two_sides p budgets s left_kid right_kid term no_cut yes_cut was at few some one_cut left right =
+    let sides = No ∷ Yes ∷ [] in
     let decision = λ (input : List ℕ). OnSide (number_of s.terms term input == 1) in
-    let Part = λ (k : Piece). IsPart (rules_of p steps targets) (left_to_do s) (choices_in (left_kid ∷ right_kid ∷ [])) k k.content in record {
+    let choices : choices_in (left_kid ∷ right_kid ∷ []) ≡ sides = cc (left.same, right.same) in
+    let Part = λ (k : Piece). IsPart (rules_of p budgets) (left_to_do s) (choices_in (left_kid ∷ right_kid ∷ [])) k k.content in
+    let forms : map (side_of_kid (cut_in (rules_of p budgets).cut)) (left_kid ∷ right_kid ∷ []) ≡ record { choice = No; cut = no_cut } ∷ record { choice = Yes; cut = yes_cut } ∷ []
+    = cc (left.form, right.form) in record {
       shared = λ input.
           count-cons input left_kid (right_kid ∷ [])
           ∙ ap (λ n. one_if ((content_place left_kid.content).covers input) + n) (count-cons input right_kid [])
-          ∙ ap (λ b. one_if b + (one_if ((content_place right_kid.content).covers input) + 0)) (side-covers s No no_test left_kid left input)
-          ∙ ap (λ b. one_if (stands_for s input && not (number_of s.terms term input == 1)) + (one_if b + 0)) (side-covers s Yes yes_test right_kid right input)
+          ∙ ap (λ b. one_if b + (one_if ((content_place right_kid.content).covers input) + 0)) (left.covers input)
+          ∙ ap (λ b. one_if (stands_for s input && not (number_of s.terms term input == 1)) + (one_if b + 0)) (right.covers input)
           ∙ one_of_two (stands_for s input) (number_of s.terms term input == 1);
-      choices = All-cons (StandsOnSide s) left_kid (right_kid ∷ []) (side-choices s No no_test left_kid left) (All-cons (StandsOnSide s) right_kid [] (side-choices s Yes yes_test right_kid right) (All-nil (StandsOnSide s)));
-      parts = All-cons Part left_kid (right_kid ∷ []) (side_part p steps targets (choices_in (left_kid ∷ right_kid ∷ [])) s No no_test left_kid was few left)
-          (All-cons Part right_kid [] (side_part p steps targets (choices_in (left_kid ∷ right_kid ∷ [])) s Yes yes_test right_kid was few right) (All-nil Part));
-      sides = subst (λ (sides : List Side). IsTrue (are_sides targets sides))
-          (sym (forms_are p steps targets s no_test yes_test left_kid right_kid left right)) (branch_form targets);
+      choices = All-cons (StandsOnSide s) left_kid (right_kid ∷ []) (placed_in p budgets sides s No no_cut (no_test s term) left_kid left)
+          (All-cons (StandsOnSide s) right_kid [] (placed_in p budgets sides s Yes yes_cut (yes_test s term) right_kid right) (All-nil (StandsOnSide s)));
+      parts = All-cons Part left_kid (right_kid ∷ []) (subst (λ cs. IsPart (rules_of p budgets) (left_to_do s) cs left_kid left_kid.content) (sym choices) left.part)
+          (All-cons Part right_kid [] (subst (λ cs. IsPart (rules_of p budgets) (left_to_do s) cs right_kid right_kid.content) (sym choices) right.part) (All-nil Part));
+      sides = subst (λ (forms : List Side). IsTrue (are_sides budgets.targets forms)) (sym forms) (branch_form budgets.targets no_cut yes_cut one_cut);
       few = omega (arith, some);
-      apart = kids_apart p s steps 1 decision (left_kid ∷ right_kid ∷ []) was few at.stands
-          (All-cons (IsOnFork s decision) left_kid (right_kid ∷ []) (side_on_fork s No no_test decision left_kid left (λ input is. on_no _ is))
-          (All-cons (IsOnFork s decision) right_kid [] (side_on_fork s Yes yes_test decision right_kid right (λ input is. on_yes _ is)) (All-nil (IsOnFork s decision)))) (
-            All-cons (AreTwoSides decision left_kid) right_kid [] (two_runs s decision No Yes no_test yes_test left_kid right_kid left right two_choices (λ a b. two_decisions _ _)) (All-nil (AreTwoSides decision left_kid)),
+      apart = kids_apart p s budgets.steps 1 decision (left_kid ∷ right_kid ∷ []) was few at.stands
+          (All-cons (IsOnFork s decision) left_kid (right_kid ∷ []) (on_fork_in p budgets sides s No no_cut (no_test s term) left_kid left decision (λ input is. on_no _ is))
+          (All-cons (IsOnFork s decision) right_kid [] (on_fork_in p budgets sides s Yes yes_cut (yes_test s term) right_kid right decision (λ input is. on_yes _ is)) (All-nil (IsOnFork s decision)))) (
+            All-cons (AreTwoSides decision left_kid) right_kid []
+                (two_in p budgets sides s decision No Yes no_cut yes_cut (no_test s term) (yes_test s term) left_kid right_kid left right two_choices (λ a b. two_decisions _ _)) (All-nil (AreTwoSides decision left_kid)),
             (All-nil (AreTwoSides decision right_kid), tt),
           );
     }
+
+one_cut_only : (cut : Option Cause) → IsTrue (is_one_cut_at_most None cut) → IsTrue (is_one_cut_at_most cut None)
+one_cut_only None is = is
+one_cut_only (Some Steps) is = is
+one_cut_only (Some Targets) is = is
+one_cut_only (Some Conflicts) is = is
+
+-- both sides in their order: the sample's is a run
+pub sides_of_branch : (budgets : Budgets) (s : Symbolic) (term : ℕ) (side : Bool) (own other : Piece) → IsBranch s term → 1 ≤ budgets.targets
+    → IsSide s (choice_of side) (λ input. is_side side (number_of s.terms term input)) own → IsBranchSide budgets s term (not side) other
+    → (p : Program) → IsOpen p s → s.steps < budgets.steps → IsForkOf p budgets s (if side then other ∷ own ∷ [] else own ∷ other ∷ [])
+sides_of_branch budgets s term true own other at some is_own is_other p was few =
+    let in_fork = is_other p was few in
+    two_sides p budgets s other own term in_fork.0 None was at few some (one_cut_only in_fork.0 in_fork.1) in_fork.2
+    (side_in p budgets (No ∷ Yes ∷ []) s Yes (yes_test s term) own was few is_own)
+sides_of_branch budgets s term false own other at some is_own is_other p was few =
+    let in_fork = is_other p was few in
+    two_sides p budgets s own other term None in_fork.0 was at few some in_fork.1
+    (side_in p budgets (No ∷ Yes ∷ []) s No (no_test s term) own was few is_own) in_fork.2

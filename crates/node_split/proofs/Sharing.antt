@@ -1,9 +1,11 @@
 -- A run on one side of a fork: what it stands for, and where it stands.
 use Rattle.std.proofs.Common.{◌≡◌, ◌≢◌, ℕ, ◌+◌, ◌<◌, Bool, true, false, ◌&&◌, cond, List, [], ◌∷◌, ◌++◌, refl, sym, ap, ◌∙◌, subst, arith}
-use Rattle.std.specs.Prelude.{IsTrue, None, if◌then◌else◌, count_by}
+use Rattle.std.specs.Prelude.{IsTrue, Option, None, if◌then◌else◌, count_by}
 use Rattle.std.proofs.lemmas.List.Sums.{sum_by-cons}
 use Rattle.rv_spec.specs.Decisions.{Decision}
 use Rattle.tree_core.specs.Covers.{one_if}
+use Rattle.tree_core.specs.declared.budgets.Budgets.{Budgets}
+use Rattle.tree_core.specs.declared.cause.Cause.{Cause}
 use Rattle.tree_core.specs.declared.choice.Choice.{Choice}
 use Rattle.fork_spec.specs.Partings.{Place, IsOnSide}
 use Rattle.fork_spec.specs.Parts.{Part}
@@ -18,7 +20,7 @@ use Rattle.sym_state.specs.Programs.{Program}
 use Rattle.sym_state.specs.Runs.{IsOpen, left_to_do}
 use Rattle.sym_state.specs.Symbolic.{Symbolic, stands_for}
 use Rattle.node_split.specs.Rules.{Piece, content_place, rules_of}
-use Rattle.node_split.specs.Splits.{HoldsRun, IsSide}
+use Rattle.node_split.specs.Splits.{HoldsRun, IsSide, IsSideIn}
 use Rattle.node_split.proofs.Apart.{AreTwoSides, IsOnFork}
 use Rattle.node_split.proofs.Bytes.{both_true}
 
@@ -71,31 +73,68 @@ two_runs s decision c d one_test other_test one other is_one is_other differ dec
 }
 
 -- it is a run with less to do
-held_part : (p : Program) (steps targets limit : ℕ) (sides : List Choice) (kid : Piece)
+held_part : (p : Program) (budgets : Budgets) (limit : ℕ) (sides : List Choice) (kid : Piece)
     (c : Content Symbolic Part) (run : Symbolic) → HoldsRun c run → kid.is_leaf ≡ false
-    → IsOpen p run → run.steps < steps → left_to_do run < limit
-    → IsPart (rules_of p steps targets) limit sides kid c
-held_part p steps targets limit sides kid (Open a) run is no_leaf one few less = (
+    → IsOpen p run → run.steps < budgets.steps → left_to_do run < limit
+    → IsPart (rules_of p budgets) limit sides kid c
+held_part p budgets limit sides kid (Open a) run is no_leaf one few less = (
   no_leaf,
-  (subst (IsOpen p) (sym is) one, subst (λ (r : Symbolic). r.steps < steps) (sym is) few),
+  (subst (IsOpen p) (sym is) one, subst (λ (r : Symbolic). r.steps < budgets.steps) (sym is) few),
   subst (λ (r : Symbolic). left_to_do r < limit) (sym is) less,
 )
-held_part p steps targets limit sides kid (Shut part) run is no_leaf one few less = absurd is
+held_part p budgets limit sides kid (Shut part) run is no_leaf one few less = absurd is
 
-pub side_part : (p : Program) (steps targets : ℕ) (sides : List Choice) (s : Symbolic)
-    (choice : Choice) (test : List ℕ → Bool) (kid : Piece) → IsOpen p s → s.steps < steps
+pub side_part : (p : Program) (budgets : Budgets) (sides : List Choice) (s : Symbolic)
+    (choice : Choice) (test : List ℕ → Bool) (kid : Piece) → IsOpen p s → s.steps < budgets.steps
     → IsSide s choice test kid
-    → IsPart (rules_of p steps targets) (left_to_do s) sides kid kid.content
-side_part p steps targets sides s choice test kid was few side =
-    held_part p steps targets (left_to_do s) sides kid kid.content side.run side.on.holds side.on.no_leaf (side.narrower.is_open p was) (omega (arith, few, side.narrower.steps)) side.narrower.less
+    → IsPart (rules_of p budgets) (left_to_do s) sides kid kid.content
+side_part p budgets sides s choice test kid was few side =
+    held_part p budgets (left_to_do s) sides kid kid.content side.run side.on.holds side.on.no_leaf (side.narrower.is_open p was) (omega (arith, few, side.narrower.steps)) side.narrower.less
 
 -- as a side it isn't cut
-pub side_form : (p : Program) (steps targets : ℕ) (s : Symbolic) (choice : Choice)
+pub side_form : (p : Program) (budgets : Budgets) (s : Symbolic) (choice : Choice)
     (test : List ℕ → Bool) (kid : Piece) → IsSide s choice test kid
-    → side_of_kid (cut_in (rules_of p steps targets).cut) kid ≡ record { choice = choice; cut = None }
-side_form p steps targets s choice test kid side =
-    ap {B = Side} (λ b. record { choice = kid.choice; cut = if b then cut_in (rules_of p steps targets).cut kid.content else None }) side.on.no_leaf
+    → side_of_kid (cut_in (rules_of p budgets).cut) kid ≡ record { choice = choice; cut = None }
+side_form p budgets s choice test kid side =
+    ap {B = Side} (λ b. record { choice = kid.choice; cut = if b then cut_in (rules_of p budgets).cut kid.content else None }) side.on.no_leaf
     ∙ ap {B = Side} (λ c. record { choice = c; cut = None }) side.on.choice
+
+-- a side that is a run is one of each program's fork
+pub side_in : (p : Program) (budgets : Budgets) (sides : List Choice) (s : Symbolic) (choice : Choice) (test : List ℕ → Bool) (kid : Piece)
+    → IsOpen p s → s.steps < budgets.steps → IsSide s choice test kid → IsSideIn p budgets sides s choice None test kid
+side_in p budgets sides s choice test kid was few side = record {
+  same = side.on.choice;
+  placed = side-choices s choice test kid side ∙ ap (λ c. s.choices ++ c ∷ []) side.on.choice;
+  covers = side-covers s choice test kid side;
+  part = side_part p budgets sides s choice test kid was few side;
+  form = side_form p budgets s choice test kid side;
+}
+
+-- ---- A side of a fork, whether it is a run or a leaf.
+module _ (p : Program) (budgets : Budgets) (sides : List Choice) (s : Symbolic) (choice : Choice) (cut : Option Cause) (test : List ℕ → Bool) (kid : Piece)
+    (side : IsSideIn p budgets sides s choice cut test kid) where
+  pub passed_in : (input : List ℕ) → IsTrue ((content_place kid.content).covers input) → (stands_for s input ≡ true) × (test input ≡ true)
+  passed_in input covered = both_true (stands_for s input) (test input) (sym (side.covers input) ∙ covered)
+
+  pub placed_in : (content_place kid.content).choices ≡ s.choices ++ kid.choice ∷ []
+  placed_in = side.placed ∙ ap (λ c. s.choices ++ c ∷ []) (sym side.same)
+
+  pub on_fork_in : (decision : List ℕ → Decision) → ((input : List ℕ) → test input ≡ true → IsOnSide choice (decision input)) → IsOnFork s decision kid
+  on_fork_in decision on = record {
+    choices = placed_in;
+    stands = λ input covered. (passed_in input covered).0;
+    on_side = λ input covered. subst (λ c. IsOnSide c (decision input)) (sym side.same) (on input (passed_in input covered).1);
+  }
+
+pub two_in : (p : Program) (budgets : Budgets) (sides : List Choice) (s : Symbolic) (decision : List ℕ → Decision) (c d : Choice)
+    (one_cut other_cut : Option Cause) (one_test other_test : List ℕ → Bool) (one other : Piece)
+    → IsSideIn p budgets sides s c one_cut one_test one → IsSideIn p budgets sides s d other_cut other_test other → c ≢ d
+    → ((a b : List ℕ) → one_test a ≡ true → other_test b ≡ true → decision a ≢ decision b)
+    → AreTwoSides decision one other
+two_in p budgets sides s decision c d one_cut other_cut one_test other_test one other is_one is_other differ decides = record {
+  choices = λ is. differ (sym is_one.same ∙ is ∙ is_other.same);
+  decisions = λ a b on_a on_b. decides a b (passed_in p budgets sides s c one_cut one_test one is_one a on_a).1 (passed_in p budgets sides s d other_cut other_test other is_other b on_b).1;
+}
 
 -- how many stand for an assignment
 as_one : (b : Bool) → cond b 1 0 ≡ one_if b

@@ -24,15 +24,7 @@ use Rattle.term_trees.specs.Growth.{Continues}
 use Rattle.tree_core.specs.declared.choice.Choice.{Choice}
 use Rattle.sym_state.proofs.Grown.{concrete-with_terms, stands-with_terms, unfolded-with_terms}
 use Rattle.node_split.specs.Narrowing.{GoesOn, IsNarrower, IsSettled}
-use Rattle.node_split.proofs.Bytes.{IsByte, all_true, and_last, both_true, by_bytes, bytes_of, is_byte}
-use Rattle.node_split.proofs.Increasing.{equals}
-
--- an assignment of a run over one input is a byte
-pub stood_byte : (s : Symbolic) (input : List ℕ) → s.terms.inputs ≡ 1 → stands_for s input ≡ true → IsByte input
-stood_byte s input one stands =
-    let parts = both_true (are_bytes input) (holds (record { graph = s.terms; asserted = s.condition }) input) stands in
-    let long = equals (length input) s.terms.inputs (both_true (length input == s.terms.inputs) _ parts.1).0 in
-    is_byte input (long ∙ one) (bytes_of input parts.0)
+use Rattle.node_split.proofs.Bytes.{all_true, and_last, both_true, by_bytes, bytes_of}
 
 -- the decision at its place
 get-seam : (front back : List Decision) (d : Decision) (place : ℕ) → length front ≡ place
@@ -126,7 +118,7 @@ holds-last g ids term input =
     ap (λ b. (length input == g.inputs) && b) (list_all-append (λ id. number_of g id input == 1) ids (term ∷ []))
     ∙ and_last (length input == g.inputs) (list_all (λ id. number_of g id input == 1) ids) (number_of g term input == 1)
 
-stands-narrowed : (s : Symbolic) (g : Graph) (place : ℕ) (d : Decided) (choice : Choice) (term : ℕ) (sample : List ℕ)
+pub stands-narrowed : (s : Symbolic) (g : Graph) (place : ℕ) (d : Decided) (choice : Choice) (term : ℕ) (sample : List ℕ)
     (test : List ℕ → Bool) → IsFormed s → Continues s.terms g
     → ((input : List ℕ) → All (λ b. b < 256) input → (number_of g term input == 1) ≡ test input)
     → (input : List ℕ) → stands_for (side_run s g place d choice term sample) input ≡ (stands_for s input && test input)

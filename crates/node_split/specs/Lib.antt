@@ -1,9 +1,8 @@
+pub mod Learning
 pub mod Values
 pub mod Rules
 pub mod Narrowing
 pub mod Copies
-pub mod Evaluations
 pub mod Leaving
 pub mod Splits
-pub mod Resting
 pub mod Working

@@ -1,22 +1,16 @@
 -- Symbolic runs on one side of a fork.
 use Rattle.std.specs.Prelude.{◌≡◌, ℕ, ◌==◌, ◌&&◌, ◌<◌, Bool, true, false, not, List, [], ◌∷◌, ◌++◌, None, Some}
-use Rattle.bv_dag.specs.Graphs.{Graph, number_of}
-use Rattle.bv_dag.specs.Queries.{holds}
 use Rattle.sym_state.specs.Programs.{Program}
 use Rattle.sym_state.specs.Runs.{IsOpen, left_to_do}
 use Rattle.sym_state.specs.Symbolic.{Symbolic, IsTrulyKnown, known_at, most_decisions, stands_for}
 use Rattle.sym_state.specs.declared.decided.Decided.{Decided}
+use Rattle.term_trees.specs.Growth.{Continues}
 use Rattle.tree_core.specs.declared.choice.Choice.{Choice}
 
 -- the term is 1, or it isn't
 abbrev pub is_side : Bool → ℕ → Bool
 is_side true number = number == 1
 is_side false number = not (number == 1)
-
--- the assignment meets the condition, and is on this side of the term
-abbrev pub answers : Graph → List ℕ → ℕ → Bool → List ℕ → Bool
-answers terms condition term side input =
-    holds (record { graph = terms; asserted = condition }) input && is_side side (number_of terms term input)
 
 -- A run on one side of a fork: it stands for those assignments of the run before it that pass a
 -- test, is a run of each program that the run before it is one of, and has less to do.
@@ -25,6 +19,13 @@ pub record IsNarrower (old new : Symbolic) (choice : Choice) (test : List ℕ �
   pub choices : new.choices ≡ old.choices ++ choice ∷ []
   pub steps : new.steps ≡ old.steps
   pub less : left_to_do new < left_to_do old
+  pub covers : (input : List ℕ) → stands_for new input ≡ (stands_for old input && test input)
+
+-- A run of which less is asked for: it has more terms and a longer condition, maybe another sample, and stands for those
+-- assignments that pass a test.
+pub record IsNarrowed (old new : Symbolic) (test : List ℕ → Bool) : Type 0 where
+  pub same : new ≡ record old { terms = new.terms; condition = new.condition; sample = new.sample }
+  pub continues : Continues old.terms new.terms
   pub covers : (input : List ℕ) → stands_for new input ≡ (stands_for old input && test input)
 
 -- A run that goes on: it stands for the same assignments, and has less to do.

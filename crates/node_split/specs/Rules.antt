@@ -27,13 +27,13 @@ worker_code = code_by (Program × (ℕ × (ℕ × ℕ))) (coded× program_code (
     (λ c. record { program = c.0; budgets = record { steps = c.1.0; targets = c.1.1.0; conflicts = c.1.1.1 } }) (λ _. refl)
 
 -- runs are open with steps left; leaves are right as the report claims
-abbrev pub rules_of : Program → (steps targets : ℕ) → Rules Symbolic Part
-rules_of p steps targets = record {
+abbrev pub rules_of : Program → Budgets → Rules Symbolic Part
+rules_of p budgets = record {
   left = left_to_do;
-  targets = targets;
-  decides = λ input. decisions p.image p.regions input steps;
-  IsWell = λ s. IsOpen p s × (s.steps < steps);
-  IsRight = λ sides part. IsRight p.image p.regions steps targets sides part;
+  targets = budgets.targets;
+  decides = λ input. decisions p.image p.regions input budgets.steps;
+  IsWell = λ s. IsOpen p s × (s.steps < budgets.steps);
+  IsRight = λ sides part. IsRight p.image p.regions budgets sides part;
   cut = λ part. cause_of part.leaf.end;
 }
 

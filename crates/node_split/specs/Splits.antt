@@ -1,17 +1,27 @@
 -- What becomes of a run at a fork: it goes on one way, or is split into sides.
-use Rattle.std.specs.Prelude.{◌≡◌, ℕ, ◌<◌, Bool, false, List}
+use Rattle.std.specs.Prelude.{◌≡◌, ℕ, ◌&&◌, ◌==◌, ◌<◌, Bool, true, false, All, IsTrue, List, [], ◌∷◌, ◌++◌, Option, None}
 use Rattle.std.specs.Arc.{arc_value}
+use Rattle.bv_dag.specs.Graphs.{number_of, width_of}
+use Rattle.fork_spec.specs.Evidence.{Found}
 use Rattle.fork_spec.specs.Parts.{Part}
-use Rattle.fork_tree.specs.Works.{IsSplit}
+use Rattle.fork_spec.specs.Walks.{is_one_cut_at_most}
+use Rattle.fork_spec.specs.Written.{side_of_kid}
+use Rattle.fork_tree.specs.Contents.{cut_in}
+use Rattle.fork_tree.specs.Works.{IsPart, IsSplit}
 use Rattle.fork_tree.specs.declared.content.Content.{Content}
 use Rattle.fork_tree.specs.declared.content.Content.TheVariants.{Open, Shut}
 use Rattle.sym_state.specs.Places.{run_place}
 use Rattle.sym_state.specs.Programs.{Program}
-use Rattle.sym_state.specs.Runs.{IsOpen}
-use Rattle.sym_state.specs.Symbolic.{Symbolic}
+use Rattle.sym_state.specs.Runs.{IsOpen, left_to_do}
+use Rattle.sym_state.specs.Symbolic.{Symbolic, IsFormed, stands_for}
+use Rattle.term_trees.specs.Growth.{Continues}
+use Rattle.tree_core.specs.declared.budgets.Budgets.{Budgets}
+use Rattle.tree_core.specs.declared.cause.Cause.{Cause}
 use Rattle.tree_core.specs.declared.choice.Choice.{Choice}
-use Rattle.node_split.specs.Narrowing.{GoesOn, IsNarrower}
-use Rattle.node_split.specs.Rules.{Piece, leaf_place, rules_of}
+use Rattle.tree_core.specs.declared.choice.Choice.TheVariants.{No, Yes, Value}
+use Rattle.node_split.specs.Narrowing.{GoesOn, IsNarrower, is_side}
+use Rattle.node_split.specs.Rules.{Piece, content_place, leaf_place, rules_of}
+use Rattle.node_split.specs.declared.branch.Tested.{Tested}
 use Rattle.node_split.specs.declared.forked.Forked.{Forked}
 use Rattle.node_split.specs.declared.forked.Forked.TheVariants.{One, Split}
 
@@ -32,13 +42,56 @@ pub record IsSide (s : Symbolic) (choice : Choice) (test : List ℕ → Bool) (k
   pub on : IsRunOn choice run kid
   pub narrower : IsNarrower s run choice test
 
+-- A side of a fork of a program's run into sides with these choices, a run or a leaf that is cut for this cause: it stands for
+-- those of the run's assignments that pass a test.
+pub record IsSideIn (p : Program) (budgets : Budgets) (sides : List Choice) (s : Symbolic) (choice : Choice) (cut : Option Cause)
+    (test : List ℕ → Bool) (kid : Piece) : Type 0 where
+  pub same : kid.choice ≡ choice
+  pub placed : (content_place kid.content).choices ≡ s.choices ++ choice ∷ []
+  pub covers : (input : List ℕ) → (content_place kid.content).covers input ≡ (stands_for s input && test input)
+  pub part : IsPart (rules_of p budgets) (left_to_do s) sides kid kid.content
+  pub form : side_of_kid (cut_in (rules_of p budgets).cut) kid ≡ record { choice = choice; cut = cut }
+
+-- the side that is this leaf
+abbrev pub leaf_side : Choice → Part → Piece
+leaf_side choice part = record { choice = choice; content = Shut part; is_leaf = true }
+
+-- the choice of a branch's side
+abbrev pub choice_of : Bool → Choice
+choice_of false = No
+choice_of true = Yes
+
+-- a run has a term of one bit that is 1 just on one side of another term
+pub record IsTested (s : Symbolic) (term : ℕ) (side : Bool) (t : Tested) : Type 0 where
+  pub formed : IsFormed s
+  pub same : t.run ≡ record s { terms = t.run.terms }
+  pub continues : Continues s.terms t.run.terms
+  pub bit : width_of t.run.terms t.test ≡ 1
+  pub tells : (input : List ℕ) → All (λ b. b < 256) input
+      → (number_of t.run.terms t.test input == 1) ≡ is_side side (number_of s.terms term input)
+
+-- one side of a branch: a run, or a leaf that is cut by conflicts
+abbrev pub IsBranchSide : Budgets → Symbolic → (term : ℕ) → (side : Bool) → Piece → Type 0
+IsBranchSide budgets s term side kid = (p : Program) → IsOpen p s → s.steps < budgets.steps
+    → (cut : Option Cause) × IsTrue (is_one_cut_at_most None cut)
+    × IsSideIn p budgets (No ∷ Yes ∷ []) s (choice_of side) cut (λ input. is_side side (number_of s.terms term input)) kid
+
+-- the run on which the term has this value
+abbrev pub IsSideOf : Symbolic → (term : ℕ) → Found → Piece → Type 0
+IsSideOf s term f kid = IsSide s (Value f.value) (λ input. number_of s.terms term input == f.value) kid
+
+-- a side for each value, in their order
+abbrev pub AreSidesOf : Symbolic → ℕ → List Found → List Piece → Type 0
+AreSidesOf s term [] [] = Unit {0}
+AreSidesOf s term (f ∷ fs) (k ∷ ks) = IsSideOf s term f k × AreSidesOf s term fs ks
+AreSidesOf s term _ _ = ⊥
+
 -- sides that share out what the run stands for, and part by a decision
-abbrev pub IsForkOf : Program → (steps targets : ℕ) → Symbolic → List Piece → Type 0
-IsForkOf p steps targets s kids = IsSplit (rules_of p steps targets) run_place leaf_place s kids
+abbrev pub IsForkOf : Program → Budgets → Symbolic → List Piece → Type 0
+IsForkOf p budgets s kids = IsSplit (rules_of p budgets) run_place leaf_place s kids
 
 -- where a run goes at a fork: one way; or all, and then these are the sides of each program's run
 -- that has steps left
-abbrev pub IsForked : (targets : ℕ) → Symbolic → Forked → Type 0
-IsForked targets s (One onward) = GoesOn s onward
-IsForked targets s (Split kids) = (p : Program) (steps : ℕ) → IsOpen p s → s.steps < steps
-    → IsForkOf p steps targets s kids.items
+abbrev pub IsForked : Budgets → Symbolic → Forked → Type 0
+IsForked budgets s (One onward) = GoesOn s onward
+IsForked budgets s (Split kids) = (p : Program) → IsOpen p s → s.steps < budgets.steps → IsForkOf p budgets s kids.items

@@ -1,85 +1,166 @@
-//! Branches that may go both ways: the run goes on along one side where the other has no assignment, and else parts into two.
+//! Branches that may go both ways: the run goes on along the side of its sample where the other has no assignment, and else parts
+//! into two. A side of which the budget of conflicts leaves open whether it has one is a leaf.
 
-ghost use Rattle.std.specs.Prelude.{◌≡◌, ◌≤◌, ℕ, ◌∷◌, [], IfOk, true, false};
-ghost use Rattle.bv_dag.specs.Graphs.{number_of};
+ghost use Rattle.std.specs.Prelude.{◌≡◌, ◌∷◌, [], ◌≤◌, ℕ, List, IfNone, IfOk, IfSome, if◌then◌else◌, length, true, false};
+ghost use Rattle.bv_dag.specs.Graphs.{number_of, width_of};
 ghost use Rattle.sym_machine.specs.Stops.{IsBranch};
 ghost use Rattle.sym_state.specs.Runs.{IsReady};
-ghost use Rattle.tree_core.specs.declared.choice.Choice.TheVariants.{No, Yes};
-ghost use Rattle.node_split.specs.Narrowing.{IsNarrower, answers, is_side};
-ghost use Rattle.node_split.specs.Splits.{IsForked};
+ghost use Rattle.sym_state.specs.Symbolic.{Symbolic, stands_for};
+ghost use Rattle.node_split.specs.Leaving.{IsWritable};
+ghost use Rattle.node_split.specs.Narrowing.{is_side};
+ghost use Rattle.node_split.specs.Splits.{IsBranchSide, IsForked, IsSide, IsTested, choice_of};
 
-use crate::asked::{ask, sample_byte};
-use crate::forked::{Forked, along, narrow, run_kid};
-use crate::question::{find_byte, is_one_on};
+use crate::cut::cut_conflicts;
+use crate::forked::{Forked, along, are_bytes, narrow, run_kid, sample_of, sampled};
+use fork_tree::Content;
+use query_front::{Asked, Shared, ask};
 use std::alloc::{AllocError as NoMemory, Global};
-use sym_state::{Decided, State};
-use tree_core::Choice;
+use std::sync::Wait;
+use sym_state::{Decided, LeafPart, Learnt, State};
+use tool_io::Bytes;
+use tree_core::{Budgets, Choice, Kid};
 
 /// Where the side of a branch stands among the decisions of its step: behind the step's word.
 const SIDE: usize = 1;
 
-// The side on which the branch isn't taken.
-fn no_side(alloc: Global, state: &State, term: usize, sample: u8) -> Result<State, NoMemory>
-    requires one_input { state.now.terms.inputs ≡ 1 }
-    requires at { IsBranch state.now term }
-    requires side { answers state.now.terms state.now.condition term false (sample ∷ []) ≡ true }
-    ensures { IfOk result (λ no. IsNarrower state.now no No (λ input. is_side false (number_of state.now.terms term input))) }
-{
-    let mut no = state.share()?;
-    let negated = no.negated(term)?;
-    narrow(alloc, &mut no, Choice::No, negated, sample)?;
-    no.know(SIDE, Decided::Side(false));
-    Ok(no)
+/// A run, with a term of one bit that is 1 on one side of a branch.
+#[derive(Drop)]
+pub struct Tested {
+    pub run: State,
+    pub test: usize,
 }
 
-// The side on which it is.
-fn yes_side(alloc: Global, state: &State, term: usize, sample: u8) -> Result<State, NoMemory>
-    requires one_input { state.now.terms.inputs ≡ 1 }
-    requires at { IsBranch state.now term }
-    requires side { answers state.now.terms state.now.condition term true (sample ∷ []) ≡ true }
-    ensures { IfOk result (λ yes. IsNarrower state.now yes Yes (λ input. is_side true (number_of state.now.terms term input))) }
+fn choice_of(side: bool) -> Choice
+    ensures { result ≡ choice_of side }
 {
-    let mut yes = state.share()?;
-    narrow(alloc, &mut yes, Choice::Yes, term, sample)?;
-    yes.know(SIDE, Decided::Side(true));
-    Ok(yes)
+    match side {
+        false => Choice::No,
+        true => Choice::Yes,
+    }
 }
 
-// Parts into both sides, with a sample of each.
-fn both(
+// A share of a run, with what is 1 on this side of a branch.
+fn with_test(state: &State, term: usize, side: bool) -> Result<Tested, NoMemory>
+    requires { IsBranch state.now term }
+    ensures { IfOk result (IsTested state.now term side) }
+{
+    let mut run = state.share()?;
+    if side {
+        return Ok(Tested { run, test: term });
+    }
+    let test = run.negated(term)?;
+    Ok(Tested { run, test })
+}
+
+// The side of a branch, with an assignment that is on it.
+fn open_side(
+    alloc: Global,
+    tested: Tested,
+    side: bool,
+    sample: Bytes,
+) -> Result<Kid<Content<State, LeafPart>>, NoMemory>
+    requires bit { width_of tested.run.terms tested.test ≡ 1 }
+    requires each_input { length sample ≡ tested.run.terms.inputs }
+    ensures { IfOk result (λ kid. (s : Symbolic) (term : ℕ) → IsBranch s term → IsTested s term side tested
+        → stands_for s sample ≡ true → is_side side (number_of s.terms term sample) ≡ true
+        → IsSide s (choice_of side) (λ input. is_side side (number_of s.terms term input)) kid) }
+{
+    let Tested { mut run, test } = tested;
+    narrow(&mut run, choice_of(side), test, sample)?;
+    run.know(SIDE, Decided::Side(side));
+    run_kid(alloc, choice_of(side), run)
+}
+
+// The side of a branch on which the sample isn't, if it has an assignment or may have one.
+fn other_side(
+    rt: &impl Wait,
+    alloc: Global,
+    shared: &Shared,
+    state: &State,
+    term: usize,
+    side: bool,
+    budgets: &Budgets,
+) -> Result<Option<Kid<Content<State, LeafPart>>>, NoMemory>
+    requires ready { IsReady state.now }
+    requires writable { IsWritable state.now }
+    requires at { IsBranch state.now term }
+    ensures some { IfOk result (λ kid. IfSome kid (IsBranchSide budgets.now state.now term side)) }
+    ensures none { IfOk result (λ kid. IfNone kid ((input : List ℕ) → stands_for state.now input ≡ true → is_side side (number_of state.now.terms term input) ≡ false)) }
+{
+    let mut tested = with_test(state, term, side)?;
+    match ask(
+        rt,
+        alloc,
+        shared,
+        &tested.run,
+        tested.test,
+        budgets.conflicts,
+    )? {
+        Asked::Unsat => Ok(None),
+        Asked::Sat(input) => {
+            are_bytes(input.as_slice());
+            Ok(Some(open_side(alloc, tested, side, input)?))
+        }
+        Asked::Spent(question, log) => {
+            tested.run.assert(tested.test)?;
+            let learnt = Learnt { question, log };
+            Ok(Some(cut_conflicts(alloc, tested.run, choice_of(side), learnt)?))
+        }
+    }
+}
+
+// The side on which the sample is.
+fn own_side(
     alloc: Global,
     state: &State,
     term: usize,
-    no_sample: u8,
-    yes_sample: u8,
-) -> Result<Forked, NoMemory>
-    requires one_input { state.now.terms.inputs ≡ 1 }
+    side: bool,
+) -> Result<Kid<Content<State, LeafPart>>, NoMemory>
+    requires ready { IsReady state.now }
     requires at { IsBranch state.now term }
-    requires no_sample { answers state.now.terms state.now.condition term false (no_sample ∷ []) ≡ true }
-    requires yes_sample { answers state.now.terms state.now.condition term true (yes_sample ∷ []) ≡ true }
-    ensures { IfOk result (λ forked. (targets : ℕ) → 1 ≤ targets → IsForked targets state.now forked) }
+    requires on_side { is_side side (number_of state.now.terms term state.now.sample) ≡ true }
+    ensures { IfOk result (IsSide state.now (choice_of side) (λ input. is_side side (number_of state.now.terms term input))) }
 {
-    let no = no_side(alloc, state, term, no_sample)?;
-    let yes = yes_side(alloc, state, term, yes_sample)?;
-    let mut kids = Vec::new(alloc);
-    kids.push(run_kid(alloc, Choice::No, no)?)?;
-    kids.push(run_kid(alloc, Choice::Yes, yes)?)?;
-    Ok(Forked::Split(kids))
+    let tested = with_test(state, term, side)?;
+    let sample = sample_of(alloc, state)?;
+    open_side(alloc, tested, side, sample)
+}
+
+// Both sides, the one that isn't taken first.
+fn in_order(
+    alloc: Global,
+    side: bool,
+    own: Kid<Content<State, LeafPart>>,
+    other: Kid<Content<State, LeafPart>>,
+) -> Result<Vec<Kid<Content<State, LeafPart>>>, NoMemory>
+    ensures { IfOk result (λ kids. kids.items ≡ (if side then other ∷ own ∷ [] else own ∷ other ∷ [])) }
+{
+    let mut kids = Vec::with_capacity(alloc, 2)?;
+    let (first, second) = if side { (other, own) } else { (own, other) };
+    kids.push(first)?;
+    kids.push(second)?;
+    Ok(kids)
 }
 
 /// Goes on from a branch: along the side of the sample where the other has no assignment, and else along both.
-pub fn at_branch(alloc: Global, state: State, term: usize) -> Result<Forked, NoMemory>
-    requires one_input { state.terms.inputs ≡ 1 }
+pub fn at_branch(
+    rt: &impl Wait,
+    alloc: Global,
+    shared: &Shared,
+    state: State,
+    term: usize,
+    budgets: &Budgets,
+) -> Result<Forked, NoMemory>
     requires ready { IsReady state }
+    requires writable { IsWritable state }
     requires at { IsBranch state term }
-    ensures { IfOk result (λ forked. (targets : ℕ) → 1 ≤ targets → IsForked targets state forked) }
+    requires some { 1 ≤ budgets.now.targets }
+    ensures { IfOk result (IsForked budgets.now state) }
 {
-    let asked = ask(alloc, &state, term)?;
-    let sample = sample_byte(&state);
-    let side = is_one_on(alloc, &asked.graph, asked.term, sample)?;
-    match find_byte(alloc, &asked.graph, &asked.condition, asked.term, !side)? {
-        None => Ok(Forked::One(along(state, SIDE, Decided::Side(side)))),
-        Some(other) if side => both(alloc, &state, term, other, sample),
-        Some(other) => both(alloc, &state, term, sample, other),
-    }
+    let side = sampled(alloc, &state, term)?.number() == 1;
+    let Some(other) = other_side(rt, alloc, shared, &state, term, !side, budgets)? else {
+        return Ok(Forked::One(along(state, SIDE, Decided::Side(side))));
+    };
+    let own = own_side(alloc, &state, term, side)?;
+    Ok(Forked::Split(in_order(alloc, side, own, other)?))
 }

@@ -1,6 +1,6 @@
 //! The leaves of runs that go on no more.
 
-ghost use Rattle.std.specs.Prelude.{◌≡◌, ◌%◌, ◌≤◌, ℕ, IfOk, None, Some};
+ghost use Rattle.std.specs.Prelude.{◌≡◌, ◌%◌, ◌≤◌, IfOk, None, Some};
 ghost use Rattle.fork_tree.specs.Works.{EndsAs};
 ghost use Rattle.sym_machine.specs.Advancing.{IsEnded};
 ghost use Rattle.sym_machine.specs.declared.outcome.RunEnd.TheVariants.{Exits, Traps};
@@ -10,10 +10,12 @@ ghost use Rattle.sym_state.specs.Programs.{Program};
 ghost use Rattle.sym_state.specs.Runs.{IsOpen};
 ghost use Rattle.sym_state.specs.Symbolic.{value_at};
 ghost use Rattle.sym_state.specs.Values.{worth_of};
+ghost use Rattle.tree_core.specs.declared.budgets.Budgets.{Budgets};
 ghost use Rattle.tree_core.specs.declared.cause.Cause.TheVariants.{Steps};
 ghost use Rattle.node_split.specs.Leaving.{IsWritable};
 ghost use Rattle.node_split.specs.Rules.{leaf_place, rules_of};
 
+use crate::forked::sample_of;
 use crate::leaf::{leaf_of, leaf_terms};
 use fork_spec::LeafEnd;
 use rv_decode::{Register, Trap};
@@ -25,23 +27,32 @@ use tree_core::Cause;
 /// The leaf of a run that has spent its steps.
 pub fn cut_steps(alloc: Global, state: State) -> Result<LeafPart, NoMemory>
     requires writable { IsWritable state }
-    ensures { IfOk result (λ part. (p : Program) (targets : ℕ) → IsOpen p state
-        → EndsAs (rules_of p state.steps targets) run_place leaf_place (Some Steps) state part) }
+    ensures { IfOk result (λ part. (p : Program) (budgets : Budgets) → budgets.steps ≡ state.steps → IsOpen p state
+        → EndsAs (rules_of p budgets) run_place leaf_place (Some Steps) state part) }
 {
     let mut state = state;
     let terms = leaf_terms(alloc, &mut state, &[])?;
-    leaf_of(alloc, &state, terms, LeafEnd::Cut(Cause::Steps), None)
+    let sample = Some(sample_of(alloc, &state)?);
+    leaf_of(
+        alloc,
+        &state,
+        terms,
+        LeafEnd::Cut(Cause::Steps),
+        sample,
+        None,
+    )
 }
 
 // The leaf of a run whose runs have all trapped so.
 fn trapped(alloc: Global, state: State, trap: Trap) -> Result<LeafPart, NoMemory>
     requires writable { IsWritable state }
-    ensures { IfOk result (λ part. (p : Program) (steps targets : ℕ) → IsEnded p state (Traps trap) → state.steps ≤ steps
-        → EndsAs (rules_of p steps targets) run_place leaf_place None state part) }
+    ensures { IfOk result (λ part. (p : Program) (budgets : Budgets) → IsEnded p state (Traps trap) → state.steps ≤ budgets.steps
+        → EndsAs (rules_of p budgets) run_place leaf_place None state part) }
 {
     let mut state = state;
     let terms = leaf_terms(alloc, &mut state, &[])?;
-    leaf_of(alloc, &state, terms, LeafEnd::Traps(trap), None)
+    let sample = Some(sample_of(alloc, &state)?);
+    leaf_of(alloc, &state, terms, LeafEnd::Traps(trap), sample, None)
 }
 
 // The term of the status of an exit: the low byte of x10.
@@ -57,21 +68,29 @@ fn exit_status(state: &mut State) -> Result<usize, NoMemory>
 // The leaf of a run whose runs have all exited.
 fn exited(alloc: Global, state: State) -> Result<LeafPart, NoMemory>
     requires writable { IsWritable state }
-    ensures { IfOk result (λ part. (p : Program) (steps targets : ℕ) → IsEnded p state Exits → state.steps ≤ steps
-        → EndsAs (rules_of p steps targets) run_place leaf_place None state part) }
+    ensures { IfOk result (λ part. (p : Program) (budgets : Budgets) → IsEnded p state Exits → state.steps ≤ budgets.steps
+        → EndsAs (rules_of p budgets) run_place leaf_place None state part) }
 {
     let mut state = state;
     let status = exit_status(&mut state)?;
     let terms = leaf_terms(alloc, &mut state, &[status])?;
     let status = terms.more[0];
-    leaf_of(alloc, &state, terms, LeafEnd::Exits { status }, None)
+    let sample = Some(sample_of(alloc, &state)?);
+    leaf_of(
+        alloc,
+        &state,
+        terms,
+        LeafEnd::Exits { status },
+        sample,
+        None,
+    )
 }
 
 /// The leaf of a run whose runs have all ended so.
 pub fn finish(alloc: Global, state: State, end: RunEnd) -> Result<LeafPart, NoMemory>
     requires writable { IsWritable state }
-    ensures { IfOk result (λ part. (p : Program) (steps targets : ℕ) → IsEnded p state end → state.steps ≤ steps
-        → EndsAs (rules_of p steps targets) run_place leaf_place None state part) }
+    ensures { IfOk result (λ part. (p : Program) (budgets : Budgets) → IsEnded p state end → state.steps ≤ budgets.steps
+        → EndsAs (rules_of p budgets) run_place leaf_place None state part) }
 {
     match end {
         RunEnd::Traps(trap) => trapped(alloc, state, trap),

@@ -1,13 +1,15 @@
 //! What a fork makes of a run.
 
-ghost use Rattle.std.specs.Prelude.{◌≡◌, ◌∷◌, [], IfOk, OnOk};
-ghost use Rattle.bv_dag.specs.Graphs.{width_of};
+ghost use Rattle.std.specs.Prelude.{◌≡◌, ◌<◌, All, IfOk, OnOk, length};
+ghost use Rattle.bv_dag.specs.Graphs.{val, width_of};
 ghost use Rattle.fork_spec.specs.Leaves.{IsSmallChoice};
 ghost use Rattle.sym_state.specs.Moves.{narrowed};
 ghost use Rattle.node_split.specs.Narrowing.{GoesOn, IsSettled};
 ghost use Rattle.node_split.specs.Splits.{IsRunOn};
 
+use bv_dag::Word;
 use fork_tree::Content;
+use query_pick::pick_terms;
 use std::alloc::{AllocError as NoMemory, Global};
 use std::sync::Arc;
 use sym_state::{Decided, LeafPart, State};
@@ -23,22 +25,38 @@ pub enum Forked {
     Split(Vec<Kid<Content<State, LeafPart>>>),
 }
 
-/// Narrows a run to the side of a fork on which a term is 1, as it is on this byte.
-pub fn narrow(
-    alloc: Global,
-    state: &mut State,
-    choice: Choice,
-    term: usize,
-    sample: u8,
-) -> Result<(), NoMemory>
-    requires one_input { state.old.terms.inputs ≡ 1 }
+/// What a term of a run is worth on the run's sample.
+pub fn sampled(alloc: Global, state: &State, term: usize) -> Result<Word, NoMemory>
+    requires { term < length state.now.terms.nodes }
+    ensures { IfOk result (λ word. word ≡ val state.now.terms term state.now.sample) }
+{
+    let picked = pick_terms(alloc, state.terms(), &[term])?;
+    let words = picked.graph.words(alloc, state.sample().as_slice())?;
+    Ok(words[picked.ids[0]])
+}
+
+/// A copy of the sample of a run.
+pub fn sample_of(alloc: Global, state: &State) -> Result<Bytes, NoMemory>
+    ensures { IfOk result (λ sample. sample ≡ state.now.sample) }
+{
+    Ok(Bytes::from_slice(alloc, state.sample().as_slice())?)
+}
+
+/// A list of bytes has no greater numbers.
+pub fn are_bytes(bytes: &[u8])
+    ensures { All (λ b. b < 256) bytes.now }
+{}
+
+/// Narrows a run to the side of a fork on which a term is 1, as it is on this sample.
+pub fn narrow(state: &mut State, choice: Choice, term: usize, sample: Bytes) -> Result<(), NoMemory>
     requires small { IsSmallChoice choice }
     requires bit { width_of state.old.terms term ≡ 1 }
-    ensures { OnOk result (state.new ≡ narrowed state.old choice term (sample ∷ [])) }
+    requires each_input { length sample ≡ state.old.terms.inputs }
+    ensures { OnOk result (state.new ≡ narrowed state.old choice term sample) }
 {
-    let sample = Bytes::from_slice(alloc, &[sample])?;
     state.choose(choice)?;
     state.assert(term)?;
+    are_bytes(sample.as_slice());
     state.sample_by(sample);
     Ok(())
 }

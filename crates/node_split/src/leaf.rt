@@ -1,6 +1,6 @@
 //! The leaf of a run that is left where it is, over only the terms that it stands on.
 
-ghost use Rattle.std.specs.Prelude.{◌≡◌, ◌<◌, ◌≤◌, All, IfOk, OnOk, Some, drop, length, option_map, take};
+ghost use Rattle.std.specs.Prelude.{◌≡◌, ◌<◌, ◌≤◌, All, IfOk, OnOk, drop, length, option_map, take};
 ghost use Rattle.fork_spec.specs.Leaves.{AreBytes, IsFull};
 ghost use Rattle.sym_state.specs.Moves.{IsGrown};
 ghost use Rattle.sym_state.specs.Places.{evidence_of};
@@ -91,20 +91,20 @@ pub fn leaf_terms(alloc: Global, state: &mut State, more: &[usize]) -> Result<Le
     picked(alloc, state, &outputs, more)
 }
 
-/// The leaf of a run that is left where it is, with its sample.
+/// The leaf of a run that is left where it is, with what shows it.
 pub fn leaf_of(
     alloc: Global,
     state: &State,
     terms: LeafTerms,
     end: LeafEnd,
+    sample: Option<Bytes>,
     evidence: Option<Evidence>,
 ) -> Result<LeafPart, NoMemory>
     requires full { IsFull (left_as state.now terms end) }
-    ensures { IfOk result (λ part. part ≡ record { leaf = left_as state.now terms end; sample = Some state.now.sample; evidence = option_map evidence_of evidence }) }
+    ensures { IfOk result (λ part. part ≡ record { leaf = left_as state.now terms end; sample = sample; evidence = option_map evidence_of evidence }) }
 {
     let choices = listed(alloc, state.choices())?;
     let path = listed(alloc, state.path())?;
-    let sample = Bytes::from_slice(alloc, state.sample().as_slice())?;
     Ok(LeafPart::new(
         choices,
         path,
@@ -112,7 +112,7 @@ pub fn leaf_of(
         end,
         terms.condition,
         terms.outputs,
-        Some(sample),
+        sample,
         evidence,
     ))
 }

@@ -1,16 +1,20 @@
 //! Work on one symbolic run: it goes on until it forks, all its runs have ended, or its budget of steps is spent.
+//!
+//! - `worker`: who works the runs of a program
+//! - `branch`, `pin`: the two kinds of forks; `values`: the values that a pin finds
+//! - `forked`: what a fork makes of a run
+//! - `leaf`: the terms of a leaf; `finish`, `cut`: the leaves of runs that go on no more
 #![tactic(auto)]
 
-mod asked;
 mod branch;
-mod evaluation;
+mod cut;
 mod finish;
 mod forked;
 mod leaf;
 mod pin;
-mod question;
 #[cfg(test)]
 mod tests;
+mod values;
 mod worker;
 
 pub use worker::Worker;

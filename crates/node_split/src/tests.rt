@@ -7,6 +7,7 @@ use row_files::programs::{CALLED, DIVIDED, FORKED, STRAIGHT};
 use row_files::row_file;
 use std::alloc::Global;
 use std::process::Abort;
+use std::sync::Wait;
 use std::test::Fail;
 use sym_state::{LeafPart, Program, State};
 use tree_core::{Budgets, Choice, Kid};
@@ -65,7 +66,7 @@ const ROWS: [(&[u32], u32, u32, Comes); 7] = [
 
 // What comes of the run of all assignments of the program of these words.
 fn worked(
-    rt: &impl Abort,
+    rt: &(impl Abort + Wait),
     alloc: Global,
     words: &[u32],
     steps: u32,
@@ -82,9 +83,9 @@ fn worked(
         targets,
         conflicts: 0,
     };
-    let worker = Worker::new(Program::new(image, regions), budgets);
+    let worker = Worker::new(alloc, Program::new(image, regions), budgets)?;
     let state = State::first(alloc, worker.program())?;
-    Ok(worker.work(alloc, &state)?)
+    Ok(worker.work(rt, alloc, &state)?)
 }
 
 // Whether kids have these choices, and only what is left beside values is a leaf.

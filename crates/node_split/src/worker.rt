@@ -1,6 +1,7 @@
 //! Work on one symbolic run.
 
 ghost use Rattle.std.specs.Prelude.{◌≡◌, ◌≤◌, IfOk};
+ghost use Rattle.fork_spec.specs.Leaves.{IsSmall};
 ghost use Rattle.fork_tree.specs.Works.{IsWorked};
 ghost use Rattle.sym_state.specs.Places.{run_place};
 ghost use Rattle.rv_spec.specs.Memory.{count_of};
@@ -13,22 +14,26 @@ use crate::finish::{cut_steps, finish};
 use crate::forked::Forked;
 use crate::pin::{Pin, at_pin};
 use fork_tree::{Parts, Work};
+use query_front::Shared;
 use std::alloc::{AllocError as NoMemory, Global};
 use std::marker::Model;
+use std::sync::Wait;
 use sym_machine::{Stop, advance};
 use sym_state::{LeafPart, Program, State};
 use tree_core::Budgets;
 
-/// Works the runs of a program, within budgets. The program has one input byte, a run may make 1,000,000 steps at most, and one value of
-/// a term at least becomes a side of its own.
-#[derive(Debug, Drop)]
+/// Works the runs of a program, within budgets, and keeps the answers to the questions that it asks. A run may make 1,000,000
+/// steps at most, and one value of a term at least becomes a side of its own.
+#[derive(Drop)]
 pub struct Worker {
     program: Program,
     budgets: Budgets,
+    shared: Shared,
 }
 
 impl Model for Worker {
     ghost use Rattle.std.specs.Prelude.{◌≡◌, ◌≤◌};
+    ghost use Rattle.fork_spec.specs.Leaves.{IsSmall};
     ghost use Rattle.rv_spec.specs.Memory.{count_of};
     ghost use Rattle.sym_state.specs.Symbolic.{most_steps};
     ghost use Rattle.node_split.specs.Rules as spec;
@@ -39,24 +44,28 @@ impl Model for Worker {
 
     ghost view = { λ w. record { program = w.program; budgets = w.budgets } };
 
-    ghost invariant = { λ w. (count_of w.program.regions ≡ 1) × (w.budgets.steps ≤ most_steps) × (1 ≤ w.budgets.targets) };
+    ghost invariant = { λ w. IsSmall (count_of w.program.regions) × (w.budgets.steps ≤ most_steps) × (1 ≤ w.budgets.targets) };
 }
 
 impl Worker {
-    /// The worker of a program within these budgets.
-    pub fn new(program: Program, budgets: Budgets) -> Worker
-        requires one_input { count_of program.regions ≡ 1 }
+    /// The worker of a program within these budgets, with no answers yet.
+    pub fn new(alloc: Global, program: Program, budgets: Budgets) -> Result<Worker, NoMemory>
+        requires few_inputs { IsSmall (count_of program.regions) }
         requires steps { budgets.steps ≤ most_steps }
         requires targets { 1 ≤ budgets.targets }
-        ensures { result ≡ record { program = program; budgets = budgets } }
+        ensures { IfOk result (λ worker. worker ≡ record { program = program; budgets = budgets }) }
     {
-        Worker { program, budgets }
+        Ok(Worker {
+            program,
+            budgets,
+            shared: Shared::new(alloc)?,
+        })
     }
 
     /// What it runs.
     pub fn program(&self) -> &Program
         ensures value { result.now ≡ self.now.program }
-        ensures one_input { count_of self.now.program.regions ≡ 1 }
+        ensures few_inputs { IsSmall (count_of self.now.program.regions) }
     {
         &self.program
     }
@@ -71,19 +80,27 @@ impl Worker {
     }
 
     /// Goes on until the run forks, all its runs have ended, or its budget of steps is spent.
-    fn follow(&self, alloc: Global, state: State) -> Result<Parts<State, LeafPart>, NoMemory>
+    fn follow(
+        &self,
+        rt: &impl Wait,
+        alloc: Global,
+        state: State,
+    ) -> Result<Parts<State, LeafPart>, NoMemory>
         requires open { IsOpen self.now.program state }
         requires within { state.steps ≤ self.now.budgets.steps }
-        ensures { IfOk result (IsWorked (rules_of self.now.program self.now.budgets.steps self.now.budgets.targets) run_place leaf_place state) }
+        ensures { IfOk result (IsWorked (rules_of self.now.program self.now.budgets) run_place leaf_place state) }
     {
         let mut state = state;
         loop {
             let forked = match advance(&mut state, self.budgets.steps)? {
                 Stop::Steps => return Ok(Parts::CutSteps(cut_steps(alloc, state)?)),
                 Stop::Ended(end) => return Ok(Parts::Finished(finish(alloc, state, end)?)),
-                Stop::Branch { term } => at_branch(alloc, state, term)?,
+                Stop::Branch { term } => {
+                    at_branch(rt, alloc, &self.shared, state, term, &self.budgets)?
+                }
                 Stop::Pin { place, term } => {
-                    at_pin(alloc, state, &Pin { place, term }, self.budgets.targets)?
+                    let pin = Pin { place, term };
+                    at_pin(rt, alloc, &self.shared, state, &pin, &self.budgets)?
                 }
             };
             match forked {
@@ -101,10 +118,15 @@ impl Work for Worker {
 
     ghost use Rattle.node_split.specs.Rules.{rules_of};
 
-    ghost rules = { λ worker. rules_of worker.program worker.budgets.steps worker.budgets.targets };
+    ghost rules = { λ worker. rules_of worker.program worker.budgets };
 
-    fn work(&self, alloc: Global, state: &State) -> Result<Parts<State, LeafPart>, NoMemory> {
+    fn work(
+        &self,
+        rt: &impl Wait,
+        alloc: Global,
+        state: &State,
+    ) -> Result<Parts<State, LeafPart>, NoMemory> {
         let state = state.share()?;
-        self.follow(alloc, state)
+        self.follow(rt, alloc, state)
     }
 }

@@ -13,6 +13,6 @@ leaf_of-requires c =
 
 pub returns : goal.returns
 returns c =
-    leaf_ok c.leaf_of.result (left_part c.leaf_terms.new.state c.in_ok-terms.terms (Cut Steps)) _ c.leaf_of.ensures
-    (λ p targets was. ends_as p c.args.state.steps targets (Some Steps) c.args.state c.leaf_terms.new.state c.in_ok-terms.terms (Cut Steps) c.in_ok-terms.ensures.grown
-    (cut_whole p targets c.args.state c.in_ok-terms.terms c.in_ok-terms.ensures.terms c.in_ok-terms.ensures.grown.before c.requires.writable was))
+    leaf_ok c.leaf_of.result (left_part c.leaf_terms.new.state c.in_ok-terms.terms (Cut Steps)) _ (rw c.in_ok-sample_of.ensures at c.leaf_of.ensures)
+    (λ p budgets spent was. ends_as p budgets (Some Steps) c.args.state c.leaf_terms.new.state c.in_ok-terms.terms (Cut Steps) c.in_ok-terms.ensures.grown
+    (cut_whole p budgets c.args.state c.in_ok-terms.terms c.in_ok-terms.ensures.terms c.in_ok-terms.ensures.grown.before c.requires.writable spent was))

@@ -23,10 +23,10 @@ leaf_of-requires c =
 
 pub returns : goal.returns
 returns c =
-    leaf_ok c.leaf_of.result (left_part c.leaf_terms.new.state c.in_ok-terms.terms (Exits c.index-status.result.now)) _ c.leaf_of.ensures
-    (λ p steps targets was within. ends_as p steps targets None c.args.state c.leaf_terms.new.state c.in_ok-terms.terms (Exits c.index-status.result.now)
+    leaf_ok c.leaf_of.result (left_part c.leaf_terms.new.state c.in_ok-terms.terms (Exits c.index-status.result.now)) _ (rw c.in_ok-sample_of.ensures at c.leaf_of.ensures)
+    (λ p budgets was within. ends_as p budgets None c.args.state c.leaf_terms.new.state c.in_ok-terms.terms (Exits c.index-status.result.now)
     (IsGrown-trans c.args.state c.exit_status.new.state c.leaf_terms.new.state c.in_ok-status.ensures.grown c.in_ok-terms.ensures.grown)
-    (exited_whole p steps targets c.args.state c.in_ok-terms.terms c.index-status.result.now
+    (exited_whole p budgets c.args.state c.in_ok-terms.terms c.index-status.result.now
     (terms_before c.args.state c.exit_status.new.state c.in_ok-terms.terms c.in_ok-status.ensures.grown c.in_ok-terms.ensures.terms)
     c.in_ok-status.ensures.grown.before c.requires.writable was
     (subst (IsStatus c.args.state c.in_ok-terms.terms.condition.graph) (sym c.index-status.ensures)

@@ -12,6 +12,6 @@ leaf_of-requires c =
 
 pub returns : goal.returns
 returns c =
-    leaf_ok c.leaf_of.result (left_part c.leaf_terms.new.state c.in_ok-terms.terms (Traps c.args.trap)) _ c.leaf_of.ensures
-    (λ p steps targets was within. ends_as p steps targets None c.args.state c.leaf_terms.new.state c.in_ok-terms.terms (Traps c.args.trap) c.in_ok-terms.ensures.grown
-    (trapped_whole p steps targets c.args.state c.in_ok-terms.terms c.args.trap c.in_ok-terms.ensures.terms c.in_ok-terms.ensures.grown.before c.requires.writable was within))
+    leaf_ok c.leaf_of.result (left_part c.leaf_terms.new.state c.in_ok-terms.terms (Traps c.args.trap)) _ (rw c.in_ok-sample_of.ensures at c.leaf_of.ensures)
+    (λ p budgets was within. ends_as p budgets None c.args.state c.leaf_terms.new.state c.in_ok-terms.terms (Traps c.args.trap) c.in_ok-terms.ensures.grown
+    (trapped_whole p budgets c.args.state c.in_ok-terms.terms c.args.trap c.in_ok-terms.ensures.terms c.in_ok-terms.ensures.grown.before c.requires.writable was within))

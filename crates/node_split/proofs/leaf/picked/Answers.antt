@@ -14,7 +14,7 @@ new-requires c =
     let both = c.in_ok-extend_from_slice.ensures.items ∙ ap (λ (xs : List ℕ). xs ++ c.args.outputs.now) ids in
     let all = picked_from c.terms.ensures.value
     (c.deref.ensures.value ∙ c.in_ok-extend_from_slice-2.ensures.items ∙ ap (λ (xs : List ℕ). xs ++ c.args.more.now) both)
-    refl c.in_ok-picked.ensures.inputs c.in_ok-picked.ensures.same_widths c.in_ok-picked.ensures.same_values in
+    refl c.in_ok-picked.ensures.inputs c.in_ok-picked.ensures.same_trees c.in_ok-picked.ensures.same_widths c.in_ok-picked.ensures.same_values in
     let parts = parts_split c.args.state.now c.args.outputs.now c.args.more.now c.in_ok-picked.picked.graph c.in_ok-picked.picked.ids.items
     c.deref-2.result.now c.in_ok-front.front.items c.deref-3.result.now c.in_ok-condition.condition.items c.in_ok-condition.outputs.items c.in_ok-front.more.items
     c.len-outputs_at.result c.len-more_at.result (c.len-outputs_at.ensures ∙ c.in_ok-ids.ids.ok.0 ∙ ap (λ (xs : List ℕ). length xs) ids) (c.len-more_at.ensures ∙ c.extend_from_slice.new.self.ok.0 ∙ ap (λ (xs : List ℕ). length xs) both)
@@ -29,7 +29,7 @@ returns c =
     let both = c.in_ok-extend_from_slice.ensures.items ∙ ap (λ (xs : List ℕ). xs ++ c.args.outputs.now) ids in
     let all = picked_from c.terms.ensures.value
     (c.deref.ensures.value ∙ c.in_ok-extend_from_slice-2.ensures.items ∙ ap (λ (xs : List ℕ). xs ++ c.args.more.now) both)
-    refl c.in_ok-picked.ensures.inputs c.in_ok-picked.ensures.same_widths c.in_ok-picked.ensures.same_values in
+    refl c.in_ok-picked.ensures.inputs c.in_ok-picked.ensures.same_trees c.in_ok-picked.ensures.same_widths c.in_ok-picked.ensures.same_values in
     let parts = parts_split c.args.state.now c.args.outputs.now c.args.more.now c.in_ok-picked.picked.graph c.in_ok-picked.picked.ids.items
     c.deref-2.result.now c.in_ok-front.front.items c.deref-3.result.now c.in_ok-condition.condition.items c.in_ok-condition.outputs.items c.in_ok-front.more.items
     c.len-outputs_at.result c.len-more_at.result (c.len-outputs_at.ensures ∙ c.in_ok-ids.ids.ok.0 ∙ ap (λ (xs : List ℕ). length xs) ids) (c.len-more_at.ensures ∙ c.extend_from_slice.new.self.ok.0 ∙ ap (λ (xs : List ℕ). length xs) both)

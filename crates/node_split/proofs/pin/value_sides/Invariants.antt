@@ -1,5 +1,5 @@
 use Rattle.std.proofs.Common.{take}
-use Rattle.node_split.specs.Resting.{AreSidesOf}
+use Rattle.node_split.specs.Splits.{AreSidesOf}
 use Rattle.node_split.proofs.pin.value_sides.Given as goal
 
 abbrev pub invariant-loop-at : goal.invariant-loop-at

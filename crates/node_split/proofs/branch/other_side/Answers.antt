@@ -1,0 +1,38 @@
+use Rattle.std.proofs.Common.{ℕ, List, ◌<◌, [], ◌∷◌, refl, subst}
+use Rattle.std.specs.Prelude.{All, Some}
+use Rattle.bv_dag.specs.Graphs.{number_of}
+use Rattle.tree_core.specs.declared.cause.Cause.TheVariants.{Conflicts}
+use Rattle.tree_core.specs.declared.choice.Choice.TheVariants.{No, Yes}
+use Rattle.node_split.specs.Narrowing.{is_side}
+use Rattle.node_split.proofs.Branching.{answered_each, branch_side, learnt_for, side_answered, side_unanswered, tested_narrowed, tested_sampled}
+use Rattle.node_split.proofs.branch.other_side.Goals as goal
+
+pub ask-requires-clause-sampled : goal.ask-requires-clause-sampled
+ask-requires-clause-sampled g c =
+    tested_sampled c.args.state.now c.args.term c.args.side c.in_ok-tested.tested c.in_ok-tested.ensures c.requires.ready.sampled
+
+pub open_side-requires-clause-each_input : goal.open_side-requires-clause-each_input
+open_side-requires-clause-each_input g c =
+    answered_each c.args.state.now c.args.term c.args.side c.in_ok-tested.tested c.in_ok-tested.ensures c.in-Sat.input (rw c.in-Sat.is at c.in_ok-ask.ensures)
+
+pub returns-in-Unsat-clause-none : goal.returns-in-Unsat-clause-none
+returns-in-Unsat-clause-none g c =
+    side_unanswered c.args.state.now c.args.term c.args.side c.in_ok-tested.tested c.in_ok-tested.ensures (rw c.in-Unsat.is at c.in_ok-ask.ensures)
+
+pub returns-in_ok-open_side-in-Sat-clause-some : goal.returns-in_ok-open_side-in-Sat-clause-some
+returns-in_ok-open_side-in-Sat-clause-some g c =
+    let on = side_answered c.args.state.now c.args.term c.args.side c.in_ok-tested.tested c.in_ok-tested.ensures c.in-Sat.input
+    (subst (λ (bs : List ℕ). All (λ b. b < 256) bs) c.as_slice.ensures c.are_bytes.ensures) (rw c.in-Sat.is at c.in_ok-ask.ensures) in
+    branch_side c.args.budgets.now c.args.state.now c.args.term c.args.side c.in_ok-open_side-in-Sat.field-0
+    (c.in_ok-open_side-in-Sat.ensures c.args.state.now c.args.term c.requires.at c.in_ok-tested.ensures on.0 on.1)
+
+pub returns-in_ok-cut_conflicts-in-Spent-clause-some : goal.returns-in_ok-cut_conflicts-in-Spent-clause-some
+returns-in_ok-cut_conflicts-in-Spent-clause-some g c = λ p was few.
+    let cut = rw c.choice_of.ensures at c.in_ok-cut_conflicts-in-Spent.ensures in (
+      Some Conflicts,
+      refl,
+      cut p c.args.budgets.now (No ∷ Yes ∷ []) c.args.state.now (λ input. is_side c.args.side (number_of c.args.state.now.terms c.args.term input)) was few c.in_ok-tested.ensures.formed
+          (tested_narrowed c.args.state.now c.assert.new.self c.args.term c.args.side c.in_ok-tested.tested c.in_ok-tested.ensures c.in_ok-assert-in-Spent.ensures.ok)
+          (learnt_for c.args.budgets.now.conflicts c.in_ok-tested.tested.run c.assert.new.self c.in_ok-tested.tested.test (record { question = c.in-Spent.question; log = c.in-Spent.log })
+          c.in_ok-assert-in-Spent.ensures.ok (rw c.in-Spent.is at c.in_ok-ask.ensures)),
+    )

@@ -1,0 +1,90 @@
+//! The leaves of runs that are cut at a fork: where more values were found than there may be sides, and where the budget of
+//! conflicts was spent.
+
+ghost use Rattle.std.specs.Prelude.{◌≡◌, ◌<◌, ◌++◌, ◌∷◌, [], ℕ, List, Bool, IfOk, Some, length, map, not, true};
+ghost use Rattle.bv_dag.specs.Graphs.{number_of, width_of};
+ghost use Rattle.fork_spec.specs.Evidence.{is_among, values_of};
+ghost use Rattle.fork_spec.specs.Leaves.{IsSmallChoice};
+ghost use Rattle.sym_state.specs.Programs.{Program};
+ghost use Rattle.sym_state.specs.Runs.{IsOpen};
+ghost use Rattle.sym_state.specs.Symbolic.{Symbolic, IsFormed, condition_of, stands_for};
+ghost use Rattle.sym_state.specs.Values.{IsUnknown};
+ghost use Rattle.tree_core.specs.declared.budgets.Budgets.{Budgets};
+ghost use Rattle.tree_core.specs.declared.cause.Cause.TheVariants.{Conflicts, Targets};
+ghost use Rattle.tree_core.specs.declared.choice.Choice as spec;
+ghost use Rattle.tree_core.specs.declared.choice.Choice.TheVariants.{Rest, Value as OfValue};
+ghost use Rattle.node_split.specs.Learning.{IsLearntFor};
+ghost use Rattle.node_split.specs.Leaving.{IsWritable};
+ghost use Rattle.node_split.specs.Narrowing.{IsNarrowed};
+ghost use Rattle.node_split.specs.Splits.{IsSideIn, leaf_side};
+ghost use Rattle.node_split.specs.Values.{AreValues, IsWithout};
+
+use crate::forked::sample_of;
+use crate::leaf::{leaf_of, leaf_terms};
+use fork_spec::LeafEnd;
+use fork_tree::Content;
+use std::alloc::{AllocError as NoMemory, Global};
+use sym_state::{Evidence, Found, LeafPart, Learnt, Spent, State};
+use tree_core::{Cause, Choice, Kid};
+
+// The side of a fork that is this leaf.
+fn leaf_kid(choice: Choice, leaf: LeafPart) -> Kid<Content<State, LeafPart>>
+    ensures { result ≡ leaf_side choice leaf }
+{
+    Kid {
+        choice,
+        content: Content::Shut(leaf),
+        is_leaf: true,
+    }
+}
+
+/// The side of a fork that is cut because the budget of conflicts was spent on its last assertion.
+pub fn cut_conflicts(
+    alloc: Global,
+    run: State,
+    choice: Choice,
+    learnt: Learnt,
+) -> Result<Kid<Content<State, LeafPart>>, NoMemory>
+    requires small { IsSmallChoice choice }
+    requires writable { IsWritable run }
+    ensures { IfOk result (λ kid. (p : Program) (budgets : Budgets) (sides : List spec.Choice) (s : Symbolic) (test : List ℕ → Bool)
+        → IsOpen p s → s.steps < budgets.steps → IsFormed s → IsNarrowed s run test → IsLearntFor budgets.conflicts (condition_of run) learnt
+        → IsSideIn p budgets sides s choice (Some Conflicts) test kid) }
+{
+    let mut run = run;
+    run.choose(choice)?;
+    let terms = leaf_terms(alloc, &mut run, &[])?;
+    let evidence = Some(Evidence::Conflicts(learnt));
+    let end = LeafEnd::Cut(Cause::Conflicts);
+    let leaf = leaf_of(alloc, &run, terms, end, None, evidence)?;
+    Ok(leaf_kid(choice, leaf))
+}
+
+/// The side of a fork that has all values of a term but these, as many as there may be.
+pub fn cut_targets(
+    alloc: Global,
+    run: State,
+    term: usize,
+    found: Vec<Found>,
+) -> Result<Kid<Content<State, LeafPart>>, NoMemory>
+    requires writable { IsWritable run }
+    requires width { width_of run.terms term ≡ 32 }
+    ensures { IfOk result (λ kid. (p : Program) (budgets : Budgets) (s : Symbolic)
+        → IsOpen p s → s.steps < budgets.steps → IsFormed s → IsUnknown s.terms 32 term → IsWithout s term (values_of found.items) run → stands_for run run.sample ≡ true
+        → AreValues s term budgets.targets found.items → length found.items ≡ budgets.targets
+        → IsSideIn p budgets (map OfValue (values_of found.items) ++ Rest ∷ []) s Rest (Some Targets)
+        (λ input. not (is_among (values_of found.items) (number_of s.terms term input))) kid) }
+{
+    let mut run = run;
+    run.choose(Choice::Rest)?;
+    let terms = leaf_terms(alloc, &mut run, &[term])?;
+    let sample = sample_of(alloc, &run)?;
+    let spent = Spent {
+        term: terms.more[0],
+        found,
+    };
+    let evidence = Some(Evidence::Targets(spent));
+    let end = LeafEnd::Cut(Cause::Targets);
+    let leaf = leaf_of(alloc, &run, terms, end, Some(sample), evidence)?;
+    Ok(leaf_kid(Choice::Rest, leaf))
+}
