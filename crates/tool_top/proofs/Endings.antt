@@ -6,16 +6,17 @@ use Rattle.tool_io.specs.Causes.{Rose}
 use Rattle.fork_spec.specs.Walks.{Line}
 use Rattle.tool_io.proofs.Deeds.{then_says, then_all, IsPrefix-nothing, IsPrefix-whole}
 use Rattle.tool_io.proofs.Since.{names_since-after, puts_since-after, said_since-after}
+use Rattle.elf_load.specs.Fits.{unfit}
 use Rattle.elf_load.specs.Refusals.{refusal}
 use Rattle.elf_load.specs.declared.refused.Refused.{Refused as WhyRefused}
 use Rattle.elf_load.specs.declared.region.Region.{Region}
+use Rattle.elf_load.specs.declared.unfit.Unfit.{Unfit as WhyUnfit}
 use Rattle.tool_words.specs.Job.{Job, Explore, Replay}
 use Rattle.tool_top.specs.Lines.{no_memory}
 use Rattle.tool_top.specs.Plan.{Plan, names_of, IsPlan, IsPlanned, IsReadFault, IsReported, IsRefusal, IsMisfit, Means, OnlyReads, most_bytes}
 use Rattle.elf_load.specs.Images.{Image, Loads}
 use Rattle.elf_load.proofs.OneImage.{one_image}
 use Rattle.tree_core.specs.declared.budgets.Budgets.{Budgets}
-use Rattle.tool_top.specs.Inputs.{IsInput}
 use Rattle.replay_core.specs.Replays.{IsAsSaid}
 use Rattle.tool_top.proofs.ReplayEndings.{given_held, replay_fault, replay_kept, replay_no_job, replay_misfit, replay_no_program, replay_no_test, replay_other, replay_puts, replay_same}
 use Rattle.report_text.specs.Claims.{Entry, IsReport}
@@ -67,10 +68,10 @@ refused_refusal old new program out asked budgets workers plan refused (inl (byt
 refused_refusal old new program out asked budgets workers plan refused (inl (bytes, given, names, inr (inr misfit))) = let other = misfit.is in cc
 refused_refusal old new program out asked budgets workers plan refused (inr (rose, (begins, is))) = let other : plan.verdict ≡ ReadFault = ap (λ (p : Plan). p.verdict) is in cc
 
-unfit_misfit : (old new : Seen) (program out : List ℕ) (asked : List Region) (budgets : Budgets) (workers : ℕ) (plan : Plan) → plan.verdict ≡ Unfit → IsPlan old new (Some (Explore program out asked budgets workers)) plan → (bytes : List ℕ) × (image : Image) × Gives old.told program most_bytes bytes × Loads bytes image × (¬ IsInput image asked)
+unfit_misfit : (old new : Seen) (program out : List ℕ) (asked : List Region) (budgets : Budgets) (workers : ℕ) (plan : Plan) → plan.verdict ≡ Unfit → IsPlan old new (Some (Explore program out asked budgets workers)) plan → (bytes : List ℕ) × (image : Image) × (why : WhyUnfit) × Gives old.told program most_bytes bytes × Loads bytes image × (unfit image asked ≡ Some why)
 unfit_misfit old new program out asked budgets workers plan unfit (inl (bytes, given, names, inl report)) = let other = report.done in cc
 unfit_misfit old new program out asked budgets workers plan unfit (inl (bytes, given, names, inr (inl none))) = let other = none.is in cc
-unfit_misfit old new program out asked budgets workers plan unfit (inl (bytes, given, names, inr (inr misfit))) = (bytes, misfit.image, given, misfit.loads, misfit.other)
+unfit_misfit old new program out asked budgets workers plan unfit (inl (bytes, given, names, inr (inr misfit))) = (bytes, misfit.image, misfit.why, given, misfit.loads, misfit.misfits)
 unfit_misfit old new program out asked budgets workers plan unfit (inr (rose, (begins, is))) = let other : plan.verdict ≡ ReadFault = ap (λ (p : Plan). p.verdict) is in cc
 
 fault_rose : (old new : Seen) (program out : List ℕ) (asked : List Region) (budgets : Budgets) (workers : ℕ) (plan : Plan) → plan.verdict ≡ ReadFault → IsPlan old new (Some (Explore program out asked budgets workers)) plan → Rose old.reads new.reads
@@ -196,7 +197,7 @@ written old new name out bytes asked budgets workers Claim plan claims given rep
       bytes = bytes;
       given = given;
       loads = reported.loads;
-      input = reported.input;
+      fits = reported.fits;
       files = puts_since-after old.told new.told deeds (λ puts. puts ≡ files_of out budgets workers asked report.lines report.entries) carried.changes report.files;
       summary = said_since-after old.told new.told deeds (λ said. said ≡ summary_of report.entries) carried.changes (said ∙ report.summary);
       claim = claims reported.image report.lines report.entries report.claims;
@@ -298,19 +299,20 @@ faulted_job old new (Some job) h is = cc
 -- a file that loads is not refused
 held_not_refused : (told : Told) (job : Option Job) → HoldsProgram told job → HoldsNoProgram told job → ⊥
 held_not_refused told None holds none = holds
-held_not_refused told (Some (Explore program out asked budgets workers)) (bytes, image, held, loads, input) (given, why, gives, refuses) =
+held_not_refused told (Some (Explore program out asked budgets workers)) (bytes, image, held, loads, fits) (given, why, gives, refuses) =
     let same : given ≡ bytes = given_held most_bytes program bytes given told.holds held gives in
     let fine : refusal given ≡ None = ap refusal same ∙ loads.fine in
     cc
 held_not_refused told (Some (Replay program test)) holds none = holds
 
--- nor is an input that is taken
+-- nor is an input that fits
 held_not_unfit : (told : Told) (job : Option Job) → HoldsProgram told job → HoldsMisfit told job → ⊥
 held_not_unfit told None holds misfit = holds
-held_not_unfit told (Some (Explore program out asked budgets workers)) (bytes, here, held, loads, input) (given, image, gives, is, other) =
+held_not_unfit told (Some (Explore program out asked budgets workers)) (bytes, here, held, loads, fits) (given, image, why, gives, is, misfits) =
     let same = given_held most_bytes program bytes given told.holds held gives in
     let one : here ≡ image = one_image bytes here image loads (subst (λ (b : List ℕ). Loads b image) same is) in
-    other (subst (λ (i : Image). IsInput i asked) one input)
+    let also : unfit image asked ≡ None = subst (λ (i : Image). unfit i asked ≡ None) one fits in
+    cc
 held_not_unfit told (Some (Replay program test)) holds misfit = holds
 
 -- where it is held, and no fault was counted, it is explored to the end

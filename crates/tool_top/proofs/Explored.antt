@@ -60,7 +60,7 @@ by_few root old new workers some opens grows =
 
 module _ (p : Program) (budgets : Budgets) where
   -- what the worker asks of leaves is what is claimed of them
-  asks : AskAsClaimed (λ (part : Part). part) (rules_of p budgets.steps budgets.targets) leaf_place p.image p.regions budgets
+  asks : AskAsClaimed (λ (part : Part). part) (rules_of p budgets) leaf_place p.image p.regions budgets
   asks = record {
     right = λ sides leaf right. right;
     cut = λ leaf. refl;
@@ -72,26 +72,26 @@ module _ (p : Program) (budgets : Budgets) where
   -- the report of a tree that this worker's root has grown to is one of the program
   pub is_report_of : (root : Symbolic) (old new : Story (Content Symbolic Part)) → IsOpening root old
       → IsFirst p root → GrowsBy 0 old new
-      → IsDrained (rules_of p budgets.steps budgets.targets) run_place leaf_place new → (workers : ℕ) → 1 ≤ workers → (out : List ℕ) (puts : List Put) (text : List ℕ)
+      → IsDrained (rules_of p budgets) run_place leaf_place new → (workers : ℕ) → 1 ≤ workers → (out : List ℕ) (puts : List Put) (text : List ℕ)
       → IsReportOfTree (λ (part : Part). part) (λ part. cause_of part.leaf.end) out p.regions budgets workers new puts text
       → IsReportOf out p.image p.regions budgets workers puts text
   is_report_of root old new opens first grows drained workers some out puts text made = record {
     lines = lines_of (cut_in (λ (part : Part). cause_of part.leaf.end)) new;
     entries = entries_of p.regions 0 made.leaves;
     claims =
-        are_a_report (λ (part : Part). part) (rules_of p budgets.steps budgets.targets) run_place leaf_place p.image p.regions budgets asks new drained
+        are_a_report (λ (part : Part). part) (rules_of p budgets) run_place leaf_place p.image p.regions budgets asks new drained
         (entries_of p.regions 0 made.leaves) are (rooted p.regions root old new opens (stands_for_all p root first) grows) workers (by_few root old new workers some opens grows);
     files = made.files;
     summary = made.summary;
   }
     where
       HasIt : Option (Content Symbolic Part) → ℕ → Type 0
-      HasIt held node = HasLeaf {S = Symbolic} {L = Part} (IsLeafRight (rules_of p budgets.steps budgets.targets) new node) held
+      HasIt held node = HasLeaf {S = Symbolic} {L = Part} (IsLeafRight (rules_of p budgets) new node) held
 
       right_at : (node : ℕ) (part : Part) → IsLeafAt (λ (x : Part). x) new node part → IsReportable part
       right_at node part at =
           let here : HasIt (Some (Shut at.leaf)) node = subst (λ held. HasIt held node) at.held (drained.leaves node at.within at.is_leaf) in
-          subst IsReportable at.same (reportable p.image p.regions budgets.steps budgets.targets here.sides at.leaf here.right)
+          subst IsReportable at.same (reportable p.image p.regions budgets here.sides at.leaf here.right)
 
       are : AreEntries (λ (part : Part). part) p.regions new (entries_of p.regions 0 made.leaves)
       are = are_entries (λ (part : Part). part) p.regions new made.leaves made.by_rank (λ rank l at. right_at l.node l.part.now (made.by_rank.each rank l at))

@@ -1,19 +1,21 @@
 -- Making a plan, from what its parts are.
-use Rattle.std.proofs.Common.{◌≡◌, ℕ, true, false, List, [], ◌∙◌, sym, ap, inl, inr, arith}
-use Rattle.std.specs.Prelude.{◌==◌, Option, None, Some, Result, Ok, Err, IfOk, OnErr}
+use Rattle.std.proofs.Common.{◌≡◌, ℕ, ◌+◌, ◌∙◌, true, false, List, [], ◌∷◌, refl, ap, inl, inr, arith}
+use Rattle.std.specs.Prelude.{Bool, if◌then◌else◌, nat_lt, sum_by, Option, None, Some, Result, Ok, Err, IfOk, OnErr}
 use Rattle.std.proofs.lemmas.Bool.Decides.{nat_tests}
+use Rattle.std.proofs.lemmas.List.Sums.{sum_by-cons}
 use Rattle.std.specs.declared.alloc.AllocError.{AllocError}
 use Rattle.tool_io.specs.Told.{Seen, after, IsPrefix}
-use Rattle.elf_load.specs.Fits.{unfit}
+use Rattle.elf_load.specs.Fits.{unfit, unfit_empty, unfit_too_long, unfit_too_many}
 use Rattle.elf_load.specs.Images.{Image, Loads}
 use Rattle.elf_load.specs.Refusals.{refusal}
 use Rattle.elf_load.specs.declared.refused.Refused.{Refused as WhyRefused}
 use Rattle.elf_load.specs.declared.region.Region.{Region}
 use Rattle.elf_load.specs.declared.unfit.Unfit.{Unfit as WhyUnfit}
+use Rattle.elf_load.specs.declared.unfit.Unfit.TheVariants.{Empty, TooLong, TooMany}
+use Rattle.fork_spec.specs.Leaves.{IsSmall}
 use Rattle.tool_words.specs.Job.{Job}
 use Rattle.rv_spec.specs.Memory.{count_of}
 use Rattle.tree_core.specs.declared.budgets.Budgets.{Budgets}
-use Rattle.tool_top.specs.Inputs.{IsInput}
 use Rattle.tool_top.specs.Reports.{IsReportOf}
 use Rattle.tool_top.specs.Lines.{refused_line, unfit_line, usage}
 use Rattle.tool_top.specs.Plan.{Treats, names_of, IsPlanned, OnlyReads}
@@ -43,44 +45,50 @@ module _ (out bytes : List ℕ) (asked : List Region) (budgets : Budgets) (worke
   treats_refused why (Err e) refuses v f t = tt
   treats_refused why (Ok made) refuses v f t = inr (inl (record { why = why; refuses = refuses; is = v; no_files = f; line = t }))
 
-  -- the input isn't taken
-  pub treats_misfit : (image : Image) (why : Option WhyUnfit) (made : Result Made AllocError) → Loads bytes image
-      → unfit image asked ≡ why → ¬ IsInput image asked
+  -- the input doesn't fit
+  pub treats_misfit : (image : Image) (why : WhyUnfit) (made : Result Made AllocError) → Loads bytes image → unfit image asked ≡ Some why
       → IfOk made (λ p. p.verdict ≡ Unfit) → IfOk made (λ p. p.files.items ≡ []) → IfOk made (λ p. p.text ≡ unfit_line why)
       → IfOk made (λ p. Treats out bytes asked budgets workers p.verdict p.files.items p.text)
-  treats_misfit image why (Err e) loads is other v f t = tt
-  treats_misfit image why (Ok made) loads is other v f t = inr (inr (record {
+  treats_misfit image why (Err e) loads is v f t = tt
+  treats_misfit image why (Ok made) loads is v f t = inr (inr (record {
     image = image;
     loads = loads;
-    other = other;
+    why = why;
+    misfits = is;
     is = v;
     no_files = f;
-    line = t ∙ ap unfit_line (sym is);
+    line = t;
   }))
 
-  -- the report of a program, for an input that is taken
-  pub treats_reported : (image : Image) (made : Result Made AllocError) → Loads bytes image → IsInput image asked
+  -- the report of a program, for an input that fits
+  pub treats_reported : (image : Image) (made : Result Made AllocError) → Loads bytes image → unfit image asked ≡ None
       → IfOk made (λ q. q.verdict ≡ Done) → IfOk made (λ q. IsReportOf out image asked budgets workers q.files.items q.text)
       → IfOk made (λ q. Treats out bytes asked budgets workers q.verdict q.files.items q.text)
-  treats_reported image (Err e) loads input v r = tt
-  treats_reported image (Ok made) loads input v r = inl (record {
+  treats_reported image (Err e) loads fits v r = tt
+  treats_reported image (Ok made) loads fits v r = inl (record {
     image = image;
     loads = loads;
-    input = input;
+    fits = fits;
     done = v;
     report = r;
   })
 
--- an input that doesn't fit is none that is taken
-pub unfit_other : (image : Image) (asked : List Region) (why : WhyUnfit) → unfit image asked ≡ Some why → ¬ IsInput image asked
-unfit_other image asked why is input = let fits = input.fits in cc
+-- the bytes of regions are counted in two ways
+pub sum_count : (rs : List Region) → sum_by (λ (r : Region). r.count) rs ≡ count_of rs
+sum_count [] = refl
+sum_count (r ∷ rs) = sum_by-cons (λ (r : Region). r.count) r rs ∙ ap (λ n. r.count + n) (sum_count rs)
 
--- nor is one that doesn't have one byte
-pub other_bytes : (image : Image) (asked slice : List Region) → slice ≡ asked → (count_of slice == 1) ≡ false → ¬ IsInput image asked
-other_bytes image asked slice same other input =
-    let one : count_of slice ≡ 1 = ap count_of same ∙ input.one_byte in grind (arith, nat_tests, other, one)
+-- no reason is answered where none of the tests holds
+passed : {T : Type 0} (holds : Bool) (why : T) (rest : Option T) → (if holds then Some why else rest) ≡ None → (holds ≡ false) × (rest ≡ None)
+passed true why rest is = cc
+passed false why rest is = (refl, is)
 
--- regions of one byte
-pub one_of : (asked slice : List Region) → slice ≡ asked → (count_of slice == 1) ≡ true → count_of asked ≡ 1
-one_of asked slice same is =
-    let one : count_of slice ≡ 1 = grind (arith, nat_tests, is) in ap count_of (sym same) ∙ one
+-- regions that fit have few bytes
+pub few_bytes : (image : Image) (asked : List Region) → unfit image asked ≡ None → IsSmall (count_of asked)
+unfolding unfit
+few_bytes image asked fits =
+    let few = passed (unfit_too_many asked) TooMany _ fits in
+    let some = passed (unfit_empty asked) Empty _ few.1 in
+    let short : nat_lt 256 (sum_by (λ (r : Region). r.count) asked) ≡ false = (passed (unfit_too_long asked) TooLong _ some.1).0 in
+    let same = sum_count asked in
+    grind (arith, nat_tests, short, same)

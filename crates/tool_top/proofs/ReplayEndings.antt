@@ -5,8 +5,10 @@ use Rattle.std.specs.Option.{option_map}
 use Rattle.tool_io.specs.Told.{Seen, Gives, told_held}
 use Rattle.tool_io.specs.Causes.{Rose}
 use Rattle.elf_load.specs.Images.{Image, Loads}
+use Rattle.elf_load.specs.Fits.{unfit}
 use Rattle.elf_load.specs.Refusals.{refusal}
 use Rattle.elf_load.specs.declared.refused.Refused.{Refused as WhyRefused}
+use Rattle.elf_load.specs.declared.unfit.Unfit.{Unfit as WhyUnfit}
 use Rattle.elf_load.proofs.OneImage.{one_image}
 use Rattle.replay_core.specs.Replays.{IsAsSaid}
 use Rattle.test_files.specs.Reading.{reading}
@@ -15,7 +17,7 @@ use Rattle.test_files.specs.declared.refused.TestRefused.{TestRefused as WhyNoTe
 use Rattle.tool_words.specs.Job.{Replay}
 use Rattle.tool_top.specs.Answer.{IsRunTest}
 use Rattle.tool_top.specs.Plan.{IsPlan, Plan, most_bytes}
-use Rattle.tool_top.specs.Replaying.{IsReplayable, IsTestInput, most_test_bytes}
+use Rattle.tool_top.specs.Replaying.{IsReplayable, most_test_bytes}
 use Rattle.tool_top.specs.declared.verdict.Verdict.TheVariants.{Done, Differs, NoJob, Refused, Unfit, ReadFault, TestRefused}
 
 -- what a name gives is what it holds
@@ -67,10 +69,10 @@ module _ (old new : Seen) (program test : List ℕ) (plan : Plan) where
   replay_no_test refused (inr (rose, (begins, is))) = let other : plan.verdict ≡ ReadFault = ap (λ (p : Plan). p.verdict) is in cc
 
   pub replay_misfit : plan.verdict ≡ Unfit → IsPlan old new (Some (Replay program test)) plan
-      → (bytes : List ℕ) × (text : List ℕ) × (image : Image) × (read : Test) × Gives old.told program most_bytes bytes × Gives old.told test most_test_bytes text × Loads bytes image × (reading text ≡ Ok read) × (¬ IsTestInput image read.regions)
+      → (bytes : List ℕ) × (text : List ℕ) × (image : Image) × (read : Test) × (why : WhyUnfit) × Gives old.told program most_bytes bytes × Gives old.told test most_test_bytes text × Loads bytes image × (reading text ≡ Ok read) × (unfit image read.regions ≡ Some why)
   replay_misfit unfit (inl (bytes, text, given, also, names, inl none)) = let other = none.is in cc
   replay_misfit unfit (inl (bytes, text, given, also, names, inr (inl no_test))) = let other = no_test.is in cc
-  replay_misfit unfit (inl (bytes, text, given, also, names, inr (inr (inl misfit)))) = (bytes, text, misfit.image, misfit.test, given, also, misfit.loads, misfit.reads, misfit.other)
+  replay_misfit unfit (inl (bytes, text, given, also, names, inr (inr (inl misfit)))) = (bytes, text, misfit.image, misfit.test, misfit.why, given, also, misfit.loads, misfit.reads, misfit.misfits)
   replay_misfit unfit (inl (bytes, text, given, also, names, inr (inr (inr replayed)))) = elim replayed.answer [ inl same ↦ let is = same.is in cc | inr other ↦ let is = other.is in cc ]
   replay_misfit unfit (inr (rose, (begins, is))) = let other : plan.verdict ≡ ReadFault = ap (λ (p : Plan). p.verdict) is in cc
 
@@ -110,7 +112,9 @@ module _ (old new : Seen) (program test : List ℕ) (plan : Plan) where
         let same = given_held most_test_bytes test text given_text old.told.holds held_text gives_text in
         let reads : Ok read ≡ Ok misfit.test = sym replayable.reads ∙ ap reading (sym same) ∙ misfit.reads in
         let one : read ≡ misfit.test = cc in
-        let input = subst (λ (i : Image). IsTestInput i read.regions) (same_image given misfit.image gives misfit.loads) replayable.input in
-        absurd (misfit.other (subst (λ (t : Test). IsTestInput misfit.image t.regions) one input))
+        let fits : unfit misfit.image misfit.test.regions ≡ None = subst (λ (t : Test). unfit misfit.image t.regions ≡ None) one
+        (subst (λ (i : Image). unfit i read.regions ≡ None) (same_image given misfit.image gives misfit.loads) replayable.fits) in
+        let other : unfit misfit.image misfit.test.regions ≡ Some misfit.why = misfit.misfits in
+        cc
     replay_kept read_well (inl (given, given_text, gives, gives_text, names, inr (inr (inr replayed)))) = elim replayed.answer [ inl same ↦ inl same.is | inr other ↦ inr other.is ]
     replay_kept read_well (inr (rose, read_fault)) = absurd (read_well rose)

@@ -1,8 +1,7 @@
 -- Making the plan of a replay, from what its parts are.
-use Rattle.std.proofs.Common.{◌≡◌, ℕ, ◌+◌, List, [], ◌∷◌, ◌∙◌, refl, sym, ap, subst, inl, inr}
-use Rattle.std.specs.Prelude.{Option, Some, Result, Ok, Err, IfOk, IsErrOf, OnErr, sum_by}
+use Rattle.std.proofs.Common.{◌≡◌, ℕ, List, [], ◌∷◌, ◌∙◌, refl, sym, inl, inr}
+use Rattle.std.specs.Prelude.{Some, Result, Ok, Err, IfOk, IsErrOf, OnErr}
 use Rattle.std.specs.declared.alloc.AllocError.{AllocError}
-use Rattle.std.proofs.lemmas.List.Sums.{sum_by-cons}
 use Rattle.tool_io.specs.Told.{Seen, after, reads, Gives}
 use Rattle.tool_io.specs.declared.files.Fault.{Fault}
 use Rattle.tool_io.specs.declared.files.Fault.TheVariants.{Failed, NoMemory}
@@ -11,32 +10,18 @@ use Rattle.elf_load.specs.Fits.{unfit}
 use Rattle.elf_load.specs.Images.{Image, Loads}
 use Rattle.elf_load.specs.Refusals.{refusal}
 use Rattle.elf_load.specs.declared.refused.Refused.{Refused as WhyRefused}
-use Rattle.elf_load.specs.declared.region.Region.{Region}
 use Rattle.elf_load.specs.declared.unfit.Unfit.{Unfit as WhyUnfit}
 use Rattle.replay_core.specs.Differences.{difference_text}
 use Rattle.replay_core.specs.Replays.{IsAsSaid, run_of}
-use Rattle.rv_spec.specs.Memory.{count_of}
 use Rattle.test_files.specs.Reading.{reading}
 use Rattle.test_files.specs.Tests.{Test}
 use Rattle.test_files.specs.declared.refused.TestRefused.{TestRefused as WhyNoTest}
 use Rattle.tool_words.specs.Job.{Replay}
 use Rattle.tool_top.specs.Lines.{refused_line, same, test_refused, unfit_line}
 use Rattle.tool_top.specs.Plan.{IsPlanned, OnlyReads, Replays, most_bytes}
-use Rattle.tool_top.specs.Replaying.{IsReplayable, IsShort, IsTestInput, most_test_bytes}
+use Rattle.tool_top.specs.Replaying.{IsReplayable, most_test_bytes}
 use Rattle.tool_top.specs.declared.plan.Plan.{Plan as Made}
 use Rattle.tool_top.specs.declared.verdict.Verdict.TheVariants.{Done, Differs, Refused, TestRefused, Unfit}
-
--- The bytes of regions are counted in two ways.
-pub sum_count : (rs : List Region) → sum_by (λ (r : Region). r.count) rs ≡ count_of rs
-sum_count [] = refl
-sum_count (r ∷ rs) = sum_by-cons (λ (r : Region). r.count) r rs ∙ ap (λ n. r.count + n) (sum_count rs)
-
--- Regions of a test that don't fit, or are too long, aren't taken.
-pub unfit_test : (image : Image) (asked : List Region) (why : WhyUnfit) → unfit image asked ≡ Some why → ¬ IsTestInput image asked
-unfit_test image asked why is input = let fits = input.fits in cc
-
-pub long_test : (image : Image) (slice asked : List Region) → slice ≡ asked → ¬ IsShort slice → ¬ IsTestInput image asked
-long_test image slice asked alike long input = long (subst IsShort (sym alike) input.short)
 
 -- What came of reading two names.
 abbrev failing : (T : Type 0) → Fault → Result T Fault
@@ -87,19 +72,20 @@ module _ (bytes text : List ℕ) where
   replays_no_test image why (Err e) loads refuses v f t = tt
   replays_no_test image why (Ok made) loads refuses v f t = inr (inl (record { image = image; loads = loads; why = why; refuses = refuses; is = v; no_files = f; line = t }))
 
-  -- the test's regions aren't taken
-  pub replays_misfit : (image : Image) (test : Test) (why : Option WhyUnfit) (made : Result Made AllocError) → Loads bytes image → reading text ≡ Ok test → unfit image test.regions ≡ why → ¬ IsTestInput image test.regions
+  -- the test's regions don't fit
+  pub replays_misfit : (image : Image) (test : Test) (why : WhyUnfit) (made : Result Made AllocError) → Loads bytes image → reading text ≡ Ok test → unfit image test.regions ≡ Some why
       → IfOk made (λ p. p.verdict ≡ Unfit) → IfOk made (λ p. p.files.items ≡ []) → IfOk made (λ p. p.text ≡ unfit_line why) → IfOk made (λ p. Replays bytes text p.verdict p.files.items p.text)
-  replays_misfit image test why (Err e) loads reads is other v f t = tt
-  replays_misfit image test why (Ok made) loads reads is other v f t = inr (inr (inl (record {
+  replays_misfit image test why (Err e) loads reads is v f t = tt
+  replays_misfit image test why (Ok made) loads reads is v f t = inr (inr (inl (record {
     image = image;
     test = test;
     loads = loads;
     reads = reads;
-    other = other;
+    why = why;
+    misfits = is;
     is = v;
     no_files = f;
-    line = t ∙ ap unfit_line (sym is);
+    line = t;
   })))
 
   -- the run was the same, or not

@@ -4,16 +4,17 @@ use Rattle.std.specs.Option.{option_map}
 use Rattle.tool_io.specs.Told.{Told, Seen, Put, after, Gives, IsPrefix, IsCutShort, puts_since, said_since, told_held}
 use Rattle.tool_io.specs.Causes.{Rose}
 use Rattle.fork_spec.specs.Walks.{Line}
+use Rattle.elf_load.specs.Fits.{unfit}
 use Rattle.elf_load.specs.Refusals.{refusal}
 use Rattle.elf_load.specs.declared.refused.Refused.{Refused as WhyRefused}
 use Rattle.elf_load.specs.declared.region.Region.{Region}
+use Rattle.elf_load.specs.declared.unfit.Unfit.{Unfit as WhyUnfit}
 use Rattle.tool_words.specs.Job.{Job, Explore, Replay}
 use Rattle.tool_top.specs.Lines.{no_memory}
 use Rattle.tool_top.specs.Plan.{Plan, IsPlan, names_of, most_bytes}
 use Rattle.tree_core.specs.declared.budgets.Budgets.{Budgets}
 use Rattle.elf_load.specs.Images.{Image, Loads}
-use Rattle.tool_top.specs.Inputs.{IsInput}
-use Rattle.tool_top.specs.Replaying.{IsReplayable, IsTestInput, most_test_bytes}
+use Rattle.tool_top.specs.Replaying.{IsReplayable, most_test_bytes}
 use Rattle.report_text.specs.Claims.{Entry}
 use Rattle.report_text.specs.Files.{files_of, summary_of}
 use Rattle.replay_core.specs.Replays.{IsAsSaid}
@@ -105,7 +106,7 @@ pub record IsWritten (old new : Told) (name out : List ℕ) (asked : List Region
   pub bytes : List ℕ
   pub given : Gives old name most_bytes bytes
   pub loads : Loads bytes image
-  pub input : IsInput image asked
+  pub fits : unfit image asked ≡ None
   pub files : IfSome (puts_since old new) (λ puts. puts ≡ files_of out budgets workers asked lines entries)
   pub summary : IfSome (said_since old new) (λ said. said ≡ summary_of entries)
   pub claim : Claim image asked budgets workers lines entries
@@ -116,7 +117,7 @@ OnWritten old new None Claim = ⊥
 OnWritten old new (Some (Explore program out asked budgets workers)) Claim = IsWritten old new program out asked budgets workers Claim
 OnWritten old new (Some (Replay program test)) Claim = Unit {0}
 
--- The names of a program and of a test give the file of a program and that of a test whose regions are taken,
+-- The names of a program and of a test give the file of a program and that of a test whose regions fit it,
 -- and the claim holds of the program's image and of the test.
 pub record IsRunTest (told : Told) (program test : List ℕ) (Claim : Image → Test → Type 0) : Type 0 where
   pub bytes : List ℕ
@@ -156,23 +157,23 @@ HoldsNoProgram told (Some (Explore program out asked budgets workers)) =
 HoldsNoProgram told (Some (Replay program test)) =
     (bytes : List ℕ) × (why : WhyRefused) × Gives told program most_bytes bytes × (refusal bytes ≡ Some why)
 
--- there is a job, and the bytes that its program's name gives are the file of a program, but the input that is asked, or that the test has, isn't taken
+-- there is a job, and the bytes that its program's name gives are the file of a program, but the input that is asked, or that the test has, doesn't fit it
 abbrev pub HoldsMisfit : Told → Option Job → Type 0
 HoldsMisfit told None = ⊥
 HoldsMisfit told (Some (Explore program out asked budgets workers)) =
-    (bytes : List ℕ) × (image : Image) × Gives told program most_bytes bytes × Loads bytes image × (¬ IsInput image asked)
+    (bytes : List ℕ) × (image : Image) × (why : WhyUnfit) × Gives told program most_bytes bytes × Loads bytes image × (unfit image asked ≡ Some why)
 HoldsMisfit told (Some (Replay program test)) =
-    (bytes : List ℕ) × (text : List ℕ) × (image : Image) × (read : Test)
-    × Gives told program most_bytes bytes × Gives told test most_test_bytes text × Loads bytes image × (reading text ≡ Ok read) × (¬ IsTestInput image read.regions)
+    (bytes : List ℕ) × (text : List ℕ) × (image : Image) × (read : Test) × (why : WhyUnfit)
+    × Gives told program most_bytes bytes × Gives told test most_test_bytes text × Loads bytes image × (reading text ≡ Ok read) × (unfit image read.regions ≡ Some why)
 
--- there is a job to explore, it is told that its program's name holds the file of a program, and the input that is asked is taken
+-- there is a job to explore, it is told that its program's name holds the file of a program, and the input that is asked fits it
 abbrev pub HoldsProgram : Told → Option Job → Type 0
 HoldsProgram told None = ⊥
 HoldsProgram told (Some (Explore program out asked budgets workers)) =
-    (bytes : List ℕ) × (image : Image) × (option_map (take most_bytes) (told_held told program) ≡ Some bytes) × Loads bytes image × IsInput image asked
+    (bytes : List ℕ) × (image : Image) × (option_map (take most_bytes) (told_held told program) ≡ Some bytes) × Loads bytes image × (unfit image asked ≡ None)
 HoldsProgram told (Some (Replay program test)) = ⊥
 
--- there is a job to replay a test, and it is told that its names hold the files of a program and of a test whose regions are taken
+-- there is a job to replay a test, and it is told that its names hold the files of a program and of a test whose regions fit it
 abbrev pub HoldsTest : Told → Option Job → Type 0
 HoldsTest told None = ⊥
 HoldsTest told (Some (Explore program out asked budgets workers)) = ⊥

@@ -1,5 +1,5 @@
 -- What is said where nothing is done.
-use Rattle.std.specs.Prelude.{ℕ, List, ◌++◌, Option, None, Some, codes, decimal}
+use Rattle.std.specs.Prelude.{ℕ, List, ◌++◌, codes, decimal}
 use Rattle.elf_load.specs.Names.{refused_number, refused_name, unfit_number, unfit_name}
 use Rattle.elf_load.specs.declared.refused.Refused.{Refused as WhyRefused}
 use Rattle.elf_load.specs.declared.unfit.Unfit.{Unfit as WhyUnfit}
@@ -22,10 +22,9 @@ inputs_refused number name = codes "inputs refused " ++ decimal number ++ codes 
 abbrev pub refused_line : WhyRefused → List ℕ
 refused_line why = program_refused (refused_number why) (refused_name why)
 
--- why an input isn't taken: the reason why it doesn't fit, and where there is none, that it is to be taken later
-abbrev pub unfit_line : Option WhyUnfit → List ℕ
-unfit_line (Some why) = inputs_refused (unfit_number why) (unfit_name why)
-unfit_line None = inputs_refused 6 (codes "Later")
+-- why an input isn't taken
+abbrev pub unfit_line : WhyUnfit → List ℕ
+unfit_line why = inputs_refused (unfit_number why) (unfit_name why)
 
 abbrev pub read_fault : List ℕ
 read_fault = codes "read fault\n"

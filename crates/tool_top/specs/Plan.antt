@@ -7,9 +7,9 @@ use Rattle.elf_load.specs.Images.{Image, Loads}
 use Rattle.elf_load.specs.Refusals.{refusal}
 use Rattle.elf_load.specs.declared.refused.Refused.{Refused as WhyRefused}
 use Rattle.elf_load.specs.declared.region.Region.{Region}
+use Rattle.elf_load.specs.declared.unfit.Unfit.{Unfit as WhyUnfit}
 use Rattle.tool_words.specs.Job.{Job, Explore, Replay}
 use Rattle.tree_core.specs.declared.budgets.Budgets.{Budgets}
-use Rattle.tool_top.specs.Inputs.{IsInput}
 use Rattle.tool_top.specs.Lines.{read_fault, refused_line, unfit_line, usage}
 use Rattle.tool_top.specs.Replaying.{IsNoTest, IsReplayed, IsTestMisfit, most_test_bytes}
 use Rattle.tool_top.specs.Reports.{IsReportOf}
@@ -37,11 +37,11 @@ most_bytes = 1048577
 abbrev pub says_only : Verdict → List (List ℕ) → List ℕ → Plan
 says_only verdict names text = record { verdict = verdict; names = names; puts = []; text = text }
 
--- the bytes are the file of a program, the input that is asked is taken, and the report is put into `out`
+-- the bytes are the file of a program, the input that is asked fits it, and the report is put into `out`
 pub record IsReported (out bytes : List ℕ) (asked : List Region) (budgets : Budgets) (workers : ℕ) (verdict : Verdict) (puts : List Put) (text : List ℕ) : Type 0 where
   pub image : Image
   pub loads : Loads bytes image
-  pub input : IsInput image asked
+  pub fits : unfit image asked ≡ None
   pub done : verdict ≡ Done
   pub report : IsReportOf out image asked budgets workers puts text
 
@@ -53,14 +53,15 @@ pub record IsRefusal (bytes : List ℕ) (verdict : Verdict) (puts : List Put) (t
   pub no_files : puts ≡ []
   pub line : text ≡ refused_line why
 
--- the bytes are the file of a program, but the input that is asked isn't taken, and why is said
+-- the bytes are the file of a program, but the input that is asked doesn't fit it, and why is said
 pub record IsMisfit (bytes : List ℕ) (asked : List Region) (verdict : Verdict) (puts : List Put) (text : List ℕ) : Type 0 where
   pub image : Image
   pub loads : Loads bytes image
-  pub other : ¬ IsInput image asked
+  pub why : WhyUnfit
+  pub misfits : unfit image asked ≡ Some why
   pub is : verdict ≡ Unfit
   pub no_files : puts ≡ []
-  pub line : text ≡ unfit_line (unfit image asked)
+  pub line : text ≡ unfit_line why
 
 -- what is put and said for the bytes of a program's file, the regions that are asked, the budgets and the number of workers
 abbrev pub Treats : (out bytes : List ℕ) → List Region → Budgets → (workers : ℕ) → Verdict → List Put → List ℕ → Type 0

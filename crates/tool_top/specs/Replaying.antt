@@ -1,11 +1,10 @@
 -- What is meant for a replay: the bytes of a program's file and of a test's, and what is said of them.
-use Rattle.std.specs.Prelude.{◌≡◌, ◌⊎◌, ℕ, List, [], None, Ok, Err}
+use Rattle.std.specs.Prelude.{◌≡◌, ◌⊎◌, ℕ, List, [], None, Some, Ok, Err}
 use Rattle.elf_load.specs.Fits.{unfit}
 use Rattle.elf_load.specs.Images.{Image, Loads}
-use Rattle.elf_load.specs.declared.region.Region.{Region}
+use Rattle.elf_load.specs.declared.unfit.Unfit.{Unfit as WhyUnfit}
 use Rattle.replay_core.specs.Differences.{difference_text}
 use Rattle.replay_core.specs.Replays.{IsAsSaid, run_of}
-use Rattle.rv_spec.specs.Memory.{count_of}
 use Rattle.test_files.specs.Reading.{reading}
 use Rattle.test_files.specs.Tests.{Test}
 use Rattle.test_files.specs.declared.refused.TestRefused.{TestRefused as WhyNoTest}
@@ -18,20 +17,11 @@ use Rattle.tool_top.specs.declared.verdict.Verdict.TheVariants.{Done, Differs, T
 abbrev pub most_test_bytes : ℕ
 most_test_bytes = 16777217
 
--- no region, or one byte in all
-abbrev pub IsShort : List Region → Type 0
-IsShort asked = (asked ≡ []) ⊎ (count_of asked ≡ 1)
-
--- the regions of a test that are taken: they fit the image, and have one byte in all if there are any
-pub record IsTestInput (image : Image) (asked : List Region) : Type 0 where
-  pub fits : unfit image asked ≡ None
-  pub short : IsShort asked
-
--- the bytes are those of a program, and of this test, whose regions are taken
+-- the bytes are those of a program, and of this test, whose regions fit it
 pub record IsReplayable (bytes text : List ℕ) (image : Image) (test : Test) : Type 0 where
   pub loads : Loads bytes image
   pub reads : reading text ≡ Ok test
-  pub input : IsTestInput image test.regions
+  pub fits : unfit image test.regions ≡ None
 
 -- the run is as the test says, and that is said
 pub record IsSame (image : Image) (test : Test) (verdict : Verdict) (said : List ℕ) : Type 0 where
@@ -63,13 +53,14 @@ pub record IsNoTest (bytes text : List ℕ) (verdict : Verdict) (puts : List Put
   pub no_files : puts ≡ []
   pub line : said ≡ test_refused why
 
--- there is a program, but the regions of this test aren't taken, and why is said
+-- there is a program, but the regions of this test don't fit it, and why is said
 pub record IsTestMisfit (bytes text : List ℕ) (verdict : Verdict) (puts : List Put) (said : List ℕ) : Type 0 where
   pub image : Image
   pub test : Test
   pub loads : Loads bytes image
   pub reads : reading text ≡ Ok test
-  pub other : ¬ IsTestInput image test.regions
+  pub why : WhyUnfit
+  pub misfits : unfit image test.regions ≡ Some why
   pub is : verdict ≡ Unfit
   pub no_files : puts ≡ []
-  pub line : said ≡ unfit_line (unfit image test.regions)
+  pub line : said ≡ unfit_line why

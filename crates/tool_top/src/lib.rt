@@ -2,7 +2,6 @@
 #![tactic(auto)]
 
 mod carry;
-mod inputs;
 mod plan;
 mod refusals;
 mod replaying;

@@ -8,7 +8,6 @@ ghost use Rattle.tool_top.specs.Lines.{refused_line, unfit_line};
 ghost use Rattle.tool_top.specs.Plan.{IsPlanned, OnlyReads, Treats};
 ghost use Rattle.tool_top.specs.Reports.{IsReportOf};
 
-use crate::inputs::has_one_byte;
 use crate::refusals::{say_refused, say_unfit};
 use crate::replaying::plan_replay;
 use crate::verdict::Verdict;
@@ -17,6 +16,7 @@ use fork_tree::{Tree, drain};
 use node_split::Worker;
 use report_text::make_report;
 use std::alloc::{AllocError as NoMemory, Global};
+use std::sync::Wait;
 use sym_state::{Program, State};
 use tool_io::{Bytes, Fault, Files, NamedFile};
 use tool_words::{Job, WordsError, read_words};
@@ -56,7 +56,13 @@ pub(crate) fn says_only(alloc: Global, verdict: Verdict, text: &[u8]) -> Result<
 }
 
 // The report of a program, made in full: one worker works its fork tree until nothing is left to be done.
-fn plan_report(alloc: Global, out: &str, worker: Worker, workers: u32) -> Result<Plan, NoMemory>
+fn plan_report(
+    rt: &impl Wait,
+    alloc: Global,
+    out: &str,
+    worker: Worker,
+    workers: u32,
+) -> Result<Plan, NoMemory>
     requires within { IsBudgets worker.budgets }
     requires some { 1 ≤ workers }
     ensures verdict { IfOk result (λ p. p.verdict ≡ Verdict.Done) }
@@ -65,7 +71,7 @@ fn plan_report(alloc: Global, out: &str, worker: Worker, workers: u32) -> Result
     let budgets = worker.budgets();
     let root = State::first(alloc, worker.program())?;
     let mut tree = Tree::new(alloc, worker, root)?;
-    drain(alloc, &mut tree, ONE_WORKER)?;
+    drain(rt, alloc, &mut tree, ONE_WORKER)?;
     let regions = tree.worker().program().regions();
     let report = make_report(alloc, out, regions, &budgets, workers, &tree)?;
     Ok(Plan {
@@ -84,7 +90,7 @@ pub(crate) fn refuse(alloc: Global, why: Refused) -> Result<Plan, NoMemory>
     says_only(alloc, Verdict::Refused, line.as_slice())
 }
 
-pub(crate) fn refuse_input(alloc: Global, why: Option<Unfit>) -> Result<Plan, NoMemory>
+pub(crate) fn refuse_input(alloc: Global, why: Unfit) -> Result<Plan, NoMemory>
     ensures verdict { IfOk result (λ p. p.verdict ≡ Verdict.Unfit) }
     ensures files { IfOk result (λ p. p.files.items ≡ []) }
     ensures text { IfOk result (λ p. p.text ≡ unfit_line why) }
@@ -95,6 +101,7 @@ pub(crate) fn refuse_input(alloc: Global, why: Option<Unfit>) -> Result<Plan, No
 
 // What is to be done for a program, from its image.
 fn plan_image(
+    rt: &impl Wait,
     alloc: Global,
     out: &str,
     asked: Regions,
@@ -109,20 +116,17 @@ fn plan_image(
     ensures { IfOk result (λ p. Treats out.now bytes.now asked budgets workers p.verdict p.files.items p.text) }
 {
     match fit(&image, &asked) {
-        Err(why) => refuse_input(alloc, Some(why)),
+        Err(why) => refuse_input(alloc, why),
         Ok(()) => {
-            if has_one_byte(asked.as_slice()) {
-                let worker = Worker::new(Program::new(image, asked), budgets);
-                plan_report(alloc, out, worker, workers)
-            } else {
-                refuse_input(alloc, None)
-            }
+            let worker = Worker::new(alloc, Program::new(image, asked), budgets)?;
+            plan_report(rt, alloc, out, worker, workers)
         }
     }
 }
 
 // What is to be done for a program's bytes, the regions that are asked, the budgets and the number of workers.
 fn plan_bytes(
+    rt: &impl Wait,
     alloc: Global,
     out: &str,
     asked: Regions,
@@ -135,13 +139,14 @@ fn plan_bytes(
     ensures { IfOk result (λ p. Treats out.now bytes.now asked budgets workers p.verdict p.files.items p.text) }
 {
     match load(alloc, bytes) {
-        Ok(image) => plan_image(alloc, out, asked, budgets, workers, bytes, image),
+        Ok(image) => plan_image(rt, alloc, out, asked, budgets, workers, bytes, image),
         Err(LoadError::Refused(why)) => refuse(alloc, why),
         Err(LoadError::NoMemory) => Err(NoMemory),
     }
 }
 
 fn plan_explore<F: Files>(
+    rt: &impl Wait,
     alloc: Global,
     program: &str,
     out: &str,
@@ -158,14 +163,19 @@ fn plan_explore<F: Files>(
     ensures writes { (F.seen files.new).writes ≡ (F.seen files.old).writes }
 {
     match files.read(program, MOST_BYTES) {
-        Ok(bytes) => plan_bytes(alloc, out, asked, budgets, workers, bytes.as_slice()),
+        Ok(bytes) => plan_bytes(rt, alloc, out, asked, budgets, workers, bytes.as_slice()),
         Err(Fault::Failed) => says_only(alloc, Verdict::ReadFault, b"read fault\n"),
         Err(Fault::NoMemory) => Err(NoMemory),
     }
 }
 
 /// Reads what the words' job reads, and makes its plan in full.
-pub fn make_plan<F: Files>(alloc: Global, words: &[String], files: &mut F) -> Result<Plan, NoMemory>
+pub fn make_plan<F: Files>(
+    rt: &impl Wait,
+    alloc: Global,
+    words: &[String],
+    files: &mut F,
+) -> Result<Plan, NoMemory>
     ensures ok { IfOk result (λ p. IsPlanned (F.seen files.old) (F.seen files.new)
         (job_of (map string_bytes words.now)) p.verdict p.files.items p.text) }
     ensures err { OnErr result (OnlyReads (F.seen files.old) (F.seen files.new) (job_of (map string_bytes words.now))) }
@@ -181,6 +191,7 @@ pub fn make_plan<F: Files>(alloc: Global, words: &[String], files: &mut F) -> Re
                 workers,
             },
         ) => plan_explore(
+            rt,
             alloc,
             program.as_str(),
             out.as_str(),

@@ -33,14 +33,11 @@ pub fn say_refused(alloc: Global, why: Refused) -> Result<Vec<u8>, NoMemory>
     program_refused(alloc, why.number(), why.name())
 }
 
-/// Why an input isn't taken: the reason why it doesn't fit, and else that it is to be taken later.
-pub fn say_unfit(alloc: Global, why: Option<Unfit>) -> Result<Vec<u8>, NoMemory>
+/// Why an input isn't taken.
+pub fn say_unfit(alloc: Global, why: Unfit) -> Result<Vec<u8>, NoMemory>
     ensures { IfOk result (λ line. line.items ≡ unfit_line why) }
 {
-    match why {
-        Some(why) => inputs_refused(alloc, why.number(), why.name()),
-        None => inputs_refused(alloc, 6, "Later"),
-    }
+    inputs_refused(alloc, why.number(), why.name())
 }
 
 /// Why a text is no test.

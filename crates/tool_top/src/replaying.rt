@@ -7,13 +7,12 @@ ghost use Rattle.elf_load.specs.Images.{Loads};
 ghost use Rattle.test_files.specs.Reading.{reading};
 ghost use Rattle.tool_words.specs.Job.{Replay};
 ghost use Rattle.tool_top.specs.Plan.{IsPlanned, OnlyReads, Replays, most_bytes};
-ghost use Rattle.tool_top.specs.Replaying.{IsReplayable, IsShort, most_test_bytes};
+ghost use Rattle.tool_top.specs.Replaying.{IsReplayable, most_test_bytes};
 
-use crate::inputs::has_one_byte;
 use crate::plan::{MOST_BYTES, Plan, refuse, refuse_input, says_only};
 use crate::refusals::say_test_refused;
 use crate::verdict::Verdict;
-use elf_load::{Image, LoadError, Region, fit, load};
+use elf_load::{Image, LoadError, fit, load};
 use replay_core::{Replayed, replay, write_difference};
 use std::alloc::{AllocError as NoMemory, Global};
 use test_files::{Test, TestError, read_test};
@@ -21,14 +20,6 @@ use tool_io::{Bytes, Fault, Files};
 
 // The most bytes of a test's file that are read.
 const MOST_TEST_BYTES: usize = 16_777_217;
-
-// Whether there is no region, or one byte in all.
-fn is_short(regions: &[Region]) -> bool
-    ensures yes { result ≡ true → IsShort regions.now }
-    ensures no { result ≡ false → ¬ IsShort regions.now }
-{
-    regions.is_empty() || has_one_byte(regions)
-}
 
 // The answer of a test that can be run.
 fn plan_run(
@@ -63,14 +54,8 @@ fn plan_test(
     ensures { IfOk result (λ p. Replays bytes.now text.now p.verdict p.files.items p.text) }
 {
     match fit(image, &test.regions) {
-        Err(why) => refuse_input(alloc, Some(why)),
-        Ok(()) => {
-            if is_short(test.regions.as_slice()) {
-                plan_run(alloc, bytes, text, image, test)
-            } else {
-                refuse_input(alloc, None)
-            }
-        }
+        Err(why) => refuse_input(alloc, why),
+        Ok(()) => plan_run(alloc, bytes, text, image, test),
     }
 }
 

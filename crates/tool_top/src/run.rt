@@ -19,10 +19,10 @@ use std::thread::Threads;
 use tool_io::{Fault, Files};
 use work_gate::Gate;
 
-fn run_words<F: Files>(alloc: Global, words: &[String], files: &mut F) -> Ending
+fn run_words<F: Files>(rt: &impl Wait, alloc: Global, words: &[String], files: &mut F) -> Ending
     ensures { Answered (F.seen files.old) (F.seen files.new) (job_of (map string_bytes words.now)) result }
 {
-    match make_plan(alloc, words, files) {
+    match make_plan(rt, alloc, words, files) {
         Ok(plan) => match carry_out(files, &plan) {
             Ok(()) => Ending::Planned(plan.verdict),
             Err(Fault::Failed) => Ending::WriteFault,
@@ -87,10 +87,11 @@ pub fn run_tool<R: Threads + Wait + Sync, F: Files, G: Gate + Sync>(
     // any two leaves part by a decision of their runs, which is as their choices say,
     ensures parted { result ≡ 0 → OnWritten (F.seen files.old).told (F.seen files.new).told (job_of (map string_bytes words.now))
         (λ image regions budgets workers lines entries. ArePartedAll image regions budgets (leaves_of entries)) }
-    // beside each leaf stands a test, which is a run of it, unless it was cut where it had spent its targets,
+    // beside each leaf stands a test, which is a run of it, unless it was cut where it had spent its targets or its conflicts,
     ensures tests_are_runs { result ≡ 0 → OnWritten (F.seen files.old).told (F.seen files.new).told (job_of (map string_bytes words.now))
         (λ image regions budgets workers lines entries. AreRuns image regions entries) }
-    // each leaf that was cut has spent its budget; of targets, on the other sides of its own split,
+    // each leaf that was cut has spent its budget: of targets on the other sides of its own split, of conflicts on clauses that
+    // were learnt for its last assertion,
     ensures cuts_show_their_budget { result ≡ 0 → OnWritten (F.seen files.old).told (F.seen files.new).told (job_of (map string_bytes words.now))
         (λ image regions budgets workers lines entries. ShowBudgets regions budgets lines entries) }
     // the events are one run through the fork tree that leaves nothing to be done, and its leaves are those that were written,
@@ -105,7 +106,7 @@ pub fn run_tool<R: Threads + Wait + Sync, F: Files, G: Gate + Sync>(
     // Where a replay is done, the run of the test has the steps, the path, the end and the output that the test says.
     ensures same { result ≡ 0 → OnReplayed (F.seen files.old).told (job_of (map string_bytes words.now)) IsAsSaid }
 
-    // A program is explored to the end, for an input that is taken, unless memory is refused,
+    // A program is explored to the end, for an input that fits it, unless memory is refused,
     ensures complete { HoldsProgram (F.seen files.old).told (job_of (map string_bytes words.now))
         → ¬ Rose (F.seen files.old).reads (F.seen files.new).reads
         → ¬ Rose (F.seen files.old).writes (F.seen files.new).writes
@@ -116,5 +117,5 @@ pub fn run_tool<R: Threads + Wait + Sync, F: Files, G: Gate + Sync>(
         → ¬ Rose (F.seen files.old).writes (F.seen files.new).writes
         → (result ≡ 0) ⊎ (result ≡ 1) ⊎ (result ≡ 8) }
 {
-    run_words(alloc, words, files).status()
+    run_words(rt, alloc, words, files).status()
 }

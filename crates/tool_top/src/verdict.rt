@@ -12,7 +12,7 @@ pub enum Verdict {
     NoJob,
     /// The file is that of no program.
     Refused,
-    /// There is a program, but the input that is asked, or that a test has, isn't taken.
+    /// There is a program, but the input that is asked, or that a test has, doesn't fit it.
     Unfit,
     /// A name could not be read.
     ReadFault,

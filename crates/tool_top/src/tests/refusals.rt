@@ -128,23 +128,12 @@ fn inputs_that_are_refused(rt: HostRuntime) -> Result<(), Fail> {
     let none = ["rvklee", "explore", "p.elf", "out", "00011000:0"];
     let long = ["rvklee", "explore", "p.elf", "out", "00011000:257"];
     let far = ["rvklee", "explore", "p.elf", "out", "00012000:1"];
-    let later = ["rvklee", "explore", "p.elf", "out", "00011000:256"];
-    let two = [
-        "rvklee",
-        "explore",
-        "p.elf",
-        "out",
-        "00011000:1",
-        "00011001:1",
-    ];
     for (words, line) in [
         (&nine[..], "inputs refused 1 TooMany\n"),
         (&none[..], "inputs refused 2 Empty\n"),
         (&long[..], "inputs refused 3 TooLong\n"),
         (&far[..], "inputs refused 4 Unmapped\n"),
         (&twice[..], "inputs refused 5 Overlap\n"),
-        (&later[..], "inputs refused 6 Later\n"),
-        (&two[..], "inputs refused 6 Later\n"),
     ] {
         let mut files = holding(alloc, bytes.as_slice())?;
         assert_eq!(rt; run(&rt, words, &mut files)?, 4, "{line}");

@@ -65,9 +65,9 @@ const ROWS: [Row; 13] = [
     ),
     (
         FORKS,
-        r#"{"end":"exit 1","format":1,"input":"4141","leaf":1,"output":"","path":"T","regions":["00011000:2"],"steps":7}"#,
-        4,
-        "inputs refused 6 Later\n",
+        r#"{"end":"exit 1","format":1,"input":"4142","leaf":1,"output":"","path":"T","regions":["00011000:1","00011001:1"],"steps":7}"#,
+        0,
+        "same\n",
     ),
     // The input byte is one of the first instruction, 0x000112B7, which is LUI x5, 0x41011 then; no page is at 0x41011000, from where
     // the second loads.

@@ -21,7 +21,7 @@ const TEST_1: &str =
 
 pub(crate) const EXPLORE: [&str; 5] = ["rvklee", "explore", "p.elf", "out", "00011000:1"];
 
-const OTHER_INPUT: [&str; 5] = ["rvklee", "explore", "p.elf", "out", "00011000:2"];
+const OTHER_INPUT: [&str; 5] = ["rvklee", "explore", "p.elf", "out", "00012000:1"];
 
 const NO_INPUT: [&str; 5] = ["rvklee", "explore", "p.elf", "out", "00011000:10000"];
 
@@ -85,7 +85,7 @@ pub(crate) fn run<R: Threads + Wait + Sync + AllocGlobal, F: Files>(
 fn other_runs_say_one_line(rt: HostRuntime) -> Result<(), Fail> {
     let usage =
         "usage: rvklee explore [--steps N] [--targets N] [--conflicts N] [--workers N] PROGRAM OUT INPUT..\n       rvklee replay PROGRAM TEST\n       rvklee bench NUMBER WORKERS OUT\n";
-    let unfit = "inputs refused 6 Later\n";
+    let unfit = "inputs refused 4 Unmapped\n";
     let fault = "read fault\n";
     for (words, program, to_fail, status, said, names, puts) in [
         (&EXPLORE[..1], &FORKED[..], 9, 2, usage, 0, 0),

@@ -13,7 +13,7 @@ use Rattle.tool_top.proofs.Explored.{is_report_of}
 use Rattle.tool_top.proofs.plan.plan_report.Goals as goal
 
 pub returns-clause-report : goal.returns-clause-report
-returns-clause-report c =
+returns-clause-report g c =
     let story = c.drain.new.tree.story in
     let files = c.in_ok-report.report.files.items in
     let summary = c.in_ok-report.report.summary in
@@ -22,7 +22,7 @@ returns-clause-report c =
     ∙ ap (λ (w : Worker). w.program.regions) (c.worker-2.ensures ∙ c.drain.ensures.worker ∙ c.in_ok-tree.ensures.worker) in
     is_report_of c.args.worker.program c.args.worker.budgets c.in_ok-root.root c.in_ok-tree.tree.story story
     c.in_ok-tree.ensures.story (subst (λ (p : Program). IsFirst p c.in_ok-root.root) c.program.ensures.value c.in_ok-root.ensures.first) c.drain.ensures.grows
-    (subst (λ (w : Worker). IsDrained (rules_of w.program w.budgets.steps w.budgets.targets) run_place leaf_place story) c.in_ok-tree.ensures.worker c.in_ok-drain.ensures.drained)
+    (subst (λ (w : Worker). IsDrained (rules_of w.program w.budgets) run_place leaf_place story) c.in_ok-tree.ensures.worker c.in_ok-drain.ensures.drained)
     c.args.workers c.requires.some c.args.out.now files summary
     (subst (λ (rs : List Region). IsReportOfTree (λ (part : Part). part) (λ part. cause_of part.leaf.end) c.args.out.now rs c.args.worker.budgets c.args.workers story files summary) regions
     (subst (λ (budgets : Budgets). IsReportOfTree (λ (part : Part). part) (λ part. cause_of part.leaf.end) c.args.out.now c.regions-regions.result.now budgets c.args.workers story files summary)

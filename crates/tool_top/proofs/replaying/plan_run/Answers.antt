@@ -1,6 +1,7 @@
 use Rattle.std.proofs.Common.{◌∙◌}
 use Rattle.test_files.proofs.Bounded.{read_bounded}
-use Rattle.tool_top.proofs.ReplayPlans.{replays_other, replays_same, sum_count}
+use Rattle.tool_top.proofs.Plans.{sum_count}
+use Rattle.tool_top.proofs.ReplayPlans.{replays_other, replays_same}
 use Rattle.tool_top.proofs.replaying.plan_run.Goals as goal
 
 pub replay-requires-clause-whole : goal.replay-requires-clause-whole
