@@ -22,7 +22,7 @@ use crate::halt::Halt;
 use crate::needs::{number_at, side_of};
 use crate::outcome::{Step, trapped};
 use crate::transfer::{load, store};
-use rv_decode::{ImmediateOp, Instr, Register, RegisterOp, ShiftOp, Test, Trap};
+use rv_decode::{ImmediateOp, Instr, Register, RegisterOp, ShiftOp, Test, Trap, decode};
 use std::alloc::AllocError as NoMemory;
 use sym_state::{State, Value};
 
@@ -172,7 +172,10 @@ pub(crate) fn step(state: &mut State) -> Result<Step, Halt>
     ensures err { IfErr result (Stops state.old state.new) }
 {
     let step = match fetch(state)? {
-        Ok(instr) => execute(state, instr)?,
+        Ok(word) => match decode(word) {
+            Some(instr) => execute(state, instr)?,
+            None => trapped(Trap::Illegal),
+        },
         Err(trap) => trapped(trap),
     };
     state.count();

@@ -8,12 +8,12 @@ ghost use Rattle.sym_state.specs.Moves.{IsGrown, MakesValue};
 ghost use Rattle.sym_state.specs.Runs.{IsReady};
 ghost use Rattle.sym_state.specs.Symbolic.{concrete};
 ghost use Rattle.sym_state.specs.Unfolded.{unfolded};
-ghost use Rattle.sym_machine.specs.Fetching.{IsFetched};
+ghost use Rattle.sym_machine.specs.Fetching.{IsFetchedWord};
 ghost use Rattle.sym_machine.specs.Stops.{Stops};
 
 use crate::halt::Halt;
 use crate::needs::number_at;
-use rv_decode::{Instr, Trap, decode};
+use rv_decode::Trap;
 use std::alloc::AllocError as NoMemory;
 use sym_state::{Code, State, Value};
 
@@ -29,24 +29,23 @@ pub(crate) fn word(state: &mut State, address: u32) -> Result<Value, NoMemory>
     state.from_word(b0, b1, b2, b3)
 }
 
-/// The instruction that comes next, or why there is none.
-pub(crate) fn fetch(state: &mut State) -> Result<Result<Instr, Trap>, Halt>
+/// The word of the instruction that comes next, or why there is none.
+pub(crate) fn fetch(state: &mut State) -> Result<Result<u32, Trap>, Halt>
     requires ready { IsReady state.old }
     ensures grown { IfOk result (λ _. IsGrown state.old state.new) }
-    ensures ok { IfOk result (IsFetched state.old) }
+    ensures ok { IfOk result (IsFetchedWord state.old) }
     ensures err { IfErr result (Stops state.old state.new) }
 {
     let pc = state.pc();
     if pc % 4 != 0 {
         return Ok(Err(Trap::FetchMisaligned));
     }
-    let word = match state.code(pc) {
-        Code::Closed => return Ok(Err(Trap::FetchAccess)),
-        Code::Word(word) => word,
+    match state.code(pc) {
+        Code::Closed => Ok(Err(Trap::FetchAccess)),
+        Code::Word(word) => Ok(Ok(word)),
         Code::Bytes => {
             let value = word(state, pc)?;
-            number_at(state, 0, value)?
+            Ok(Ok(number_at(state, 0, value)?))
         }
-    };
-    Ok(decode(word).ok_or(Trap::Illegal))
+    }
 }

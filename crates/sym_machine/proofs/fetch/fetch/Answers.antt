@@ -1,12 +1,7 @@
-use Rattle.std.proofs.Common.{◌≡◌, ℕ, true, List, ◌∙◌, sym, subst}
-use Rattle.cow_pages.specs.SymbolicMemory.{memory_flags}
-use Rattle.rv_spec.specs.Memory.{can_execute, word_at}
-use Rattle.sym_state.specs.Symbolic.{concrete, stands_for}
-use Rattle.sym_machine.specs.Fetching.{IsFetched}
-use Rattle.sym_machine.proofs.Fetches.{code_word, fetch_misaligned, fetch_refused, fetch_word, word_first}
+use Rattle.std.proofs.Common.{◌∙◌, sym}
+use Rattle.sym_machine.proofs.Fetches.{code_word, fetch_misaligned, fetch_refused, word_first}
 use Rattle.sym_machine.proofs.Standing.{bytes_of, ready-grown, still_stands}
 use Rattle.sym_machine.proofs.fetch.fetch.Goals as goal
-use Rattle.sym_machine.proofs.fetch.fetch.Goals.{in-Word, in-Bytes+in_ok-value-in-Bytes+in_ok-word-in-Bytes}
 
 pub returns-then-pc-ne0-clause-ok : goal.returns-then-pc-ne0-clause-ok
 returns-then-pc-ne0-clause-ok c = fetch_misaligned c.args.state.now (rw c.pc-pc.ensures.value at c.if-pc-ne0.true)
@@ -28,24 +23,24 @@ number_at-requires-clause-stands c =
     (rw pc at c.if-pc-ne0.false) (rw (c.in-Bytes.is, pc) at c.code.ensures.code)
     (λ input stands. made.gives.worth input (bytes_of c.args.state.now input stands))
 
-pub returns-clause-ok : goal.returns-clause-ok
-returns-clause-ok c =
+pub returns-in-Word-clause-ok : goal.returns-in-Word-clause-ok
+returns-in-Word-clause-ok c =
+    let code = rw (c.in-Word.is, c.pc-pc.ensures.value) at c.code.ensures.code in
+    record {
+      aligned = rw c.pc-pc.ensures.value at c.if-pc-ne0.false;
+      can = code.0;
+      is = λ input stands. code_word c.args.state.now c.in-Word.word input code.1;
+    }
+
+pub returns-in_ok-number_at-in-Bytes-clause-ok : goal.returns-in_ok-number_at-in-Bytes-clause-ok
+returns-in_ok-number_at-in-Bytes-clause-ok c =
     let old = c.args.state.now in
     let pc = c.pc-pc.ensures.value in
-    let known : (can_execute (memory_flags old.memory) old.pc ≡ true)
-    × ((input : List ℕ) → stands_for old input ≡ true → word_at (concrete old input).byte old.pc ≡ c.match-code.word)
-    = elim c.match-code.branch [
-      | in-Word w ↦
-          let code = rw (w.in-Word.is, pc) at c.code.ensures.code in
-          rw w.word-is (code.0, λ input stands. code_word old w.in-Word.word input code.1)
-      | in-Bytes+in_ok-value-in-Bytes+in_ok-word-in-Bytes w ↦
-          let made = rw (c.code.ensures.same, pc) at w.in_ok-value-in-Bytes.ensures.ok in
-          rw w.word-is (
-            rw (w.in-Bytes.is, pc) at c.code.ensures.code,
-            λ input stands.
-                sym (made.gives.worth input (bytes_of old input stands))
-                ∙ w.in_ok-word-in-Bytes.ensures.ok input (still_stands old w.word.new.state input made.grown stands),
-          )
-    ] in
-    subst (IsFetched old) (sym c.ok_or.ensures.value)
-    (fetch_word old c.match-code.word c.decode.result (rw pc at c.if-pc-ne0.false) known.0 known.1 c.decode.ensures.value c.decode.ensures.amount)
+    let made = rw (c.code.ensures.same, pc) at c.in_ok-value-in-Bytes.ensures.ok in
+    record {
+      aligned = rw pc at c.if-pc-ne0.false;
+      can = rw (c.in-Bytes.is, pc) at c.code.ensures.code;
+      is = λ input stands.
+          sym (made.gives.worth input (bytes_of old input stands))
+          ∙ c.in_ok-number_at-in-Bytes.ensures.ok input (still_stands old c.word.new.state input made.grown stands);
+    }
