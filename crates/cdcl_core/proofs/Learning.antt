@@ -5,12 +5,12 @@ use Rattle.std.proofs.lemmas.List.{length-replicate}
 use Rattle.std.proofs.lemmas.List.Folds.{list_all-append}
 use Rattle.cnf_form.specs.Literals.{Literal}
 use Rattle.cnf_form.specs.Propagation.{unassigned, is_true, follows}
-use Rattle.cnf_form.specs.Refutations.{Step, clauses_of, follows_all, is_new, is_fresh, is_empty_clause, ends_empty, refutes}
+use Rattle.cnf_form.specs.Refutations.{has_no_empty, Step, clauses_of, follows_all, is_new, is_fresh, is_empty_clause, ends_empty, refutes}
 use Rattle.cnf_form.specs.Valuations.{literal_value, satisfies_clause, satisfies}
 use Rattle.proof_check.proofs.Chains.{at_more}
 use Rattle.cdcl_core.specs.Trails.{Assignment, values_of, IsTrail, AreCalmFirst}
 use Rattle.cdcl_core.specs.Passes.{is_below, has_true}
-use Rattle.cdcl_core.specs.Searches.{has_no_empty, IsSearch, IsLesson, IsDescent}
+use Rattle.cdcl_core.specs.Searches.{IsSearch, IsLesson, IsDescent}
 use Rattle.cdcl_core.proofs.Values.{no_trail}
 
 regroup : (before : List (List Literal)) (c : List Literal) (cs : List (List Literal)) → (before ++ c ∷ []) ++ cs ≡ before ++ c ∷ cs

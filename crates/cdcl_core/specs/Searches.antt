@@ -1,9 +1,9 @@
 -- What a search keeps, and what its answers carry.
-use Rattle.std.specs.Prelude.{◌≡◌, ℕ, Bool, true, false, not, List, ◌++◌, Option, Some, None, length}
+use Rattle.std.specs.Prelude.{◌≡◌, ℕ, Bool, true, false, List, ◌++◌, Option, Some, None, length}
 use Rattle.std.specs.List.{list_all}
 use Rattle.cnf_form.specs.Literals.{Literal}
 use Rattle.cnf_form.specs.Propagation.{numbered, hint_is_falsified, follows}
-use Rattle.cnf_form.specs.Refutations.{Step, clauses_of, follows_all, is_new, is_fresh, is_empty_clause}
+use Rattle.cnf_form.specs.Refutations.{Step, clauses_of, follows_all, has_no_empty, is_new, is_fresh, is_empty_clause}
 use Rattle.cdcl_core.specs.declared.solver.Answer.{Answer}
 use Rattle.cdcl_core.specs.declared.solver.Answer.TheVariants.{Found, Refuted, Spent}
 use Rattle.cdcl_core.specs.Trails.{Assignment, values_of, IsTrail, AreCalmFirst}
@@ -26,10 +26,6 @@ abbrev pub IfSpent : Answer → (List Step → Type 0) → Type 0
 IfSpent (Found values) P = Unit {0}
 IfSpent (Refuted log) P = Unit {0}
 IfSpent (Spent log) P = P log
-
--- whether no clause of the log is empty
-unfoldable pub has_no_empty : List Step → Bool
-has_no_empty log = list_all (λ s. not (is_empty_clause s.clause)) log
 
 -- what a search keeps: its clauses are the formula's and those learnt, each of which follows and was new, the trail is one
 -- over these clauses, and the first n of them are calm

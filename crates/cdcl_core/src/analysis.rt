@@ -9,11 +9,14 @@ use crate::trail::{Entry, Trail};
 use cnf_form::{Clause, Lit, LogStep};
 use std::alloc::{AllocError as NoMemory, Global};
 
-/// What an analysis has met.
+/// What an analysis has met. It is kept from one conflict to the next, and cleared by what it met, so that a conflict pays for
+/// nothing else.
 #[derive(Debug, Drop)]
 pub struct Analysis {
     /// Whether a variable was met, by its number.
     seen: Vec<bool>,
+    /// The literals of these variables, as they were met.
+    met: Vec<Lit>,
     /// Literals of the clause, all of earlier levels until the first point is there.
     literals: Vec<Lit>,
     /// The clauses that forced literals, the last first.
@@ -28,20 +31,41 @@ fn clause_of(clauses: &[Clause], number: usize) -> Option<&Clause> {
     clauses.get(number.checked_sub(1)?)
 }
 
+// The place of the last decision.
+fn last_decision(entries: &[Entry]) -> Option<usize> {
+    entries.iter().rposition(|e| e.reason.is_none())
+}
+
 impl Analysis {
-    fn new(alloc: Global, size: usize, last: usize) -> Result<Analysis, NoMemory> {
+    /// Nothing, of variables below `size`.
+    pub fn new(alloc: Global, size: usize) -> Result<Analysis, NoMemory> {
         Ok(Analysis {
             seen: vec![in alloc; false; size]?,
+            met: Vec::new(alloc),
             literals: Vec::new(alloc),
             hints: Vec::new(alloc),
             pending: 0,
-            last,
+            last: 0,
         })
     }
 
-    /// Whether each variable was met, by its number.
-    pub fn seen(&self) -> &[bool] {
-        self.seen.as_slice()
+    /// Literals of the variables that the last analysis met, each once.
+    pub fn met(&self) -> &[Lit] {
+        self.met.as_slice()
+    }
+
+    // Forgets what was met, for a conflict whose last decision is at this place.
+    fn clear(&mut self, last: usize) {
+        for literal in &self.met {
+            if let Some(seen) = self.seen.get_mut(literal.variable() as usize) {
+                *seen = false;
+            }
+        }
+        self.met.clear();
+        self.literals.clear();
+        self.hints.clear();
+        self.pending = 0;
+        self.last = last;
     }
 
     fn is_seen(&self, literal: Lit) -> bool {
@@ -51,16 +75,17 @@ impl Analysis {
         }
     }
 
-    fn see(&mut self, literal: Lit) {
-        let place = literal.variable() as usize;
-        if place < self.seen.len() {
-            self.seen[place] = true;
+    fn see(&mut self, literal: Lit) -> Result<(), NoMemory> {
+        self.met.push(literal)?;
+        if let Some(seen) = self.seen.get_mut(literal.variable() as usize) {
+            *seen = true;
         }
+        Ok(())
     }
 
     // Meets a literal of a clause for the first time.
     fn meet(&mut self, literal: Lit, trail: &Trail) -> Result<(), NoMemory> {
-        self.see(literal);
+        self.see(literal)?;
         if trail.number(literal) > self.last {
             self.pending = self.pending.checked_add(1).ok_or(NoMemory)?;
         } else {
@@ -109,38 +134,36 @@ impl Analysis {
         Ok(())
     }
 
-    /// The step that was found: its clause with the clauses that forced literals, in their order, and the one that is
-    /// false. None if its literals make no clause.
-    pub fn step(mut self, alloc: Global, conflict: usize) -> Result<Option<LogStep>, NoMemory> {
-        let clause = Clause::from_literals(alloc, &self.literals)?;
-        self.hints.reverse();
-        self.hints.push(conflict)?;
-        match clause {
-            Some(clause) => Ok(Some(LogStep::new(clause, self.hints))),
+    /// Analyses the conflict at the clause of this number, and answers whether a literal was decided.
+    pub fn analyse(
+        &mut self,
+        trail: &Trail,
+        clauses: &[Clause],
+        conflict: usize,
+    ) -> Result<bool, NoMemory> {
+        let Some(last) = last_decision(trail.entries()) else {
+            return Ok(false);
+        };
+        self.clear(last);
+        if let Some(clause) = clause_of(clauses, conflict) {
+            self.meet_clause(clause, trail)?;
+        }
+        self.walk(trail, clauses)?;
+        Ok(true)
+    }
+
+    // The clauses that forced literals, in their order, and the one that is false.
+    fn hints(&self, alloc: Global, conflict: usize) -> Result<Vec<usize>, NoMemory> {
+        let mut hints: Vec<usize> = self.hints.iter().rev().copied().collect(alloc)?;
+        hints.push(conflict)?;
+        Ok(hints)
+    }
+
+    /// The step that was found: its clause with its hints. None if its literals make no clause.
+    pub fn step(&self, alloc: Global, conflict: usize) -> Result<Option<LogStep>, NoMemory> {
+        match Clause::from_literals(alloc, &self.literals)? {
+            Some(clause) => Ok(Some(LogStep::new(clause, self.hints(alloc, conflict)?))),
             None => Ok(None),
         }
     }
-}
-
-// The place of the last decision.
-fn last_decision(entries: &[Entry]) -> Option<usize> {
-    entries.iter().rposition(|e| e.reason.is_none())
-}
-
-/// Analyses the conflict at the clause of this number, if a literal was decided.
-pub fn analyse(
-    alloc: Global,
-    trail: &Trail,
-    clauses: &[Clause],
-    conflict: usize,
-) -> Result<Option<Analysis>, NoMemory> {
-    let Some(last) = last_decision(trail.entries()) else {
-        return Ok(None);
-    };
-    let mut analysis = Analysis::new(alloc, trail.size(), last)?;
-    if let Some(clause) = clause_of(clauses, conflict) {
-        analysis.meet_clause(clause, trail)?;
-    }
-    analysis.walk(trail, clauses)?;
-    Ok(Some(analysis))
 }

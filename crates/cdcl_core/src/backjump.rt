@@ -4,6 +4,7 @@
 ghost use Rattle.std.specs.Prelude.{◌≡◌, ℕ, ◌≤◌, ◌<◌, ◌++◌, ◌∷◌, [], None, IfSome, length};
 ghost use Rattle.cdcl_core.specs.Trails.{values_of, IsTrail, AreCalmFirst, IsDecisionAt, IsCalmBefore};
 
+use crate::order::Order;
 use crate::trail::Trail;
 use cnf_form::Clause;
 
@@ -41,8 +42,14 @@ fn decision_from(trail: &Trail, start: usize) -> Option<usize>
 }
 
 /// Goes back to where the clause that was learnt may go on, or at a restart to where nothing was decided, and answers how
-/// many of the other clauses, the first ones, are calm there.
-pub fn go_back(trail: &mut Trail, clauses: &[Clause], clause: &Clause, is_restart: bool) -> usize
+/// many of the other clauses, the first ones, are calm there. The variables that lose their values are put back in the order.
+pub fn go_back(
+    trail: &mut Trail,
+    order: &mut Order,
+    clauses: &[Clause],
+    clause: &Clause,
+    is_restart: bool,
+) -> usize
     requires { IsTrail clauses.now trail.old.entries }
     ensures trail { IsTrail (clauses.now ++ clause.now ∷ []) trail.new.entries }
     ensures size { length trail.new.marks ≡ length trail.old.marks }
@@ -52,10 +59,12 @@ pub fn go_back(trail: &mut Trail, clauses: &[Clause], clause: &Clause, is_restar
     let start = if is_restart { 0 } else { second(trail, clause) };
     match decision_from(trail, start) {
         Some(place) => {
+            order.put_back(trail.entries(), place);
             trail.cut(place);
             clauses.len()
         }
         None => {
+            order.put_back(trail.entries(), 0);
             trail.cut(0);
             0
         }

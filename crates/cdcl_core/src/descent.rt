@@ -47,7 +47,7 @@ fn open_literal(trail: &Trail, clauses: &[Clause]) -> Settled
 
 // The literal to choose where each clause is calm: the first of the order, or if it has none one of a clause that isn't
 // satisfied.
-fn next_choice(trail: &Trail, clauses: &ClauseList, order: &Order) -> Settled
+fn next_choice(trail: &Trail, clauses: &ClauseList, order: &mut Order) -> Settled
     requires below { list_all (is_below (length trail.now.marks)) clauses.now ≡ true }
     requires calm { AreCalm (values_of trail.now.entries) clauses.now }
     ensures { IsSettled clauses.now (length trail.now.marks) (values_of trail.now.entries) result }
@@ -83,7 +83,7 @@ fn choose(trail: &mut Trail, clauses: &ClauseList, literal: Lit) -> Result<Optio
 fn descend_from(
     trail: &mut Trail,
     clauses: &ClauseList,
-    order: &Order,
+    order: &mut Order,
 ) -> Result<Option<usize>, NoMemory>
     requires below { list_all (is_below (length trail.old.marks)) clauses.now ≡ true }
     requires trail { IsTrail clauses.now trail.old.entries }
@@ -110,7 +110,7 @@ fn descend_from(
 pub fn descend(
     trail: &mut Trail,
     clauses: &ClauseList,
-    order: &Order,
+    order: &mut Order,
     calm: usize,
 ) -> Result<Option<usize>, NoMemory>
     requires below { list_all (is_below (length trail.old.marks)) clauses.now ≡ true }

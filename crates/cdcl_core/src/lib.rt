@@ -10,7 +10,7 @@
 //! - `lesson`: what is learnt: the clause that the analysis found, if it follows and is new, or the negated decisions
 //! - `analysis`: the first point through which all led to a conflict
 //! - `backjump`: how far to go back, so that each clause but the learnt one is calm there
-//! - `order`, `restarts`: what to choose, when to begin again. No answer rests on them
+//! - `heap`, `order`, `restarts`: what to choose, when to begin again. No answer rests on them
 //! - `bounds`: the greatest variable of a formula
 //!
 //! Literals that were false before any decision are kept in a clause that is learnt, so that its hints need not force
@@ -23,6 +23,7 @@ mod bounds;
 mod clause_list;
 mod descent;
 mod following;
+mod heap;
 mod lesson;
 mod order;
 mod propagation;

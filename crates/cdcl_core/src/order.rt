@@ -1,26 +1,30 @@
-//! The order in which variables are chosen: by how often conflicts met them of late, and with the value that each had
-//! last. What it says is no more than a wish; whichever literal is chosen, the answers are as sure.
+//! The order in which variables are chosen: by their activity, and with the value that each had last. Each conflict raises the
+//! activity of the variables that its analysis met by a gain, and the gain itself grows, so that what was gained of late
+//! counts most. Before the numbers grow too large, all are divided.
+//!
+//! Variables stand in a heap by their activity. To choose one, those on top are taken out until one has no value. Where
+//! entries leave the trail, their variables are put back, and the values that they had are kept as those to try next.
+//!
+//! What the order says is no more than a wish: whichever literal is chosen, the answers are as sure, and where the heap is
+//! empty the search looks for a literal itself.
 
 ghost use Rattle.std.specs.Prelude.{length, IfSome};
 ghost use Rattle.cdcl_core.specs.Trails.{values_of};
 ghost use Rattle.cdcl_core.specs.Passes.{IsFree};
 
+use crate::heap::Heap;
 use crate::trail::{Entry, Trail};
 use cnf_form::Lit;
 use std::alloc::{AllocError as NoMemory, Global};
 
-/// A literal that may be chosen, and its activity.
-#[derive(Clone, Copy, Debug)]
-pub struct Candidate {
-    pub literal: Lit,
-    pub activity: u64,
-}
-
-/// A candidate for each variable, that of the variable k at place k - 1.
+/// Variables by their activity, that of the variable k at place k - 1 of each list.
 #[derive(Debug, Drop)]
 pub struct Order {
-    candidates: Vec<Candidate>,
-    /// What a variable gains that a conflict meets: it grows, so that what was gained earlier counts less.
+    /// The literal to choose for each variable.
+    literals: Vec<Lit>,
+    activities: Vec<u64>,
+    heap: Heap,
+    /// What a variable gains that a conflict meets.
     gain: u64,
 }
 
@@ -33,73 +37,87 @@ const GREATEST_GAIN: u64 = 1 << 48;
 // By what all is divided where the gain is greater.
 const SCALE: u64 = 1 << 40;
 
+// The place of the literal's variable in each list.
+fn place_of(literal: Lit) -> usize {
+    literal.variable() as usize - 1
+}
+
+// The variables up to this one, each false.
+fn negations(alloc: Global, last: u32) -> Result<Vec<Lit>, NoMemory> {
+    let mut literals = Vec::new(alloc);
+    let mut variable = 0;
+    while variable < last {
+        variable += 1;
+        literals.push(Lit::new(variable, false))?;
+    }
+    Ok(literals)
+}
+
 impl Order {
     /// The variables up to this one, each false first.
     pub fn new(alloc: Global, last: u32) -> Result<Order, NoMemory> {
-        let mut candidates = Vec::new(alloc);
-        let mut variable = 0;
-        while variable < last {
-            variable += 1;
-            candidates.push(Candidate {
-                literal: Lit::new(variable, false),
-                activity: 0,
-            })?;
-        }
         Ok(Order {
-            candidates,
+            literals: negations(alloc, last)?,
+            activities: vec![in alloc; 0; last as usize]?,
+            heap: Heap::new(alloc, last as usize)?,
             gain: FIRST_GAIN,
         })
     }
 
-    /// The candidate of the greatest activity whose variable has no value.
-    pub fn pick(&self, trail: &Trail) -> Option<Lit>
+    /// Takes out variables until one has no value, and answers the literal to choose for that one.
+    pub fn pick(&mut self, trail: &Trail) -> Option<Lit>
         ensures { IfSome result (IsFree (values_of trail.now.entries) (length trail.now.marks)) }
     {
-        let mut best = None;
-        let mut most = 0;
-        for candidate in &self.candidates {
-            if candidate.activity >= most && trail.is_free(candidate.literal) {
-                best = Some(candidate.literal);
-                most = candidate.activity;
+        while let Some(place) = self.heap.pop(&self.activities) {
+            if let Some(literal) = self.literals.get(place) {
+                if trail.is_free(*literal) {
+                    return Some(*literal);
+                }
             }
         }
-        best
+        None
     }
 
-    // Makes a literal the one to choose for its variable.
-    fn hold(&mut self, literal: Lit) {
-        if let Some(place) = literal.variable().checked_sub(1) {
-            let place = place as usize;
-            if place < self.candidates.len() {
-                self.candidates[place].literal = literal;
-            }
+    // Puts the literal's variable back, and makes the literal the one to choose for it.
+    fn put(&mut self, literal: Lit) {
+        let place = place_of(literal);
+        if place < self.literals.len() {
+            self.literals[place] = literal;
+        }
+        self.heap.put(&self.activities, place);
+    }
+
+    /// Puts the variables of the entries from this place on back, each with the value that it has there.
+    pub fn put_back(&mut self, entries: &[Entry], start: usize) {
+        for place in start..entries.len() {
+            self.put(entries[place].literal);
         }
     }
 
-    /// Makes the literals of these entries those to choose for their variables.
-    pub fn hold_all(&mut self, entries: &[Entry]) {
-        for entry in entries {
-            self.hold(entry.literal);
-        }
-    }
-
-    // Divides every activity and the gain.
+    // Divides every activity and the gain. Activities that differed may be equal then, which changes their order.
     fn scale(&mut self) {
-        for candidate in self.candidates.iter_mut() {
-            candidate.activity /= SCALE;
+        for activity in self.activities.iter_mut() {
+            *activity /= SCALE;
         }
         self.gain /= SCALE;
+        self.heap.rebuild(&self.activities);
     }
 
-    /// Raises the activity of each variable that was seen, by its number.
-    pub fn raise(&mut self, seen: &[bool]) {
-        let gain = self.gain;
-        for (place, candidate) in self.candidates.iter_mut().enumerate() {
-            if let Some(true) = seen.get(place + 1) {
-                candidate.activity = candidate.activity.saturating_add(gain);
-            }
+    // Raises the activity of the literal's variable.
+    fn raise_one(&mut self, literal: Lit) {
+        let place = place_of(literal);
+        if place < self.activities.len() {
+            self.activities[place] = self.activities[place].saturating_add(self.gain);
         }
-        self.gain = gain.saturating_add(gain / GROWTH);
+        self.heap.raise(&self.activities, place);
+    }
+
+    /// Raises the activity of the variables of these literals.
+    pub fn raise(&mut self, met: &[Lit]) {
+        for literal in met {
+            self.raise_one(*literal);
+        }
+        self.gain = self.gain.saturating_add(self.gain / GROWTH);
         if self.gain > GREATEST_GAIN {
             self.scale();
         }
