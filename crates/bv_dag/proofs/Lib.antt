@@ -5,6 +5,6 @@ pub mod Fitting
 pub mod DagRules
 pub mod Same
 pub mod Meaning
-pub mod AllOnes
 pub mod TermLaws
 pub mod Resting
+pub mod Evaluating

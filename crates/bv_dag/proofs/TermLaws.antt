@@ -1,15 +1,11 @@
 -- What crates above may cite of terms. The other modules here are bv_dag's own.
-use Rattle.std.proofs.Common.{◌≡◌, ℕ, ◌<◌, List, [], ◌∷◌, ◌++◌, get_or, length, refl, sym, ap, ◌∙◌, Bool, arith}
-use Rattle.std.specs.Prelude.{◌==◌, All}
-use Rattle.std.specs.List.{list_all}
+use Rattle.std.proofs.Common.{◌≡◌, ℕ, ◌<◌, List, [], ◌∷◌, ◌++◌, get_or, length, refl, sym, ap, ◌∙◌, arith}
 use Rattle.std.proofs.lemmas.List.{get_or_append_left}
 use Rattle.std.proofs.Math.Seq.{get_or-append_seam}
 use Rattle.bv_dag.specs.BitVectors.{BitVector}
 use Rattle.bv_dag.specs.Graphs.{Graph, IsDag, with_node, val, number_of, width_of}
 use Rattle.bv_dag.specs.Nodes.{Fits, node_value, node_width, values, widths_of, word_at}
-use Rattle.bv_dag.specs.Queries.{Condition, AreBits, holds}
 use Rattle.bv_dag.specs.declared.nodes.Node.{Node}
-use Rattle.bv_dag.proofs.AllOnes as ones
 use Rattle.bv_dag.proofs.Fitting as fitting
 use Rattle.bv_dag.proofs.InTurn.{map_in_turn-push}
 use Rattle.bv_dag.proofs.Meaning as meaning
@@ -55,15 +51,3 @@ width-val g id input = width-word_at (values input g.nodes) id ∙ ap (λ (ws : 
 -- what has a width is there
 pub there : (g : Graph) (id w : ℕ) → width_of g id ≡ w → 0 < w → id < length g.nodes
 there g id w is some = fitting.has_place g.nodes id (omega (arith, is, some))
-
--- what has a width is there among the values
-pub among_values : (g : Graph) (id w : ℕ) (input : List ℕ) (words : List BitVector) → width_of g id ≡ w → 0 < w → words ≡ values input g.nodes → id < length words
-among_values g id w input words is some each = omega (arith, there g id w is some, ap length each, fitting.length-values input g.nodes)
-
--- asserted terms are there among the values
-pub asserted_there : (g : Graph) (ids input : List ℕ) (words : List BitVector) → AreBits g ids → words ≡ values input g.nodes → All (λ id. id < length words) ids
-asserted_there g ids input words bits each = fitting.asserted_there g input words ids bits each
-
--- a test of all ones is `holds`, where there is a byte for each input
-pub holds_by_ones : (condition : Condition) (input : List ℕ) (b : Bool) → length input ≡ condition.graph.inputs → b ≡ list_all (λ id. number_of condition.graph id input == 1) condition.asserted → b ≡ holds condition input
-holds_by_ones condition input b each is = ones.holds_by_ones condition input b each is

@@ -57,6 +57,17 @@ impl Dag {
         }
     }
 
+    /// No terms yet, with room for so many.
+    pub fn with_capacity(alloc: Global, inputs: usize, count: usize) -> Result<Dag, NoMemory>
+        ensures { IfOk result (λ dag. dag ≡ record { inputs = inputs; nodes = [] }) }
+    {
+        Ok(Dag {
+            inputs,
+            nodes: Vec::with_capacity(alloc, count)?,
+            widths: Vec::with_capacity(alloc, count)?,
+        })
+    }
+
     pub fn inputs(&self) -> usize
         ensures { result ≡ self.now.inputs }
     {

@@ -1,12 +1,9 @@
 //! A condition on input bytes.
 
-ghost use Rattle.std.specs.Prelude.{◌≡◌, ◌==◌, ◌↔◌, ◌<◌, ◌++◌, ◌∷◌, [], IsTrue, IfOk, OnOk, OnErr, All, length};
-ghost use Rattle.std.specs.List.{list_all};
-ghost use Rattle.bv_dag.specs.Nodes.{word_at};
-ghost use Rattle.bv_dag.specs.Queries.{AreBits};
+ghost use Rattle.std.specs.Prelude.{◌≡◌, ◌++◌, ◌∷◌, [], IfOk, OnOk, OnErr};
 
+use crate::evaluation::are_met;
 use crate::graph::Dag;
-use crate::words::Word;
 use std::alloc::{AllocError as NoMemory, Global};
 use std::cmp::Ordering;
 use std::hash::{Hash, Hasher};
@@ -27,22 +24,6 @@ impl Model for Query {
     ghost view = { λ q. record { graph = q.dag; asserted = q.asserted.items } };
 
     ghost invariant = { λ q. AreBits q.dag q.asserted.items };
-}
-
-// Whether the words at these places are all 1.
-fn each_is_one(words: &[Word], ids: &[usize]) -> bool
-    requires { All (λ id. id < length words.now) ids.now }
-    ensures { IsTrue result ↔ All (λ id. (word_at words.now id).number ≡ 1) ids.now }
-{
-    ids.iter().all(|id| words[*id].number() == 1)
-}
-
-/// Whether the words at these places are all 1.
-pub fn are_ones(words: &[Word], ids: &[usize]) -> bool
-    requires { All (λ id. id < length words.now) ids.now }
-    ensures { result ≡ list_all (λ id. (word_at words.now id).number == 1) ids.now }
-{
-    each_is_one(words, ids)
 }
 
 impl Query {
@@ -85,15 +66,15 @@ impl Query {
         self.dag.inputs()
     }
 
-    /// Whether these input bytes meet the condition.
+    /// Whether these input bytes meet the condition. It is left at the first term that isn't 1.
     pub fn holds(&self, alloc: Global, input: &[u8]) -> Result<bool, NoMemory>
         ensures { IfOk result (λ yes. yes ≡ holds self.now input.now) }
     {
         if input.len() != self.dag.inputs() {
             return Ok(false);
         }
-        let words = self.dag.words(alloc, input)?;
-        Ok(are_ones(&words, &self.asserted))
+        let mut words = Vec::with_capacity(alloc, self.dag.len())?;
+        are_met(&mut words, &self.dag, &self.asserted, input)
     }
 }
 

@@ -28,7 +28,7 @@ fn copied<T: Table>(alloc: Global, terms: &T, places: &[usize]) -> Result<Dag, N
     ensures dag { IfOk result (λ dag. IsDag dag) }
     ensures same { IfOk result (λ dag. trees dag.nodes ≡ map (tree_of (T.graph terms.now)) places.now) }
 {
-    let mut dag = Dag::new(alloc, terms.inputs());
+    let mut dag = Dag::with_capacity(alloc, terms.inputs(), places.len())?;
     for id in places {
         dag.push(renumbered(places, terms.node(*id)))?;
     }
