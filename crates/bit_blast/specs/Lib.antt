@@ -7,3 +7,4 @@ pub mod Staging
 pub mod Circuits
 pub mod Bytes
 pub mod Meaning
+pub mod Budgets

@@ -1,6 +1,6 @@
 -- Logs: clauses that follow one after the other, each new, and logs that refute a formula.
 use Rattle.std.specs.Prelude.{ℕ, Bool, true, false, not, ◌&&◌, List, [], ◌∷◌, ◌++◌, map}
-use Rattle.std.specs.List.{list_any}
+use Rattle.std.specs.List.{list_all, list_any}
 use Rattle.cnf_form.specs.Literals.{Literal}
 use Rattle.cnf_form.specs.Clauses.{is_subset}
 use Rattle.cnf_form.specs.Propagation.{follows}
@@ -31,6 +31,10 @@ is_fresh before (s ∷ ss) = is_new before s.clause && is_fresh (before ++ s.cla
 abbrev pub is_empty_clause : List Literal → Bool
 is_empty_clause [] = true
 is_empty_clause (l ∷ ls) = false
+
+-- whether no clause of the log is empty
+unfoldable pub has_no_empty : List Step → Bool
+has_no_empty log = list_all (λ s. not (is_empty_clause s.clause)) log
 
 -- whether the log's last clause is empty
 unfoldable pub ends_empty : List Step → Bool

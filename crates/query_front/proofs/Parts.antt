@@ -13,10 +13,11 @@ use Rattle.term_trees.specs.Trees.{Tree, tree_of}
 use Rattle.query_slice.specs.Merging.{merged}
 use Rattle.query_slice.specs.Reaching.{IsReached, itself}
 use Rattle.query_slice.specs.Slices.{IsSlice}
-use Rattle.query_slice.specs.TreeSlices.{IsSliceOfTrees}
+use Rattle.term_trees.specs.TreeSlices.{IsSliceOfTrees}
 use Rattle.query_slice.proofs.Kept.{holds_less, long_where_holds, merged_holds, number-same, one_where_holds}
 use Rattle.query_slice.proofs.SliceTrees.{slice_of_trees}
-use Rattle.query_front.specs.Asks.{IsPartFor, asserted_trees, with_term}
+use Rattle.query_front.specs.Asks.{with_term}
+use Rattle.term_trees.specs.TreeSlices.{IsPartFor, asserted_trees}
 use Rattle.query_front.specs.Parts.{IsPart}
 
 at_end : (xs : List ℕ) (n last : ℕ) → length xs ≡ n + 1 → Some last ≡ slice_get xs (length xs - 1) → get_or xs n 0 ≡ last

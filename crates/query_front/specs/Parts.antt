@@ -3,7 +3,8 @@ use Rattle.std.specs.Prelude.{◌≡◌, ℕ, true, List}
 use Rattle.bv_dag.specs.Inputs.{asserted_inputs}
 use Rattle.bv_dag.specs.Queries.{Condition, holds}
 use Rattle.query_slice.specs.Merging.{merged}
-use Rattle.query_front.specs.Asks.{IsPartFor, with_term}
+use Rattle.query_front.specs.Asks.{with_term}
+use Rattle.term_trees.specs.TreeSlices.{IsPartFor}
 
 -- the part of a condition and one more term that matters for that term
 pub record IsPart (q : Condition) (new : ℕ) (part : Condition) : Type 0 where

@@ -11,7 +11,7 @@ use Rattle.term_trees.specs.Trees.{Tree, tree_of}
 use Rattle.term_trees.proofs.InputLaws.{inputs-tree_of}
 use Rattle.query_slice.specs.Reaching.{IsReached, SharesByte, itself, sharing}
 use Rattle.query_slice.specs.Slices.{IsSlice}
-use Rattle.query_slice.specs.TreeSlices.{IsReachedTree, IsSliceOfTrees, TreesShareByte, itself as new_tree, sharing as sharing_tree}
+use Rattle.term_trees.specs.TreeSlices.{IsReachedTree, IsSliceOfTrees, TreesShareByte, itself as new_tree, sharing as sharing_tree}
 use Rattle.query_slice.proofs.Kept.{from_slice, to_slice}
 
 mapped : (f : ℕ → Tree) (ids : List ℕ) (t : Tree) → Contains (map f ids) t → (id : ℕ) × Contains ids id × (f id ≡ t)

@@ -1,5 +1,4 @@
 pub mod Reaching
 pub mod Slices
-pub mod TreeSlices
 pub mod Merging
 pub mod Classes

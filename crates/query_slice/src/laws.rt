@@ -7,7 +7,7 @@ ghost use Rattle.bv_dag.specs.Queries.{Condition, holds};
 ghost use Rattle.query_slice.specs.Merging.{merged};
 ghost use Rattle.query_slice.specs.Reaching.{IsReached};
 ghost use Rattle.query_slice.specs.Slices.{IsSlice};
-ghost use Rattle.query_slice.specs.TreeSlices.{IsSliceOfTrees};
+ghost use Rattle.term_trees.specs.TreeSlices.{IsSliceOfTrees};
 ghost use Rattle.term_trees.specs.Trees.{tree_of};
 
 /// Where a sample meets every asserted term that isn't reached, and the answer meets the slice, the sample with the

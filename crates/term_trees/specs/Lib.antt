@@ -1,3 +1,4 @@
 pub mod Trees
 pub mod TreeInputs
+pub mod TreeSlices
 pub mod Growth
