@@ -1,10 +1,13 @@
--- What shows a leaf: an assignment that it covers, and for one that is cut the budget that was spent.
+-- What shows a leaf: an assignment that it covers, or for one that is cut the budget that was spent.
 use Rattle.std.specs.Prelude.{◌≡◌, ℕ, ◌-◌, ◌<◌, Bool, not, ◌&&◌, ◌==◌, List, [], ◌∷◌, ◌++◌, All, IsTrue, length, map, take, true}
 use Rattle.std.specs.List.{list_any}
+use Rattle.bit_blast.specs.Budgets.{IsSpent}
 use Rattle.bv_dag.specs.Graphs.{width_of}
 use Rattle.bv_dag.specs.Queries.{Condition, holds}
+use Rattle.cnf_form.specs.Refutations.{Step}
 use Rattle.elf_load.specs.declared.region.Region.{Region}
 use Rattle.rv_spec.specs.Memory.{IsAssignment}
+use Rattle.term_trees.specs.TreeSlices.{IsPartFor}
 use Rattle.tree_core.specs.declared.choice.Choice.{Choice}
 use Rattle.tree_core.specs.declared.choice.Choice.TheVariants.{Value, Rest}
 use Rattle.fork_spec.specs.Leaves.{Leaf, covers, worth}
@@ -21,6 +24,11 @@ pub record Spent : Type 0 where
 
 abbrev pub values_of : List Found → List ℕ
 values_of found = map (λ (f : Found). f.value) found
+
+-- a question that was asked, and the clauses that were learnt for it
+pub record Learnt : Type 0 where
+  pub question : Condition
+  pub log : List Step
 
 -- each below those behind it
 abbrev pub AreIncreasing : List ℕ → Type 0
@@ -51,6 +59,15 @@ pub record SpendsTargets (regions : List Region) (targets : ℕ) (sides : List C
       covers leaf input ≡ (holds (all_but_last targets leaf) input && not (is_among (values_of spent.found) (worth leaf input spent.term)))
   pub some : (input : List ℕ) × IsAssignment regions input × IsTrue (covers leaf input)
   pub others : sides ≡ map Value (values_of spent.found) ++ Rest ∷ []
+
+-- The budget of conflicts is spent on the last of the leaf's assertions: the question is the part of the leaf's condition that
+-- matters for it, and just so many clauses were learnt for it.
+pub record SpendsConflicts (conflicts : ℕ) (leaf : Leaf) (learnt : Learnt) : Type 0 where
+  pub front : List ℕ
+  pub last : ℕ
+  pub asserted : leaf.condition.asserted ≡ front ++ last ∷ []
+  pub part : IsPartFor leaf.condition last learnt.question
+  pub spent : IsSpent learnt.question conflicts learnt.log
 
 -- the assignment is one that the leaf covers
 abbrev pub IsSample : List Region → Leaf → List ℕ → Type 0

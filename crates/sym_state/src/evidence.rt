@@ -1,5 +1,7 @@
 //! What shows the budget that was spent on a leaf.
 
+use bv_dag::Query;
+use cnf_form::Log;
 use std::marker::Model;
 use tool_io::Bytes;
 
@@ -35,9 +37,27 @@ impl Model for Spent {
     ghost view = { λ s. record { term = s.term; found = s.found.items } };
 }
 
+/// A question on which the budget of conflicts was spent, and the clauses that were learnt for it.
+#[derive(Debug, Drop)]
+pub struct Learnt {
+    /// The part of a leaf's condition that matters for its last assertion.
+    pub question: Query,
+    pub log: Log,
+}
+
+impl Model for Learnt {
+    ghost use Rattle.fork_spec.specs.Evidence as spec;
+
+    ghost Value = { spec.Learnt };
+
+    ghost view = { λ l. record { question = l.question; log = l.log } };
+}
+
 /// What shows the budget that was spent, where steps alone don't.
 #[derive(Debug, Drop)]
 pub enum Evidence {
     /// The values on which the budget of targets was spent.
     Targets(Spent),
+    /// The question on which the budget of conflicts was spent.
+    Conflicts(Learnt),
 }

@@ -34,7 +34,7 @@ mod values;
 
 pub use code::Code;
 pub use decided::Decided;
-pub use evidence::{Evidence, Found, Spent};
+pub use evidence::{Evidence, Found, Learnt, Spent};
 pub use leaf_part::LeafPart;
 pub use lists::listed;
 pub use program::Program;
