@@ -11,22 +11,33 @@ ghost use Rattle.fork_tree.specs.Nodes.{StateIs};
 use crate::tree::{Claim, Tree};
 use crate::work::{Parts, Work};
 use std::alloc::{AllocError as NoMemory, Global};
+use std::sync::Wait;
 
 /// Works the tree until no node is free or held. Where memory is refused no node is held, and what was entered stays.
-pub fn drain<W: Work>(alloc: Global, tree: &mut Tree<W>, by: u32) -> Result<(), NoMemory>
+pub fn drain<W: Work>(
+    rt: &impl Wait,
+    alloc: Global,
+    tree: &mut Tree<W>,
+    by: u32,
+) -> Result<(), NoMemory>
     requires none_held { held_count tree.old.story ≡ 0 }
     ensures worker { tree.new.worker ≡ tree.old.worker }
     ensures drained { OnOk result (IsDrained (W.rules tree.old.worker) W.State.place W.Leaf.place tree.new.story) }
     ensures grows { GrowsBy by tree.old.story tree.new.story }
     ensures none_held { held_count tree.new.story ≡ 0 }
 {
-    while work_next(alloc, tree, by)? {}
+    while work_next(rt, alloc, tree, by)? {}
     tree.is_whole();
     Ok(())
 }
 
 // Claims a free node, works it, and enters what came of it. False where no node is free or held.
-fn work_next<W: Work>(alloc: Global, tree: &mut Tree<W>, by: u32) -> Result<bool, NoMemory>
+fn work_next<W: Work>(
+    rt: &impl Wait,
+    alloc: Global,
+    tree: &mut Tree<W>,
+    by: u32,
+) -> Result<bool, NoMemory>
     requires none_held { held_count tree.old.story ≡ 0 }
     ensures worker { tree.new.worker ≡ tree.old.worker }
     ensures none_held { held_count tree.new.story ≡ 0 }
@@ -38,7 +49,7 @@ fn work_next<W: Work>(alloc: Global, tree: &mut Tree<W>, by: u32) -> Result<bool
     tree.is_whole();
     match tree.claim(by)? {
         Claim::Claimed(node, state) => {
-            enter(alloc, tree, by, node, &state)?;
+            enter(rt, alloc, tree, by, node, &state)?;
             Ok(true)
         }
         Claim::Nothing => unreachable!(),
@@ -48,6 +59,7 @@ fn work_next<W: Work>(alloc: Global, tree: &mut Tree<W>, by: u32) -> Result<bool
 
 // Works a node that is held, and enters what came of it. Where memory is refused it is free again.
 fn enter<W: Work>(
+    rt: &impl Wait,
     alloc: Global,
     tree: &mut Tree<W>,
     by: u32,
@@ -64,7 +76,7 @@ fn enter<W: Work>(
     ensures less { OnOk result (fuel (W.rules tree.old.worker) tree.new.story < fuel (W.rules tree.old.worker) tree.old.story + ((W.rules tree.old.worker).targets + 2) ^ (W.rules tree.old.worker).left state.now) }
 {
     tree.is_whole();
-    match tree.worker().work(alloc, state) {
+    match tree.worker().work(rt, alloc, state) {
         Err(NoMemory) => {
             tree.release(by, node);
             Err(NoMemory)

@@ -12,7 +12,7 @@ ghost use Rattle.fork_tree.specs.Works.{IsPart};
 
 use crate::{Claim, Content, Parts, Placed, Tree, Work, drain};
 use std::alloc::{AllocError as NoMemory, Global};
-use std::sync::Arc;
+use std::sync::{Arc, Wait};
 use std::test::Fail;
 use tree_core::{Cause, Choice, Kid, Status};
 
@@ -58,7 +58,12 @@ impl Work for Climber {
       cut = λ e. e.cut;
     } };
 
-    fn work(&self, alloc: Global, state: &Rung) -> Result<Parts<Rung, End>, NoMemory> {
+    fn work(
+        &self,
+        _rt: &impl Wait,
+        alloc: Global,
+        state: &Rung,
+    ) -> Result<Parts<Rung, End>, NoMemory> {
         let rung = *state;
         if rung.just {
             return Ok(Parts::Finished(End { rung, cut: None }));
@@ -126,7 +131,7 @@ const GROUND: Rung = Rung {
 fn drains(rt: HostRuntime) -> Result<(), Fail> {
     let mut tree = Tree::new(rt.alloc(), Climber { top: 3 }, GROUND)?;
     assert!(rt; !tree.quiet());
-    drain(rt.alloc(), &mut tree, 0)?;
+    drain(&rt, rt.alloc(), &mut tree, 0)?;
     assert!(rt; tree.quiet());
     // Three splits make six nodes. They, two finishes and a cut end six claims.
     assert_eq!(rt; tree.len(), 7);
@@ -159,8 +164,8 @@ fn two_workers_take_turns(rt: HostRuntime) -> Result<(), Fail> {
     tree.release(0, node);
     assert_eq!(rt; tree.status(node), Status::Free);
     // Where memory was refused, the next try goes on from what was entered.
-    if drain(rt.alloc(), &mut tree, 1).is_err() {
-        drain(rt.alloc(), &mut tree, 1)?;
+    if drain(&rt, rt.alloc(), &mut tree, 1).is_err() {
+        drain(&rt, rt.alloc(), &mut tree, 1)?;
     }
     assert_eq!(rt; tree.len(), 7);
     tree.reserve(0)?;

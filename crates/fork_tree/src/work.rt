@@ -5,6 +5,7 @@ ghost use Rattle.fork_tree.specs.Works.{IsWorked, Rules};
 
 use crate::content::{Content, Placed};
 use std::alloc::{AllocError as NoMemory, Global};
+use std::sync::Wait;
 use tree_core::Kid;
 
 /// What comes of a state: a leaf whose runs have all ended, one that has spent its steps, or kids that share out what it stands for.
@@ -28,6 +29,7 @@ pub trait Work: Drop {
     /// Works a state, up to the next fork or the end of all its runs.
     fn work(
         &self,
+        rt: &impl Wait,
         alloc: Global,
         state: &Self::State,
     ) -> Result<Parts<Self::State, Self::Leaf>, NoMemory>
