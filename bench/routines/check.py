@@ -1,5 +1,5 @@
 #!/usr/bin/env python3
-"""Explores each routine by rvklee and compares the report with what brute force says of it.
+"""Explores each routine of one input byte by rvklee and compares the report with what brute force says of it.
 
     check.py [--tool PATH] [--replays N|all] [--keep FOLDER] [WORD ..]
 
@@ -17,8 +17,8 @@ import subprocess
 import sys
 import tempfile
 
-HERE = pathlib.Path(__file__).resolve().parent
-DATA = HERE.parent.parent / "crates/routine_runs/data"
+from runs import DATA, HERE, WIDE
+
 REGION = "00011000:1"
 
 
@@ -228,7 +228,8 @@ def main():
     asked = asked.parse_args()
     if not shutil.which("z3"):
         print("z3 isn't there: conditions aren't compared")
-    words, wrong = asked.words or sorted(path.stem for path in HERE.glob("*.expected")), 0
+    narrow = sorted(path.stem for path in HERE.glob("*.expected") if path.stem.split(".")[0] not in WIDE)
+    words, wrong = asked.words or narrow, 0
     with tempfile.TemporaryDirectory() as folder:
         for word in words:
             into = (asked.keep or pathlib.Path(folder)) / word

@@ -1,4 +1,4 @@
-"""An interpreter of RV32IM for one input byte, which notes what a run decides.
+"""An interpreter of RV32IM, which notes what a run decides.
 
 It shares nothing with the crates: it is written from the RISC-V manual and docs/MACHINE.md. What a run decides is, step by
 step, the fetched word, the side of a branch, the target of a JALR, the address of a load or store, and of an ECALL its
@@ -47,21 +47,15 @@ def divided(a, b):
     return quotient, a - b * quotient
 
 
-def compute(op, a, b):
-    sa, sb = signed(a), signed(b)
-    if op == "div":
-        return MASK if b == 0 else divided(sa, sb)[0]
-    if op == "rem":
-        return a if b == 0 else divided(sa, sb)[1]
-    return {
-        "add": lambda: a + b, "sub": lambda: a - b, "xor": lambda: a ^ b, "or": lambda: a | b, "and": lambda: a & b,
-        "sll": lambda: a << (b & 31), "srl": lambda: a >> (b & 31), "sra": lambda: sa >> (b & 31),
-        "slt": lambda: int(sa < sb), "sltu": lambda: int(a < b),
-        "mul": lambda: a * b, "mulh": lambda: sa * sb >> 32, "mulhsu": lambda: sa * b >> 32, "mulhu": lambda: a * b >> 32,
-        "divu": lambda: a // b if b else MASK, "remu": lambda: a % b if b else a,
-    }[op]()
-
-
+COMPUTE = {
+    "add": lambda a, b: a + b, "sub": lambda a, b: a - b, "xor": lambda a, b: a ^ b, "or": lambda a, b: a | b, "and": lambda a, b: a & b,
+    "sll": lambda a, b: a << (b & 31), "srl": lambda a, b: a >> (b & 31), "sra": lambda a, b: signed(a) >> (b & 31),
+    "slt": lambda a, b: int(signed(a) < signed(b)), "sltu": lambda a, b: int(a < b),
+    "mul": lambda a, b: a * b, "mulh": lambda a, b: signed(a) * signed(b) >> 32, "mulhsu": lambda a, b: signed(a) * b >> 32,
+    "mulhu": lambda a, b: a * b >> 32, "div": lambda a, b: divided(signed(a), signed(b))[0] if b else MASK,
+    "rem": lambda a, b: divided(signed(a), signed(b))[1] if b else a, "divu": lambda a, b: a // b if b else MASK,
+    "remu": lambda a, b: a % b if b else a,
+}
 PLAIN_OPS = {0: "add", 1: "sll", 2: "slt", 3: "sltu", 4: "xor", 5: "srl", 6: "or", 7: "and"}
 M_OPS = {0: "mul", 1: "mulh", 2: "mulhsu", 3: "mulhu", 4: "div", 5: "divu", 6: "rem", 7: "remu"}
 TESTS = {0: lambda a, b: a == b, 1: lambda a, b: a != b, 4: lambda a, b: signed(a) < signed(b),
@@ -70,10 +64,13 @@ LOADS = {0: (1, True), 1: (2, True), 2: (4, False), 4: (1, False), 5: (2, False)
 
 
 class Machine:
-    def __init__(self, image, value):
+    """A run of an image on input bytes, which stand one behind the other."""
+
+    def __init__(self, image, values):
         entry, pages = image
         self.pc, self.pages = entry, {page: [flags, bytearray(data)] for page, (flags, data) in pages.items()}
-        self.pages[INPUT >> 8][1][INPUT & 255] = value
+        for address, value in enumerate(values, INPUT):
+            self.pages[address >> 8][1][address & 255] = value
         self.x = [0] * 32
         self.x[2] = 0x7FFFFFF0
         self.path, self.output, self.end = "", b"", "running"
@@ -158,11 +155,11 @@ class Machine:
             for place in range(size):
                 self.pages[address >> 8][1][address + place & 255] = b >> 8 * place & 255
         elif opcode == 0x13 and f3 not in (1, 5):
-            result = compute(PLAIN_OPS[f3], a, immediate & MASK)
+            result = COMPUTE[PLAIN_OPS[f3]](a, immediate & MASK)
         elif opcode == 0x13 and (f7 == 0 or f7 == 0x20 and f3 == 5):
-            result = compute("sra" if f7 else PLAIN_OPS[f3], a, rs2)
+            result = COMPUTE["sra" if f7 else PLAIN_OPS[f3]](a, rs2)
         elif opcode == 0x33 and (f7 in (0, 1) or f7 == 0x20 and f3 in (0, 5)):
-            result = compute({0: PLAIN_OPS, 1: M_OPS, 0x20: {0: "sub", 5: "sra"}}[f7][f3], a, b)
+            result = COMPUTE[{0: PLAIN_OPS, 1: M_OPS, 0x20: {0: "sub", 5: "sra"}}[f7][f3]](a, b)
         elif opcode == 0x0F and f3 == 0:
             pass
         elif word == 0x00000073:

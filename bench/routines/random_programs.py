@@ -167,7 +167,7 @@ def try_seed(seed, tool, folder):
     interpreter.INPUT = program(r, path)
     steps, targets = r.choice([400, 300, 120, 40, 25]), r.choice([1, 2, 5, 16, 16, 64])
     image = interpreter.load(path)
-    runs = [interpreter.Machine(image, value).run(steps) for value in range(256)]
+    runs = [interpreter.Machine(image, [value]).run(steps) for value in range(256)]
     decisions = [tuple(word for decided, _, _ in run.log for word in decided) for run in runs]
     if len(set(decisions)) < 3 and r.random() < 0.97:
         path.unlink()

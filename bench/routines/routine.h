@@ -1,8 +1,14 @@
-/* What the C routines share: the input byte at 0x11000, and the two calls of the machine. */
+/* What the C routines share: the input at 0x11000, one byte or as many as BYTES says, and the two calls of the machine. */
 typedef unsigned char u8;
 typedef unsigned int u32;
 
-volatile u8 input __attribute__((section(".input"), used)) = 0;
+#define INPUT __attribute__((section(".input"), used))
+
+#ifdef BYTES
+volatile u8 input[BYTES] INPUT = {0};
+#else
+volatile u8 input INPUT = 0;
+#endif
 
 static inline __attribute__((noreturn)) void leave(u32 status) {
     register u32 a0 asm("a0") = status;

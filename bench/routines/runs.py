@@ -1,8 +1,8 @@
 #!/usr/bin/env python3
-"""Runs each routine on all 256 values of its input byte, by interpreter.py, and says which runs decide alike.
+"""Runs each routine of one input byte on all 256 values, by interpreter.py, and says which runs decide alike.
 
-    runs.py            writes NAME.expected for each NAME.elf of crates/routine_runs/data, NAME.WORD.expected for runs with
-                       small budgets, and crates/routine_runs/stdout
+    runs.py            writes NAME.expected for each such NAME.elf of crates/routine_runs/data, NAME.WORD.expected for runs
+                       with small budgets, and crates/routine_runs/stdout
     runs.py --check    writes nothing, and says which of them aren't as they would be written
     runs.py --qemu     compares status, signal and output of all runs with qemu-riscv32
 """
@@ -19,6 +19,8 @@ HERE = pathlib.Path(__file__).resolve().parent
 # The program of the gate that explores the routines, with the files of all.
 GATE = HERE.parent.parent / "crates/routine_runs"
 DATA = GATE / "data"
+# The routines of more than one input byte, with their number. They are wide.py's.
+WIDE = {"base64": 4, "decimal": 4, "gcd": 2, "packet": 6, "pin": 4, "records": 8, "sort": 4}
 # A table that isn't in the gate, so that its run stays short: 256 leaves.
 NOT_IN_GATE = {"crc8.expected"}
 STEPS, TARGETS = 10_000, 16
@@ -63,7 +65,7 @@ def summary(tested, rest):
 def expected(name, steps, targets, spends):
     """The text of the table: a line for each leaf, and below it one for each end and output of its runs."""
     image = load(DATA / f"{name}.elf")
-    runs = [Machine(image, value).run(steps) for value in range(256)]
+    runs = [Machine(image, [value]).run(steps) for value in range(256)]
     decisions = [[number for decided, _, _ in run.log for number in decided] for run in runs]
     groups = grouped(map(tuple, decisions))
     firsts = [runs[values[0]] for values in groups.values()]
@@ -95,9 +97,14 @@ def expected(name, steps, targets, spends):
     return "\n".join(lines) + "\n"
 
 
+def narrow():
+    """The routines of one input byte."""
+    return sorted({path.stem for path in DATA.glob("*.elf")} - set(WIDE))
+
+
 def tables():
     """Each table's file name and text."""
-    for name in sorted(path.stem for path in DATA.glob("*.elf")):
+    for name in narrow():
         if name not in ALWAYS_CUT:
             yield f"{name}.expected", expected(name, STEPS, TARGETS, False)
     for name, word, steps, targets in SMALL:
@@ -114,40 +121,40 @@ def stdout(texts):
     return "".join(f"{line}\n" for line in lines)
 
 
-def compare_with_qemu():
+def agrees_with_qemu(data, values, run, patched):
+    """Whether qemu-riscv32 runs a file as it was run here, on input bytes that are put in the place of the file's."""
+    kind, word = run.end.split()
+    place, address = struct.unpack_from("<II", data, 52 + 32 + 4)
+    assert address == INPUT
+    patched.write_bytes(data[:place] + bytes(values) + data[place + len(values):])
+    patched.chmod(0o755)
+    done = subprocess.run([*QEMU, patched], stdout=subprocess.PIPE, stderr=subprocess.STDOUT, timeout=60)
+    if word == "FetchMisaligned":
+        return done.stdout.startswith(run.output) and ABORTED in done.stdout
+    return done.returncode == (int(word) if kind == "exit" else -SIGNALS[word]) and done.stdout == run.output
+
+
+def compare_with_qemu(inputs):
     """Compares exits and output, and of traps the signal, where a Linux process has one that says the same."""
     wrong = compared = skipped = 0
-    for path in sorted(DATA.glob("*.elf")):
-        image, data = load(path), bytearray(path.read_bytes())
-        assert struct.unpack_from("<I", data, 52 + 32 + 8)[0] == INPUT
-        place = struct.unpack_from("<I", data, 52 + 32 + 4)[0]
-        with tempfile.TemporaryDirectory() as folder:
-            for value in range(256):
-                run = Machine(image, value).run(STEPS)
-                kind, word = run.end.split()
-                if kind == "trap" and word not in SIGNALS and word != "FetchMisaligned":
-                    skipped += 1
-                    continue
-                data[place] = value
-                patched = pathlib.Path(folder, f"{value}.elf")
-                patched.write_bytes(data)
-                patched.chmod(0o755)
-                done = subprocess.run([*QEMU, patched], stdout=subprocess.PIPE, stderr=subprocess.STDOUT, timeout=60)
-                compared += 1
-                if word == "FetchMisaligned":
-                    same = done.stdout.startswith(run.output) and ABORTED in done.stdout
-                else:
-                    same = done.returncode == (int(word) if kind == "exit" else -SIGNALS[word]) and done.stdout == run.output
-                if not same:
-                    wrong += 1
-                    print(f"{path.name} {value:02x}: here {run.end} {run.output!r}, qemu {done.returncode} {done.stdout!r}")
+    with tempfile.TemporaryDirectory() as folder:
+        for name, values in inputs:
+            path = DATA / f"{name}.elf"
+            run = Machine(load(path), values).run(STEPS)
+            if run.end.startswith("trap") and run.end.split()[1] not in {*SIGNALS, "FetchMisaligned"}:
+                skipped += 1
+                continue
+            compared += 1
+            if not agrees_with_qemu(path.read_bytes(), values, run, pathlib.Path(folder, path.name)):
+                wrong += 1
+                print(f"{name} {bytes(values).hex()}: here {run.end} {run.output!r}, in qemu otherwise")
     print(f"{compared} runs compared with qemu-riscv32, {wrong} differ, {skipped} end in traps that Linux has no signal for")
     return 1 if wrong else 0
 
 
 def main(words):
     if words == ["--qemu"]:
-        return compare_with_qemu()
+        return compare_with_qemu((name, [value]) for name in narrow() for value in range(256))
     stale, texts = 0, dict(tables())
     for path, text in [(GATE / "stdout", stdout(texts)), *((HERE / name, text) for name, text in texts.items())]:
         if words == ["--check"]:

@@ -1,0 +1,128 @@
+#!/usr/bin/env python3
+"""Runs the routines of more than one input byte by interpreter.py, and says which runs decide alike.
+
+    wide.py [WORD ..]            writes NAME.expected for each of them, and NAME.bytes2.expected for some of which the first two
+                                 bytes alone are input and the others are 0, as in the file
+    wide.py --check [WORD ..]    writes nothing, and says which of them aren't as they would be written
+    wide.py --qemu [WORD ..]     compares status and output of some runs of each leaf with qemu-riscv32
+
+A WORD is the name of a table without `.expected`. Two bytes are run on all 65,536 inputs. Of more, leaves are looked for: zeros
+and random inputs are run, and then, until no other leaf is found, all inputs that differ in one byte from the first input of a
+leaf. So such a table may have too few leaves, and never too many. All of it takes some minutes.
+"""
+import binascii
+import itertools
+import random
+import sys
+
+from interpreter import Machine, load
+from runs import DATA, HERE, STEPS, TARGETS, WIDE, compare_with_qemu, summary
+
+# Programs of which the first two bytes alone are input, too.
+FIRST_TWO = ["decimal", "records"]
+# How many random inputs a search begins with.
+RANDOM = 500
+
+
+def tables():
+    """Each table's name, program and number of input bytes."""
+    return [(name, name, count) for name, count in WIDE.items()] + [(f"{name}.bytes2", name, 2) for name in FIRST_TWO]
+
+
+def seeds(name, count):
+    """Where the search begins. A packet with its CRC, which nothing else would find, begins it for each command."""
+    r = random.Random(name)
+    yield bytes(count)
+    yield from (r.randbytes(count) for _ in range(RANDOM))
+    if name == "packet":
+        for head in itertools.product([0xA5], range(256), range(2), range(2)):
+            yield bytes(head) + binascii.crc_hqx(bytes(head), 0xFFFF).to_bytes(2, "big")
+
+
+def beside(values):
+    """The inputs that differ in one byte."""
+    for place, value in itertools.product(range(len(values)), range(256)):
+        if value != values[place]:
+            yield values[:place] + bytes([value]) + values[place + 1:]
+
+
+def decisions(run, steps=STEPS):
+    return tuple(word for decided, _, _ in run.log[:steps] for word in decided)
+
+
+def searched(image, starts):
+    """The leaves that are found from some inputs on, each with its first input and run, and the number of runs."""
+    found, work, seen = {}, list(starts), set()
+    while work:
+        values = work.pop()
+        if values in seen:
+            continue
+        seen.add(values)
+        run = Machine(image, values).run(STEPS)
+        if found.setdefault(decisions(run), (values, run))[0] == values:
+            work += beside(values)
+    return found, len(seen)
+
+
+def counted(image):
+    """The leaves over all inputs of two bytes, likewise, and the number of inputs of each."""
+    found, counts = {}, {}
+    for pair in itertools.product(range(256), repeat=2):
+        run = Machine(image, pair).run(STEPS)
+        decided = decisions(run)
+        found.setdefault(decided, (bytes(pair), run))
+        counts[decided] = counts.get(decided, 0) + 1
+    return found, counts
+
+
+def expected(word, name, count):
+    """The text of the table: a line for each leaf, in the order of their first inputs."""
+    image, counts = load(DATA / f"{name}.elf"), {}
+    if count == 2:
+        found, counts = counted(image)
+        runs = 256**2
+    else:
+        found, runs = searched(image, seeds(name, count))
+    lines = [f"# {word}: what brute force says. `wide.py` wrote it.", f"options --steps {STEPS} --targets {TARGETS}"]
+    lines += [f"input 00011000:{count}", f"runs {runs} of {256**count}", summary([run for _, run in found.values()], 0)]
+    for decided, (values, run) in sorted(found.items(), key=lambda item: item[1][0]):
+        many = f" inputs {counts[decided]}" if counts else ""
+        lines += [f"leaf steps {len(run.log)} path {run.path}.{many} first {values.hex()} {run.end} output {run.output.hex()}."]
+    return "\n".join(lines) + "\n"
+
+
+def firsts(word):
+    """The first inputs that the table has."""
+    lines = (HERE / f"{word}.expected").read_text().splitlines()
+    return [bytes.fromhex(line.split(" first ")[1].split()[0]) for line in lines if line.startswith("leaf ")]
+
+
+def some_inputs(word, count, near, far):
+    """Of each leaf of the table its first input and some that differ from it in one byte; and some random ones."""
+    r = random.Random(word)
+    for values in firsts(word):
+        yield values
+        yield from r.sample(list(beside(values)), near)
+    for _ in range(far):
+        yield r.randbytes(count)
+
+
+def main(words):
+    option = words.pop(0) if words[:1] in (["--check"], ["--qemu"]) else None
+    asked = [table for table in tables() if not words or table[0] in words]
+    if option == "--qemu":
+        return compare_with_qemu((name, values) for word, name, count in asked for values in some_inputs(word, count, 2, 50))
+    stale = 0
+    for word, name, count in asked:
+        path, text = HERE / f"{word}.expected", expected(word, name, count)
+        print(f"{word}: {text.splitlines()[4]}", flush=True)
+        if option is None:
+            path.write_text(text)
+        elif not path.exists() or path.read_text() != text:
+            print(f"{path} isn't what brute force says")
+            stale = 1
+    return stale
+
+
+if __name__ == "__main__":
+    sys.exit(main(sys.argv[1:]))
