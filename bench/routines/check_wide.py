@@ -1,0 +1,256 @@
+#!/usr/bin/python3
+"""Explores each routine of more than one input byte by rvklee, and compares the report with runs by interpreter.py and with z3.
+
+    check_wide.py [--tool PATH] [--seconds N] [--keep FOLDER] [WORD ..]
+
+A WORD is the name of a table of wide.py without `.expected`; where there is none, all are checked. --tool is ./rvklee at the top
+where it isn't given. --seconds is how long z3 may look for one answer (20 where it isn't given). --keep keeps the reports.
+z3 is Debian's `python3-z3`, which its own python3 finds.
+
+Each test is replayed by the tool, and run here. Of two input bytes each leaf's text is evaluated on all inputs, of more on the
+inputs of the table, on some that differ from one of them or from a test in one byte, and on random ones: just one leaf has to
+hold, and the run has to have its steps, path, end and output, and the decisions of the leaf's other runs. z3 is asked of each
+text whether it is sat, also on its test's input, where status and output have to be the test's; of each two neighbours whether
+both hold; and whether none holds. A line is said for each disagreement, and one for each routine: its leaves, those that were
+cut by the budget that was spent, those that z3 shows to be empty, and the questions that z3 left. The status is 1 where
+there is a disagreement.
+"""
+import argparse
+import itertools
+import pathlib
+import random
+import subprocess
+import sys
+import tempfile
+
+import z3
+
+from check import Report, compare_report
+from interpreter import Machine, load
+from leaf_text import LeafText, NoLeaf
+from runs import DATA, HERE, STEPS
+from wide import beside, decisions, tables
+
+# Of more disagreements of one routine only the number is said.
+MOST_SAID = 20
+# Behind a leaf's text, so that z3 gives the terms of its status and output: each is asserted to be a name's.
+NAMED = "(declare-fun the_{name} () (_ BitVec 8))\n(assert (= the_{name} {name}))\n"
+
+
+class Routine:
+    """A table, the report on its routine, and what was found out so far."""
+
+    def __init__(self, word, name, count, seconds):
+        self.word, self.count, self.seconds = word, count, seconds
+        self.program, self.region = DATA / f"{name}.elf", f"00011000:{count}"
+        self.image, self.table = load(self.program), (HERE / f"{word}.expected").read_text().splitlines()
+        self.wrong = self.asked = self.left = self.empty = 0
+        self.leaves = []
+
+    def say(self, line):
+        self.wrong += 1
+        if self.wrong <= MOST_SAID:
+            print(f"{self.word}: {line}", flush=True)
+
+    def line(self, start):
+        """What stands in the table behind a word."""
+        return next(line[len(start) + 1:] for line in self.table if line.startswith(start + " "))
+
+    def run(self, values, steps=STEPS):
+        return Machine(self.image, values).run(steps)
+
+
+def explore(routine, tool, folder):
+    """Explores the routine. Gives what is said, or None where there is no report."""
+    command = [tool, "explore", *routine.line("options").split(), routine.program, folder, routine.region]
+    done = subprocess.run(command, stdout=subprocess.PIPE, stderr=subprocess.DEVNULL, text=True)
+    if done.returncode != 0:
+        return routine.say(f"status {done.returncode}: {done.stdout.strip()}")
+    for leaf in Report(folder).leaves:
+        try:
+            leaf["read"] = LeafText(leaf["text"])
+        except (NoLeaf, IndexError) as error:
+            routine.say(f"{leaf['name']}: isn't the text of a leaf: {error}")
+            continue
+        leaf["input"] = bytes.fromhex(leaf["test"]["input"]) if leaf["test"] else None
+        leaf["decided"] = None
+        routine.leaves.append(leaf)
+    compare_report(routine.leaves, folder, routine.say)
+    return done.stdout
+
+
+def replay(routine, tool):
+    for leaf in routine.leaves:
+        if leaf["test"]:
+            done = subprocess.run([tool, "replay", routine.program, leaf["test_file"]], stdout=subprocess.PIPE, stderr=subprocess.DEVNULL, text=True)
+            if (done.returncode, done.stdout) != (0, "same\n"):
+                routine.say(f"{leaf['test_file'].name}: the replay says {done.stdout!r}, status {done.returncode}")
+
+
+def compare_files(routine, leaf):
+    """Which files stand beside a leaf, and its test with a run of its input."""
+    is_shown = leaf["kind"] in ("targets", "conflicts")
+    if (leaf["test"] is None, leaf["spent"] is not None) != (is_shown, is_shown):
+        routine.say(f"{leaf['name']}: of kind {leaf['kind']}, but test and spent values aren't as they have to be")
+    if leaf["read"].inputs != routine.count:
+        routine.say(f"{leaf['name']}: has {leaf['read'].inputs} inputs")
+    if leaf["kind"] == "targets":
+        compare_values(routine, leaf)
+    if leaf["test"]:
+        test, run = leaf["test"], routine.run(leaf["input"])
+        here = [test[key] for key in ("end", "output", "path", "steps", "regions")]
+        there = [run.end, run.output.hex(), run.path, len(run.log), [routine.region]]
+        if here != there:
+            routine.say(f"{leaf['test_file'].name}: says {here}, by its run {there}")
+        if not leaf["read"].holds(leaf["read"].values(leaf["input"])):
+            routine.say(f"{leaf['name']}: doesn't hold on its test's input")
+
+
+def compare_values(routine, leaf):
+    """The values of a leaf that was cut by targets: their number and order, and each with the input beside it."""
+    read, (head, named, *lines) = leaf["read"], leaf["spent"] or ["", ""]
+    values = [line.split()[1:] for line in lines]
+    if head != f"; spent targets {routine.line('options').split()[3]}" or len(values) != int(head.split()[3]):
+        routine.say(f"{leaf['name']}: {len(values)} values stand below {head}")
+    if values != sorted(values) or len({value for value, _ in values}) != len(values):
+        routine.say(f"{leaf['name']}: its values don't increase")
+    for value, shown in values:
+        worth = read.values(bytes.fromhex(shown))
+        if worth[int(named.split()[2][1:])] != int(value, 16) or not read.holds(worth, but=len(values)):
+            routine.say(f"{leaf['name']}: the term isn't {value} on {shown}, or its fork doesn't have that")
+
+
+def compare_run(routine, leaf, worth, values):
+    """The run of an input that a leaf covers with the leaf."""
+    is_cut = leaf["kind"] != "finished"
+    run = routine.run(values, leaf["steps"] if is_cut else STEPS)
+    status, output = leaf["read"].end(worth)
+    end = "running" if is_cut else f"exit {status}" if leaf["end"] == "exit" else f"trap {leaf['end']}"
+    here, there = (leaf["steps"], leaf["path"], end, output), (len(run.log), run.path, run.end, run.output)
+    if here != there:
+        routine.say(f"{leaf['name']}: on {bytes(values).hex()} {here}, by its run {there}")
+    decided = decisions(run)
+    leaf["decided"] = leaf["decided"] or decided
+    if leaf["decided"] != decided:
+        routine.say(f"{leaf['name']}: the run of {bytes(values).hex()} decides otherwise than another of its runs")
+
+
+def inputs(routine):
+    """The inputs on which all leaves are evaluated."""
+    if routine.count == 2:
+        return itertools.product(range(256), repeat=2)
+    r = random.Random(routine.word)
+    known = [bytes.fromhex(line.split(" first ")[1].split()[0]) for line in routine.table if line.startswith("leaf ")]
+    known += [leaf["input"] for leaf in routine.leaves if leaf["test"]]
+    near = [other for values in known for other in r.sample(list(beside(values)), 10)]
+    return sorted({*known, *near, *(r.randbytes(routine.count) for _ in range(500))})
+
+
+def compare_inputs(routine):
+    for values in inputs(routine):
+        worths = [(leaf, leaf["read"].values(values)) for leaf in routine.leaves]
+        covering = [(leaf, worth) for leaf, worth in worths if leaf["read"].holds(worth)]
+        if len(covering) != 1:
+            routine.say(f"{bytes(values).hex()} is covered by {[leaf['name'] for leaf, _ in covering]}")
+        for leaf, worth in covering:
+            compare_run(routine, leaf, worth, values)
+
+
+def compare_table(routine, said):
+    """The summary, and that no two leaves decide alike. Where a question was left open, the table may have other leaves."""
+    decided = [leaf["decided"] for leaf in routine.leaves if leaf["kind"] in ("finished", "steps")]
+    if len(set(decided)) != len(decided):
+        routine.say("two leaves decide alike")
+    if all(leaf["kind"] == "finished" for leaf in routine.leaves) and said != routine.line("summary") + "\n":
+        routine.say(f"says {said.strip()}, by brute force {routine.line('summary')}")
+
+
+def answer(routine, *assertions):
+    """What z3 answers, and the model where it is sat."""
+    solver = z3.Solver()
+    solver.set("timeout", 1000 * routine.seconds)
+    solver.add(*assertions)
+    found = solver.check()
+    routine.asked += 1
+    routine.left += found == z3.unknown
+    return str(found), solver.model() if found == z3.sat else None
+
+
+def terms(leaf):
+    """The leaf's condition, and its status and output by their names, as z3 reads them."""
+    names = ["status"] * (leaf["read"].status is not None) + [f"out{place}" for place in range(leaf["outputs"])]
+    head = leaf["text"].removesuffix("(check-sat)\n(exit)\n")
+    read = list(z3.parse_smt2_string(head + "".join(NAMED.format(name=name) for name in names)))
+    count = len(read) - len(names)
+    return z3.And(z3.BoolVal(True), *read[:count]), {name: term.arg(1) for name, term in zip(names, read[count:])}
+
+
+def ask_leaf(routine, leaf):
+    condition, named = leaf["terms"]
+    found, _ = answer(routine, *z3.parse_smt2_string(leaf["text"]))
+    if found == "unsat":
+        routine.empty += 1
+        if leaf["kind"] != "conflicts":
+            routine.say(f"{leaf['name']}: no input has its condition, by z3")
+    if leaf["test"] is None:
+        return
+    found, model = answer(routine, condition, *(z3.BitVec(f"b{place}", 8) == value for place, value in enumerate(leaf["input"])))
+    if found == "unsat":
+        return routine.say(f"{leaf['name']}: its test's input isn't one of it, by z3")
+    test = leaf["test"]
+    wanted = {f"out{place}": value for place, value in enumerate(bytes.fromhex(test["output"]))}
+    wanted |= {"status": int(test["end"].split()[1])} if test["end"].startswith("exit") else {}
+    if model and wanted != {name: model.eval(term, model_completion=True).as_long() for name, term in named.items()}:
+        routine.say(f"{leaf['name']}: status or output isn't the test's, by z3")
+
+
+def ask(routine):
+    for leaf in routine.leaves:
+        leaf["terms"] = terms(leaf)
+        ask_leaf(routine, leaf)
+    for one, other in itertools.pairwise(routine.leaves):
+        if answer(routine, one["terms"][0], other["terms"][0])[0] == "sat":
+            routine.say(f"{one['name']} and {other['name']} share an input, by z3")
+    found, model = answer(routine, *(z3.Not(leaf["terms"][0]) for leaf in routine.leaves))
+    if found == "sat":
+        routine.say(f"no leaf covers {model}, by z3")
+
+
+def compare(routine, tool, folder):
+    said = explore(routine, tool, folder)
+    if said is None:
+        return
+    replay(routine, tool)
+    for leaf in routine.leaves:
+        compare_files(routine, leaf)
+    compare_inputs(routine)
+    compare_table(routine, said)
+    ask(routine)
+    kinds = [leaf["kind"] for leaf in routine.leaves]
+    cuts = " ".join(f"{kind} {kinds.count(kind)}" for kind in ("steps", "targets", "conflicts"))
+    print(f"{routine.word} {routine.region}: leaves {len(kinds)} finished {kinds.count('finished')} cut by {cuts}, empty {routine.empty}; "
+          f"z3 left {routine.left} of {routine.asked} questions; {routine.wrong} disagreements", flush=True)
+
+
+def main():
+    asked = argparse.ArgumentParser()
+    asked.add_argument("--tool", default=HERE.parent.parent / "rvklee")
+    asked.add_argument("--seconds", type=int, default=20)
+    asked.add_argument("--keep", type=pathlib.Path)
+    asked.add_argument("words", nargs="*")
+    asked = asked.parse_args()
+    wrong = 0
+    with tempfile.TemporaryDirectory() as folder:
+        for word, name, count in tables():
+            if asked.words and word not in asked.words:
+                continue
+            into = (asked.keep or pathlib.Path(folder)) / word
+            into.mkdir(parents=True)
+            routine = Routine(word, name, count, asked.seconds)
+            compare(routine, asked.tool, into)
+            wrong += routine.wrong
+    return 1 if wrong else 0
+
+
+if __name__ == "__main__":
+    sys.exit(main())
