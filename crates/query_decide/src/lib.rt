@@ -14,6 +14,7 @@ mod one_byte;
 
 pub use deciding::decide;
 pub use decision::Decision;
+pub use occurrence::{Occurrence, occurring};
 
 #[cfg(test)]
 mod tests;

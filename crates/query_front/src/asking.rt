@@ -13,12 +13,19 @@ use crate::part::part_of;
 use crate::shared::Shared;
 use bv_dag::Query;
 use query_cache::{Satisfiability, Solved};
-use query_decide::{Decision, decide};
+use query_decide::{Decision, Occurrence, decide, occurring};
 use query_slice::merge;
 use std::alloc::{AllocError as NoMemory, Global};
 use std::sync::Wait;
 use sym_state::{State, listed};
 use tool_io::Bytes;
+
+// Whether it may cost less to try samples than to decide a question. Of one input byte there are no more values than a pool
+// has places.
+fn is_worth_trying(alloc: Global, part: &Query) -> Result<bool, NoMemory> {
+    let occurrence = occurring(alloc, part.dag().nodes(), part.asserted())?;
+    Ok(matches!(occurrence, Occurrence::MoreInputs))
+}
 
 // An answer to a question that need not be decided: one that was given before, or a sample that meets it.
 fn known(
@@ -31,7 +38,7 @@ fn known(
     ensures { IfOk result (λ found. IfSome found (IsAnswer part.now)) }
 {
     let found = shared.look(rt, alloc, part)?;
-    if found.is_some() {
+    if found.is_some() || !is_worth_trying(alloc, part)? {
         return Ok(found);
     }
     match shared.sample(alloc, part, sample)? {

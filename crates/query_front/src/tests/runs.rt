@@ -25,6 +25,9 @@ const PLACES: Region = Region {
 /// Where the third of them does.
 const THIRD: u32 = 0x11002;
 
+/// Where the last of them does.
+const FOURTH: u32 = 0x11003;
+
 // The run of all assignments of a program of one ECALL.
 fn first(rt: &impl Abort, alloc: Global) -> Result<State, Fail> {
     let file = row_file(alloc, &[0x0000_0073])?;
@@ -34,10 +37,10 @@ fn first(rt: &impl Abort, alloc: Global) -> Result<State, Fail> {
     Ok(State::first(alloc, &Program::new(image, regions))?)
 }
 
-// The term that the third byte passes a test against a number.
+// The term that the last two bytes, the third lowest, pass a test against a number.
 fn passes(state: &mut State, test: Test, number: u32) -> Result<usize, NoMemory> {
-    let byte = state.byte(THIRD);
-    let value = state.from_byte(false, byte)?;
+    let (low, high) = (state.byte(THIRD), state.byte(FOURTH));
+    let value = state.from_half(false, low, high)?;
     state.tested(test, value, Value::Number(number))
 }
 
@@ -50,7 +53,7 @@ fn is_sampled(alloc: Global, state: &State) -> Result<bool, NoMemory>
     query.holds(alloc, state.sample().as_slice())
 }
 
-// The bytes on which the run goes on where its third byte passes a test, if there are any.
+// The bytes on which the run goes on where its last two bytes pass a test, if there are any.
 fn asked(
     rt: &(impl Abort + Wait),
     alloc: Global,
@@ -76,7 +79,7 @@ const QUESTIONS: [(Test, u32, bool); 4] = [
     (Test::Beq, 5, true),
     (Test::Beq, 5, true),
     (Test::Bne, 0, true),
-    (Test::Bgeu, 256, false),
+    (Test::Bgeu, 65536, false),
 ];
 
 #[test]
