@@ -18,16 +18,18 @@ use Rattle.fork_tree.specs.declared.content.Content.TheVariants.{Open, Shut}
 use Rattle.sym_machine.specs.Advancing.{Advances, IsEnded, IsUnderway}
 use Rattle.sym_machine.specs.declared.outcome.RunEnd.{RunEnd}
 use Rattle.sym_machine.specs.declared.stepping.Stop.{Stop}
-use Rattle.sym_state.specs.Moves.{IsSame}
+use Rattle.sym_state.specs.Moves.{IsSame, informed}
 use Rattle.sym_state.specs.Places.{run_place}
 use Rattle.sym_state.specs.Programs.{Program}
 use Rattle.sym_state.specs.Runs.{IsOpen, left_to_do}
-use Rattle.sym_state.specs.Symbolic.{Symbolic, most_steps, stands_for}
+use Rattle.sym_state.specs.Symbolic.{Symbolic, IsFormed, most_decisions, most_steps, stands_for}
+use Rattle.sym_state.specs.declared.decided.Decided.{Decided}
 use Rattle.node_split.specs.Leaving.{IsWritable}
-use Rattle.node_split.specs.Narrowing.{GoesOn}
 use Rattle.node_split.specs.Rules.{Piece, leaf_place, rules_of}
 use Rattle.node_split.specs.Splits.{IsForkOf, IsForked}
 use Rattle.node_split.specs.Working.{IsOnward}
+use Rattle.node_split.proofs.Sides.{GoesOn, goes_settled}
+use Rattle.node_split.specs.Narrowing.{IsSettled}
 use Rattle.node_split.specs.declared.forked.Forked.{Forked}
 use Rattle.node_split.specs.declared.forked.Forked.TheVariants.{One, Split}
 
@@ -115,23 +117,23 @@ pub record IsAtFork (p : Program) (budgets : Budgets) (s : Symbolic) (forked : F
   pub underway : IsUnderway p budgets.steps s
   pub goes : IsForked budgets s forked
 
--- it goes on along one side
-pub fork_goes : (p : Program) (budgets : Budgets) (s t u v : Symbolic) (stop : Stop) (forked : Forked) → IsOnward p s t
-    → Advances budgets.steps t u stop → IsAtFork p budgets u forked → forked ≡ One v → IsOnward p s v
-fork_goes p budgets s t u v stop forked on far at is =
-    onward_along p s t u v on far.same far.less at.underway.is_open (subst (IsForked budgets u) is at.goes)
+-- it goes on one way, by a decision of its next step that it is told
+module _ (p : Program) (budgets : Budgets) (u : Symbolic) (forked : Forked) (at : IsAtFork p budgets u forked)
+    (place : ℕ) (d : Decided) (is : forked ≡ One place d) where
+  settled : IsSettled u place d
+  settled = subst (IsForked budgets u) is at.goes
 
-pub fork_within : (p : Program) (budgets : Budgets) (u v : Symbolic) (forked : Forked) → IsAtFork p budgets u forked
-    → forked ≡ One v → v.steps ≤ budgets.steps
-fork_within p budgets u v forked at is =
-    let on : GoesOn u v = subst (IsForked budgets u) is at.goes in
-    omega (arith, on.steps, at.underway.room)
+  pub fork_place : place < most_decisions
+  fork_place = settled.in_range
 
-pub fork_smaller : (p : Program) (budgets : Budgets) (t u v : Symbolic) (stop : Stop) (forked : Forked) → Advances budgets.steps t u stop
-    → IsAtFork p budgets u forked → forked ≡ One v → left_to_do v < left_to_do t
-fork_smaller p budgets t u v stop forked far at is =
-    let on : GoesOn u v = subst (IsForked budgets u) is at.goes in
-    omega (arith, on.less, far.less)
+  module _ (formed : IsFormed (informed u place d)) where
+    pub fork_goes : (s t : Symbolic) (stop : Stop) → IsOnward p s t → Advances budgets.steps t u stop
+        → IsOnward p s (informed u place d)
+    fork_goes s t stop on far =
+        onward_along p s t u (informed u place d) on far.same far.less at.underway.is_open (goes_settled u place d formed settled)
+
+    pub fork_smaller : (t : Symbolic) (stop : Stop) → Advances budgets.steps t u stop → left_to_do (informed u place d) < left_to_do t
+    fork_smaller t stop far = let on = goes_settled u place d formed settled in omega (arith, on.less, far.less)
 
 -- it parts
 pub fork_parts : (p : Program) (budgets : Budgets) (s t u : Symbolic) (stop : Stop) (forked : Forked) (kids : Vec Piece) → IsOnward p s t

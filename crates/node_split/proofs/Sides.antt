@@ -23,7 +23,7 @@ use Rattle.sym_state.specs.declared.decided.Decided.{Decided}
 use Rattle.term_trees.specs.Growth.{Continues}
 use Rattle.tree_core.specs.declared.choice.Choice.{Choice}
 use Rattle.sym_state.proofs.Grown.{concrete-with_terms, stands-with_terms, unfolded-with_terms}
-use Rattle.node_split.specs.Narrowing.{GoesOn, IsNarrower, IsSettled}
+use Rattle.node_split.specs.Narrowing.{IsNarrower, IsSettled}
 use Rattle.node_split.proofs.Bytes.{all_true, and_last, both_true, by_bytes, bytes_of}
 
 -- the decision at its place
@@ -92,7 +92,15 @@ less_known s place d places in_range unknown =
     let counted = sum_by-set (λ (k : Option Decided). cond (is_none k) 1 0) s.known place (Some d) None (omega (arith, in_range, places)) in
     omega (arith, there, counted)
 
--- a run that goes on where the decision is one on all assignments
+-- A run that goes on: it stands for the same assignments, and has less to do.
+pub record GoesOn (old new : Symbolic) : Type 0 where
+  pub is_open : (p : Program) → IsOpen p old → IsOpen p new
+  pub choices : new.choices ≡ old.choices
+  pub steps : new.steps ≡ old.steps
+  pub less : left_to_do new < left_to_do old
+  pub covers : (input : List ℕ) → stands_for new input ≡ stands_for old input
+
+-- a run goes on where a decision of its next step is one on all assignments, and is known from there on
 pub goes_settled : (s : Symbolic) (place : ℕ) (d : Decided) → IsFormed (informed s place d) → IsSettled s place d
     → GoesOn s (informed s place d)
 goes_settled s place d formed settled =

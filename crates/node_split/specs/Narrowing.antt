@@ -28,14 +28,6 @@ pub record IsNarrowed (old new : Symbolic) (test : List ℕ → Bool) : Type 0 w
   pub continues : Continues old.terms new.terms
   pub covers : (input : List ℕ) → stands_for new input ≡ (stands_for old input && test input)
 
--- A run that goes on: it stands for the same assignments, and has less to do.
-pub record GoesOn (old new : Symbolic) : Type 0 where
-  pub is_open : (p : Program) → IsOpen p old → IsOpen p new
-  pub choices : new.choices ≡ old.choices
-  pub steps : new.steps ≡ old.steps
-  pub less : left_to_do new < left_to_do old
-  pub covers : (input : List ℕ) → stands_for new input ≡ stands_for old input
-
 -- This decision of the step that comes next is not known yet, and is this one on all assignments.
 pub record IsSettled (s : Symbolic) (place : ℕ) (d : Decided) : Type 0 where
   pub in_range : place < most_decisions

@@ -19,7 +19,7 @@ use Rattle.tree_core.specs.declared.budgets.Budgets.{Budgets}
 use Rattle.tree_core.specs.declared.cause.Cause.{Cause}
 use Rattle.tree_core.specs.declared.choice.Choice.{Choice}
 use Rattle.tree_core.specs.declared.choice.Choice.TheVariants.{No, Yes, Value}
-use Rattle.node_split.specs.Narrowing.{GoesOn, IsNarrower, is_side}
+use Rattle.node_split.specs.Narrowing.{IsNarrower, IsSettled, is_side}
 use Rattle.node_split.specs.Rules.{Piece, content_place, leaf_place, rules_of}
 use Rattle.node_split.specs.declared.branch.Tested.{Tested}
 use Rattle.node_split.specs.declared.forked.Forked.{Forked}
@@ -90,8 +90,8 @@ AreSidesOf s term _ _ = ⊥
 abbrev pub IsForkOf : Program → Budgets → Symbolic → List Piece → Type 0
 IsForkOf p budgets s kids = IsSplit (rules_of p budgets) run_place leaf_place s kids
 
--- where a run goes at a fork: one way; or all, and then these are the sides of each program's run
--- that has steps left
+-- where a run goes at a fork: one way, as a decision of its next step says; or all, and then these are the sides of each
+-- program's run that has steps left
 abbrev pub IsForked : Budgets → Symbolic → Forked → Type 0
-IsForked budgets s (One onward) = GoesOn s onward
+IsForked budgets s (One place decided) = IsSettled s place decided
 IsForked budgets s (Split kids) = (p : Program) → IsOpen p s → s.steps < budgets.steps → IsForkOf p budgets s kids.items

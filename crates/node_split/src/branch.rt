@@ -3,15 +3,18 @@
 
 ghost use Rattle.std.specs.Prelude.{◌≡◌, ◌∷◌, [], ◌≤◌, ℕ, List, IfNone, IfOk, IfSome, if◌then◌else◌, length, true, false};
 ghost use Rattle.bv_dag.specs.Graphs.{number_of, width_of};
+ghost use Rattle.query_front.specs.Asks.{IsAsked};
+ghost use Rattle.query_front.specs.declared.asked.Asked.TheVariants.{Spent};
 ghost use Rattle.sym_machine.specs.Stops.{IsBranch};
 ghost use Rattle.sym_state.specs.Runs.{IsReady};
-ghost use Rattle.sym_state.specs.Symbolic.{Symbolic, stands_for};
+ghost use Rattle.sym_state.specs.Symbolic.{Symbolic, condition_of, stands_for};
+ghost use Rattle.tree_core.specs.declared.budgets.Budgets.{Budgets};
 ghost use Rattle.node_split.specs.Leaving.{IsWritable};
 ghost use Rattle.node_split.specs.Narrowing.{is_side};
 ghost use Rattle.node_split.specs.Splits.{IsBranchSide, IsForked, IsSide, IsTested, choice_of};
 
 use crate::cut::cut_conflicts;
-use crate::forked::{Forked, along, are_bytes, narrow, run_kid, sample_of, sampled};
+use crate::forked::{Forked, are_bytes, narrow, run_kid, sample_of, sampled};
 use fork_tree::Content;
 use query_front::{Asked, Shared, ask};
 use std::alloc::{AllocError as NoMemory, Global};
@@ -71,6 +74,23 @@ fn open_side(
     run_kid(alloc, choice_of(side), run)
 }
 
+// The side of a branch of which the budget of conflicts leaves open whether it has an assignment.
+fn spent_side(
+    alloc: Global,
+    tested: &mut Tested,
+    side: bool,
+    learnt: Learnt,
+) -> Result<Kid<Content<State, LeafPart>>, NoMemory>
+    requires writable { IsWritable tested.old.run }
+    requires bit { width_of tested.old.run.terms tested.old.test ≡ 1 }
+    ensures { IfOk result (λ kid. (budgets : Budgets) (s : Symbolic) (term : ℕ) → IsTested s term side tested.old
+        → IsAsked (condition_of tested.old.run) tested.old.test budgets.conflicts (Spent learnt.question learnt.log)
+        → IsBranchSide budgets s term side kid) }
+{
+    tested.run.assert(tested.test)?;
+    cut_conflicts(alloc, &mut tested.run, choice_of(side), learnt)
+}
+
 // The side of a branch on which the sample isn't, if it has an assignment or may have one.
 fn other_side(
     rt: &impl Wait,
@@ -102,9 +122,8 @@ fn other_side(
             Ok(Some(open_side(alloc, tested, side, input)?))
         }
         Asked::Spent(question, log) => {
-            tested.run.assert(tested.test)?;
             let learnt = Learnt { question, log };
-            Ok(Some(cut_conflicts(alloc, tested.run, choice_of(side), learnt)?))
+            Ok(Some(spent_side(alloc, &mut tested, side, learnt)?))
         }
     }
 }
@@ -147,20 +166,24 @@ pub fn at_branch(
     rt: &impl Wait,
     alloc: Global,
     shared: &Shared,
-    state: State,
+    state: &State,
     term: usize,
     budgets: &Budgets,
 ) -> Result<Forked, NoMemory>
-    requires ready { IsReady state }
-    requires writable { IsWritable state }
-    requires at { IsBranch state term }
+    requires ready { IsReady state.now }
+    requires writable { IsWritable state.now }
+    requires at { IsBranch state.now term }
     requires some { 1 ≤ budgets.now.targets }
-    ensures { IfOk result (IsForked budgets.now state) }
+    ensures { IfOk result (IsForked budgets.now state.now) }
 {
-    let side = sampled(alloc, &state, term)?.number() == 1;
-    let Some(other) = other_side(rt, alloc, shared, &state, term, !side, budgets)? else {
-        return Ok(Forked::One(along(state, SIDE, Decided::Side(side))));
+    let side = sampled(alloc, state, term)?.number() == 1;
+    let Some(other) = other_side(rt, alloc, shared, state, term, !side, budgets)? else {
+        let decided = Decided::Side(side);
+        return Ok(Forked::One {
+            place: SIDE,
+            decided,
+        });
     };
-    let own = own_side(alloc, &state, term, side)?;
+    let own = own_side(alloc, state, term, side)?;
     Ok(Forked::Split(in_order(alloc, side, own, other)?))
 }

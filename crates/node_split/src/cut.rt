@@ -38,53 +38,52 @@ fn leaf_kid(choice: Choice, leaf: LeafPart) -> Kid<Content<State, LeafPart>>
     }
 }
 
-/// The side of a fork that is cut because the budget of conflicts was spent on its last assertion.
+/// The side of a fork that is cut because the budget of conflicts was spent on its last assertion. The run is of no use
+/// after that.
 pub fn cut_conflicts(
     alloc: Global,
-    run: State,
+    run: &mut State,
     choice: Choice,
     learnt: Learnt,
 ) -> Result<Kid<Content<State, LeafPart>>, NoMemory>
     requires small { IsSmallChoice choice }
-    requires writable { IsWritable run }
+    requires writable { IsWritable run.old }
     ensures { IfOk result (λ kid. (p : Program) (budgets : Budgets) (sides : List spec.Choice) (s : Symbolic) (test : List ℕ → Bool)
-        → IsOpen p s → s.steps < budgets.steps → IsFormed s → IsNarrowed s run test → IsLearntFor budgets.conflicts (condition_of run) learnt
+        → IsOpen p s → s.steps < budgets.steps → IsFormed s → IsNarrowed s run.old test → IsLearntFor budgets.conflicts (condition_of run.old) learnt
         → IsSideIn p budgets sides s choice (Some Conflicts) test kid) }
 {
-    let mut run = run;
     run.choose(choice)?;
-    let terms = leaf_terms(alloc, &mut run, &[])?;
+    let terms = leaf_terms(alloc, run, &[])?;
     let evidence = Some(Evidence::Conflicts(learnt));
     let end = LeafEnd::Cut(Cause::Conflicts);
-    let leaf = leaf_of(alloc, &run, terms, end, None, evidence)?;
+    let leaf = leaf_of(alloc, run, terms, end, None, evidence)?;
     Ok(leaf_kid(choice, leaf))
 }
 
-/// The side of a fork that has all values of a term but these, as many as there may be.
+/// The side of a fork that has all values of a term but these, as many as there may be. The run is of no use after that.
 pub fn cut_targets(
     alloc: Global,
-    run: State,
+    run: &mut State,
     term: usize,
     found: Vec<Found>,
 ) -> Result<Kid<Content<State, LeafPart>>, NoMemory>
-    requires writable { IsWritable run }
-    requires width { width_of run.terms term ≡ 32 }
+    requires writable { IsWritable run.old }
+    requires width { width_of run.old.terms term ≡ 32 }
     ensures { IfOk result (λ kid. (p : Program) (budgets : Budgets) (s : Symbolic)
-        → IsOpen p s → s.steps < budgets.steps → IsFormed s → IsUnknown s.terms 32 term → IsWithout s term (values_of found.items) run → stands_for run run.sample ≡ true
+        → IsOpen p s → s.steps < budgets.steps → IsFormed s → IsUnknown s.terms 32 term → IsWithout s term (values_of found.items) run.old → stands_for run.old run.old.sample ≡ true
         → AreValues s term budgets.targets found.items → length found.items ≡ budgets.targets
         → IsSideIn p budgets (map OfValue (values_of found.items) ++ Rest ∷ []) s Rest (Some Targets)
         (λ input. not (is_among (values_of found.items) (number_of s.terms term input))) kid) }
 {
-    let mut run = run;
     run.choose(Choice::Rest)?;
-    let terms = leaf_terms(alloc, &mut run, &[term])?;
-    let sample = sample_of(alloc, &run)?;
+    let terms = leaf_terms(alloc, run, &[term])?;
+    let sample = sample_of(alloc, run)?;
     let spent = Spent {
         term: terms.more[0],
         found,
     };
     let evidence = Some(Evidence::Targets(spent));
     let end = LeafEnd::Cut(Cause::Targets);
-    let leaf = leaf_of(alloc, &run, terms, end, Some(sample), evidence)?;
+    let leaf = leaf_of(alloc, run, terms, end, Some(sample), evidence)?;
     Ok(leaf_kid(Choice::Rest, leaf))
 }

@@ -24,18 +24,17 @@ use sym_machine::RunEnd;
 use sym_state::{LeafPart, State};
 use tree_core::Cause;
 
-/// The leaf of a run that has spent its steps.
-pub fn cut_steps(alloc: Global, state: State) -> Result<LeafPart, NoMemory>
-    requires writable { IsWritable state }
-    ensures { IfOk result (λ part. (p : Program) (budgets : Budgets) → budgets.steps ≡ state.steps → IsOpen p state
-        → EndsAs (rules_of p budgets) run_place leaf_place (Some Steps) state part) }
+/// The leaf of a run that has spent its steps. The run is of no use after that.
+pub fn cut_steps(alloc: Global, state: &mut State) -> Result<LeafPart, NoMemory>
+    requires writable { IsWritable state.old }
+    ensures { IfOk result (λ part. (p : Program) (budgets : Budgets) → budgets.steps ≡ state.old.steps → IsOpen p state.old
+        → EndsAs (rules_of p budgets) run_place leaf_place (Some Steps) state.old part) }
 {
-    let mut state = state;
-    let terms = leaf_terms(alloc, &mut state, &[])?;
-    let sample = Some(sample_of(alloc, &state)?);
+    let terms = leaf_terms(alloc, state, &[])?;
+    let sample = Some(sample_of(alloc, state)?);
     leaf_of(
         alloc,
-        &state,
+        state,
         terms,
         LeafEnd::Cut(Cause::Steps),
         sample,
@@ -44,15 +43,14 @@ pub fn cut_steps(alloc: Global, state: State) -> Result<LeafPart, NoMemory>
 }
 
 // The leaf of a run whose runs have all trapped so.
-fn trapped(alloc: Global, state: State, trap: Trap) -> Result<LeafPart, NoMemory>
-    requires writable { IsWritable state }
-    ensures { IfOk result (λ part. (p : Program) (budgets : Budgets) → IsEnded p state (Traps trap) → state.steps ≤ budgets.steps
-        → EndsAs (rules_of p budgets) run_place leaf_place None state part) }
+fn trapped(alloc: Global, state: &mut State, trap: Trap) -> Result<LeafPart, NoMemory>
+    requires writable { IsWritable state.old }
+    ensures { IfOk result (λ part. (p : Program) (budgets : Budgets) → IsEnded p state.old (Traps trap) → state.old.steps ≤ budgets.steps
+        → EndsAs (rules_of p budgets) run_place leaf_place None state.old part) }
 {
-    let mut state = state;
-    let terms = leaf_terms(alloc, &mut state, &[])?;
-    let sample = Some(sample_of(alloc, &state)?);
-    leaf_of(alloc, &state, terms, LeafEnd::Traps(trap), sample, None)
+    let terms = leaf_terms(alloc, state, &[])?;
+    let sample = Some(sample_of(alloc, state)?);
+    leaf_of(alloc, state, terms, LeafEnd::Traps(trap), sample, None)
 }
 
 // The term of the status of an exit: the low byte of x10.
@@ -66,31 +64,23 @@ fn exit_status(state: &mut State) -> Result<usize, NoMemory>
 }
 
 // The leaf of a run whose runs have all exited.
-fn exited(alloc: Global, state: State) -> Result<LeafPart, NoMemory>
-    requires writable { IsWritable state }
-    ensures { IfOk result (λ part. (p : Program) (budgets : Budgets) → IsEnded p state Exits → state.steps ≤ budgets.steps
-        → EndsAs (rules_of p budgets) run_place leaf_place None state part) }
+fn exited(alloc: Global, state: &mut State) -> Result<LeafPart, NoMemory>
+    requires writable { IsWritable state.old }
+    ensures { IfOk result (λ part. (p : Program) (budgets : Budgets) → IsEnded p state.old Exits → state.old.steps ≤ budgets.steps
+        → EndsAs (rules_of p budgets) run_place leaf_place None state.old part) }
 {
-    let mut state = state;
-    let status = exit_status(&mut state)?;
-    let terms = leaf_terms(alloc, &mut state, &[status])?;
+    let status = exit_status(state)?;
+    let terms = leaf_terms(alloc, state, &[status])?;
     let status = terms.more[0];
-    let sample = Some(sample_of(alloc, &state)?);
-    leaf_of(
-        alloc,
-        &state,
-        terms,
-        LeafEnd::Exits { status },
-        sample,
-        None,
-    )
+    let sample = Some(sample_of(alloc, state)?);
+    leaf_of(alloc, state, terms, LeafEnd::Exits { status }, sample, None)
 }
 
-/// The leaf of a run whose runs have all ended so.
-pub fn finish(alloc: Global, state: State, end: RunEnd) -> Result<LeafPart, NoMemory>
-    requires writable { IsWritable state }
-    ensures { IfOk result (λ part. (p : Program) (budgets : Budgets) → IsEnded p state end → state.steps ≤ budgets.steps
-        → EndsAs (rules_of p budgets) run_place leaf_place None state part) }
+/// The leaf of a run whose runs have all ended so. The run is of no use after that.
+pub fn finish(alloc: Global, state: &mut State, end: RunEnd) -> Result<LeafPart, NoMemory>
+    requires writable { IsWritable state.old }
+    ensures { IfOk result (λ part. (p : Program) (budgets : Budgets) → IsEnded p state.old end → state.old.steps ≤ budgets.steps
+        → EndsAs (rules_of p budgets) run_place leaf_place None state.old part) }
 {
     match end {
         RunEnd::Traps(trap) => trapped(alloc, state, trap),

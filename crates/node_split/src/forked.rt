@@ -4,7 +4,6 @@ ghost use Rattle.std.specs.Prelude.{◌≡◌, ◌<◌, All, IfOk, OnOk, length}
 ghost use Rattle.bv_dag.specs.Graphs.{val, width_of};
 ghost use Rattle.fork_spec.specs.Leaves.{IsSmallChoice};
 ghost use Rattle.sym_state.specs.Moves.{narrowed};
-ghost use Rattle.node_split.specs.Narrowing.{GoesOn, IsSettled};
 ghost use Rattle.node_split.specs.Splits.{IsRunOn};
 
 use bv_dag::Word;
@@ -19,8 +18,8 @@ use tree_core::{Choice, Kid};
 /// Where a run goes at a fork.
 #[derive(Drop)]
 pub enum Forked {
-    /// All its assignments go one way.
-    One(State),
+    /// All its assignments go one way: the decision at this place of its next step is this one.
+    One { place: usize, decided: Decided },
     /// The sides, in the order of their choices.
     Split(Vec<Kid<Content<State, LeafPart>>>),
 }
@@ -59,16 +58,6 @@ pub fn narrow(state: &mut State, choice: Choice, term: usize, sample: Bytes) -> 
     are_bytes(sample.as_slice());
     state.sample_by(sample);
     Ok(())
-}
-
-/// Goes on where a decision of the next step is one on all assignments.
-pub fn along(state: State, place: usize, decided: Decided) -> State
-    requires { IsSettled state place decided }
-    ensures { GoesOn state result }
-{
-    let mut onward = state;
-    onward.know(place, decided);
-    onward
 }
 
 /// The side of a fork that is this run.

@@ -4,6 +4,7 @@ ghost use Rattle.std.specs.Prelude.{◌≡◌, ◌==◌, ◌≤◌, All, IfOk, l
 ghost use Rattle.bv_dag.specs.Graphs.{number_of};
 ghost use Rattle.sym_machine.specs.Stops.{IsPin};
 ghost use Rattle.sym_state.specs.Runs.{IsReady};
+ghost use Rattle.sym_state.specs.Symbolic.{IsFormed};
 ghost use Rattle.tree_core.specs.declared.choice.Choice.TheVariants.{Value as OfValue};
 ghost use Rattle.node_split.specs.Leaving.{IsWritable};
 ghost use Rattle.node_split.specs.Narrowing.{IsNarrower};
@@ -12,7 +13,7 @@ ghost use Rattle.node_split.specs.Values.{AreValues, HasValue, IsLeft};
 ghost use Rattle.node_split.specs.declared.values.Left.TheVariants.{Nothing};
 
 use crate::cut::{cut_conflicts, cut_targets};
-use crate::forked::{Forked, along, narrow, run_kid};
+use crate::forked::{Forked, narrow, run_kid};
 use crate::values::{Left, Values, find_values};
 use fork_tree::Content;
 use query_front::Shared;
@@ -66,27 +67,29 @@ fn value_sides(
 // Parts by the values, and what is left where there may be more.
 fn part(
     alloc: Global,
-    state: State,
+    state: &State,
     pin: &Pin,
-    values: Values,
+    found: Vec<Found>,
+    rest: &mut State,
+    left: Left,
     budgets: &Budgets,
 ) -> Result<Forked, NoMemory>
-    requires writable { IsWritable state }
-    requires at { IsPin state pin.now.place pin.now.term }
-    requires values { AreValues state pin.now.term budgets.now.targets values.found.items }
-    requires some { 1 ≤ length values.found.items }
-    requires left { IsLeft state pin.now.term budgets.now values.found.items values.left }
-    requires several { values.left ≡ Nothing → 2 ≤ length values.found.items }
-    ensures { IfOk result (IsForked budgets.now state) }
+    requires formed { IsFormed state.now }
+    requires writable { IsWritable state.now }
+    requires at { IsPin state.now pin.now.place pin.now.term }
+    requires values { AreValues state.now pin.now.term budgets.now.targets found.items }
+    requires some { 1 ≤ length found.items }
+    requires left { IsLeft state.now pin.now.term budgets.now found.items rest.old left }
+    requires several { left ≡ Nothing → 2 ≤ length found.items }
+    ensures { IfOk result (IsForked budgets.now state.now) }
 {
-    let Values { found, left } = values;
-    let mut kids = value_sides(alloc, &state, pin, &found)?;
-    let rest = match left {
+    let mut kids = value_sides(alloc, state, pin, &found)?;
+    let last = match left {
         Left::Nothing => return Ok(Forked::Split(kids)),
-        Left::More(rest) => cut_targets(alloc, rest, pin.term, found)?,
-        Left::Unknown(rest, learnt) => cut_conflicts(alloc, rest, Choice::Rest, learnt)?,
+        Left::More => cut_targets(alloc, rest, pin.term, found)?,
+        Left::Unknown(learnt) => cut_conflicts(alloc, rest, Choice::Rest, learnt)?,
     };
-    kids.push(rest)?;
+    kids.push(last)?;
     Ok(Forked::Split(kids))
 }
 
@@ -95,20 +98,28 @@ pub fn at_pin(
     rt: &impl Wait,
     alloc: Global,
     shared: &Shared,
-    state: State,
+    state: &State,
     pin: &Pin,
     budgets: &Budgets,
 ) -> Result<Forked, NoMemory>
-    requires ready { IsReady state }
-    requires writable { IsWritable state }
-    requires at { IsPin state pin.now.place pin.now.term }
+    requires ready { IsReady state.now }
+    requires writable { IsWritable state.now }
+    requires at { IsPin state.now pin.now.place pin.now.term }
     requires some { 1 ≤ budgets.now.targets }
-    ensures { IfOk result (IsForked budgets.now state) }
+    ensures { IfOk result (IsForked budgets.now state.now) }
 {
-    let values = find_values(rt, alloc, shared, &state, pin.term, budgets)?;
+    let values = find_values(rt, alloc, shared, state, pin.term, budgets)?;
     if values.left.is_nothing() && values.found.len() == 1 {
-        let value = values.found[0].value;
-        return Ok(Forked::One(along(state, pin.place, Decided::Number(value))));
+        let decided = Decided::Number(values.found[0].value);
+        return Ok(Forked::One {
+            place: pin.place,
+            decided,
+        });
     }
-    part(alloc, state, pin, values, budgets)
+    let Values {
+        found,
+        mut rest,
+        left,
+    } = values;
+    part(alloc, state, pin, found, &mut rest, left, budgets)
 }

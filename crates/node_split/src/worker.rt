@@ -84,15 +84,14 @@ impl Worker {
         &self,
         rt: &impl Wait,
         alloc: Global,
-        state: State,
+        state: &mut State,
     ) -> Result<Parts<State, LeafPart>, NoMemory>
-        requires open { IsOpen self.now.program state }
-        requires within { state.steps ≤ self.now.budgets.steps }
-        ensures { IfOk result (IsWorked (rules_of self.now.program self.now.budgets) run_place leaf_place state) }
+        requires open { IsOpen self.now.program state.old }
+        requires within { state.old.steps ≤ self.now.budgets.steps }
+        ensures { IfOk result (IsWorked (rules_of self.now.program self.now.budgets) run_place leaf_place state.old) }
     {
-        let mut state = state;
         loop {
-            let forked = match advance(&mut state, self.budgets.steps)? {
+            let forked = match advance(state, self.budgets.steps)? {
                 Stop::Steps => return Ok(Parts::CutSteps(cut_steps(alloc, state)?)),
                 Stop::Ended(end) => return Ok(Parts::Finished(finish(alloc, state, end)?)),
                 Stop::Branch { term } => {
@@ -104,7 +103,7 @@ impl Worker {
                 }
             };
             match forked {
-                Forked::One(onward) => state = onward,
+                Forked::One { place, decided } => state.know(place, decided),
                 Forked::Split(kids) => return Ok(Parts::Kids(kids)),
             }
         }
@@ -126,7 +125,7 @@ impl Work for Worker {
         alloc: Global,
         state: &State,
     ) -> Result<Parts<State, LeafPart>, NoMemory> {
-        let state = state.share()?;
-        self.follow(rt, alloc, state)
+        let mut state = state.share()?;
+        self.follow(rt, alloc, &mut state)
     }
 }

@@ -1,10 +1,6 @@
-use Rattle.std.proofs.Common.{ℕ, List, ◌<◌, [], ◌∷◌, refl, subst}
-use Rattle.std.specs.Prelude.{All, Some}
-use Rattle.bv_dag.specs.Graphs.{number_of}
-use Rattle.tree_core.specs.declared.cause.Cause.TheVariants.{Conflicts}
-use Rattle.tree_core.specs.declared.choice.Choice.TheVariants.{No, Yes}
-use Rattle.node_split.specs.Narrowing.{is_side}
-use Rattle.node_split.proofs.Branching.{answered_each, branch_side, learnt_for, side_answered, side_unanswered, tested_narrowed, tested_sampled}
+use Rattle.std.proofs.Common.{ℕ, List, ◌<◌, subst}
+use Rattle.std.specs.Prelude.{All}
+use Rattle.node_split.proofs.Branching.{answered_each, branch_side, side_answered, side_unanswered, tested_sampled}
 use Rattle.node_split.proofs.branch.other_side.Goals as goal
 
 pub ask-requires-clause-sampled : goal.ask-requires-clause-sampled
@@ -26,13 +22,9 @@ returns-in_ok-open_side-in-Sat-clause-some g c =
     branch_side c.args.budgets.now c.args.state.now c.args.term c.args.side c.in_ok-open_side-in-Sat.field-0
     (c.in_ok-open_side-in-Sat.ensures c.args.state.now c.args.term c.requires.at c.in_ok-tested.ensures on.0 on.1)
 
-pub returns-in_ok-cut_conflicts-in-Spent-clause-some : goal.returns-in_ok-cut_conflicts-in-Spent-clause-some
-returns-in_ok-cut_conflicts-in-Spent-clause-some g c = λ p was few.
-    let cut = rw c.choice_of.ensures at c.in_ok-cut_conflicts-in-Spent.ensures in (
-      Some Conflicts,
-      refl,
-      cut p c.args.budgets.now (No ∷ Yes ∷ []) c.args.state.now (λ input. is_side c.args.side (number_of c.args.state.now.terms c.args.term input)) was few c.in_ok-tested.ensures.formed
-          (tested_narrowed c.args.state.now c.assert.new.self c.args.term c.args.side c.in_ok-tested.tested c.in_ok-tested.ensures c.in_ok-assert-in-Spent.ensures.ok)
-          (learnt_for c.args.budgets.now.conflicts c.in_ok-tested.tested.run c.assert.new.self c.in_ok-tested.tested.test (record { question = c.in-Spent.question; log = c.in-Spent.log })
-          c.in_ok-assert-in-Spent.ensures.ok (rw c.in-Spent.is at c.in_ok-ask.ensures)),
-    )
+pub spent_side-requires-clause-bit : goal.spent_side-requires-clause-bit
+spent_side-requires-clause-bit g c = c.in_ok-tested.ensures.bit
+
+pub returns-in_ok-spent_side-in-Spent-clause-some : goal.returns-in_ok-spent_side-in-Spent-clause-some
+returns-in_ok-spent_side-in-Spent-clause-some g c =
+    c.in_ok-spent_side-in-Spent.ensures c.args.budgets.now c.args.state.now c.args.term c.in_ok-tested.ensures (rw c.in-Spent.is at c.in_ok-ask.ensures)

@@ -8,3 +8,6 @@ pub returns : goal.returns
 returns c =
     rw c.if-side.false
     (tested_no c.args.state.now c.negated.new.self c.args.term c.in_ok-test.test (rw c.in_ok-run.ensures.same at c.in_ok-test.ensures.ok))
+
+pub negated-requires : goal.negated-requires
+negated-requires c = record { bit = rw c.in_ok-run.ensures.same c.requires.is_term.width }

@@ -4,13 +4,13 @@ use Rattle.node_split.proofs.cut.cut_conflicts.Goals as goal
 
 pub leaf_of-requires : goal.leaf_of-requires
 leaf_of-requires c = record {
-  full = full_cut (chosen c.args.run c.args.choice) c.leaf_terms.new.state c.in_ok-terms.terms Conflicts
+  full = full_cut (chosen c.args.run.now c.args.choice) c.leaf_terms.new.state c.in_ok-terms.terms Conflicts
       (rw c.in_ok-choose.ensures.ok at c.in_ok-terms.ensures.grown) (rw c.in_ok-choose.ensures.ok at c.in_ok-terms.ensures.terms)
-      (writable_chosen c.args.run c.args.choice c.requires.writable);
+      (writable_chosen c.args.run.now c.args.choice c.requires.writable);
 }
 
 pub returns : goal.returns
 returns c = λ p budgets sides s test was few formed is learning.
     rw (c.leaf_kid.ensures, c.in_ok-leaf.ensures)
-    (conflicts_side p budgets sides s c.args.run c.leaf_terms.new.state c.args.choice test c.in_ok-terms.terms c.args.learnt was few formed is learning c.requires.writable
+    (conflicts_side p budgets sides s c.args.run.now c.leaf_terms.new.state c.args.choice test c.in_ok-terms.terms c.args.learnt was few formed is learning c.requires.writable
     (rw c.in_ok-choose.ensures.ok at c.in_ok-terms.ensures.grown) (rw c.in_ok-choose.ensures.ok at c.in_ok-terms.ensures.terms))

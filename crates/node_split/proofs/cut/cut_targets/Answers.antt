@@ -1,19 +1,25 @@
-use Rattle.std.proofs.Common.{◌∙◌, ap}
+use Rattle.std.proofs.Common.{◌∙◌, ap, arith}
 use Rattle.bv_dag.specs.Graphs.{number_of, width_of}
 use Rattle.tree_core.specs.declared.cause.Cause.TheVariants.{Targets}
 use Rattle.tree_core.specs.declared.choice.Choice.TheVariants.{Rest}
 use Rattle.node_split.proofs.Cutting.{chosen, full_cut, targets_side, term_there, writable_chosen}
-use Rattle.node_split.proofs.Leaving.{first_number, first_width}
+use Rattle.node_split.proofs.Leaving.{first_number, first_there, first_width}
 use Rattle.node_split.proofs.cut.cut_targets.Goals as goal
 
 pub leaf_terms-requires : goal.leaf_terms-requires
-leaf_terms-requires c = rw c.in_ok-choose.ensures.ok (term_there c.args.run c.args.term c.requires.width)
+leaf_terms-requires c = rw c.in_ok-choose.ensures.ok (term_there c.args.run.now c.args.term c.requires.width)
+
+pub index-requires : goal.index-requires
+index-requires c =
+    let there = first_there c.args.run.now.terms c.in_ok-terms.terms.condition.graph c.args.term c.in_ok-terms.terms.more.items
+    (rw c.in_ok-choose.ensures.ok at c.in_ok-terms.ensures.more) in
+    omega (arith, there, c.in_ok-terms.terms.more.ok.0)
 
 pub leaf_of-requires : goal.leaf_of-requires
 leaf_of-requires c = record {
-  full = full_cut (chosen c.args.run Rest) c.leaf_terms.new.state c.in_ok-terms.terms Targets
+  full = full_cut (chosen c.args.run.now Rest) c.leaf_terms.new.state c.in_ok-terms.terms Targets
       (rw c.in_ok-choose.ensures.ok at c.in_ok-terms.ensures.grown) (rw c.in_ok-choose.ensures.ok at c.in_ok-terms.ensures.terms)
-      (writable_chosen c.args.run Rest c.requires.writable);
+      (writable_chosen c.args.run.now Rest c.requires.writable);
 }
 
 pub returns : goal.returns
@@ -21,8 +27,8 @@ returns c = λ p budgets s was few formed unknown is sampled values spent.
     let copies = rw c.in_ok-choose.ensures.ok at c.in_ok-terms.ensures.more in
     let graph = c.in_ok-terms.terms.condition.graph in
     rw (c.leaf_kid.ensures, c.in_ok-leaf.ensures, c.in_ok-sample.ensures)
-    (targets_side p budgets s c.args.run c.leaf_terms.new.state c.args.term c.index.result.now c.args.found.items c.in_ok-terms.terms was formed unknown is sampled values spent
+    (targets_side p budgets s c.args.run.now c.leaf_terms.new.state c.args.term c.index.result.now c.args.found.items c.in_ok-terms.terms was formed unknown is sampled values spent
     (rw c.in_ok-choose.ensures.ok at c.in_ok-terms.ensures.terms)
-    (ap (width_of graph) c.index.ensures ∙ first_width c.args.run.terms graph c.args.term c.index.result.now c.in_ok-terms.terms.more.items copies ∙ c.requires.width)
-    (λ input. ap (λ k. number_of graph k input) c.index.ensures ∙ first_number c.args.run.terms graph c.args.term c.index.result.now c.in_ok-terms.terms.more.items input copies)
+    (ap (width_of graph) c.index.ensures ∙ first_width c.args.run.now.terms graph c.args.term c.index.result.now c.in_ok-terms.terms.more.items copies ∙ c.requires.width)
+    (λ input. ap (λ k. number_of graph k input) c.index.ensures ∙ first_number c.args.run.now.terms graph c.args.term c.index.result.now c.in_ok-terms.terms.more.items input copies)
     few c.requires.writable (rw c.in_ok-choose.ensures.ok at c.in_ok-terms.ensures.grown))

@@ -1,40 +1,39 @@
-use Rattle.std.proofs.Common.{subst, refl, arith}
-use Rattle.sym_state.specs.Symbolic.{IsFormed}
+use Rattle.std.proofs.Common.{refl, arith}
 use Rattle.sym_state.proofs.Growing.{width-kept}
 use Rattle.tree_core.specs.declared.cause.Cause.TheVariants.{Conflicts, Targets}
 use Rattle.node_split.proofs.Cutting.{has_none, without_narrowed}
 use Rattle.node_split.proofs.SidesOfValues.{all_values, cut_by_targets, rest_sides, values_and_rest}
 use Rattle.fork_spec.specs.Evidence.{values_of}
 use Rattle.node_split.proofs.pin.part.Goals as goal
-use Rattle.node_split.proofs.pin.part.Goals.{in-More+in_ok-rest-in-More, in-Unknown+in_ok-rest-in-Unknown}
+use Rattle.node_split.proofs.pin.part.Goals.{in-More+in_ok-last-in-More, in-Unknown+in_ok-last-in-Unknown}
 
 pub returns-in-Nothing : goal.returns-in-Nothing
 returns-in-Nothing c = λ p was few.
-    all_values p c.args.budgets.now c.args.state c.args.pin.now.term c.args.values.found.items c.in_ok-kids.kids.items c.args.pin.now.place was few c.requires.at.stands
+    all_values p c.args.budgets.now c.args.state.now c.args.pin.now.term c.args.found.items c.in_ok-kids.kids.items c.args.pin.now.place was few c.requires.at.stands
     c.requires.values (rw c.in-Nothing.is at c.requires.left) (c.requires.several c.in-Nothing.is) (rw c.deref.ensures.value at c.in_ok-kids.ensures)
 
 pub cut_targets-requires-clause-width : goal.cut_targets-requires-clause-width
 cut_targets-requires-clause-width c =
     let left = rw c.in-More.is at c.requires.left in
-    width-kept c.args.state.terms c.in-More.rest.terms c.args.pin.now.term 32 left.0.continues c.requires.at.is_term.width (omega arith)
+    width-kept c.args.state.now.terms c.args.rest.now.terms c.args.pin.now.term 32 left.0.continues c.requires.at.is_term.width (omega arith)
 
 pub returns : goal.returns
 returns c = λ p was few.
-    let formed = subst IsFormed c.state.view_is c.state.invariant in
+    let formed = c.requires.formed in
     let term = c.args.pin.now.term in
-    let found = c.args.values.found.items in
+    let found = c.args.found.items in
     rw c.in_ok-push.ensures.items (elim c.match-left-2.branch [
-      | in-More+in_ok-rest-in-More w ↦
+      | in-More+in_ok-last-in-More w ↦
           let left = rw w.in-More.is at c.requires.left in
-          rw w.rest-is
-          (values_and_rest p c.args.budgets.now c.args.state term found Targets c.in_ok-kids.kids.items _ c.args.pin.now.place was few c.requires.at.stands c.requires.values c.requires.some
+          rw w.last-is
+          (values_and_rest p c.args.budgets.now c.args.state.now term found Targets c.in_ok-kids.kids.items _ c.args.pin.now.place was few c.requires.at.stands c.requires.values c.requires.some
           (cut_by_targets c.args.budgets.now found left.2) (rw c.deref.ensures.value at c.in_ok-kids.ensures)
-          (w.in_ok-rest-in-More.ensures p c.args.budgets.now c.args.state was few formed c.requires.at.is_term left.0 left.1 c.requires.values left.2))
-      | in-Unknown+in_ok-rest-in-Unknown w ↦
+          (w.in_ok-last-in-More.ensures p c.args.budgets.now c.args.state.now was few formed c.requires.at.is_term left.0 left.1 c.requires.values left.2))
+      | in-Unknown+in_ok-last-in-Unknown w ↦
           let left = rw w.in-Unknown.is at c.requires.left in
-          rw w.rest-is
-          (values_and_rest p c.args.budgets.now c.args.state term found Conflicts c.in_ok-kids.kids.items _ c.args.pin.now.place was few c.requires.at.stands c.requires.values c.requires.some
+          rw w.last-is
+          (values_and_rest p c.args.budgets.now c.args.state.now term found Conflicts c.in_ok-kids.kids.items _ c.args.pin.now.place was few c.requires.at.stands c.requires.values c.requires.some
           refl (rw c.deref.ensures.value at c.in_ok-kids.ensures)
-          (w.in_ok-rest-in-Unknown.ensures p c.args.budgets.now (rest_sides (values_of found)) c.args.state (has_none c.args.state term (values_of found)) was few formed
-          (without_narrowed c.args.state term (values_of found) w.in-Unknown.rest formed left.0) left.1))
+          (w.in_ok-last-in-Unknown.ensures p c.args.budgets.now (rest_sides (values_of found)) c.args.state.now (has_none c.args.state.now term (values_of found)) was few formed
+          (without_narrowed c.args.state.now term (values_of found) c.args.rest.now formed left.0) left.1))
     ])

@@ -3,6 +3,9 @@ use Rattle.node_split.proofs.Branching.{assigned_each}
 use Rattle.node_split.proofs.Pinning.{value_narrower}
 use Rattle.node_split.proofs.pin.value_side.Goals as goal
 
+pub tested-requires-clause-first : goal.tested-requires-clause-first
+tested-requires-clause-first c = rw c.in_ok-side.ensures.same c.requires.at.is_term
+
 pub narrow-requires-clause-each_input : goal.narrow-requires-clause-each_input
 narrow-requires-clause-each_input c =
     rw (c.in_ok-sample.ensures, c.as_slice.ensures)
