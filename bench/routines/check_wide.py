@@ -1,17 +1,18 @@
 #!/usr/bin/python3
 """Explores each routine of more than one input byte by rvklee, and compares the report with runs by interpreter.py and with z3.
 
-    check_wide.py [--tool PATH] [--seconds N] [--keep FOLDER] [WORD ..]
+    check_wide.py [--tool PATH] [--conflicts N] [--seconds N] [--keep FOLDER] [WORD ..]
 
 A WORD is the name of a table of wide.py without `.expected`; where there is none, all are checked. --tool is ./rvklee at the top
-where it isn't given. --seconds is how long z3 may look for one answer (20 where it isn't given). --keep keeps the reports.
-z3 is Debian's `python3-z3`, which its own python3 finds.
+where it isn't given, --conflicts the tool's budget (2000), and --seconds says how long z3 may look for one answer (20). --keep
+keeps the reports. z3 is Debian's `python3-z3`, which its own python3 finds.
 
 Each test is replayed by the tool, and run here. Of two input bytes each leaf's text is evaluated on all inputs, of more on the
 inputs of the table, on some that differ from one of them or from a test in one byte, and on random ones: just one leaf has to
 hold, and the run has to have its steps, path, end and output, and the decisions of the leaf's other runs. z3 is asked of each
 text whether it is sat, also on its test's input, where status and output have to be the test's; of each two neighbours whether
-both hold; and whether none holds. A line is said for each disagreement, and one for each routine: its leaves, those that were
+both hold; and whether none holds. Of a leaf that was cut by conflicts the clauses that were learnt are counted, and the question
+has to be a part of its condition, with the last assertion in it; whether the clauses follow isn't looked at. A line is said for each disagreement, and one for each routine: its leaves, those that were
 cut by the budget that was spent, those that z3 shows to be empty, and the questions that z3 left. The status is 1 where
 there is a disagreement.
 """
@@ -19,6 +20,7 @@ import argparse
 import itertools
 import pathlib
 import random
+import re
 import subprocess
 import sys
 import tempfile
@@ -40,8 +42,8 @@ NAMED = "(declare-fun the_{name} () (_ BitVec 8))\n(assert (= the_{name} {name})
 class Routine:
     """A table, the report on its routine, and what was found out so far."""
 
-    def __init__(self, word, name, count, seconds):
-        self.word, self.count, self.seconds = word, count, seconds
+    def __init__(self, word, name, count, asked):
+        self.word, self.count, self.conflicts, self.seconds = word, count, asked.conflicts, asked.seconds
         self.program, self.region = DATA / f"{name}.elf", f"00011000:{count}"
         self.image, self.table = load(self.program), (HERE / f"{word}.expected").read_text().splitlines()
         self.wrong = self.asked = self.left = self.empty = 0
@@ -62,7 +64,8 @@ class Routine:
 
 def explore(routine, tool, folder):
     """Explores the routine. Gives what is said, or None where there is no report."""
-    command = [tool, "explore", *routine.line("options").split(), routine.program, folder, routine.region]
+    options = [*routine.line("options").split(), "--conflicts", routine.conflicts]
+    command = [tool, "explore", *options, routine.program, folder, routine.region]
     done = subprocess.run(command, stdout=subprocess.PIPE, stderr=subprocess.DEVNULL, text=True)
     if done.returncode != 0:
         return routine.say(f"status {done.returncode}: {done.stdout.strip()}")
@@ -94,8 +97,8 @@ def compare_files(routine, leaf):
         routine.say(f"{leaf['name']}: of kind {leaf['kind']}, but test and spent values aren't as they have to be")
     if leaf["read"].inputs != routine.count:
         routine.say(f"{leaf['name']}: has {leaf['read'].inputs} inputs")
-    if leaf["kind"] == "targets":
-        compare_values(routine, leaf)
+    if is_shown and leaf["spent"]:
+        (compare_values if leaf["kind"] == "targets" else compare_learnt)(routine, leaf)
     if leaf["test"]:
         test, run = leaf["test"], routine.run(leaf["input"])
         here = [test[key] for key in ("end", "output", "path", "steps", "regions")]
@@ -108,7 +111,7 @@ def compare_files(routine, leaf):
 
 def compare_values(routine, leaf):
     """The values of a leaf that was cut by targets: their number and order, and each with the input beside it."""
-    read, (head, named, *lines) = leaf["read"], leaf["spent"] or ["", ""]
+    read, (head, named, *lines) = leaf["read"], leaf["spent"]
     values = [line.split()[1:] for line in lines]
     if head != f"; spent targets {routine.line('options').split()[3]}" or len(values) != int(head.split()[3]):
         routine.say(f"{leaf['name']}: {len(values)} values stand below {head}")
@@ -118,6 +121,19 @@ def compare_values(routine, leaf):
         worth = read.values(bytes.fromhex(shown))
         if worth[int(named.split()[2][1:])] != int(value, 16) or not read.holds(worth, but=len(values)):
             routine.say(f"{leaf['name']}: the term isn't {value} on {shown}, or its fork doesn't have that")
+
+
+def compare_learnt(routine, leaf):
+    """The question of a leaf that was cut by conflicts, and the form and the number of the clauses that were learnt."""
+    head, question = leaf["spent"][:3], [line for line in leaf["spent"][3:] if not line.startswith("c ")]
+    clauses = leaf["spent"][3 + len(question):]
+    if head[0] != f"; spent conflicts {routine.conflicts}" or len(clauses) != int(routine.conflicts):
+        routine.say(f"{leaf['name']}: {len(clauses)} clauses stand below {head[0]}")
+    if not all(re.fullmatch(r"c (-?[1-9]\d* )+0 ([1-9]\d* )+0", line) for line in clauses):
+        routine.say(f"{leaf['name']}: one of its clauses has another form")
+    asserted, asked = (list(z3.parse_smt2_string(text)) for text in (leaf["text"], "\n".join(question)))
+    if not all(any(one.eq(other) for other in asserted) for one in asked) or not any(asserted[-1].eq(one) for one in asked):
+        routine.say(f"{leaf['name']}: the question isn't a part of its condition, or its last assertion isn't in it")
 
 
 def compare_run(routine, leaf, worth, values):
@@ -235,6 +251,7 @@ def compare(routine, tool, folder):
 def main():
     asked = argparse.ArgumentParser()
     asked.add_argument("--tool", default=HERE.parent.parent / "rvklee")
+    asked.add_argument("--conflicts", default="2000")
     asked.add_argument("--seconds", type=int, default=20)
     asked.add_argument("--keep", type=pathlib.Path)
     asked.add_argument("words", nargs="*")
@@ -246,7 +263,7 @@ def main():
                 continue
             into = (asked.keep or pathlib.Path(folder)) / word
             into.mkdir(parents=True)
-            routine = Routine(word, name, count, asked.seconds)
+            routine = Routine(word, name, count, asked)
             compare(routine, asked.tool, into)
             wrong += routine.wrong
     return 1 if wrong else 0
