@@ -16,10 +16,8 @@ import random
 import sys
 
 from interpreter import Machine, load
-from runs import DATA, HERE, STEPS, TARGETS, WIDE, compare_with_qemu, summary
+from runs import DATA, FIRST_TWO, HERE, STEPS, TARGETS, WIDE, compare_with_qemu, summary
 
-# Programs of which the first two bytes alone are input, too.
-FIRST_TWO = ["decimal", "records"]
 # How many random inputs a search begins with.
 RANDOM = 500
 

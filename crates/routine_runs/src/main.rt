@@ -19,8 +19,6 @@ use work_gate::OpenGate;
 const NAME: &str = "rvklee";
 // The folder of the reports: each is written over the one before it.
 const FOLDER: &str = "report";
-// The input byte of each program.
-const INPUT: &str = "00011000:1";
 
 // Adds words to a command line.
 fn add(alloc: Global, words: &mut Vec<String>, more: &[&str]) -> Result<(), NoMemory> {
@@ -35,7 +33,7 @@ fn explore_words(alloc: Global, routine: &Routine) -> Result<Vec<String>, NoMemo
     let mut words = Vec::new(alloc);
     add(alloc, &mut words, &[NAME, "explore"])?;
     add(alloc, &mut words, routine.options)?;
-    add(alloc, &mut words, &[routine.program, FOLDER, INPUT])?;
+    add(alloc, &mut words, &[routine.program, FOLDER, routine.input])?;
     Ok(words)
 }
 
