@@ -1,0 +1,67 @@
+"""A program as a report needs it: its image, its instruction words, and the names of its places."""
+import bisect
+import pathlib
+import struct
+import sys
+
+sys.path.insert(0, str(pathlib.Path(__file__).resolve().parent.parent / "bench/routines"))
+
+import interpreter  # noqa: E402
+
+LOAD, EXECUTABLE = 1, 1
+SYMTAB, SECTION_EXECUTABLE = 2, 4
+# A symbol's types that name a place in code.
+NO_TYPE, FUNCTION = 0, 2
+
+
+class Program:
+    def __init__(self, path):
+        self.path, self.data = path, path.read_bytes()
+        self.image = interpreter.load(path)
+        self.areas = self.code()
+        self.words = [(address, self.word(address)) for start, size in self.areas for address in range(start, start + size - 3, 4)]
+        self.names = self.symbols()
+        self.named = sorted(self.names)
+
+    def word(self, address):
+        _, pages = self.image
+        return sum(pages[place >> 8][1][place & 255] << 8 * (place - address) for place in range(address, address + 4))
+
+    def headers(self, at, size_at, form):
+        """The rows of a table of headers."""
+        start, = struct.unpack_from("<I", self.data, at)
+        size, count = struct.unpack_from("<HH", self.data, size_at)
+        return [struct.unpack_from(form, self.data, start + size * place) for place in range(count if start else 0)]
+
+    def sections(self):
+        return self.headers(32, 46, "<10I")
+
+    def code(self):
+        """Start and size of what has instructions: the sections that say so, or where there is none the segments."""
+        found = [(row[3], row[5]) for row in self.sections() if row[2] & SECTION_EXECUTABLE and row[5]]
+        if not found:
+            found = [(row[2], row[5]) for row in self.headers(28, 42, "<8I") if row[0] == LOAD and row[6] & EXECUTABLE and row[5]]
+        return sorted(found)
+
+    def symbols(self):
+        """The names of functions and labels by their addresses. A stripped file has none."""
+        found, sections = {}, self.sections()
+        inside = {address for address, _ in self.words}
+        for row in sections:
+            if row[1] != SYMTAB:
+                continue
+            names = sections[row[6]][4]
+            for at in range(row[4], row[4] + row[5], 16):
+                name, value, _, info, _, _ = struct.unpack_from("<IIIBBH", self.data, at)
+                text = self.data[names + name:self.data.index(0, names + name)].decode(errors="replace")
+                if info & 15 in (NO_TYPE, FUNCTION) and value in inside and text and not text.startswith("$"):
+                    found[value] = text
+        return found
+
+    def place(self, address):
+        """An address by the last name before it, as `settings_read+0x2c`; empty where there is none."""
+        found = bisect.bisect_right(self.named, address)
+        if not found or not any(start <= address < start + size for start, size in self.areas):
+            return ""
+        start = self.named[found - 1]
+        return self.names[start] + (f"+0x{address - start:x}" if address > start else "")
