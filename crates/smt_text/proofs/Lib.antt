@@ -2,3 +2,10 @@ pub mod TextLines
 pub mod TextParts
 pub mod Fitting
 pub mod Reading
+pub mod Options
+pub mod Words
+pub mod Lists
+pub mod TermsBack
+pub mod Phases
+pub mod LinesBack
+pub mod OneReading

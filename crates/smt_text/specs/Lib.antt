@@ -4,3 +4,6 @@ pub mod Lines
 pub mod LeafLines
 pub mod NodeFits
 pub mod Grammar
+pub mod Pieces
+pub mod LineReading
+pub mod Refusals

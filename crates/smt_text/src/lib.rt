@@ -1,6 +1,7 @@
 //! The texts of leaves and of conditions, in SMT-LIB's logic QF_ABV, and the short texts that other files share with them.
 #![tactic(auto)]
 
+mod head;
 pub mod laws;
 mod leaf;
 mod lines;
@@ -8,6 +9,7 @@ mod names;
 mod node_text;
 mod numbered;
 mod printing;
+mod spot;
 #[cfg(test)]
 mod tests;
 

@@ -1,0 +1,177 @@
+-- The line that a text begins with, at each place of a leaf's text. It may stand there where the grammar
+-- says so.
+use Rattle.std.specs.Prelude.{ℕ, suc, ◌^◌, Bool, true, false, nat_lt, if◌then◌else◌, List, [], ◌∷◌, ◌&&◌, length, Option, None, Some, codes, option_map, option_and_then}
+use Rattle.std.specs.Option.{option_or}
+use Rattle.bv_dag.specs.declared.nodes.BinaryOp.TheVariants.{Add, Sub, Mul, Udiv, Urem, And, Or, Xor, Shl, Lshr, Ashr}
+use Rattle.bv_dag.specs.declared.nodes.Comparison.TheVariants.{Ult, Slt, Eq}
+use Rattle.bv_dag.specs.declared.nodes.Node.{Node}
+use Rattle.bv_dag.specs.declared.nodes.Node.TheVariants.{Num, Input, Not, Neg, Binary, Compare, Ite, Extract, Extend, Concat}
+use Rattle.rv_decode.specs.declared.ends.PathStep.{PathStep}
+use Rattle.rv_decode.specs.declared.ends.PathStep.TheVariants.{Taken, NotTaken, Target}
+use Rattle.rv_decode.specs.declared.ends.Trap.TheVariants.{Illegal, FetchMisaligned, FetchAccess, LoadMisaligned, LoadAccess, StoreMisaligned, StoreAccess, Break, Call}
+use Rattle.tree_core.specs.declared.cause.Cause.TheVariants.{Steps, Targets, Conflicts}
+use Rattle.tree_core.specs.declared.choice.Choice.{Choice}
+use Rattle.tree_core.specs.declared.choice.Choice.TheVariants.{No, Yes, Value, Rest}
+use Rattle.smt_text.specs.Grammar.{Reading, next_state}
+use Rattle.smt_text.specs.Lines.{LeafLine, FormatLine, KindLine, ChoicesLine, PathLine, StepsLine, EndLine, InputsLine, NodesLine, OutputsLine, LogicLine, InputLine, BaseLine, NodeLine, StatusLine, OutputLine, AssertLine, CheckLine, ExitLine, line_text}
+use Rattle.smt_text.specs.Names.{Kind, finished, cut, EndWord, exit, trap, running}
+use Rattle.smt_text.specs.Pieces.{Reader, before, behind, eight, items, made, named, number, one, three, two}
+use Rattle.smt_text.specs.declared.head.Head.{Head}
+use Rattle.smt_text.specs.declared.head.Head.TheVariants as head
+use Rattle.smt_text.specs.declared.spot.Spot.{Spot}
+use Rattle.smt_text.specs.declared.spot.Spot.TheVariants.{AtFormat, AtKind, AtChoices, AtPath, AtSteps, AtEnd, AtInputs, AtNodes, AtOutputs, AtLogic, AmongInputs, AtBase, AmongNodes, AtStatus, AmongOutputs, AmongAssertions, AtExit, Closed}
+
+-- ---- the heading
+
+-- the words of kinds and of ends, each with the end of its line
+abbrev pub kinds : List (List ℕ × Kind)
+kinds =
+    (codes "finished\n", finished)
+    ∷ (codes "steps\n", cut Steps)
+    ∷ (codes "targets\n", cut Targets)
+    ∷ (codes "conflicts\n", cut Conflicts)
+    ∷ []
+
+abbrev pub end_words : List (List ℕ × EndWord)
+end_words =
+    (codes "exit\n", exit)
+    ∷ (codes "running\n", running)
+    ∷ (codes "Illegal\n", trap Illegal)
+    ∷ (codes "FetchMisaligned\n", trap FetchMisaligned)
+    ∷ (codes "FetchAccess\n", trap FetchAccess)
+    ∷ (codes "LoadMisaligned\n", trap LoadMisaligned)
+    ∷ (codes "LoadAccess\n", trap LoadAccess)
+    ∷ (codes "StoreMisaligned\n", trap StoreMisaligned)
+    ∷ (codes "StoreAccess\n", trap StoreAccess)
+    ∷ (codes "Break\n", trap Break)
+    ∷ (codes "Call\n", trap Call)
+    ∷ []
+
+-- a choice
+abbrev pub plain_choices : List (List ℕ × Choice)
+plain_choices = (codes "N", No) ∷ (codes "Y", Yes) ∷ (codes "R", Rest) ∷ []
+
+unfoldable pub choice : Reader Choice
+choice text =
+    option_or (named plain_choices text)
+    (made Value (option_and_then eight (behind (codes "=") text)))
+
+-- an entry of a path
+abbrev pub branches : List (List ℕ × PathStep)
+branches = (codes "T", Taken) ∷ (codes "N", NotTaken) ∷ []
+
+unfoldable pub step : Reader PathStep
+step text =
+    option_or (named branches text)
+    (made Target (option_and_then eight (behind (codes "@") text)))
+
+-- ---- terms
+
+abbrev pub heads : List (List ℕ × Head)
+heads =
+    (codes "(_ bv", head.Num)
+    ∷ (codes "b", head.Input)
+    ∷ (codes "(bvnot n", head.Not)
+    ∷ (codes "(bvneg n", head.Neg)
+    ∷ (codes "(bvadd n", head.Binary Add)
+    ∷ (codes "(bvsub n", head.Binary Sub)
+    ∷ (codes "(bvmul n", head.Binary Mul)
+    ∷ (codes "(bvudiv n", head.Binary Udiv)
+    ∷ (codes "(bvurem n", head.Binary Urem)
+    ∷ (codes "(bvand n", head.Binary And)
+    ∷ (codes "(bvor n", head.Binary Or)
+    ∷ (codes "(bvxor n", head.Binary Xor)
+    ∷ (codes "(bvshl n", head.Binary Shl)
+    ∷ (codes "(bvlshr n", head.Binary Lshr)
+    ∷ (codes "(bvashr n", head.Binary Ashr)
+    ∷ (codes "(ite (bvult n", head.Test Ult)
+    ∷ (codes "(ite (bvslt n", head.Test Slt)
+    ∷ (codes "(ite (= n", head.Equal)
+    ∷ (codes "((_ extract ", head.Extract)
+    ∷ (codes "((_ sign_extend ", head.Extend true)
+    ∷ (codes "((_ zero_extend ", head.Extend false)
+    ∷ (codes "(concat n", head.Concat)
+    ∷ []
+
+-- a number of 32 bits
+abbrev pub if_word : {X : Type 0} → ℕ → Option X → Option X
+if_word n found = if nat_lt n (2 ^ 32) then found else None
+
+-- what a test answers: the bits 1 and 0
+abbrev pub answers : List ℕ
+answers = codes ") (_ bv1 1) (_ bv0 1))"
+
+-- what stands behind the head of a term
+unfoldable pub operands : Head → Reader Node
+operands head.Num text =
+    option_and_then (λ ((value, width), rest). if_word width (Some (Num width value, rest)))
+    (two (codes " ") (codes ")") text)
+operands head.Input text = made Input (number text)
+operands head.Not text = made Not (one (codes ")") text)
+operands head.Neg text = made Neg (one (codes ")") text)
+operands (head.Binary op) text = made (λ (a, b). Binary op a b) (two (codes " n") (codes ")") text)
+operands (head.Test op) text = made (λ (a, b). Compare op a b) (two (codes " n") answers text)
+operands head.Equal text =
+    option_or (made (λ (a, b). Compare Eq a b) (two (codes " n") answers text))
+    (made (λ (c, a, b). Ite c a b) (three (codes " (_ bv1 1)) n") (codes " n") (codes ")") text))
+operands head.Extract text =
+    option_and_then (λ ((high, low, a), rest). if_word high (if_word low (Some (Extract high low a, rest))))
+    (three (codes " ") (codes ") n") (codes ")") text)
+operands (head.Extend signed) text =
+    option_and_then (λ ((by, a), rest). if_word by (Some (Extend by signed a, rest)))
+    (two (codes ") n") (codes ")") text)
+operands head.Concat text = made (λ (a, b). Concat a b) (two (codes " n") (codes ")") text)
+
+unfoldable pub term : Reader Node
+term text = option_and_then (λ (head, rest). operands head rest) (named heads text)
+
+-- the line of a term
+unfoldable pub node_line : Reader LeafLine
+node_line text =
+    option_and_then (λ ((id, width), rest). made (NodeLine id width) (before term (codes ")\n") rest))
+    (option_and_then (two (codes " () (_ BitVec ") (codes ") ")) (behind (codes "(define-fun n") text))
+
+-- ---- all lines
+
+-- a line that says nothing of its own
+abbrev pub fixed : LeafLine → Reader LeafLine
+fixed line text = option_map (λ rest. (line, rest)) (behind (line_text line) text)
+
+-- the line that the text begins with, at this place
+abbrev pub line_at : Spot → Reader LeafLine
+line_at AtFormat text = fixed FormatLine text
+line_at AtKind text = made KindLine (option_and_then (named kinds) (behind (codes "; kind ") text))
+line_at AtChoices text =
+    made ChoicesLine (option_and_then (items choice (suc (length text))) (behind (codes "; choices ") text))
+line_at AtPath text =
+    made PathLine (option_and_then (items step (suc (length text))) (behind (codes "; path ") text))
+line_at AtSteps text =
+    made StepsLine (option_and_then (one (codes "\n")) (behind (codes "; steps ") text))
+line_at AtEnd text = made EndLine (option_and_then (named end_words) (behind (codes "; end ") text))
+line_at AtInputs text =
+    made InputsLine (option_and_then (one (codes "\n")) (behind (codes "; inputs ") text))
+line_at AtNodes text =
+    made NodesLine (option_and_then (one (codes "\n")) (behind (codes "; nodes ") text))
+line_at AtOutputs text =
+    made OutputsLine (option_and_then (one (codes "\n")) (behind (codes "; outputs ") text))
+line_at AtLogic text = fixed LogicLine text
+line_at AmongInputs text =
+    made InputLine (option_and_then (one (codes " () (_ BitVec 8))\n")) (behind (codes "(declare-fun b") text))
+line_at AtBase text = fixed BaseLine text
+line_at AmongNodes text = node_line text
+line_at AtStatus text =
+    made StatusLine (option_and_then (one (codes ")\n")) (behind (codes "(define-fun status () (_ BitVec 8) n") text))
+line_at AmongOutputs text =
+    made (λ (i, id). OutputLine i id)
+    (option_and_then (two (codes " () (_ BitVec 8) n") (codes ")\n")) (behind (codes "(define-fun out") text))
+line_at AmongAssertions text =
+    option_or (made AssertLine (option_and_then (one (codes " (_ bv1 1)))\n")) (behind (codes "(assert (= n") text)))
+    (fixed CheckLine text)
+line_at AtExit text = fixed ExitLine text
+line_at Closed text = None
+
+-- what is read with the line that the text begins with, where it may stand, and what is behind it
+unfoldable pub next_line : Reading → Reader Reading
+next_line r text =
+    option_and_then (λ (line, rest). option_map (λ next. (next, rest)) (next_state r line))
+    (line_at r.place text)
