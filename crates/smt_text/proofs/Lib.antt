@@ -4,8 +4,11 @@ pub mod Fitting
 pub mod Reading
 pub mod Options
 pub mod Words
-pub mod Lists
+pub mod ItemsBack
 pub mod TermsBack
 pub mod Phases
 pub mod LinesBack
 pub mod OneReading
+pub mod CursorSteps
+pub mod ItemsFrom
+pub mod ItemLoops

@@ -12,7 +12,7 @@ use Rattle.bv_dag.proofs.TermLaws.{there}
 use Rattle.rv_decode.specs.declared.ends.Trap.TheVariants.{Illegal, FetchMisaligned, FetchAccess, LoadMisaligned, LoadAccess, StoreMisaligned, StoreAccess, Break, Call}
 use Rattle.tree_core.specs.declared.cause.Cause.TheVariants.{Steps, Targets, Conflicts}
 use Rattle.smt_text.specs.Grammar.{Reading, graph_of, is_small, is_wide, stands}
-use Rattle.smt_text.specs.LineReading.{choice, end_words, kinds, line_at, node_line, step, term}
+use Rattle.smt_text.specs.LineReading.{choice, endings, kind_said, kinds, line_at, node_line, step, term, word_said}
 use Rattle.smt_text.specs.Lines.{LeafLine, FormatLine, KindLine, ChoicesLine, PathLine, StepsLine, EndLine, InputsLine, NodesLine, OutputsLine, LogicLine, InputLine, BaseLine, NodeLine, StatusLine, OutputLine, AssertLine, CheckLine, ExitLine, line_text}
 use Rattle.smt_text.specs.Names.{Kind, finished, cut, EndWord, exit, trap, running, choices_text, kind_text, path_text, word_text}
 use Rattle.smt_text.specs.NodeFits.{fits}
@@ -20,7 +20,7 @@ use Rattle.smt_text.specs.NodeText.{node_text}
 use Rattle.smt_text.specs.Pieces.{before, behind, items, list_end, made, named, one, two}
 use Rattle.smt_text.specs.declared.spot.Spot.{Spot}
 use Rattle.smt_text.specs.declared.spot.Spot.TheVariants.{AtFormat, AtKind, AtChoices, AtPath, AtSteps, AtEnd, AtInputs, AtNodes, AtOutputs, AtLogic, AmongInputs, AtBase, AmongNodes, AtStatus, AmongOutputs, AmongAssertions, AtExit, Closed}
-use Rattle.smt_text.proofs.Lists.{choices_back, steps_back}
+use Rattle.smt_text.proofs.ItemsBack.{choices_back, steps_back}
 use Rattle.smt_text.proofs.Phases.{Counted, IsWithin, fits_from, lt_from, small_choices, small_path}
 use Rattle.smt_text.proofs.TermsBack.{IsSmallNode, five_pieces, seven_pieces, term_back, three_pieces}
 use Rattle.smt_text.proofs.Words.{behind_word, one_back, starts_plain, two_back}
@@ -69,27 +69,28 @@ module _ (inputs : ℕ) (before : List ℕ) (few_inputs : inputs < 2 ^ 32) (few 
 head_piece : (h a e rest : List ℕ) → ((h ++ a) ++ e) ++ rest ≡ h ++ ((a ++ e) ++ rest)
 head_piece h a e rest = simp append_assoc
 
-kind_named : (kind : Kind) (rest : List ℕ) → named kinds ((kind_text kind ++ codes "\n") ++ rest) ≡ Some (kind, rest)
+kind_line : (kind : Kind) (rest : List ℕ) →
+    made (λ cause. KindLine (kind_said cause)) (named kinds ((kind_text kind ++ codes "\n") ++ rest)) ≡ Some (KindLine kind, rest)
 unfolding named behind
-kind_named finished rest = refl
-kind_named (cut Steps) rest = refl
-kind_named (cut Targets) rest = refl
-kind_named (cut Conflicts) rest = refl
+kind_line finished rest = refl
+kind_line (cut Steps) rest = refl
+kind_line (cut Targets) rest = refl
+kind_line (cut Conflicts) rest = refl
 
-word_named : (word : EndWord) (rest : List ℕ) →
-    named end_words ((word_text word ++ codes "\n") ++ rest) ≡ Some (word, rest)
+end_line : (word : EndWord) (rest : List ℕ) →
+    made (λ said. EndLine (word_said said)) (named endings ((word_text word ++ codes "\n") ++ rest)) ≡ Some (EndLine word, rest)
 unfolding named behind
-word_named exit rest = refl
-word_named running rest = refl
-word_named (trap Illegal) rest = refl
-word_named (trap FetchMisaligned) rest = refl
-word_named (trap FetchAccess) rest = refl
-word_named (trap LoadMisaligned) rest = refl
-word_named (trap LoadAccess) rest = refl
-word_named (trap StoreMisaligned) rest = refl
-word_named (trap StoreAccess) rest = refl
-word_named (trap Break) rest = refl
-word_named (trap Call) rest = refl
+end_line exit rest = refl
+end_line running rest = refl
+end_line (trap Illegal) rest = refl
+end_line (trap FetchMisaligned) rest = refl
+end_line (trap FetchAccess) rest = refl
+end_line (trap LoadMisaligned) rest = refl
+end_line (trap LoadAccess) rest = refl
+end_line (trap StoreMisaligned) rest = refl
+end_line (trap StoreAccess) rest = refl
+end_line (trap Break) rest = refl
+end_line (trap Call) rest = refl
 
 number_line : (make : ℕ → LeafLine) (word end : List ℕ) (n : ℕ) (rest : List ℕ) → n < 2 ^ 64 →
     starts_plain (end ++ rest) ≡ true →
@@ -122,22 +123,22 @@ pub line_back : (place : Spot) (r : Reading) (line : LeafLine) (rest : List ℕ)
 line_back AtFormat r FormatLine rest w c h = rw (behind_word (line_text FormatLine) rest) refl
 line_back AtKind r (KindLine kind) rest w c h =
     ap (line_at AtKind) (head_piece (codes "; kind ") (kind_text kind) (codes "\n") rest)
-    ∙ rw (behind_word (codes "; kind ") ((kind_text kind ++ codes "\n") ++ rest), kind_named kind rest) refl
+    ∙ rw (behind_word (codes "; kind ") ((kind_text kind ++ codes "\n") ++ rest)) (kind_line kind rest)
 line_back AtChoices r (ChoicesLine cs) rest w c h =
-    let enough : length (choices_text cs) < suc (length (codes "; choices " ++ (choices_text cs ++ (list_end ++ rest)))) =
-    omega (arith, length-append (codes "; choices ") (choices_text cs ++ (list_end ++ rest)), length-append (choices_text cs) (list_end ++ rest)) in
+    let enough : length (choices_text cs) < suc (length (choices_text cs ++ (list_end ++ rest))) =
+    omega (arith, length-append (choices_text cs) (list_end ++ rest)) in
     ap (line_at AtChoices) (three_pieces (codes "; choices ") (choices_text cs) list_end rest)
     ∙ rw (behind_word (codes "; choices ") (choices_text cs ++ (list_end ++ rest)), choices_back cs rest _ (small_choices cs h) enough) refl
 line_back AtPath r (PathLine steps) rest w c h =
-    let enough : length (path_text steps) < suc (length (codes "; path " ++ (path_text steps ++ (list_end ++ rest)))) =
-    omega (arith, length-append (codes "; path ") (path_text steps ++ (list_end ++ rest)), length-append (path_text steps) (list_end ++ rest)) in
+    let enough : length (path_text steps) < suc (length (path_text steps ++ (list_end ++ rest))) =
+    omega (arith, length-append (path_text steps) (list_end ++ rest)) in
     ap (line_at AtPath) (three_pieces (codes "; path ") (path_text steps) list_end rest)
     ∙ rw (behind_word (codes "; path ") (path_text steps ++ (list_end ++ rest)), steps_back steps rest _ (small_path steps h) enough) refl
 line_back AtSteps r (StepsLine n) rest w c h =
     number_line StepsLine (codes "; steps ") (codes "\n") n rest (omega (arith, lt_from n (2 ^ 32) h)) refl
 line_back AtEnd r (EndLine word) rest w c h =
     ap (line_at AtEnd) (head_piece (codes "; end ") (word_text word) (codes "\n") rest)
-    ∙ rw (behind_word (codes "; end ") ((word_text word ++ codes "\n") ++ rest), word_named word rest) refl
+    ∙ rw (behind_word (codes "; end ") ((word_text word ++ codes "\n") ++ rest)) (end_line word rest)
 line_back AtInputs r (InputsLine n) rest w c h =
     number_line InputsLine (codes "; inputs ") (codes "\n") n rest (omega (arith, lt_from n (2 ^ 32) h)) refl
 line_back AtNodes r (NodesLine n) rest w c h =

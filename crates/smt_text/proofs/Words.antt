@@ -92,7 +92,7 @@ count_digits (d ∷ digits) rest all plain =
     let later : digit_count (digits ++ rest) ≡ length digits = count_digits digits rest all.1 plain in
     rw first (omega (arith, later))
 
-all_counted : (text : List ℕ) → AllDigits 10 (take (digit_count text) text)
+pub all_counted : (text : List ℕ) → AllDigits 10 (take (digit_count text) text)
 all_counted [] = tt
 all_counted (c ∷ text) = go (is_ascii_digit c) refl (all_counted text)
   where

@@ -6,4 +6,5 @@ pub mod NodeFits
 pub mod Grammar
 pub mod Pieces
 pub mod LineReading
+pub mod ReadingState
 pub mod Refusals

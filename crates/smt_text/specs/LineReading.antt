@@ -9,13 +9,17 @@ use Rattle.bv_dag.specs.declared.nodes.Node.TheVariants.{Num, Input, Not, Neg, B
 use Rattle.rv_decode.specs.declared.ends.PathStep.{PathStep}
 use Rattle.rv_decode.specs.declared.ends.PathStep.TheVariants.{Taken, NotTaken, Target}
 use Rattle.rv_decode.specs.declared.ends.Trap.TheVariants.{Illegal, FetchMisaligned, FetchAccess, LoadMisaligned, LoadAccess, StoreMisaligned, StoreAccess, Break, Call}
+use Rattle.tree_core.specs.declared.cause.Cause.{Cause}
 use Rattle.tree_core.specs.declared.cause.Cause.TheVariants.{Steps, Targets, Conflicts}
 use Rattle.tree_core.specs.declared.choice.Choice.{Choice}
 use Rattle.tree_core.specs.declared.choice.Choice.TheVariants.{No, Yes, Value, Rest}
-use Rattle.smt_text.specs.Grammar.{Reading, next_state}
+use Rattle.fork_spec.specs.declared.end.LeafEnd.{LeafEnd}
+use Rattle.smt_text.specs.Grammar.{Reading, agree, end_of, next_state}
 use Rattle.smt_text.specs.Lines.{LeafLine, FormatLine, KindLine, ChoicesLine, PathLine, StepsLine, EndLine, InputsLine, NodesLine, OutputsLine, LogicLine, InputLine, BaseLine, NodeLine, StatusLine, OutputLine, AssertLine, CheckLine, ExitLine, line_text}
 use Rattle.smt_text.specs.Names.{Kind, finished, cut, EndWord, exit, trap, running}
 use Rattle.smt_text.specs.Pieces.{Reader, before, behind, eight, items, made, named, number, one, three, two}
+use Rattle.smt_text.specs.declared.ending.Ending.{Ending}
+use Rattle.smt_text.specs.declared.ending.Ending.TheVariants as ending
 use Rattle.smt_text.specs.declared.head.Head.{Head}
 use Rattle.smt_text.specs.declared.head.Head.TheVariants as head
 use Rattle.smt_text.specs.declared.spot.Spot.{Spot}
@@ -23,47 +27,84 @@ use Rattle.smt_text.specs.declared.spot.Spot.TheVariants.{AtFormat, AtKind, AtCh
 
 -- ---- the heading
 
--- the words of kinds and of ends, each with the end of its line
-abbrev pub kinds : List (List ℕ × Kind)
+-- the words of kinds and of ends, each with the end of its line; a kind is the budget that was spent,
+-- where one was
+abbrev pub kinds : List (List ℕ × Option Cause)
 kinds =
-    (codes "finished\n", finished)
-    ∷ (codes "steps\n", cut Steps)
-    ∷ (codes "targets\n", cut Targets)
-    ∷ (codes "conflicts\n", cut Conflicts)
+    (codes "finished\n", None)
+    ∷ (codes "steps\n", Some Steps)
+    ∷ (codes "targets\n", Some Targets)
+    ∷ (codes "conflicts\n", Some Conflicts)
     ∷ []
 
-abbrev pub end_words : List (List ℕ × EndWord)
-end_words =
-    (codes "exit\n", exit)
-    ∷ (codes "running\n", running)
-    ∷ (codes "Illegal\n", trap Illegal)
-    ∷ (codes "FetchMisaligned\n", trap FetchMisaligned)
-    ∷ (codes "FetchAccess\n", trap FetchAccess)
-    ∷ (codes "LoadMisaligned\n", trap LoadMisaligned)
-    ∷ (codes "LoadAccess\n", trap LoadAccess)
-    ∷ (codes "StoreMisaligned\n", trap StoreMisaligned)
-    ∷ (codes "StoreAccess\n", trap StoreAccess)
-    ∷ (codes "Break\n", trap Break)
-    ∷ (codes "Call\n", trap Call)
+abbrev pub kind_word : Reader (Option Cause)
+kind_word text = named kinds text
+
+abbrev pub kind_said : Option Cause → Kind
+kind_said None = finished
+kind_said (Some cause) = cut cause
+
+abbrev pub endings : List (List ℕ × Ending)
+endings =
+    (codes "exit\n", ending.Exit)
+    ∷ (codes "running\n", ending.Running)
+    ∷ (codes "Illegal\n", ending.Trapped Illegal)
+    ∷ (codes "FetchMisaligned\n", ending.Trapped FetchMisaligned)
+    ∷ (codes "FetchAccess\n", ending.Trapped FetchAccess)
+    ∷ (codes "LoadMisaligned\n", ending.Trapped LoadMisaligned)
+    ∷ (codes "LoadAccess\n", ending.Trapped LoadAccess)
+    ∷ (codes "StoreMisaligned\n", ending.Trapped StoreMisaligned)
+    ∷ (codes "StoreAccess\n", ending.Trapped StoreAccess)
+    ∷ (codes "Break\n", ending.Trapped Break)
+    ∷ (codes "Call\n", ending.Trapped Call)
     ∷ []
+
+abbrev pub end_word : Reader Ending
+end_word text = named endings text
+
+abbrev pub word_said : Ending → EndWord
+word_said ending.Exit = exit
+word_said (ending.Trapped t) = trap t
+word_said ending.Running = running
+
+-- the end that a kind and a word stand for, where they agree
+abbrev pub end_said : Option Cause → Ending → Option LeafEnd
+end_said kind said =
+    if agree (kind_said kind) (word_said said) then Some (end_of (kind_said kind) (word_said said))
+    else None
 
 -- a choice
 abbrev pub plain_choices : List (List ℕ × Choice)
 plain_choices = (codes "N", No) ∷ (codes "Y", Yes) ∷ (codes "R", Rest) ∷ []
 
+abbrev pub plain_choice : Reader Choice
+plain_choice text = named plain_choices text
+
+abbrev pub value_choice : Reader Choice
+value_choice text = made Value (option_and_then eight (behind (codes "=") text))
+
 unfoldable pub choice : Reader Choice
-choice text =
-    option_or (named plain_choices text)
-    (made Value (option_and_then eight (behind (codes "=") text)))
+choice text = option_or (plain_choice text) (value_choice text)
 
 -- an entry of a path
 abbrev pub branches : List (List ℕ × PathStep)
 branches = (codes "T", Taken) ∷ (codes "N", NotTaken) ∷ []
 
+abbrev pub branch : Reader PathStep
+branch text = named branches text
+
+abbrev pub target : Reader PathStep
+target text = made Target (option_and_then eight (behind (codes "@") text))
+
 unfoldable pub step : Reader PathStep
-step text =
-    option_or (named branches text)
-    (made Target (option_and_then eight (behind (codes "@") text)))
+step text = option_or (branch text) (target text)
+
+-- all choices, and all entries, of a list; each takes a byte or more
+abbrev pub all_choices : Reader (List Choice)
+all_choices text = items choice (suc (length text)) text
+
+abbrev pub all_steps : Reader (List PathStep)
+all_steps text = items step (suc (length text)) text
 
 -- ---- terms
 
@@ -101,6 +142,18 @@ if_word n found = if nat_lt n (2 ^ 32) then found else None
 abbrev pub answers : List ℕ
 answers = codes ") (_ bv1 1) (_ bv0 1))"
 
+abbrev pub term_head : Reader Head
+term_head text = named heads text
+
+-- two terms, of which it is asked whether they are equal
+abbrev pub equal_operands : Reader Node
+equal_operands text = made (λ (a, b). Compare Eq a b) (two (codes " n") answers text)
+
+-- the condition and the two sides of a choice
+abbrev pub ite_operands : Reader Node
+ite_operands text =
+    made (λ (c, a, b). Ite c a b) (three (codes " (_ bv1 1)) n") (codes " n") (codes ")") text)
+
 -- what stands behind the head of a term
 unfoldable pub operands : Head → Reader Node
 operands head.Num text =
@@ -111,9 +164,7 @@ operands head.Not text = made Not (one (codes ")") text)
 operands head.Neg text = made Neg (one (codes ")") text)
 operands (head.Binary op) text = made (λ (a, b). Binary op a b) (two (codes " n") (codes ")") text)
 operands (head.Test op) text = made (λ (a, b). Compare op a b) (two (codes " n") answers text)
-operands head.Equal text =
-    option_or (made (λ (a, b). Compare Eq a b) (two (codes " n") answers text))
-    (made (λ (c, a, b). Ite c a b) (three (codes " (_ bv1 1)) n") (codes " n") (codes ")") text))
+operands head.Equal text = option_or (equal_operands text) (ite_operands text)
 operands head.Extract text =
     option_and_then (λ ((high, low, a), rest). if_word high (if_word low (Some (Extract high low a, rest))))
     (three (codes " ") (codes ") n") (codes ")") text)
@@ -123,7 +174,7 @@ operands (head.Extend signed) text =
 operands head.Concat text = made (λ (a, b). Concat a b) (two (codes " n") (codes ")") text)
 
 unfoldable pub term : Reader Node
-term text = option_and_then (λ (head, rest). operands head rest) (named heads text)
+term text = option_and_then (λ (head, rest). operands head rest) (term_head text)
 
 -- the line of a term
 unfoldable pub node_line : Reader LeafLine
@@ -140,14 +191,16 @@ fixed line text = option_map (λ rest. (line, rest)) (behind (line_text line) te
 -- the line that the text begins with, at this place
 abbrev pub line_at : Spot → Reader LeafLine
 line_at AtFormat text = fixed FormatLine text
-line_at AtKind text = made KindLine (option_and_then (named kinds) (behind (codes "; kind ") text))
+line_at AtKind text =
+    made (λ cause. KindLine (kind_said cause)) (option_and_then kind_word (behind (codes "; kind ") text))
 line_at AtChoices text =
-    made ChoicesLine (option_and_then (items choice (suc (length text))) (behind (codes "; choices ") text))
+    made ChoicesLine (option_and_then all_choices (behind (codes "; choices ") text))
 line_at AtPath text =
-    made PathLine (option_and_then (items step (suc (length text))) (behind (codes "; path ") text))
+    made PathLine (option_and_then all_steps (behind (codes "; path ") text))
 line_at AtSteps text =
     made StepsLine (option_and_then (one (codes "\n")) (behind (codes "; steps ") text))
-line_at AtEnd text = made EndLine (option_and_then (named end_words) (behind (codes "; end ") text))
+line_at AtEnd text =
+    made (λ said. EndLine (word_said said)) (option_and_then end_word (behind (codes "; end ") text))
 line_at AtInputs text =
     made InputsLine (option_and_then (one (codes "\n")) (behind (codes "; inputs ") text))
 line_at AtNodes text =

@@ -79,11 +79,17 @@ abbrev pub number_of_bytes : Result (List ℕ) FromHexError → Option ℕ
 number_of_bytes (Ok bytes) = Some (from_be_bytes w32 bytes)
 number_of_bytes (Err why) = None
 
+abbrev pub has_upper_case : List ℕ → Bool
+has_upper_case text = list_any is_ascii_uppercase text
+
 -- the number that eight hexadecimal digits with no upper-case letter say
+unfoldable pub address_of : (digits : List ℕ) → Option ℕ
+address_of digits =
+    if has_upper_case digits then None else number_of_bytes (decode_sized digits 4)
+
+-- the number that the first eight bytes say
 unfoldable pub eight : Reader ℕ
-eight text =
-    if list_any is_ascii_uppercase (take 8 text) then None
-    else option_map (λ n. (n, drop 8 text)) (number_of_bytes (decode_sized (take 8 text) 4))
+eight text = option_map (λ n. (n, drop 8 text)) (address_of (take 8 text))
 
 -- ---- lists
 

@@ -1,15 +1,21 @@
 //! The texts of leaves and of conditions, in SMT-LIB's logic QF_ABV, and the short texts that other files share with them.
 #![tactic(auto)]
 
+mod cursor;
+mod ending;
 mod head;
 pub mod laws;
 mod leaf;
+mod leaf_reading;
 mod lines;
+mod lists;
 mod names;
 mod node_text;
 mod numbered;
 mod printing;
 mod spot;
+mod take_heading;
+mod term;
 #[cfg(test)]
 mod tests;
 

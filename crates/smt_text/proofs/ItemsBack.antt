@@ -19,7 +19,7 @@ use Rattle.tree_core.specs.declared.choice.Choice.TheVariants.{No, Yes, Value, R
 use Rattle.fork_spec.specs.Leaves.{IsSmallChoice, IsSmallStep}
 use Rattle.smt_text.specs.LineReading.{branches, choice, plain_choices, step}
 use Rattle.smt_text.specs.Names.{choice_text, eight_digits, step_text}
-use Rattle.smt_text.specs.Pieces.{Reader, behind, eight, items, list_end, made, named}
+use Rattle.smt_text.specs.Pieces.{Reader, address_of, behind, eight, items, list_end, made, named}
 use Rattle.smt_text.proofs.Options.{map_from, or_from, then_from}
 use Rattle.smt_text.proofs.Words.{behind_word, from_behind, from_named}
 
@@ -59,7 +59,7 @@ length_eight : (n : ℕ) → length (eight_digits n) ≡ 8
 length_eight n = length-encode_with lower_digits (to_be_bytes w32 n)
 
 pub eight_back : (n : ℕ) (rest : List ℕ) → n < 2 ^ 32 → eight (eight_digits n ++ rest) ≡ Some (n, rest)
-unfolding eight
+unfolding eight address_of
 eight_back n rest small =
     let bytes : decode_sized (eight_digits n) 4 ≡ Ok (to_be_bytes w32 n) =
     decode_sized-encode_lower (to_be_bytes w32 n) 4 refl (high_first_bytes 4 n) in
@@ -93,13 +93,13 @@ no_end_step Taken rest = refl
 no_end_step NotTaken rest = refl
 no_end_step (Target address) rest = refl
 
-some_choice : (c : Choice) → 0 < length (choice_text c)
+pub some_choice : (c : Choice) → 0 < length (choice_text c)
 some_choice No = omega arith
 some_choice Yes = omega arith
 some_choice (Value v) = omega arith
 some_choice Rest = omega arith
 
-some_step : (s : PathStep) → 0 < length (step_text s)
+pub some_step : (s : PathStep) → 0 < length (step_text s)
 some_step Taken = omega arith
 some_step NotTaken = omega arith
 some_step (Target address) = omega arith
