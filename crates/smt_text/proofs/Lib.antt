@@ -12,3 +12,6 @@ pub mod OneReading
 pub mod CursorSteps
 pub mod ItemsFrom
 pub mod ItemLoops
+pub mod NextLines
+pub mod LinesFrom
+pub mod Whole

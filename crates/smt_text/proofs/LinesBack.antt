@@ -21,7 +21,8 @@ use Rattle.smt_text.specs.Pieces.{before, behind, items, list_end, made, named, 
 use Rattle.smt_text.specs.declared.spot.Spot.{Spot}
 use Rattle.smt_text.specs.declared.spot.Spot.TheVariants.{AtFormat, AtKind, AtChoices, AtPath, AtSteps, AtEnd, AtInputs, AtNodes, AtOutputs, AtLogic, AmongInputs, AtBase, AmongNodes, AtStatus, AmongOutputs, AmongAssertions, AtExit, Closed}
 use Rattle.smt_text.proofs.ItemsBack.{choices_back, steps_back}
-use Rattle.smt_text.proofs.Phases.{Counted, IsWithin, fits_from, lt_from, small_choices, small_path}
+use Rattle.smt_text.specs.Phases.{Counted, IsWithin}
+use Rattle.smt_text.proofs.Phases.{fits_from, lt_from, small_choices, small_path}
 use Rattle.smt_text.proofs.TermsBack.{IsSmallNode, five_pieces, seven_pieces, term_back, three_pieces}
 use Rattle.smt_text.proofs.Words.{behind_word, one_back, starts_plain, two_back}
 
@@ -66,7 +67,7 @@ module _ (inputs : ℕ) (before : List ℕ) (few_inputs : inputs < 2 ^ 32) (few 
 
 -- ---- pieces in a row
 
-head_piece : (h a e rest : List ℕ) → ((h ++ a) ++ e) ++ rest ≡ h ++ ((a ++ e) ++ rest)
+pub head_piece : (h a e rest : List ℕ) → ((h ++ a) ++ e) ++ rest ≡ h ++ ((a ++ e) ++ rest)
 head_piece h a e rest = simp append_assoc
 
 kind_line : (kind : Kind) (rest : List ℕ) →

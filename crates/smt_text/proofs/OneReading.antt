@@ -11,7 +11,8 @@ use Rattle.smt_text.specs.Pieces.{behind}
 use Rattle.smt_text.specs.declared.spot.Spot.{Spot}
 use Rattle.smt_text.specs.declared.spot.Spot.TheVariants.{AtFormat, AtKind, AtChoices, AtPath, AtSteps, AtEnd, AtInputs, AtNodes, AtOutputs, AtLogic, AmongInputs, AtBase, AmongNodes, AtStatus, AmongOutputs, AmongAssertions, AtExit, Closed}
 use Rattle.smt_text.proofs.LinesBack.{line_back}
-use Rattle.smt_text.proofs.Phases.{Counted, Counted-start, IsWithin, IsWithin-start, kept}
+use Rattle.smt_text.specs.Phases.{Counted, IsWithin}
+use Rattle.smt_text.proofs.Phases.{Counted-start, IsWithin-start, kept}
 use Rattle.smt_text.proofs.Reading.{all_read, ended}
 
 -- the first of lines that each may stand

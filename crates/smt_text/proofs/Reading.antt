@@ -50,7 +50,7 @@ small_choice Yes h = refl
 small_choice (Value v) h = small v h
 small_choice Rest h = refl
 
-small_choices : (cs : List Choice) → All IsSmallChoice cs → list_all is_small_choice cs ≡ true
+pub small_choices : (cs : List Choice) → All IsSmallChoice cs → list_all is_small_choice cs ≡ true
 small_choices [] h = refl
 small_choices (c ∷ cs) h =
     rw (small_choice c (All-head IsSmallChoice c cs h)) (small_choices cs (All-tail IsSmallChoice c cs h))
@@ -60,7 +60,7 @@ small_step Taken h = refl
 small_step NotTaken h = refl
 small_step (Target address) h = small address h
 
-small_path : (steps : List PathStep) → All IsSmallStep steps → list_all is_small_step steps ≡ true
+pub small_path : (steps : List PathStep) → All IsSmallStep steps → list_all is_small_step steps ≡ true
 small_path [] h = refl
 small_path (s ∷ steps) h =
     rw (small_step s (All-head IsSmallStep s steps h)) (small_path steps (All-tail IsSmallStep s steps h))

@@ -6,5 +6,6 @@ pub mod NodeFits
 pub mod Grammar
 pub mod Pieces
 pub mod LineReading
+pub mod Phases
 pub mod ReadingState
 pub mod Refusals

@@ -1,6 +1,6 @@
 -- The line that a text begins with, at each place of a leaf's text. It may stand there where the grammar
 -- says so.
-use Rattle.std.specs.Prelude.{ℕ, suc, ◌^◌, Bool, true, false, nat_lt, if◌then◌else◌, List, [], ◌∷◌, ◌&&◌, length, Option, None, Some, codes, option_map, option_and_then}
+use Rattle.std.specs.Prelude.{◌≡◌, ℕ, suc, ◌^◌, Bool, true, false, nat_lt, if◌then◌else◌, List, [], ◌∷◌, ◌&&◌, length, Option, None, Some, codes, option_map, option_and_then}
 use Rattle.std.specs.Option.{option_or}
 use Rattle.bv_dag.specs.declared.nodes.BinaryOp.TheVariants.{Add, Sub, Mul, Udiv, Urem, And, Or, Xor, Shl, Lshr, Ashr}
 use Rattle.bv_dag.specs.declared.nodes.Comparison.TheVariants.{Ult, Slt, Eq}
@@ -14,7 +14,7 @@ use Rattle.tree_core.specs.declared.cause.Cause.TheVariants.{Steps, Targets, Con
 use Rattle.tree_core.specs.declared.choice.Choice.{Choice}
 use Rattle.tree_core.specs.declared.choice.Choice.TheVariants.{No, Yes, Value, Rest}
 use Rattle.fork_spec.specs.declared.end.LeafEnd.{LeafEnd}
-use Rattle.smt_text.specs.Grammar.{Reading, agree, end_of, next_state}
+use Rattle.smt_text.specs.Grammar.{Reading, agree, behind_nodes, end_of, next_state, stands, with_line}
 use Rattle.smt_text.specs.Lines.{LeafLine, FormatLine, KindLine, ChoicesLine, PathLine, StepsLine, EndLine, InputsLine, NodesLine, OutputsLine, LogicLine, InputLine, BaseLine, NodeLine, StatusLine, OutputLine, AssertLine, CheckLine, ExitLine, line_text}
 use Rattle.smt_text.specs.Names.{Kind, finished, cut, EndWord, exit, trap, running}
 use Rattle.smt_text.specs.Pieces.{Reader, before, behind, eight, items, made, named, number, one, three, two}
@@ -22,6 +22,7 @@ use Rattle.smt_text.specs.declared.ending.Ending.{Ending}
 use Rattle.smt_text.specs.declared.ending.Ending.TheVariants as ending
 use Rattle.smt_text.specs.declared.head.Head.{Head}
 use Rattle.smt_text.specs.declared.head.Head.TheVariants as head
+use Rattle.smt_text.specs.declared.take_terms.NodeSaid.{NodeSaid}
 use Rattle.smt_text.specs.declared.spot.Spot.{Spot}
 use Rattle.smt_text.specs.declared.spot.Spot.TheVariants.{AtFormat, AtKind, AtChoices, AtPath, AtSteps, AtEnd, AtInputs, AtNodes, AtOutputs, AtLogic, AmongInputs, AtBase, AmongNodes, AtStatus, AmongOutputs, AmongAssertions, AtExit, Closed}
 
@@ -176,11 +177,28 @@ operands head.Concat text = made (λ (a, b). Concat a b) (two (codes " n") (code
 unfoldable pub term : Reader Node
 term text = option_and_then (λ (head, rest). operands head rest) (term_head text)
 
--- the line of a term
+-- the line of a node, by its number, its width and the node
+abbrev pub line_said : NodeSaid → LeafLine
+line_said said = NodeLine said.id said.width said.node
+
 unfoldable pub node_line : Reader LeafLine
 node_line text =
     option_and_then (λ ((id, width), rest). made (NodeLine id width) (before term (codes ")\n") rest))
     (option_and_then (two (codes " () (_ BitVec ") (codes ") ")) (behind (codes "(define-fun n") text))
+
+-- the line of a byte of output: its number, and that of its term
+abbrev pub output_said : Reader (ℕ × ℕ)
+output_said text =
+    option_and_then (two (codes " () (_ BitVec 8) n") (codes ")\n")) (behind (codes "(define-fun out") text)
+
+-- the line of an assertion: the number of its term
+abbrev pub assertion_said : Reader ℕ
+assertion_said text =
+    option_and_then (one (codes " (_ bv1 1)))\n")) (behind (codes "(assert (= n") text)
+
+-- a number below 2 ^ 32 before the end of its line
+abbrev pub count : Reader ℕ
+count text = option_and_then (λ (n, rest). if_word n (Some (n, rest))) (one (codes "\n") text)
 
 -- ---- all lines
 
@@ -215,13 +233,16 @@ line_at AmongNodes text = node_line text
 line_at AtStatus text =
     made StatusLine (option_and_then (one (codes ")\n")) (behind (codes "(define-fun status () (_ BitVec 8) n") text))
 line_at AmongOutputs text =
-    made (λ (i, id). OutputLine i id)
-    (option_and_then (two (codes " () (_ BitVec 8) n") (codes ")\n")) (behind (codes "(define-fun out") text))
+    made (λ (i, id). OutputLine i id) (output_said text)
 line_at AmongAssertions text =
-    option_or (made AssertLine (option_and_then (one (codes " (_ bv1 1)))\n")) (behind (codes "(assert (= n") text)))
-    (fixed CheckLine text)
+    option_or (made AssertLine (assertion_said text)) (fixed CheckLine text)
 line_at AtExit text = fixed ExitLine text
 line_at Closed text = None
+
+-- whether the line may stand, where it is read with it
+abbrev pub IsPushed : Reading → LeafLine → Reading → Bool → Type 0
+IsPushed old line new true = (stands AmongNodes old line ≡ true) × (record new { place = behind_nodes new } ≡ with_line old line)
+IsPushed old line new false = stands AmongNodes old line ≡ false
 
 -- what is read with the line that the text begins with, where it may stand, and what is behind it
 unfoldable pub next_line : Reading → Reader Reading

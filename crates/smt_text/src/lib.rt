@@ -6,6 +6,7 @@ mod ending;
 mod head;
 pub mod laws;
 mod leaf;
+mod leaf_reader;
 mod leaf_reading;
 mod lines;
 mod lists;
@@ -14,12 +15,15 @@ mod node_text;
 mod numbered;
 mod printing;
 mod spot;
+mod take_counts;
 mod take_heading;
+mod take_terms;
 mod term;
 #[cfg(test)]
 mod tests;
 
 pub use leaf::LeafText;
+pub use leaf_reader::{SmtRefused, read_leaf};
 pub use names::{cause_name, end_name, kind_name, write_choice, write_choices, write_path};
 pub use numbered::push_numbered;
 pub use printing::{print_leaf, print_parts, write_query};

@@ -87,6 +87,7 @@ impl LeafReading {
     }
 
     /// The sides taken at the forks.
+    #[tactic(auto, unfolding(crate::specs::LineReading::next_line, crate::specs::Grammar::next_state))]
     pub fn take_choices<'a>(
         &mut self,
         alloc: Global,
@@ -107,6 +108,7 @@ impl LeafReading {
     }
 
     /// What the branches and the JALRs of the runs do.
+    #[tactic(auto, unfolding(crate::specs::LineReading::next_line, crate::specs::Grammar::next_state))]
     pub fn take_path<'a>(
         &mut self,
         alloc: Global,
