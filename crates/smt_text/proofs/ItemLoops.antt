@@ -1,7 +1,5 @@
 -- A loop that reads the items of a list one after another.
-use Rattle.std.proofs.Common.{◌≡◌, ◌∙◌, ℕ, zero, suc, ◌+◌, ◌-◌, ◌<◌, ◌≤◌, List, [], ◌∷◌, ◌++◌, length, Option, None, Some, option_map, refl, sym, ap, arith, append_assoc, append-nil, length-append}
-use Rattle.std.specs.Prelude.{option_and_then}
-use Rattle.std.specs.Option.{option_or}
+use Rattle.std.proofs.Common.{◌≡◌, ◌∙◌, ℕ, suc, ◌+◌, ◌-◌, ◌<◌, ◌≤◌, List, [], ◌∷◌, ◌++◌, length, Option, None, Some, option_map, refl, sym, ap, arith, append_assoc, append-nil, length-append}
 use Rattle.rv_decode.specs.declared.ends.PathStep.{PathStep}
 use Rattle.tree_core.specs.declared.choice.Choice.{Choice}
 use Rattle.smt_text.specs.LineReading.{choice, step}

@@ -1,12 +1,10 @@
 -- Lists of choices and paths, and the numbers of eight digits in them: what was written is read back,
 -- and what was read was written so.
-use Rattle.std.proofs.Common.{◌≡◌, ◌∙◌, ◌⊎◌, inl, inr, ℕ, zero, suc, ◌+◌, ◌<◌, ◌≤◌, ◌/◌, ◌%◌, ◌^◌, Bool, true, false, ◌||◌, List, [], ◌∷◌, ◌++◌, length, take, drop, get_or, slice_index, Option, None, Some, Ok, option_map, refl, sym, ap, arith, codes, append_assoc}
-use Rattle.std.specs.Prelude.{All, if◌then◌else◌, option_and_then}
+use Rattle.std.proofs.Common.{◌≡◌, ℕ, zero, suc, ◌<◌, ◌/◌, ◌%◌, ◌^◌, Bool, true, false, ◌||◌, List, [], ◌∷◌, ◌++◌, length, get_or, slice_index, None, Some, Ok, refl, arith, append_assoc}
+use Rattle.std.specs.Prelude.{All}
 use Rattle.std.specs.Char.{is_ascii_uppercase}
 use Rattle.std.specs.Int.{byte_at, bytes_high_first, to_be_bytes, w32}
 use Rattle.std.specs.List.{flat_map, list_any}
-use Rattle.std.specs.Option.{option_or}
-use Rattle.std.proofs.lemmas.Bool.Decides.{nat_tests}
 use Rattle.std.proofs.lemmas.List.{drop_at, length-append, take_at}
 use Rattle.std.proofs.lemmas.List.Elements.{All-head, All-tail}
 use Rattle.std.proofs.lemmas.Nat.{from_be_bytes-to_be_bytes_4}
@@ -17,11 +15,10 @@ use Rattle.rv_decode.specs.declared.ends.PathStep.TheVariants.{Taken, NotTaken, 
 use Rattle.tree_core.specs.declared.choice.Choice.{Choice}
 use Rattle.tree_core.specs.declared.choice.Choice.TheVariants.{No, Yes, Value, Rest}
 use Rattle.fork_spec.specs.Leaves.{IsSmallChoice, IsSmallStep}
-use Rattle.smt_text.specs.LineReading.{branches, choice, plain_choices, step}
+use Rattle.smt_text.specs.LineReading.{choice, step}
 use Rattle.smt_text.specs.Names.{choice_text, eight_digits, step_text}
-use Rattle.smt_text.specs.Pieces.{Reader, address_of, behind, eight, items, list_end, made, named}
-use Rattle.smt_text.proofs.Options.{map_from, or_from, then_from}
-use Rattle.smt_text.proofs.Words.{behind_word, from_behind, from_named}
+use Rattle.smt_text.specs.Pieces.{Reader, address_of, behind, eight, items, list_end, named}
+use Rattle.smt_text.proofs.Words.{behind_word}
 
 -- ---- eight digits
 

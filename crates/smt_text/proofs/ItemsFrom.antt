@@ -1,10 +1,9 @@
 -- Lists of choices and paths, and the numbers of eight digits in them: what was read was written so.
-use Rattle.std.proofs.Common.{◌≡◌, ◌∙◌, ◌⊎◌, inl, inr, ℕ, zero, suc, ◌+◌, ◌-◌, ◌*◌, ◌<◌, ◌≤◌, ◌/◌, ◌%◌, ◌^◌, Bool, true, false, ◌&&◌, ◌||◌, nat_le, List, [], ◌∷◌, ◌++◌, length, take, drop, get_or, slice_index, Option, None, Some, Result, Ok, Err, option_map, refl, sym, ap, subst, arith, codes, append_assoc, append-nil, length-append}
+use Rattle.std.proofs.Common.{◌≡◌, ◌∙◌, inl, inr, ℕ, zero, suc, ◌+◌, ◌-◌, ◌*◌, ◌<◌, ◌≤◌, ◌/◌, ◌%◌, ◌^◌, Bool, true, false, ◌&&◌, ◌||◌, nat_le, List, [], ◌∷◌, ◌++◌, take, drop, slice_index, Option, None, Some, Result, Ok, Err, option_map, refl, sym, ap, subst, arith, codes, append_assoc}
 use Rattle.std.specs.Prelude.{All, if◌then◌else◌, option_and_then}
 use Rattle.std.specs.Char.{is_ascii_uppercase}
-use Rattle.std.specs.Int.{from_be_bytes, to_be_bytes, w32}
+use Rattle.std.specs.Int.{from_be_bytes, w32}
 use Rattle.std.specs.List.{flat_map, list_any}
-use Rattle.std.specs.Option.{option_or}
 use Rattle.std.proofs.lemmas.Bool.Decides.{nat_tests}
 use Rattle.std.proofs.lemmas.List.{take-append-drop}
 use Rattle.std.proofs.lemmas.List.Elements.{All-cons, All-nil}
@@ -22,7 +21,7 @@ use Rattle.smt_text.specs.LineReading.{branches, choice, plain_choices, step}
 use Rattle.smt_text.specs.Names.{choice_text, eight_digits, step_text}
 use Rattle.smt_text.specs.Pieces.{Reader, address_of, behind, eight, has_upper_case, items, list_end, made, named, number_of_bytes}
 use Rattle.smt_text.proofs.Options.{map_from, or_from, then_from}
-use Rattle.smt_text.proofs.Words.{behind_word, from_behind, from_named}
+use Rattle.smt_text.proofs.Words.{from_behind, from_named}
 
 -- ---- eight digits
 

@@ -1,9 +1,9 @@
 -- Each line that may stand is read back from its text.
-use Rattle.std.proofs.Common.{◌≡◌, ◌∙◌, ℕ, zero, suc, ◌+◌, ◌<◌, ◌≤◌, ◌^◌, Bool, true, false, ◌&&◌, ◌==◌, nat_lt, List, [], ◌∷◌, ◌++◌, length, get_or, None, Some, refl, sym, ap, arith, codes, decimal, append_assoc, length-append}
+use Rattle.std.proofs.Common.{◌≡◌, ◌∙◌, ℕ, zero, suc, ◌<◌, ◌≤◌, ◌^◌, true, ◌&&◌, ◌==◌, List, [], ◌∷◌, ◌++◌, length, get_or, None, Some, refl, ap, arith, codes, decimal, append_assoc, length-append}
 use Rattle.std.specs.Prelude.{option_and_then}
 use Rattle.std.proofs.Math.Nat.{pow-le-pow_right}
 use Rattle.std.proofs.lemmas.Bool.{and_parts, eqb-true}
-use Rattle.bv_dag.specs.Graphs.{AllFit, width_of}
+use Rattle.bv_dag.specs.Graphs.{width_of}
 use Rattle.bv_dag.specs.Nodes.{Fits, node_width, widths_of}
 use Rattle.bv_dag.specs.declared.nodes.Node.{Node}
 use Rattle.bv_dag.specs.declared.nodes.Node.TheVariants.{Num, Input, Not, Neg, Binary, Compare, Ite, Extract, Extend, Concat}
@@ -11,15 +11,15 @@ use Rattle.bv_dag.proofs.Fitting.{all_at_most_64, length-widths_of}
 use Rattle.bv_dag.proofs.TermLaws.{there}
 use Rattle.rv_decode.specs.declared.ends.Trap.TheVariants.{Illegal, FetchMisaligned, FetchAccess, LoadMisaligned, LoadAccess, StoreMisaligned, StoreAccess, Break, Call}
 use Rattle.tree_core.specs.declared.cause.Cause.TheVariants.{Steps, Targets, Conflicts}
-use Rattle.smt_text.specs.Grammar.{Reading, graph_of, is_small, is_wide, stands}
-use Rattle.smt_text.specs.LineReading.{choice, endings, kind_said, kinds, line_at, node_line, step, term, word_said}
+use Rattle.smt_text.specs.Grammar.{Reading, graph_of, is_wide, stands}
+use Rattle.smt_text.specs.LineReading.{endings, kind_said, kinds, line_at, node_line, word_said}
 use Rattle.smt_text.specs.Lines.{LeafLine, FormatLine, KindLine, ChoicesLine, PathLine, StepsLine, EndLine, InputsLine, NodesLine, OutputsLine, LogicLine, InputLine, BaseLine, NodeLine, StatusLine, OutputLine, AssertLine, CheckLine, ExitLine, line_text}
 use Rattle.smt_text.specs.Names.{Kind, finished, cut, EndWord, exit, trap, running, choices_text, kind_text, path_text, word_text}
 use Rattle.smt_text.specs.NodeFits.{fits}
 use Rattle.smt_text.specs.NodeText.{node_text}
-use Rattle.smt_text.specs.Pieces.{before, behind, items, list_end, made, named, one, two}
+use Rattle.smt_text.specs.Pieces.{before, behind, list_end, made, named, one}
 use Rattle.smt_text.specs.declared.spot.Spot.{Spot}
-use Rattle.smt_text.specs.declared.spot.Spot.TheVariants.{AtFormat, AtKind, AtChoices, AtPath, AtSteps, AtEnd, AtInputs, AtNodes, AtOutputs, AtLogic, AmongInputs, AtBase, AmongNodes, AtStatus, AmongOutputs, AmongAssertions, AtExit, Closed}
+use Rattle.smt_text.specs.declared.spot.Spot.TheVariants.{AtFormat, AtKind, AtChoices, AtPath, AtSteps, AtEnd, AtInputs, AtNodes, AtOutputs, AtLogic, AmongInputs, AtBase, AmongNodes, AtStatus, AmongOutputs, AmongAssertions, AtExit}
 use Rattle.smt_text.proofs.ItemsBack.{choices_back, steps_back}
 use Rattle.smt_text.specs.Phases.{Counted, IsWithin}
 use Rattle.smt_text.proofs.Phases.{fits_from, lt_from, small_choices, small_path}

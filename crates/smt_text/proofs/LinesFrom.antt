@@ -1,18 +1,15 @@
 -- What was read as a line or as a term is its text.
-use Rattle.std.proofs.Common.{◌≡◌, ◌∙◌, ◌⊎◌, inl, inr, ℕ, suc, ◌+◌, ◌<◌, ◌≤◌, ◌^◌, Bool, true, false, nat_lt, List, [], ◌∷◌, ◌++◌, length, Option, None, Some, option_map, refl, sym, ap, arith, codes, decimal, append_assoc}
+use Rattle.std.proofs.Common.{◌≡◌, ◌∙◌, inl, inr, ℕ, suc, ◌^◌, Bool, true, false, nat_lt, List, ◌++◌, length, Option, None, Some, refl, sym, ap, codes, decimal}
 use Rattle.std.specs.Prelude.{if◌then◌else◌, option_and_then}
 use Rattle.std.proofs.lemmas.Option.{same_Some}
-use Rattle.bv_dag.specs.declared.nodes.BinaryOp.TheVariants.{Add, Sub, Mul, Udiv, Urem, And, Or, Xor, Shl, Lshr, Ashr}
-use Rattle.bv_dag.specs.declared.nodes.Comparison.TheVariants.{Ult, Slt, Eq}
+use Rattle.bv_dag.specs.declared.nodes.Comparison.TheVariants.{Eq}
 use Rattle.bv_dag.specs.declared.nodes.Node.{Node}
 use Rattle.bv_dag.specs.declared.nodes.Node.TheVariants.{Num, Input, Not, Neg, Binary, Compare, Ite, Extract, Extend, Concat}
-use Rattle.tree_core.specs.declared.cause.Cause.{Cause}
-use Rattle.smt_text.specs.LineReading.{all_choices, all_steps, answers, end_word, endings, equal_operands, fixed, heads, if_word, ite_operands, kind_said, kind_word, kinds, line_at, node_line, operands, term, word_said}
+use Rattle.smt_text.specs.LineReading.{all_choices, all_steps, answers, endings, equal_operands, fixed, heads, if_word, ite_operands, kind_said, kinds, line_at, node_line, operands, term, word_said}
 use Rattle.smt_text.specs.Lines.{LeafLine, FormatLine, KindLine, ChoicesLine, PathLine, StepsLine, EndLine, InputsLine, NodesLine, OutputsLine, LogicLine, InputLine, BaseLine, NodeLine, StatusLine, OutputLine, AssertLine, CheckLine, ExitLine, line_text}
 use Rattle.smt_text.specs.Names.{choices_text, kind_text, path_text, word_text}
 use Rattle.smt_text.specs.NodeText.{binary_name, comparison_name, extension_name, node_text}
-use Rattle.smt_text.specs.Pieces.{Reader, before, behind, list_end, made, named, number, one, three, two}
-use Rattle.smt_text.specs.declared.ending.Ending.{Ending}
+use Rattle.smt_text.specs.Pieces.{before, behind, list_end, made, named, number, one, three, two}
 use Rattle.smt_text.specs.declared.head.Head.{Head}
 use Rattle.smt_text.specs.declared.head.Head.TheVariants as head
 use Rattle.smt_text.specs.declared.spot.Spot.{Spot}

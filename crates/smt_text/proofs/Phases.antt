@@ -1,30 +1,29 @@
 -- Each line that may stand keeps what holds of a reading.
-use Rattle.std.proofs.Common.{◌≡◌, ◌≢◌, ◌∙◌, ℕ, zero, suc, ◌+◌, ◌<◌, ◌≤◌, ◌^◌, Bool, true, false, ◌&&◌, ◌==◌, nat_lt, List, [], ◌∷◌, ◌++◌, length, get_or, refl, sym, ap, subst, arith, length-append}
+use Rattle.std.proofs.Common.{◌≡◌, ℕ, ◌+◌, ◌<◌, ◌≤◌, ◌^◌, Bool, true, false, ◌&&◌, ◌==◌, nat_lt, List, [], ◌∷◌, ◌++◌, length, get_or, refl, sym, subst, arith, length-append}
 use Rattle.std.specs.Prelude.{All, if◌then◌else◌}
 use Rattle.std.specs.List.{list_all}
-use Rattle.std.proofs.lemmas.Bool.{and_parts, eq-eqb, eqb-true}
+use Rattle.std.proofs.lemmas.Bool.{and_parts, eqb-true}
 use Rattle.std.proofs.lemmas.Bool.Decides.{nat_tests}
 use Rattle.std.proofs.lemmas.List.{nil_from_length}
 use Rattle.std.proofs.lemmas.List.Elements.{All-cons, All-nil, All-push, All-same}
-use Rattle.bv_dag.specs.Graphs.{AllFit, Graph, IsDag, width_of}
+use Rattle.bv_dag.specs.Graphs.{AllFit, width_of}
 use Rattle.bv_dag.specs.Nodes.{Fits, node_width, widths_of}
-use Rattle.bv_dag.specs.Queries.{AreBits}
 use Rattle.bv_dag.specs.declared.nodes.Node.{Node}
 use Rattle.bv_dag.specs.declared.nodes.Node.TheVariants.{Num, Input, Not, Neg, Binary, Compare, Ite, Extract, Extend, Concat}
-use Rattle.bv_dag.proofs.TermLaws.{IsDag-none, IsDag-with_node, there, width_of-with_node}
+use Rattle.bv_dag.proofs.TermLaws.{IsDag-none, IsDag-with_node}
 use Rattle.rv_decode.specs.declared.ends.PathStep.{PathStep}
 use Rattle.rv_decode.specs.declared.ends.PathStep.TheVariants.{Taken, NotTaken, Target}
 use Rattle.tree_core.specs.declared.choice.Choice.{Choice}
 use Rattle.tree_core.specs.declared.choice.Choice.TheVariants.{No, Yes, Value, Rest}
-use Rattle.fork_spec.specs.Leaves.{AreBytes, IsByteStatus, IsSmallChoice, IsSmallStep}
+use Rattle.fork_spec.specs.Leaves.{IsByteStatus, IsSmallChoice, IsSmallStep}
 use Rattle.fork_spec.specs.declared.end.LeafEnd.{LeafEnd}
 use Rattle.fork_spec.specs.declared.end.LeafEnd.TheVariants.{Exits, Traps, Cut}
 use Rattle.smt_text.specs.Grammar.{Reading, behind_inputs, behind_nodes, behind_outputs, exits, graph_of, is_small_choice, is_small_step, is_wide, stands, start, with_line}
 use Rattle.smt_text.specs.Lines.{LeafLine, FormatLine, KindLine, ChoicesLine, PathLine, StepsLine, EndLine, InputsLine, NodesLine, OutputsLine, LogicLine, InputLine, BaseLine, NodeLine, StatusLine, OutputLine, AssertLine, CheckLine, ExitLine}
 use Rattle.smt_text.specs.NodeFits.{fits}
-use Rattle.smt_text.specs.Phases.{Amount, AssertedAt, Counted, IsWithin, Phase, StatusAt, all, inputs_at, nodes_at, none, outputs_at, part}
+use Rattle.smt_text.specs.Phases.{Counted, IsWithin}
 use Rattle.smt_text.specs.declared.spot.Spot.{Spot}
-use Rattle.smt_text.specs.declared.spot.Spot.TheVariants.{AtFormat, AtKind, AtChoices, AtPath, AtSteps, AtEnd, AtInputs, AtNodes, AtOutputs, AtLogic, AmongInputs, AtBase, AmongNodes, AtStatus, AmongOutputs, AmongAssertions, AtExit, Closed}
+use Rattle.smt_text.specs.declared.spot.Spot.TheVariants.{AtFormat, AtKind, AtChoices, AtPath, AtSteps, AtEnd, AtInputs, AtNodes, AtOutputs, AtLogic, AmongInputs, AtBase, AmongNodes, AtStatus, AmongOutputs, AmongAssertions, AtExit}
 
 -- ---- what the tests say
 

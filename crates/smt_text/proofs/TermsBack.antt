@@ -1,5 +1,5 @@
 -- The text of a term is read back.
-use Rattle.std.proofs.Common.{◌≡◌, ◌∙◌, ℕ, ◌<◌, ◌^◌, true, false, nat_lt, List, [], ◌∷◌, ◌++◌, None, Some, refl, sym, ap, arith, codes, decimal, append_assoc}
+use Rattle.std.proofs.Common.{◌≡◌, ◌∙◌, ℕ, ◌<◌, ◌^◌, true, false, nat_lt, List, ◌++◌, None, Some, refl, ap, arith, codes, decimal, append_assoc}
 use Rattle.std.proofs.lemmas.Bool.Decides.{nat_tests}
 use Rattle.bv_dag.specs.declared.nodes.BinaryOp.{BinaryOp}
 use Rattle.bv_dag.specs.declared.nodes.BinaryOp.TheVariants.{Add, Sub, Mul, Udiv, Urem, And, Or, Xor, Shl, Lshr, Ashr}
@@ -11,7 +11,7 @@ use Rattle.smt_text.specs.NodeText.{binary_name, node_text}
 use Rattle.smt_text.specs.Pieces.{behind, named}
 use Rattle.smt_text.specs.declared.head.Head.{Head}
 use Rattle.smt_text.specs.declared.head.Head.TheVariants as head
-use Rattle.smt_text.proofs.Words.{behind_word, not_two, number_back, one_back, starts_plain, three_back, two_back}
+use Rattle.smt_text.proofs.Words.{not_two, number_back, one_back, starts_plain, three_back, two_back}
 
 -- the numbers of a term fit 64 bits, and the widths in it 32
 abbrev pub IsSmallNode : Node → Type 0

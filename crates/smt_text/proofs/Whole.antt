@@ -1,7 +1,6 @@
 -- A whole text, line after line.
-use Rattle.std.proofs.Common.{◌≡◌, ◌≢◌, ◌∙◌, ◌⊎◌, inl, inr, ℕ, suc, ◌+◌, ◌*◌, ◌<◌, ◌≤◌, Bool, true, false, List, [], ◌∷◌, ◌++◌, length, Option, None, Some, Result, Ok, Err, option_map, refl, sym, ap, subst, arith, append_assoc, append-nil, length-append}
-use Rattle.std.specs.Prelude.{IfOk, if◌then◌else◌, option_and_then}
-use Rattle.std.proofs.lemmas.List.{append_cancel_left}
+use Rattle.std.proofs.Common.{◌≡◌, ◌≢◌, ◌∙◌, inl, inr, ℕ, ◌+◌, ◌*◌, ◌<◌, ◌≤◌, Bool, true, false, List, [], ◌∷◌, ◌++◌, length, None, Some, option_map, refl, sym, ap, subst, arith, append_assoc, append-nil, length-append}
+use Rattle.std.specs.Prelude.{if◌then◌else◌}
 use Rattle.std.proofs.lemmas.Grind.{flat_map-append}
 use Rattle.std.proofs.lemmas.Option.{none-some, same_Some}
 use Rattle.fork_spec.specs.Leaves.{IsFull, Leaf}
@@ -11,7 +10,7 @@ use Rattle.smt_text.specs.LineReading.{line_at, next_line}
 use Rattle.smt_text.specs.Lines.{LeafLine, FormatLine, KindLine, ChoicesLine, PathLine, StepsLine, EndLine, InputsLine, NodesLine, OutputsLine, LogicLine, InputLine, BaseLine, NodeLine, StatusLine, OutputLine, AssertLine, CheckLine, ExitLine, line_text, lines_text}
 use Rattle.smt_text.specs.Phases.{Counted, IsSound, IsWithin}
 use Rattle.smt_text.specs.ReadingState.{IsWhole}
-use Rattle.smt_text.specs.Refusals.{BeginsWithNone, EndsEarly, GoesOnOtherwise, IsRefusedAt}
+use Rattle.smt_text.specs.Refusals.{BeginsWithNone, GoesOnOtherwise, IsRefusedAt}
 use Rattle.smt_text.specs.declared.spot.Spot.{Spot}
 use Rattle.smt_text.specs.declared.spot.Spot.TheVariants.{Closed}
 use Rattle.smt_text.proofs.LinesBack.{line_back}

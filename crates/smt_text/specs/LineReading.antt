@@ -1,6 +1,6 @@
 -- The line that a text begins with, at each place of a leaf's text. It may stand there where the grammar
 -- says so.
-use Rattle.std.specs.Prelude.{◌≡◌, ℕ, suc, ◌^◌, Bool, true, false, nat_lt, if◌then◌else◌, List, [], ◌∷◌, ◌&&◌, length, Option, None, Some, codes, option_map, option_and_then}
+use Rattle.std.specs.Prelude.{◌≡◌, ℕ, suc, ◌^◌, Bool, true, false, nat_lt, if◌then◌else◌, List, [], ◌∷◌, length, Option, None, Some, codes, option_map, option_and_then}
 use Rattle.std.specs.Option.{option_or}
 use Rattle.bv_dag.specs.declared.nodes.BinaryOp.TheVariants.{Add, Sub, Mul, Udiv, Urem, And, Or, Xor, Shl, Lshr, Ashr}
 use Rattle.bv_dag.specs.declared.nodes.Comparison.TheVariants.{Ult, Slt, Eq}

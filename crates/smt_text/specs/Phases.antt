@@ -6,7 +6,7 @@ use Rattle.fork_spec.specs.Leaves.{AreBytes, IsByteStatus, IsSmallChoice, IsSmal
 use Rattle.fork_spec.specs.declared.end.LeafEnd.{LeafEnd}
 use Rattle.smt_text.specs.Grammar.{Reading, graph_of}
 use Rattle.smt_text.specs.declared.spot.Spot.{Spot}
-use Rattle.smt_text.specs.declared.spot.Spot.TheVariants.{AtFormat, AtKind, AtChoices, AtPath, AtSteps, AtEnd, AtInputs, AtNodes, AtOutputs, AtLogic, AmongInputs, AtBase, AmongNodes, AtStatus, AmongOutputs, AmongAssertions, AtExit, Closed}
+use Rattle.smt_text.specs.declared.spot.Spot.TheVariants.{AmongInputs, AtBase, AmongNodes, AtStatus, AmongOutputs, AmongAssertions, AtExit, Closed}
 
 -- of what is announced there is none yet, a part, or all
 pub data Phase : Type 0 where

@@ -1,5 +1,5 @@
 -- What a text begins with, piece by piece. A reader gives what it read and what stands behind it.
-use Rattle.std.specs.Prelude.{ℕ, zero, suc, ◌^◌, Bool, true, false, not, ◌&&◌, ◌==◌, nat_lt, if◌then◌else◌, List, [], ◌∷◌, take, drop, Option, None, Some, Result, Ok, Err, codes, option_map, option_and_then}
+use Rattle.std.specs.Prelude.{ℕ, zero, suc, ◌^◌, Bool, false, not, ◌&&◌, ◌==◌, nat_lt, if◌then◌else◌, List, [], ◌∷◌, take, drop, Option, None, Some, Result, Ok, Err, codes, option_map, option_and_then}
 use Rattle.std.specs.Option.{option_or}
 use Rattle.std.specs.Char.{is_ascii_digit, is_ascii_uppercase}
 use Rattle.std.specs.Int.{from_be_bytes, w32}

@@ -1,5 +1,4 @@
-use Rattle.std.proofs.Common.{◌≡◌, ◌∙◌, ap, sym, refl, map, option_map, ℕ, length, List, None, Bor}
-use Rattle.smt_text.specs.Pieces.{behind}
+use Rattle.std.proofs.Common.{◌∙◌, ap, sym, option_map, ℕ, List, Bor}
 use Rattle.smt_text.proofs.CursorSteps.{named_here, named_on, named_past}
 use Rattle.smt_text.proofs.cursor.named.Goals as goal
 

@@ -1,4 +1,4 @@
-use Rattle.std.proofs.Common.{◌≡◌, ◌∙◌, ap, sym, subst, ℕ, List, [], ◌∷◌, ◌++◌, None, Some, option_map, Bor}
+use Rattle.std.proofs.Common.{◌≡◌, ◌∙◌, ap, sym, subst, ℕ, List, None, Some, option_map, Bor}
 use Rattle.tree_core.specs.declared.choice.Choice.{Choice}
 use Rattle.smt_text.specs.LineReading.{choice}
 use Rattle.smt_text.specs.Pieces.{behind, list_end}

@@ -1,4 +1,4 @@
-use Rattle.std.proofs.Common.{◌≡◌, ◌∙◌, ap, sym, subst, ℕ, List, [], ◌∷◌, ◌++◌, None, Some, option_map, Bor}
+use Rattle.std.proofs.Common.{◌≡◌, ◌∙◌, ap, sym, subst, ℕ, List, None, Some, option_map, Bor}
 use Rattle.rv_decode.specs.declared.ends.PathStep.{PathStep}
 use Rattle.smt_text.specs.LineReading.{step}
 use Rattle.smt_text.specs.Pieces.{behind, list_end}

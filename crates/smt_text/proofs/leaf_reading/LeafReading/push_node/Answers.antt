@@ -3,7 +3,6 @@ use Rattle.bv_dag.specs.Graphs.{Graph, width_of, with_node}
 use Rattle.bv_dag.specs.Nodes.{Fits, widths_of}
 use Rattle.smt_text.specs.LineReading.{IsPushed, line_said}
 use Rattle.smt_text.specs.ReadingState.{reading_of}
-use Rattle.smt_text.proofs.LinesFrom.{from_line}
 use Rattle.smt_text.proofs.NextLines.{pushed_node}
 use Rattle.smt_text.proofs.leaf_reading.LeafReading.push_node.Goals as goal
 

@@ -1,4 +1,4 @@
-use Rattle.std.proofs.Common.{rules, arith, ◌≡◌, ◌∙◌, ◌+◌, ap, sym, Some, codes, refl}
+use Rattle.std.proofs.Common.{arith, ◌≡◌, ◌∙◌, ◌+◌, ap, sym, Some, codes, refl}
 use Rattle.smt_text.specs.Pieces.{behind, one}
 use Rattle.std.proofs.lemmas.Bool.{eq-eqb}
 use Rattle.smt_text.specs.LineReading.{line_at}
