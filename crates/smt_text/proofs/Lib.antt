@@ -14,4 +14,5 @@ pub mod ItemsFrom
 pub mod ItemLoops
 pub mod NextLines
 pub mod LinesFrom
+pub mod LinesSaid
 pub mod Whole

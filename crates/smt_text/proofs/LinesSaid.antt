@@ -1,5 +1,5 @@
 -- What was read says all lines that were read.
-use Rattle.std.proofs.Common.{◌≡◌, ◌∙◌, ℕ, zero, suc, ◌+◌, ◌<◌, ◌≤◌, Bool, true, false, ◌&&◌, ◌==◌, List, [], ◌∷◌, ◌++◌, length, map, Some, refl, sym, ap, subst, arith, add-zero, add-one, append_assoc, append-nil, length-append}
+use Rattle.std.proofs.Common.{◌≡◌, ◌∙◌, ℕ, zero, suc, ◌+◌, ◌<◌, ◌≤◌, Bool, true, false, ◌&&◌, ◌==◌, List, [], ◌∷◌, ◌++◌, length, map, Some, refl, sym, ap, subst, arith, add-zero, append_assoc, append-nil, length-append}
 use Rattle.std.specs.Prelude.{if◌then◌else◌}
 use Rattle.std.specs.List.{enumerate_from}
 use Rattle.std.proofs.lemmas.Bool.{and_parts, eqb-true}
@@ -124,24 +124,24 @@ outputs_push ids id =
 
 -- ---- behind what was announced
 
-said_inputs : (r : Reading) → said (behind_inputs r) r ≡ inputs_said r
-said_inputs r = go (r.declared == r.inputs)
+said_inputs : (p : Spot) (r : Reading) → said (behind_inputs r) (record r { place = p }) ≡ inputs_said r
+said_inputs p r = go (r.declared == r.inputs)
   where
-    go : (b : Bool) → said (if b then AtBase else AmongInputs) r ≡ inputs_said r
+    go : (b : Bool) → said (if b then AtBase else AmongInputs) (record r { place = p }) ≡ inputs_said r
     go true = refl
     go false = refl
 
-said_outputs : (r : Reading) → r.asserted ≡ [] → said (behind_outputs r) r ≡ outputs_said r
-said_outputs r none_yet = go (length r.outputs == r.output_count)
+said_outputs : (p : Spot) (r : Reading) → r.asserted ≡ [] → said (behind_outputs r) (record r { place = p }) ≡ outputs_said r
+said_outputs p r none_yet = go (length r.outputs == r.output_count)
   where
-    go : (b : Bool) → said (if b then AmongAssertions else AmongOutputs) r ≡ outputs_said r
+    go : (b : Bool) → said (if b then AmongAssertions else AmongOutputs) (record r { place = p }) ≡ outputs_said r
     go true = ap (λ (ids : List ℕ). outputs_said r ++ map AssertLine ids) none_yet ∙ append-nil (outputs_said r)
     go false = refl
 
 no_outputs_said : (r : Reading) → exits r.end ≡ false → r.outputs ≡ [] → outputs_said r ≡ nodes_said r
-no_outputs_said r running none_yet =
+no_outputs_said r no_exit none_yet =
     ap (λ (ids : List ℕ). nodes_said r ++ (status_lines r.end ++ output_lines ids)) none_yet
-    ∙ ap (λ (ls : List LeafLine). nodes_said r ++ (ls ++ [])) (no_status r.end running)
+    ∙ ap (λ (ls : List LeafLine). nodes_said r ++ (ls ++ [])) (no_status r.end no_exit)
     ∙ append-nil (nodes_said r)
   where
     no_status : (end : LeafEnd) → exits end ≡ false → status_lines end ≡ []
@@ -149,18 +149,19 @@ no_outputs_said r running none_yet =
     no_status (Traps t) h = refl
     no_status (Cut cause) h = refl
 
-said_nodes : (r : Reading) → r.outputs ≡ [] → r.asserted ≡ [] → (said (behind_nodes r) r ≡ nodes_said r) × ExitsAt (behind_nodes r) r.end
-said_nodes r no_outputs none_yet = go (length r.nodes == r.node_count) (exits r.end) refl
+said_nodes : (p : Spot) (r : Reading) → r.outputs ≡ [] → r.asserted ≡ [] →
+    (said (behind_nodes r) (record r { place = p }) ≡ nodes_said r) × ExitsAt (behind_nodes r) r.end
+said_nodes p r no_outputs none_yet = go (length r.nodes == r.node_count) (exits r.end) refl
   where
     open_end : (b : Bool) → ExitsAt (if b then AmongAssertions else AmongOutputs) r.end
     open_end true = tt
     open_end false = tt
     go : (b e : Bool) → exits r.end ≡ e →
-        (said (if b then (if e then AtStatus else behind_outputs r) else AmongNodes) r ≡ nodes_said r)
+        (said (if b then (if e then AtStatus else behind_outputs r) else AmongNodes) (record r { place = p }) ≡ nodes_said r)
         × ExitsAt (if b then (if e then AtStatus else behind_outputs r) else AmongNodes) r.end
     go false e is = (refl, tt)
     go true true is = (refl, is)
-    go true false is = (said_outputs r none_yet ∙ no_outputs_said r is no_outputs, open_end (length r.outputs == r.output_count))
+    go true false is = (said_outputs p r none_yet ∙ no_outputs_said r is no_outputs, open_end (length r.outputs == r.output_count))
 
 open_outputs : (r : Reading) → ExitsAt (behind_outputs r) r.end
 open_outputs r = go (length r.outputs == r.output_count)
@@ -202,43 +203,41 @@ said_more AtInputs r (InputsLine n) c x here h = (refl, tt)
 said_more AtNodes r (NodesLine n) c x here h = (refl, tt)
 said_more AtOutputs r (OutputsLine n) c x here h = (refl, tt)
 said_more AtLogic r LogicLine c x here h =
-    (said_inputs r ∙ ap (λ (n : ℕ). heading_said r ++ (LogicLine ∷ input_lines 0 n)) c.0, open_inputs r)
+    (said_inputs (behind_inputs r) r ∙ ap (λ (n : ℕ). heading_said r ++ (LogicLine ∷ input_lines 0 n)) c.0, open_inputs r)
 said_more AmongInputs r (InputLine i) c x here h =
-    let s = record r { declared = r.declared + 1 } in
+    let suc_is : r.declared + 1 ≡ suc r.declared = omega arith in
     let next : 0 + r.declared ≡ i = omega (arith, eqb-true i r.declared h) in
     let one : input_lines 0 (r.declared + 1) ≡ input_lines 0 r.declared ++ InputLine i ∷ [] =
-    ap (input_lines 0) (add-one {n = r.declared}) ∙ inputs_suc 0 r.declared ∙ ap (λ (k : ℕ). input_lines 0 r.declared ++ InputLine k ∷ []) next in
-    (said_inputs (record r { declared = r.declared + 1 }) ∙ ap (λ (ls : List LeafLine). heading_said r ++ (LogicLine ∷ ls)) one
+    ap (input_lines 0) suc_is ∙ inputs_suc 0 r.declared ∙ ap (λ (k : ℕ). input_lines 0 r.declared ++ InputLine k ∷ []) next in
+    (said_inputs (behind_inputs (record r { declared = r.declared + 1 })) (record r { declared = r.declared + 1 }) ∙ ap (λ (ls : List LeafLine). heading_said r ++ (LogicLine ∷ ls)) one
       ∙ more_behind (heading_said r) (LogicLine ∷ input_lines 0 r.declared) (InputLine i), open_inputs (record r { declared = r.declared + 1 }))
 said_more AtBase r BaseLine c x here h =
-    let nodes = said_nodes r (nil_from_length r.outputs c.2) c.3 in
+    let nodes = said_nodes (behind_nodes r) r (nil_from_length r.outputs c.2) c.3 in
     (nodes.0 ∙ ap (λ (ns : List Node). inputs_said r ++ (BaseLine ∷ node_lines (record { inputs = r.inputs; nodes = ns }))) (nil_from_length r.nodes c.1), nodes.1)
 said_more AmongNodes r (NodeLine id width node) c x here h =
     let parts = and_parts ((id == length r.nodes) && fits r.inputs (widths_of r.nodes) node) (width == node_width (widths_of r.nodes) node) h in
     let next = eqb-true id (length r.nodes) (and_parts (id == length r.nodes) (fits r.inputs (widths_of r.nodes) node) parts.0).0 in
     let wide = eqb-true width (node_width (widths_of r.nodes) node) parts.1 in
-    let nodes = said_nodes (record r { nodes = r.nodes ++ node ∷ [] }) (nil_from_length r.outputs c.2) c.3 in
+    let nodes = said_nodes (behind_nodes (record r { nodes = r.nodes ++ node ∷ [] })) (record r { nodes = r.nodes ++ node ∷ [] }) (nil_from_length r.outputs c.2) c.3 in
     (nodes.0 ∙ ap (λ (ls : List LeafLine). inputs_said r ++ (BaseLine ∷ ls)) (nodes_push (graph_of r) node)
       ∙ ap (λ (k : ℕ). inputs_said r ++ (BaseLine ∷ (node_lines (graph_of r) ++ NodeLine k (node_width (widths_of r.nodes) node) node ∷ []))) (sym next)
       ∙ ap (λ (w : ℕ). inputs_said r ++ (BaseLine ∷ (node_lines (graph_of r) ++ NodeLine id w node ∷ []))) (sym wide)
       ∙ more_behind (inputs_said r) (BaseLine ∷ node_lines (graph_of r)) (NodeLine id width node), nodes.1)
 said_more AtStatus r (StatusLine id) c x here h =
-    let s = record r { end = Exits id } in
-    (said_outputs (record r { end = Exits id }) c.3
+    let s : Reading = record r { end = Exits id } in
+    (said_outputs (behind_outputs (record r { end = Exits id })) (record r { end = Exits id }) c.3
       ∙ ap (λ (ids : List ℕ). nodes_said s ++ (StatusLine id ∷ output_lines ids)) (nil_from_length r.outputs c.2)
       ∙ ap (λ (ls : List LeafLine). (((ls ++ counts_heading r.inputs r.node_count r.output_count) ++ (LogicLine ∷ input_lines 0 r.declared)) ++ (BaseLine ∷ node_lines (graph_of r))) ++ StatusLine id ∷ [])
       (exits_said r.end id r.choices r.path r.steps x), open_outputs (record r { end = Exits id }))
 said_more AmongOutputs r (OutputLine i id) c x here h =
     let parts = and_parts (i == length r.outputs) (is_wide r id 8) h in
     let next = eqb-true i (length r.outputs) parts.0 in
-    let s = record r { outputs = r.outputs ++ id ∷ [] } in
-    (said_outputs (record r { outputs = r.outputs ++ id ∷ [] }) c.3
+    (said_outputs (behind_outputs (record r { outputs = r.outputs ++ id ∷ [] })) (record r { outputs = r.outputs ++ id ∷ [] }) c.3
       ∙ ap (λ (ls : List LeafLine). nodes_said r ++ (status_lines r.end ++ ls)) (outputs_push r.outputs id)
       ∙ ap (λ (k : ℕ). nodes_said r ++ (status_lines r.end ++ (output_lines r.outputs ++ OutputLine k id ∷ []))) (sym next)
       ∙ ap (λ (ls : List LeafLine). nodes_said r ++ ls) (more_behind (status_lines r.end) (output_lines r.outputs) (OutputLine i id))
       ∙ more_behind (nodes_said r) (status_lines r.end ++ output_lines r.outputs) (OutputLine i id), open_outputs (record r { outputs = r.outputs ++ id ∷ [] }))
 said_more AmongAssertions r (AssertLine id) c x here h =
-    let s = record r { asserted = r.asserted ++ id ∷ [] } in
     (ap (λ (p : Spot). said p (record r { asserted = r.asserted ++ id ∷ [] })) here
       ∙ ap (λ (ls : List LeafLine). outputs_said r ++ ls) (map-append AssertLine r.asserted (id ∷ []))
       ∙ more_behind (outputs_said r) (map AssertLine r.asserted) (AssertLine id),
@@ -266,7 +265,6 @@ regroup top inputs nodes status outputs asserts tail = simp append_assoc
 said_leaf : (r : Reading) → Counted Closed r → said Closed r ≡ leaf_lines (leaf_of r)
 unfolding leaf_lines
 said_leaf r c =
-    let top = heading_said r in
     ap (λ (k : ℕ). ((((heading_said r ++ (LogicLine ∷ input_lines 0 k)) ++ (BaseLine ∷ node_lines (graph_of r))) ++ (status_lines r.end ++ output_lines r.outputs)) ++ map AssertLine r.asserted) ++ (CheckLine ∷ ExitLine ∷ [])) c.0
     ∙ regroup (heading_said r) (LogicLine ∷ input_lines 0 r.inputs) (BaseLine ∷ node_lines (graph_of r)) (status_lines r.end) (output_lines r.outputs) (map AssertLine r.asserted) (CheckLine ∷ ExitLine ∷ [])
     ∙ ap (λ (k : ℕ). (((runs_said r ++ counts_heading r.inputs k r.output_count) ++ ((((LogicLine ∷ input_lines 0 r.inputs) ++ (BaseLine ∷ node_lines (graph_of r))) ++ status_lines r.end) ++ output_lines r.outputs)) ++ map AssertLine r.asserted) ++ (CheckLine ∷ ExitLine ∷ [])) (sym c.1)

@@ -4,7 +4,7 @@ use Rattle.std.specs.Prelude.{if◌then◌else◌}
 use Rattle.std.proofs.lemmas.Grind.{flat_map-append}
 use Rattle.std.proofs.lemmas.Option.{none-some, same_Some}
 use Rattle.fork_spec.specs.Leaves.{IsFull, Leaf}
-use Rattle.smt_text.specs.Grammar.{IsTextOf, Reading, leaf_of, next_state, read_lines, stands, start, with_line}
+use Rattle.smt_text.specs.Grammar.{Reading, leaf_of, next_state, read_lines, stands, start, with_line}
 use Rattle.smt_text.specs.LeafLines.{leaf_lines, leaf_text}
 use Rattle.smt_text.specs.LineReading.{line_at, next_line}
 use Rattle.smt_text.specs.Lines.{LeafLine, FormatLine, KindLine, ChoicesLine, PathLine, StepsLine, EndLine, InputsLine, NodesLine, OutputsLine, LogicLine, InputLine, BaseLine, NodeLine, StatusLine, OutputLine, AssertLine, CheckLine, ExitLine, line_text, lines_text}
@@ -15,6 +15,7 @@ use Rattle.smt_text.specs.declared.spot.Spot.{Spot}
 use Rattle.smt_text.specs.declared.spot.Spot.TheVariants.{Closed}
 use Rattle.smt_text.proofs.LinesBack.{line_back}
 use Rattle.smt_text.proofs.LinesFrom.{from_line}
+use Rattle.smt_text.proofs.LinesSaid.{lines_are}
 use Rattle.smt_text.proofs.OneReading.{no_empty_line, same_lines, stood}
 use Rattle.smt_text.proofs.Options.{map_from, then_from}
 use Rattle.smt_text.proofs.Phases.{Counted-start, IsWithin-start, kept}
@@ -196,13 +197,6 @@ read_whole text r count rest has none closed = record {
 
 -- ---- the leaf
 
-pub whole_says : (text : List ℕ) (r : Reading) → IsWhole text r → IsTextOf text (leaf_of r)
-whole_says text r whole = record {
-  lines = whole.lines;
-  read_as = record { reading = r; all_stand = whole.all_stand; to_the_end = whole.to_the_end; same = refl };
-  is_theirs = whole.is_theirs;
-}
-
 pub whole_sound : (text : List ℕ) (r : Reading) → IsWhole text r → IsSound r
 whole_sound text r whole = reached start r whole.lines sound_start whole.all_stand
 
@@ -224,6 +218,12 @@ pub whole_full : (text : List ℕ) (r : Reading) → IsWhole text r → IsFull (
 whole_full text r whole =
     let sound = whole_sound text r whole in
     full_when_closed r sound.0 (subst (λ (p : Spot). Counted p r) whole.to_the_end sound.1)
+
+-- the text is the leaf's
+pub whole_text : (text : List ℕ) (r : Reading) → IsWhole text r → text ≡ leaf_text (leaf_of r)
+unfolding leaf_text
+whole_text text r whole =
+    whole.is_theirs ∙ ap lines_text (lines_are whole.lines r sound_start (whole_sound text r whole) whole.all_stand whole.to_the_end)
 
 -- the text of a full leaf is read as this leaf
 pub whole_only : (text : List ℕ) (r : Reading) (leaf : Leaf) → IsWhole text r → IsFull leaf → text ≡ leaf_text leaf →

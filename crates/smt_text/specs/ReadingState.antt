@@ -3,7 +3,6 @@ use Rattle.std.specs.Prelude.{◌≡◌, ℕ, List, Option, None, Some}
 use Rattle.smt_text.specs.Grammar.{Reading, read_lines, start}
 use Rattle.smt_text.specs.LineReading.{kind_said, next_line}
 use Rattle.smt_text.specs.Lines.{LeafLine, lines_text}
-pub use Rattle.smt_text.specs.Phases.{IsSound}
 use Rattle.smt_text.specs.declared.spot.Spot.TheVariants.{Closed}
 use Rattle.smt_text.specs.declared.leaf_reading.LeafReading.{LeafReading}
 

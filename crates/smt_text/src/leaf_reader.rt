@@ -2,9 +2,10 @@
 
 ghost use Rattle.std.specs.Prelude.{◌≡◌, IfErr, IfOk, Ok, option_map};
 ghost use Rattle.fork_spec.specs.Leaves.{IsFull, Leaf};
-ghost use Rattle.smt_text.specs.Grammar.{IsTextOf, leaf_of, start};
+ghost use Rattle.smt_text.specs.Grammar.{leaf_of, start};
 ghost use Rattle.smt_text.specs.LeafLines.{leaf_text};
-ghost use Rattle.smt_text.specs.ReadingState.{IsNext, IsSound, IsWhole, reading_of};
+ghost use Rattle.smt_text.specs.Phases.{IsSound};
+ghost use Rattle.smt_text.specs.ReadingState.{IsNext, IsWhole, reading_of};
 ghost use Rattle.smt_text.specs.Refusals.{IsRefusedAt};
 
 use crate::leaf::LeafText;
@@ -93,7 +94,7 @@ fn take_lines(
 /// Reads the text of a leaf, as `print_leaf` writes it, or says where it isn't one. One pass is made over
 /// the bytes.
 pub fn read_leaf(alloc: Global, text: &[u8]) -> Result<Result<LeafText, SmtRefused>, NoMemory>
-    ensures says { IfOk result (λ read. IfOk read (λ leaf. IsTextOf text.now leaf)) }
+    ensures is_its_text { IfOk result (λ read. IfOk read (λ leaf. text.now ≡ leaf_text leaf)) }
     ensures full { IfOk result (λ read. IfOk read (λ leaf. IsFull leaf)) }
     ensures only { (leaf : Leaf) → IsFull leaf → text.now ≡ leaf_text leaf → IfOk result (λ read. read ≡ Ok leaf) }
     ensures refused { IfOk result (λ read. IfErr read (λ refused. IsRefusedAt text.now refused.line)) }

@@ -1,10 +1,11 @@
 use Rattle.std.proofs.Common.{◌∙◌, ap, subst, sym, Result, Ok}
 use Rattle.std.specs.Prelude.{IfErr, IfOk}
 use Rattle.fork_spec.specs.Leaves.{IsFull}
+use Rattle.smt_text.specs.LeafLines.{leaf_text}
 use Rattle.smt_text.specs.ReadingState.{IsWhole, reading_of}
 use Rattle.smt_text.specs.Refusals.{IsRefusedAt}
 use Rattle.smt_text.specs.declared.leaf_reader.SmtRefused.{SmtRefused}
-use Rattle.smt_text.proofs.Whole.{never_refused, whole_full, whole_only, whole_sound}
+use Rattle.smt_text.proofs.Whole.{never_refused, whole_full, whole_only, whole_sound, whole_text}
 use Rattle.smt_text.proofs.leaf_reader.read_leaf.Goals.{In-Ok}
 use Rattle.smt_text.proofs.leaf_reader.read_leaf.Goals as goal
 
@@ -14,6 +15,11 @@ whole c =
 
 pub into_leaf-requires : goal.into_leaf-requires
 into_leaf-requires c = whole_sound c.args.text.now (reading_of c.take_lines.new.reading) (whole c)
+
+pub returns-in-Ok-clause-is_its_text : goal.returns-in-Ok-clause-is_its_text
+returns-in-Ok-clause-is_its_text c =
+    whole_text c.args.text.now (reading_of c.take_lines.new.reading) (whole (goal.at.returns-in-Ok-clause-is_its_text c).In-Ok)
+    ∙ ap leaf_text (sym c.into_leaf.ensures)
 
 pub returns-in-Ok-clause-full : goal.returns-in-Ok-clause-full
 returns-in-Ok-clause-full c =
