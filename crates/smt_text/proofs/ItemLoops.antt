@@ -65,12 +65,13 @@ module _ {X : Type 0} (read : Reader X) (text : List ℕ) where
   list_goes_on done rest x more so_far is item less =
       let most : suc (length text) - length done ≡ suc (length text - length done) = omega (arith, so_far.1) in
       let left : suc (length text) - length (done ++ x ∷ []) ≡ length text - length done =
-      omega (arith, length-append done (x ∷ [])) in
-      (so_far.0 ∙ ap (λ k. option_map (λ (p : List X × List ℕ). (done ++ p.0, p.1)) (items read k rest)) most
-        ∙ ap (option_map (λ (p : List X × List ℕ). (done ++ p.0, p.1))) (at_item (length text - length done) rest x more is item)
-        ∙ one_more done x (items read (length text - length done) more)
-        ∙ ap (λ k. option_map (λ (p : List X × List ℕ). ((done ++ x ∷ []) ++ p.0, p.1)) (items read k more)) (sym left),
-        omega (arith, so_far.1, less, length-append done (x ∷ [])))
+      omega (arith, length-append done (x ∷ [])) in (
+        so_far.0 ∙ ap (λ k. option_map (λ (p : List X × List ℕ). (done ++ p.0, p.1)) (items read k rest)) most
+            ∙ ap (option_map (λ (p : List X × List ℕ). (done ++ p.0, p.1))) (at_item (length text - length done) rest x more is item)
+            ∙ one_more done x (items read (length text - length done) more)
+            ∙ ap (λ k. option_map (λ (p : List X × List ℕ). ((done ++ x ∷ []) ++ p.0, p.1)) (items read k more)) (sym left),
+        omega (arith, so_far.1, less, length-append done (x ∷ [])),
+      )
 
 -- an item takes a byte or more
 pub choice_shortens : (text : List ℕ) (c : Choice) (rest : List ℕ) → choice text ≡ Some (c, rest) → length rest < length text

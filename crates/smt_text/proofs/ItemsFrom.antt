@@ -103,8 +103,10 @@ pairs_lower i (a ∷ b ∷ digits) bytes plain h =
         let top : (high * 16 + low) / 16 ≡ high = omega (arith, at_b.0) in
         let bottom : (high * 16 + low) % 16 ≡ low = omega (arith, at_b.0) in
         rw (top, bottom, at_a.1, at_b.1) (ap (λ t. a ∷ b ∷ t) tail)
+
     ok_same : (a b : List ℕ) → ◌≡◌ {A = Result (List ℕ) FromHexError} (Ok a) (Ok b) → a ≡ b
     ok_same a b h = cc
+
     go : (x y : Option ℕ) (t : Result (List ℕ) FromHexError) → hex_digit_value a ≡ x → hex_digit_value b ≡ y →
         ((bs : List ℕ) → t ≡ Ok bs → digits ≡ encode_lower bs) →
         ((v : ℕ) → is_ascii_uppercase a ≡ false → hex_digit_value a ≡ Some v → (v < 16) × (slice_index lower_digits v ≡ a)) →
@@ -135,10 +137,11 @@ from_address digits n h = go (has_upper_case digits) (decode_sized digits 4) ref
         let whole : decode_of digits ≡ Ok bytes = sym (decode_sized-twice digits 4 long) ∙ is in
         let ok = decode_of-ok digits bytes whole in
         let pairs : decode_pairs 0 digits ≡ Ok bytes = sym (decode_of-even digits ok.0) ∙ whole in
-        let same : from_be_bytes w32 bytes ≡ n = same_Some (from_be_bytes w32 bytes) n h in
-        (pairs_lower 0 digits bytes upper pairs
-          ∙ ap encode_lower (sym (be_bytes_4 bytes n (omega (arith, ok.2, long)) ok.3 (sym same))),
-          rw same at (bytes_small bytes ok.3))
+        let same : from_be_bytes w32 bytes ≡ n = same_Some (from_be_bytes w32 bytes) n h in (
+          pairs_lower 0 digits bytes upper pairs
+              ∙ ap encode_lower (sym (be_bytes_4 bytes n (omega (arith, ok.2, long)) ok.3 (sym same))),
+          rw same at (bytes_small bytes ok.3),
+        )
 
 pub from_eight : (text : List ℕ) (n : ℕ) (rest : List ℕ) → eight text ≡ Some (n, rest) →
     (text ≡ eight_digits n ++ rest) × (n < 2 ^ 32)
@@ -146,9 +149,11 @@ unfolding eight
 from_eight text n rest h =
     let a = map_from (λ (m : ℕ). (m, drop 8 text)) (address_of (take 8 text)) (n, rest) h in
     let digits = from_address (take 8 text) a.0 a.1 in
-    let same : a.0 ≡ n = ap (λ (p : ℕ × List ℕ). p.0) a.2 in
-    (sym (take-append-drop 8 text) ∙ ap (λ t. t ++ drop 8 text) digits.0
-      ∙ ap (λ (p : ℕ × List ℕ). eight_digits p.0 ++ p.1) a.2, rw same at digits.1)
+    let same : a.0 ≡ n = ap (λ (p : ℕ × List ℕ). p.0) a.2 in (
+      sym (take-append-drop 8 text) ∙ ap (λ t. t ++ drop 8 text) digits.0
+          ∙ ap (λ (p : ℕ × List ℕ). eight_digits p.0 ++ p.1) a.2,
+      rw same at digits.1,
+    )
 
 -- ---- one item
 
@@ -177,18 +182,22 @@ worded {X} make word text x rest h =
     let a = map_from (λ ((n, more) : ℕ × List ℕ). (make n, more)) (option_and_then eight (behind word text)) (x, rest) h in
     let b = then_from eight (behind word text) a.0 a.1 in
     let digits = from_eight b.0 a.0.0 a.0.1 b.2 in
-    let end : a.0.1 ≡ rest = ap (λ (p : X × List ℕ). p.1) a.2 in
-    (a.0.0, ap (λ (p : X × List ℕ). p.0) a.2, digits.1,
-      from_behind word text b.0 b.1 ∙ ap (λ t. word ++ t) (digits.0 ∙ ap (λ t. eight_digits a.0.0 ++ t) end))
+    let end : a.0.1 ≡ rest = ap (λ (p : X × List ℕ). p.1) a.2 in (
+      a.0.0,
+      ap (λ (p : X × List ℕ). p.0) a.2,
+      digits.1,
+      from_behind word text b.0 b.1 ∙ ap (λ t. word ++ t) (digits.0 ∙ ap (λ t. eight_digits a.0.0 ++ t) end),
+    )
 
 pub from_choice : (text : List ℕ) (c : Choice) (rest : List ℕ) → choice text ≡ Some (c, rest) →
     (text ≡ choice_text c ++ rest) × IsSmallChoice c
 unfolding choice
 from_choice text c rest h =
     elim (or_from (named plain_choices text) (made Value (option_and_then eight (behind (codes "=") text))) (c, rest) h) [
-      | inl plain ↦
-          (from_named choice_text plain_choices (refl, (refl, (refl, tt))) text c rest plain,
-            named_is IsSmallChoice plain_choices (tt, (tt, (tt, tt))) text c rest plain)
+      | inl plain ↦ (
+        from_named choice_text plain_choices (refl, (refl, (refl, tt))) text c rest plain,
+        named_is IsSmallChoice plain_choices (tt, (tt, (tt, tt))) text c rest plain,
+      )
       | inr value ↦
           let w = worded Value (codes "=") text c rest value in
           (w.3 ∙ ap (λ d. choice_text d ++ rest) w.1, subst IsSmallChoice w.1 w.2)
@@ -199,9 +208,10 @@ pub from_step : (text : List ℕ) (s : PathStep) (rest : List ℕ) → step text
 unfolding step
 from_step text s rest h =
     elim (or_from (named branches text) (made Target (option_and_then eight (behind (codes "@") text))) (s, rest) h) [
-      | inl plain ↦
-          (from_named step_text branches (refl, (refl, tt)) text s rest plain,
-            named_is IsSmallStep branches (tt, (tt, tt)) text s rest plain)
+      | inl plain ↦ (
+        from_named step_text branches (refl, (refl, tt)) text s rest plain,
+        named_is IsSmallStep branches (tt, (tt, tt)) text s rest plain,
+      )
       | inr target ↦
           let w = worded Target (codes "@") text s rest target in
           (w.3 ∙ ap (λ d. step_text d ++ rest) w.1, subst IsSmallStep w.1 w.2)
@@ -226,9 +236,10 @@ module _ {X : Type 0} (read : Reader X) (print : X → List ℕ) (IsSmall : X �
             let b = map_from (λ ((ys, r) : List X × List ℕ). (a.0.0 ∷ ys, r)) (items read more a.0.1) (xs, rest) a.2 in
             let first = from text a.0.0 a.0.1 a.1 in
             let others = from_items more a.0.1 b.0.0 b.0.1 b.1 in
-            subst (λ (p : List X × List ℕ). (text ≡ flat_map print p.0 ++ (list_end ++ p.1)) × All IsSmall p.0) b.2
-            (first.0 ∙ ap (λ t. print a.0.0 ++ t) others.0 ∙ sym (append_assoc (print a.0.0) (flat_map print b.0.0) (list_end ++ b.0.1)),
-              All-cons IsSmall a.0.0 b.0.0 first.1 others.1)
+            subst (λ (p : List X × List ℕ). (text ≡ flat_map print p.0 ++ (list_end ++ p.1)) × All IsSmall p.0) b.2 (
+              first.0 ∙ ap (λ t. print a.0.0 ++ t) others.0 ∙ sym (append_assoc (print a.0.0) (flat_map print b.0.0) (list_end ++ b.0.1)),
+              All-cons IsSmall a.0.0 b.0.0 first.1 others.1,
+            )
       ]
 
 pub from_choices : (most : ℕ) (text : List ℕ) (cs : List Choice) (rest : List ℕ) → items choice most text ≡ Some (cs, rest) →

@@ -108,9 +108,12 @@ node_line_back : (id width : ℕ) (node : Node) (rest : List ℕ) → id < 2 ^ 6
 unfolding node_line
 node_line_back id width node rest small_id small_width small_node =
     ap node_line (seven_pieces (codes "(define-fun n") (decimal id) (codes " () (_ BitVec ") (decimal width) (codes ") ") (node_text node) (codes ")\n") rest)
-    ∙ rw (behind_word (codes "(define-fun n") (decimal id ++ (codes " () (_ BitVec " ++ (decimal width ++ (codes ") " ++ (node_text node ++ (codes ")\n" ++ rest)))))),
+    ∙ rw (
+      behind_word (codes "(define-fun n") (decimal id ++ (codes " () (_ BitVec " ++ (decimal width ++ (codes ") " ++ (node_text node ++ (codes ")\n" ++ rest)))))),
       two_back (codes " () (_ BitVec ") (codes ") ") id width (node_text node ++ (codes ")\n" ++ rest)) small_id small_width refl refl,
-      term_back node (codes ")\n" ++ rest) small_node refl, behind_word (codes ")\n") rest) refl
+      term_back node (codes ")\n" ++ rest) small_node refl,
+      behind_word (codes ")\n") rest,
+    ) refl
 
 wide_term : (r : Reading) (id width : ℕ) → length r.nodes < 2 ^ 32 → 0 < width → is_wide r id width ≡ true → id < 2 ^ 64
 wide_term r id width few some h =
@@ -166,8 +169,10 @@ line_back AmongOutputs r (OutputLine i id) rest w c h =
     let small_i : i < 2 ^ 64 = omega (arith, eqb-true i (length r.outputs) parts.0, c.2, w.5) in
     let small_id : id < 2 ^ 64 = wide_term r id 8 (omega (arith, c.1, w.4)) (omega arith) parts.1 in
     ap (line_at AmongOutputs) (five_pieces (codes "(define-fun out") (decimal i) (codes " () (_ BitVec 8) n") (decimal id) (codes ")\n") rest)
-    ∙ rw (behind_word (codes "(define-fun out") (decimal i ++ (codes " () (_ BitVec 8) n" ++ (decimal id ++ (codes ")\n" ++ rest)))),
-      two_back (codes " () (_ BitVec 8) n") (codes ")\n") i id rest small_i small_id refl refl) refl
+    ∙ rw (
+      behind_word (codes "(define-fun out") (decimal i ++ (codes " () (_ BitVec 8) n" ++ (decimal id ++ (codes ")\n" ++ rest)))),
+      two_back (codes " () (_ BitVec 8) n") (codes ")\n") i id rest small_i small_id refl refl,
+    ) refl
 line_back AmongAssertions r (AssertLine id) rest w c h =
     rw (number_line AssertLine (codes "(assert (= n") (codes " (_ bv1 1)))\n") id rest (wide_term r id 1 (omega (arith, c.1, w.4)) (omega arith) h) refl) refl
 line_back AmongAssertions r CheckLine rest w c h = rw (no_assertion rest, behind_word (line_text CheckLine) rest) refl

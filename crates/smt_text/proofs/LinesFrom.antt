@@ -168,8 +168,8 @@ from_node_line text line rest h =
     let e = from_before term (codes ")\n") a.0.1 d.0 rest d.1 in
     from_behind (codes "(define-fun n") text b.0 b.1
     ∙ ap (λ t. codes "(define-fun n" ++ t) (numbers.0
-      ∙ ap (λ t. decimal a.0.0.0 ++ (codes " () (_ BitVec " ++ (decimal a.0.0.1 ++ (codes ") " ++ t))))
-      (from_term a.0.1 d.0 e.0 e.1 ∙ ap (λ t. node_text d.0 ++ t) e.2))
+    ∙ ap (λ t. decimal a.0.0.0 ++ (codes " () (_ BitVec " ++ (decimal a.0.0.1 ++ (codes ") " ++ t))))
+    (from_term a.0.1 d.0 e.0 e.1 ∙ ap (λ t. node_text d.0 ++ t) e.2))
     ∙ sym (seven_pieces (codes "(define-fun n") (decimal a.0.0.0) (codes " () (_ BitVec ") (decimal a.0.0.1) (codes ") ") (node_text d.0) (codes ")\n") rest)
     ∙ ap (λ (l : LeafLine). line_text l ++ rest) d.2
 

@@ -1,5 +1,5 @@
 -- What was read says all lines that were read.
-use Rattle.std.proofs.Common.{◌≡◌, ◌∙◌, ℕ, zero, suc, ◌+◌, ◌<◌, ◌≤◌, Bool, true, false, ◌&&◌, ◌==◌, List, [], ◌∷◌, ◌++◌, length, map, Some, refl, sym, ap, subst, arith, add-zero, append_assoc, append-nil, length-append}
+use Rattle.std.proofs.Common.{◌≡◌, ◌∙◌, ℕ, zero, suc, ◌+◌, ◌≤◌, Bool, true, false, ◌&&◌, ◌==◌, List, [], ◌∷◌, ◌++◌, length, map, Some, refl, sym, ap, subst, arith, add-zero, append_assoc, append-nil}
 use Rattle.std.specs.Prelude.{if◌then◌else◌}
 use Rattle.std.specs.List.{enumerate_from}
 use Rattle.std.proofs.lemmas.Bool.{and_parts, eqb-true}
@@ -15,10 +15,10 @@ use Rattle.fork_spec.specs.declared.end.LeafEnd.{LeafEnd}
 use Rattle.fork_spec.specs.declared.end.LeafEnd.TheVariants.{Exits, Traps, Cut}
 use Rattle.smt_text.specs.Grammar.{Reading, agree, behind_inputs, behind_nodes, behind_outputs, end_of, exits, graph_of, is_wide, leaf_of, read_lines, stands, start, with_line}
 use Rattle.smt_text.specs.LeafLines.{counts_heading, input_lines, leaf_lines, node_lines, output_lines, runs_heading, status_lines}
-use Rattle.smt_text.specs.Lines.{LeafLine, FormatLine, KindLine, ChoicesLine, PathLine, StepsLine, EndLine, InputsLine, NodesLine, OutputsLine, LogicLine, InputLine, BaseLine, NodeLine, StatusLine, OutputLine, AssertLine, CheckLine, ExitLine, lines_text}
+use Rattle.smt_text.specs.Lines.{LeafLine, FormatLine, KindLine, ChoicesLine, PathLine, StepsLine, EndLine, InputsLine, NodesLine, OutputsLine, LogicLine, InputLine, BaseLine, NodeLine, StatusLine, OutputLine, AssertLine, CheckLine, ExitLine}
 use Rattle.smt_text.specs.Names.{Kind, finished, cut, EndWord, exit, trap, running}
 use Rattle.smt_text.specs.NodeFits.{fits}
-use Rattle.smt_text.specs.Phases.{Counted, IsSound, IsWithin}
+use Rattle.smt_text.specs.Phases.{Counted, IsSound}
 use Rattle.smt_text.specs.declared.spot.Spot.{Spot}
 use Rattle.smt_text.specs.declared.spot.Spot.TheVariants.{AtFormat, AtKind, AtChoices, AtPath, AtSteps, AtEnd, AtInputs, AtNodes, AtOutputs, AtLogic, AmongInputs, AtBase, AmongNodes, AtStatus, AmongOutputs, AmongAssertions, AtExit, Closed}
 use Rattle.smt_text.proofs.OneReading.{stood}
@@ -156,6 +156,7 @@ said_nodes p r no_outputs none_yet = go (length r.nodes == r.node_count) (exits 
     open_end : (b : Bool) → ExitsAt (if b then AmongAssertions else AmongOutputs) r.end
     open_end true = tt
     open_end false = tt
+
     go : (b e : Bool) → exits r.end ≡ e →
         (said (if b then (if e then AtStatus else behind_outputs r) else AmongNodes) (record r { place = p }) ≡ nodes_said r)
         × ExitsAt (if b then (if e then AtStatus else behind_outputs r) else AmongNodes) r.end
@@ -208,9 +209,11 @@ said_more AmongInputs r (InputLine i) c x here h =
     let suc_is : r.declared + 1 ≡ suc r.declared = omega arith in
     let next : 0 + r.declared ≡ i = omega (arith, eqb-true i r.declared h) in
     let one : input_lines 0 (r.declared + 1) ≡ input_lines 0 r.declared ++ InputLine i ∷ [] =
-    ap (input_lines 0) suc_is ∙ inputs_suc 0 r.declared ∙ ap (λ (k : ℕ). input_lines 0 r.declared ++ InputLine k ∷ []) next in
-    (said_inputs (behind_inputs (record r { declared = r.declared + 1 })) (record r { declared = r.declared + 1 }) ∙ ap (λ (ls : List LeafLine). heading_said r ++ (LogicLine ∷ ls)) one
-      ∙ more_behind (heading_said r) (LogicLine ∷ input_lines 0 r.declared) (InputLine i), open_inputs (record r { declared = r.declared + 1 }))
+    ap (input_lines 0) suc_is ∙ inputs_suc 0 r.declared ∙ ap (λ (k : ℕ). input_lines 0 r.declared ++ InputLine k ∷ []) next in (
+      said_inputs (behind_inputs (record r { declared = r.declared + 1 })) (record r { declared = r.declared + 1 }) ∙ ap (λ (ls : List LeafLine). heading_said r ++ (LogicLine ∷ ls)) one
+          ∙ more_behind (heading_said r) (LogicLine ∷ input_lines 0 r.declared) (InputLine i),
+      open_inputs (record r { declared = r.declared + 1 }),
+    )
 said_more AtBase r BaseLine c x here h =
     let nodes = said_nodes (behind_nodes r) r (nil_from_length r.outputs c.2) c.3 in
     (nodes.0 ∙ ap (λ (ns : List Node). inputs_said r ++ (BaseLine ∷ node_lines (record { inputs = r.inputs; nodes = ns }))) (nil_from_length r.nodes c.1), nodes.1)
@@ -218,30 +221,37 @@ said_more AmongNodes r (NodeLine id width node) c x here h =
     let parts = and_parts ((id == length r.nodes) && fits r.inputs (widths_of r.nodes) node) (width == node_width (widths_of r.nodes) node) h in
     let next = eqb-true id (length r.nodes) (and_parts (id == length r.nodes) (fits r.inputs (widths_of r.nodes) node) parts.0).0 in
     let wide = eqb-true width (node_width (widths_of r.nodes) node) parts.1 in
-    let nodes = said_nodes (behind_nodes (record r { nodes = r.nodes ++ node ∷ [] })) (record r { nodes = r.nodes ++ node ∷ [] }) (nil_from_length r.outputs c.2) c.3 in
-    (nodes.0 ∙ ap (λ (ls : List LeafLine). inputs_said r ++ (BaseLine ∷ ls)) (nodes_push (graph_of r) node)
-      ∙ ap (λ (k : ℕ). inputs_said r ++ (BaseLine ∷ (node_lines (graph_of r) ++ NodeLine k (node_width (widths_of r.nodes) node) node ∷ []))) (sym next)
-      ∙ ap (λ (w : ℕ). inputs_said r ++ (BaseLine ∷ (node_lines (graph_of r) ++ NodeLine id w node ∷ []))) (sym wide)
-      ∙ more_behind (inputs_said r) (BaseLine ∷ node_lines (graph_of r)) (NodeLine id width node), nodes.1)
+    let nodes = said_nodes (behind_nodes (record r { nodes = r.nodes ++ node ∷ [] })) (record r { nodes = r.nodes ++ node ∷ [] }) (nil_from_length r.outputs c.2) c.3 in (
+      nodes.0 ∙ ap (λ (ls : List LeafLine). inputs_said r ++ (BaseLine ∷ ls)) (nodes_push (graph_of r) node)
+          ∙ ap (λ (k : ℕ). inputs_said r ++ (BaseLine ∷ (node_lines (graph_of r) ++ NodeLine k (node_width (widths_of r.nodes) node) node ∷ []))) (sym next)
+          ∙ ap (λ (w : ℕ). inputs_said r ++ (BaseLine ∷ (node_lines (graph_of r) ++ NodeLine id w node ∷ []))) (sym wide)
+          ∙ more_behind (inputs_said r) (BaseLine ∷ node_lines (graph_of r)) (NodeLine id width node),
+      nodes.1,
+    )
 said_more AtStatus r (StatusLine id) c x here h =
-    let s : Reading = record r { end = Exits id } in
-    (said_outputs (behind_outputs (record r { end = Exits id })) (record r { end = Exits id }) c.3
-      ∙ ap (λ (ids : List ℕ). nodes_said s ++ (StatusLine id ∷ output_lines ids)) (nil_from_length r.outputs c.2)
-      ∙ ap (λ (ls : List LeafLine). (((ls ++ counts_heading r.inputs r.node_count r.output_count) ++ (LogicLine ∷ input_lines 0 r.declared)) ++ (BaseLine ∷ node_lines (graph_of r))) ++ StatusLine id ∷ [])
-      (exits_said r.end id r.choices r.path r.steps x), open_outputs (record r { end = Exits id }))
+    let s : Reading = record r { end = Exits id } in (
+      said_outputs (behind_outputs (record r { end = Exits id })) (record r { end = Exits id }) c.3
+          ∙ ap (λ (ids : List ℕ). nodes_said s ++ (StatusLine id ∷ output_lines ids)) (nil_from_length r.outputs c.2)
+          ∙ ap (λ (ls : List LeafLine). (((ls ++ counts_heading r.inputs r.node_count r.output_count) ++ (LogicLine ∷ input_lines 0 r.declared)) ++ (BaseLine ∷ node_lines (graph_of r))) ++ StatusLine id ∷ [])
+          (exits_said r.end id r.choices r.path r.steps x),
+      open_outputs (record r { end = Exits id }),
+    )
 said_more AmongOutputs r (OutputLine i id) c x here h =
     let parts = and_parts (i == length r.outputs) (is_wide r id 8) h in
-    let next = eqb-true i (length r.outputs) parts.0 in
-    (said_outputs (behind_outputs (record r { outputs = r.outputs ++ id ∷ [] })) (record r { outputs = r.outputs ++ id ∷ [] }) c.3
-      ∙ ap (λ (ls : List LeafLine). nodes_said r ++ (status_lines r.end ++ ls)) (outputs_push r.outputs id)
-      ∙ ap (λ (k : ℕ). nodes_said r ++ (status_lines r.end ++ (output_lines r.outputs ++ OutputLine k id ∷ []))) (sym next)
-      ∙ ap (λ (ls : List LeafLine). nodes_said r ++ ls) (more_behind (status_lines r.end) (output_lines r.outputs) (OutputLine i id))
-      ∙ more_behind (nodes_said r) (status_lines r.end ++ output_lines r.outputs) (OutputLine i id), open_outputs (record r { outputs = r.outputs ++ id ∷ [] }))
-said_more AmongAssertions r (AssertLine id) c x here h =
-    (ap (λ (p : Spot). said p (record r { asserted = r.asserted ++ id ∷ [] })) here
+    let next = eqb-true i (length r.outputs) parts.0 in (
+      said_outputs (behind_outputs (record r { outputs = r.outputs ++ id ∷ [] })) (record r { outputs = r.outputs ++ id ∷ [] }) c.3
+          ∙ ap (λ (ls : List LeafLine). nodes_said r ++ (status_lines r.end ++ ls)) (outputs_push r.outputs id)
+          ∙ ap (λ (k : ℕ). nodes_said r ++ (status_lines r.end ++ (output_lines r.outputs ++ OutputLine k id ∷ []))) (sym next)
+          ∙ ap (λ (ls : List LeafLine). nodes_said r ++ ls) (more_behind (status_lines r.end) (output_lines r.outputs) (OutputLine i id))
+          ∙ more_behind (nodes_said r) (status_lines r.end ++ output_lines r.outputs) (OutputLine i id),
+      open_outputs (record r { outputs = r.outputs ++ id ∷ [] }),
+    )
+said_more AmongAssertions r (AssertLine id) c x here h = (
+  ap (λ (p : Spot). said p (record r { asserted = r.asserted ++ id ∷ [] })) here
       ∙ ap (λ (ls : List LeafLine). outputs_said r ++ ls) (map-append AssertLine r.asserted (id ∷ []))
       ∙ more_behind (outputs_said r) (map AssertLine r.asserted) (AssertLine id),
-      subst (λ (p : Spot). ExitsAt p r.end) (sym here) tt)
+  subst (λ (p : Spot). ExitsAt p r.end) (sym here) tt,
+)
 said_more AmongAssertions r CheckLine c x here h = (refl, tt)
 said_more AtExit r ExitLine c x here h = (more_behind (assertions_said r) (CheckLine ∷ []) ExitLine, tt)
 said_more _ r _ c x here h = cc

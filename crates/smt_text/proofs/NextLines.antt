@@ -115,13 +115,16 @@ pushed_node r id width wide node next fit is = go (wide == width) refl
   where
     both : (a b c d : Bool) → a ≡ true → b ≡ true → c ≡ d → (a && b && c) ≡ d
     both a b c d at_a at_b e = rw (at_a, at_b) e
+
     whole : wide ≡ node_width (widths_of r.nodes) node
     whole = is ∙ width_of-new (graph_of r) node
+
     tests : (d : Bool) → (wide == width) ≡ d → stands AmongNodes r (NodeLine id width node) ≡ d
     tests d e =
         both (id == length r.nodes) (fits r.inputs (widths_of r.nodes) node) (width == node_width (widths_of r.nodes) node) d
         (eq-eqb id (length r.nodes) next) (fits_where_it_fits r.inputs (widths_of r.nodes) node fit)
         (ap (λ w. width == w) (sym whole) ∙ turned width wide ∙ e)
+
     go : (d : Bool) → (wide == width) ≡ d → IsPushed r (NodeLine id width node) (record r { nodes = r.nodes ++ node ∷ [] }) d
     go true e = (tests true e, refl)
     go false e = tests false e

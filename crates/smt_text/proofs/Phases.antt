@@ -121,6 +121,7 @@ counted_nodes r declared most no_outputs none_asserted = go (length r.nodes == r
         counted_outputs r declared nodes (omega (arith, no_outputs)) none_asserted (subst (IsByteStatus (graph_of r)) (sym is) tt)
     ended (Cut cause) is nodes =
         counted_outputs r declared nodes (omega (arith, no_outputs)) none_asserted (subst (IsByteStatus (graph_of r)) (sym is) tt)
+
     go : (b : Bool) → (length r.nodes == r.node_count) ≡ b → Counted (if b then (if exits r.end then AtStatus else behind_outputs r) else AmongNodes) r
     go true is = ended r.end refl (eqb-true (length r.nodes) r.node_count is)
     go false is = (declared, less (length r.nodes) r.node_count most is, no_outputs, none_asserted, tt)
@@ -157,20 +158,31 @@ kept AmongNodes r (NodeLine id width node) w c here h =
     let parts = and_parts ((id == length r.nodes) && fits r.inputs (widths_of r.nodes) node) (width == node_width (widths_of r.nodes) node) h in
     let fit = fits_from r.inputs (widths_of r.nodes) node (and_parts (id == length r.nodes) (fits r.inputs (widths_of r.nodes) node) parts.0).1 in
     let more : List Node = r.nodes ++ node ∷ [] in
-    let s : Reading = record r { nodes = r.nodes ++ node ∷ [] } in
-    ((w.0, w.1, w.2, w.3, w.4, w.5, (IsDag-with_node (graph_of r) node (record { all_fit = w.6 }) fit).all_fit,
-      All-same (λ id. width_of (graph_of s) id ≡ 8) r.outputs [] (nil_from_length r.outputs c.2) (All-nil (λ id. width_of (graph_of s) id ≡ 8)),
-      All-same (λ id. width_of (graph_of s) id ≡ 1) r.asserted [] c.3 (All-nil (λ id. width_of (graph_of s) id ≡ 1))),
-      counted_nodes s c.0 (omega (arith, c.1, length-append r.nodes (node ∷ []))) c.2 c.3)
+    let s : Reading = record r { nodes = r.nodes ++ node ∷ [] } in (
+      (
+        w.0,
+        w.1,
+        w.2,
+        w.3,
+        w.4,
+        w.5,
+        (IsDag-with_node (graph_of r) node (record { all_fit = w.6 }) fit).all_fit,
+        All-same (λ id. width_of (graph_of s) id ≡ 8) r.outputs [] (nil_from_length r.outputs c.2) (All-nil (λ id. width_of (graph_of s) id ≡ 8)),
+        All-same (λ id. width_of (graph_of s) id ≡ 1) r.asserted [] c.3 (All-nil (λ id. width_of (graph_of s) id ≡ 1)),
+      ),
+      counted_nodes s c.0 (omega (arith, c.1, length-append r.nodes (node ∷ []))) c.2 c.3,
+    )
 kept AtStatus r (StatusLine id) w c here h =
     (w, counted_outputs (record r { end = Exits id }) c.0 c.1 (omega (arith, c.2)) c.3 (eqb-true (width_of (graph_of r) id) 8 h))
 kept AmongOutputs r (OutputLine i id) w c here h =
-    let wide = eqb-true (width_of (graph_of r) id) 8 (and_parts (i == length r.outputs) (is_wide r id 8) h).1 in
-    ((w.0, w.1, w.2, w.3, w.4, w.5, w.6, All-push (λ k. width_of (graph_of r) k ≡ 8) r.outputs id w.7 wide, w.8),
-      counted_outputs (record r { outputs = r.outputs ++ id ∷ [] }) c.0 c.1 (omega (arith, c.2, length-append r.outputs (id ∷ []))) c.3 c.4)
-kept AmongAssertions r (AssertLine id) w c here h =
-    ((w.0, w.1, w.2, w.3, w.4, w.5, w.6, w.7, All-push (λ k. width_of (graph_of r) k ≡ 1) r.asserted id w.8 (eqb-true (width_of (graph_of r) id) 1 h)),
-      subst (λ (p : Spot). Counted p (with_line r (AssertLine id))) (sym here) c)
+    let wide = eqb-true (width_of (graph_of r) id) 8 (and_parts (i == length r.outputs) (is_wide r id 8) h).1 in (
+      (w.0, w.1, w.2, w.3, w.4, w.5, w.6, All-push (λ k. width_of (graph_of r) k ≡ 8) r.outputs id w.7 wide, w.8),
+      counted_outputs (record r { outputs = r.outputs ++ id ∷ [] }) c.0 c.1 (omega (arith, c.2, length-append r.outputs (id ∷ []))) c.3 c.4,
+    )
+kept AmongAssertions r (AssertLine id) w c here h = (
+  (w.0, w.1, w.2, w.3, w.4, w.5, w.6, w.7, All-push (λ k. width_of (graph_of r) k ≡ 1) r.asserted id w.8 (eqb-true (width_of (graph_of r) id) 1 h)),
+  subst (λ (p : Spot). Counted p (with_line r (AssertLine id))) (sym here) c,
+)
 kept AmongAssertions r CheckLine w c here h = (w, c)
 kept AtExit r ExitLine w c here h = (w, c)
 kept _ r _ w c here h = cc

@@ -155,8 +155,10 @@ term_back (Compare Eq a b) rest small plain =
 term_back (Ite c a b) rest small plain =
     ap term (seven_pieces (codes "(ite (= n") (decimal c) (codes " (_ bv1 1)) n") (decimal a) (codes " n") (decimal b) (codes ")") rest)
     ∙ with_head (codes "(ite (= n") _ head.Equal (Ite c a b) rest (equal_named _)
-    (rw (not_two (codes " n") answers c (codes " (_ bv1 1)) n" ++ (decimal a ++ (codes " n" ++ (decimal b ++ (codes ")" ++ rest))))) small.0 refl (no_equal _),
-      three_back (codes " (_ bv1 1)) n") (codes " n") (codes ")") c a b rest small.0 small.1 small.2 refl refl refl) refl)
+    (rw (
+      not_two (codes " n") answers c (codes " (_ bv1 1)) n" ++ (decimal a ++ (codes " n" ++ (decimal b ++ (codes ")" ++ rest))))) small.0 refl (no_equal _),
+      three_back (codes " (_ bv1 1)) n") (codes " n") (codes ")") c a b rest small.0 small.1 small.2 refl refl refl,
+    ) refl)
 term_back (Extract high low a) rest small plain =
     ap term (seven_pieces (codes "((_ extract ") (decimal high) (codes " ") (decimal low) (codes ") n") (decimal a) (codes ")") rest)
     ∙ with_head (codes "((_ extract ") _ head.Extract (Extract high low a) rest (extract_named _)

@@ -56,9 +56,11 @@ pub from_before : {X : Type 0} (read : Reader X) (word text : List ℕ) (x : X) 
     (mid : List ℕ) × (read text ≡ Some (x, mid)) × (mid ≡ word ++ rest)
 from_before {X} read word text x rest h =
     let a = then_from (λ ((y, mid) : X × List ℕ). option_map (λ more. (y, more)) (behind word mid)) (read text) (x, rest) h in
-    let b = map_from (λ (more : List ℕ). (a.0.0, more)) (behind word a.0.1) (x, rest) a.2 in
-    (a.0.1, a.1 ∙ ap (λ (z : X). Some (z, a.0.1)) (ap (λ (p : X × List ℕ). p.0) b.2),
-      from_behind word a.0.1 b.0 b.1 ∙ ap (λ (p : X × List ℕ). word ++ p.1) b.2)
+    let b = map_from (λ (more : List ℕ). (a.0.0, more)) (behind word a.0.1) (x, rest) a.2 in (
+      a.0.1,
+      a.1 ∙ ap (λ (z : X). Some (z, a.0.1)) (ap (λ (p : X × List ℕ). p.0) b.2),
+      from_behind word a.0.1 b.0 b.1 ∙ ap (λ (p : X × List ℕ). word ++ p.1) b.2,
+    )
 
 -- ---- numbers
 
@@ -164,9 +166,11 @@ unfolding number
 from_number text n rest h =
     let a = map_from (λ (m : ℕ). (m, drop (digit_count text) text)) (plain_number (take (digit_count text) text)) (n, rest) h in
     let digits = from_plain (take (digit_count text) text) a.0 (all_counted text) a.1 in
-    let same : a.0 ≡ n = ap (λ (p : ℕ × List ℕ). p.0) a.2 in
-    (sym (take-append-drop (digit_count text) text) ∙ ap (λ t. t ++ drop (digit_count text) text) digits.0
-      ∙ ap (λ (p : ℕ × List ℕ). decimal p.0 ++ p.1) a.2, rw same at digits.1)
+    let same : a.0 ≡ n = ap (λ (p : ℕ × List ℕ). p.0) a.2 in (
+      sym (take-append-drop (digit_count text) text) ∙ ap (λ t. t ++ drop (digit_count text) text) digits.0
+          ∙ ap (λ (p : ℕ × List ℕ). decimal p.0 ++ p.1) a.2,
+      rw same at digits.1,
+    )
 
 -- ---- numbers before words
 
@@ -197,11 +201,12 @@ from_two word other text p rest h =
     let a = then_from (λ ((n, more) : ℕ × List ℕ). made (λ (b : ℕ). (n, b)) (one other more)) (one word text) (p, rest) h in
     let b = map_from (λ ((n, more) : ℕ × List ℕ). ((a.0.0, n), more)) (one other a.0.1) (p, rest) a.2 in
     let first = from_one word text a.0.0 a.0.1 a.1 in
-    let second = from_one other a.0.1 b.0.0 b.0.1 b.1 in
-    (first.0 ∙ ap (λ t. decimal a.0.0 ++ (word ++ t)) second.0
-      ∙ ap (λ (q : (ℕ × ℕ) × List ℕ). decimal q.0.0 ++ (word ++ (decimal q.0.1 ++ (other ++ q.1)))) b.2,
+    let second = from_one other a.0.1 b.0.0 b.0.1 b.1 in (
+      first.0 ∙ ap (λ t. decimal a.0.0 ++ (word ++ t)) second.0
+          ∙ ap (λ (q : (ℕ × ℕ) × List ℕ). decimal q.0.0 ++ (word ++ (decimal q.0.1 ++ (other ++ q.1)))) b.2,
       rw (ap (λ (q : (ℕ × ℕ) × List ℕ). q.0.0) b.2) at first.1,
-      rw (ap (λ (q : (ℕ × ℕ) × List ℕ). q.0.1) b.2) at second.1)
+      rw (ap (λ (q : (ℕ × ℕ) × List ℕ). q.0.1) b.2) at second.1,
+    )
 
 -- another word stands behind the first number
 pub not_two : (word other : List ℕ) (n : ℕ) (rest : List ℕ) → n < 2 ^ 64 → starts_plain rest ≡ true →
@@ -215,8 +220,10 @@ pub three_back : (word other third : List ℕ) (a b c : ℕ) (rest : List ℕ) �
     three word other third (decimal a ++ (word ++ (decimal b ++ (other ++ (decimal c ++ (third ++ rest)))))) ≡ Some ((a, b, c), rest)
 unfolding three
 three_back word other third a b c rest small_a small_b small_c plain_a plain_b plain_c =
-    rw (one_back word a (decimal b ++ (other ++ (decimal c ++ (third ++ rest)))) small_a plain_a,
-      two_back other third b c rest small_b small_c plain_b plain_c) refl
+    rw (
+      one_back word a (decimal b ++ (other ++ (decimal c ++ (third ++ rest)))) small_a plain_a,
+      two_back other third b c rest small_b small_c plain_b plain_c,
+    ) refl
 
 pub from_three : (word other third text : List ℕ) (p : ℕ × ℕ × ℕ) (rest : List ℕ) →
     three word other third text ≡ Some (p, rest) →
@@ -227,9 +234,10 @@ from_three word other third text p rest h =
     let a = then_from (λ ((n, more) : ℕ × List ℕ). made (λ ((b, c) : ℕ × ℕ). (n, b, c)) (two other third more)) (one word text) (p, rest) h in
     let b = map_from (λ ((n, more) : (ℕ × ℕ) × List ℕ). ((a.0.0, n.0, n.1), more)) (two other third a.0.1) (p, rest) a.2 in
     let first = from_one word text a.0.0 a.0.1 a.1 in
-    let second = from_two other third a.0.1 b.0.0 b.0.1 b.1 in
-    (first.0 ∙ ap (λ t. decimal a.0.0 ++ (word ++ t)) second.0
-      ∙ ap (λ (q : (ℕ × ℕ × ℕ) × List ℕ). decimal q.0.0 ++ (word ++ (decimal q.0.1 ++ (other ++ (decimal q.0.2 ++ (third ++ q.1)))))) b.2,
+    let second = from_two other third a.0.1 b.0.0 b.0.1 b.1 in (
+      first.0 ∙ ap (λ t. decimal a.0.0 ++ (word ++ t)) second.0
+          ∙ ap (λ (q : (ℕ × ℕ × ℕ) × List ℕ). decimal q.0.0 ++ (word ++ (decimal q.0.1 ++ (other ++ (decimal q.0.2 ++ (third ++ q.1)))))) b.2,
       rw (ap (λ (q : (ℕ × ℕ × ℕ) × List ℕ). q.0.0) b.2) at first.1,
       rw (ap (λ (q : (ℕ × ℕ × ℕ) × List ℕ). q.0.1) b.2) at second.1,
-      rw (ap (λ (q : (ℕ × ℕ × ℕ) × List ℕ). q.0.2) b.2) at second.2)
+      rw (ap (λ (q : (ℕ × ℕ × ℕ) × List ℕ). q.0.2) b.2) at second.2,
+    )

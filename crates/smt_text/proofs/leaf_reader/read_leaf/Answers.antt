@@ -32,6 +32,6 @@ returns-in-Ok-clause-only c =
 pub returns-in-Err-clause-only : goal.returns-in-Err-clause-only
 returns-in-Err-clause-only c =
     λ leaf full e.
-        let refused : IsRefusedAt c.args.text.now c.in-Err.refused.line =
-        subst (λ (o : Result Unit SmtRefused). IfErr o (λ refused. IsRefusedAt c.args.text.now refused.line)) c.in-Err.is c.in_ok-take_lines.ensures.refused in
-        absurd (never_refused c.args.text.now c.in-Err.refused.line leaf refused full e)
+    let refused : IsRefusedAt c.args.text.now c.in-Err.refused.line =
+    subst (λ (o : Result Unit SmtRefused). IfErr o (λ refused. IsRefusedAt c.args.text.now refused.line)) c.in-Err.is c.in_ok-take_lines.ensures.refused in
+    absurd (never_refused c.args.text.now c.in-Err.refused.line leaf refused full e)
