@@ -12,7 +12,8 @@ compare_exchange-requires g c = let two = c.args.self.now.words in let pass = c.
 )
 
 pub exchange-requires : goal.exchange-requires
-exchange-requires g c = let got = c.compare_exchange.ensures.2.0 c.if-compare_exchange-ne0.false in let hand = ap (λ m. m.1) got.1 in (
-  c.compare_exchange.ensures.0 ∙ c.requires.lock,
-  (Some got.0, hand ∙ (λ i. (0, Some got.0) ∷ sym (ap rest hand) i)),
-)
+exchange-requires g c = let got = c.compare_exchange.ensures.2.0 c.if-compare_exchange-ne0.false in
+    let hand = ap (λ m. m.1) got.1 in (
+      c.compare_exchange.ensures.0 ∙ c.requires.lock,
+      (Some got.0, hand ∙ (λ i. (0, Some got.0) ∷ sym (ap rest hand) i)),
+    )
