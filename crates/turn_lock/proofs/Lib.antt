@@ -1,3 +1,4 @@
 pub mod Growths
 pub mod Seen
 pub mod Keeps
+pub mod Ends
