@@ -1,2 +1,3 @@
 mod Pushed
 mod Enlarged
+pub mod Programs

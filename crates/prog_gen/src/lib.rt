@@ -2,6 +2,7 @@
 #![tactic(auto)]
 
 mod generated;
+pub mod laws;
 mod words;
 
 pub use generated::{Generated, generate};
