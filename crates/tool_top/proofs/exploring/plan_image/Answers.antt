@@ -6,7 +6,7 @@ use Rattle.rv_spec.specs.Memory.{count_of}
 use Rattle.sym_state.specs.Programs.{Program}
 use Rattle.tool_top.specs.Reports.{IsReportOf}
 use Rattle.tool_top.proofs.Plans.{few_bytes, treats_misfit, treats_reported}
-use Rattle.tool_top.proofs.plan.plan_image.Goals as goal
+use Rattle.tool_top.proofs.exploring.plan_image.Goals as goal
 
 pub returns-in-Err : goal.returns-in-Err
 returns-in-Err g c =
