@@ -4,6 +4,7 @@ use Rattle.std.specs.Prelude.{Result, Ok, Err, IfOk, OnErr}
 use Rattle.std.specs.Global.{Vec}
 use Rattle.tree_core.specs.Replays.{noted}
 use Rattle.tree_core.specs.Stories.{Story}
+use Rattle.tree_core.specs.declared.event.Event.{Event}
 use Rattle.tree_core.specs.declared.event.Kid.{Kid}
 use Rattle.fork_spec.specs.Partings.{Place}
 use Rattle.fork_tree.specs.Calls.{IsClaim, IsSplitFit, claim_event}
@@ -23,6 +24,11 @@ claim-grows well s r t by (Ok (Claimed m a)) same ok err =
 claim-grows well s r t by (Ok Nothing) same ok err = grows-none by s t (ok.2 ∙ same)
 claim-grows well s r t by (Ok Quiet) same ok err = grows-none by s t (ok.1 ∙ same)
 claim-grows well s r t by (Err e) same ok err = grows-none by s t (err ∙ same)
+
+-- an event that was noted where nothing had changed
+pub noted_still : {R : Type 0} (s r t : Story R) (e : Event R (Vec (Kid R))) → t ≡ noted r e →
+    r ≡ s → t ≡ noted s e
+noted_still s r t e is same = is ∙ ap (λ x. noted x e) same
 
 -- kids that may come still may where nothing has changed
 pub fit_still : {W S L : Type 0} (rules : W → Rules S L) (state_place : S → Place)

@@ -1,10 +1,9 @@
-use Rattle.std.proofs.Common.{None, Some, refl, ap, ◌∙◌}
-use Rattle.tree_core.specs.Replays.{noted}
+use Rattle.std.proofs.Common.{None, Some, refl}
 use Rattle.tree_core.specs.declared.cause.Cause.TheVariants.{Steps}
 use Rattle.fork_tree.specs.Calls.{split_event}
 use Rattle.fork_tree.specs.declared.work.Parts.TheVariants.{CutSteps, Finished, Kids}
 use Rattle.fork_tree.proofs.Fitting.{end_fits, split_fits, worked_by}
-use Rattle.work_run.proofs.Entries.{fit_still}
+use Rattle.work_run.proofs.Entries.{fit_still, noted_still}
 use Rattle.work_run.proofs.turn_tree.TurnTree.enter.Goals as goal
 
 pub finish-requires : goal.finish-requires
@@ -56,5 +55,6 @@ returns-else-is_err-clause-ok g c =
       of_node = refl;
       ends = refl;
       stays = refl;
-      story = c.split.ensures.story ∙ ap (λ s. noted s e) c.reserve.ensures.story;
+      story = noted_still c.args.self.now.tree.story c.reserve.new.self.story
+          c.split.new.self.story e c.split.ensures.story c.reserve.ensures.story;
     }
