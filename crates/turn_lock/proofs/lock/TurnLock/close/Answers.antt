@@ -1,7 +1,7 @@
 use Rattle.std.proofs.Common.{ap, ◌∙◌, sym}
 use mathlib.Core.Option.{some, some-injective}
 use Rattle.turn_lock.specs.Hands.{in_table}
-use Rattle.turn_lock.proofs.Keeps.{homes, closes}
+use Rattle.turn_lock.proofs.Joining.{homes, closes}
 use Rattle.turn_lock.proofs.Seen.{content_is}
 use Rattle.turn_lock.proofs.lock.TurnLock.close.Goals as goal
 

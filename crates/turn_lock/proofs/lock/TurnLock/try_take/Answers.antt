@@ -8,7 +8,8 @@ pub compare_exchange-requires : goal.compare_exchange-requires
 compare_exchange-requires g c = let two = c.args.self.now.words in let pass = c.args.pass.now in (
   c.requires.lock,
   omega arith,
-  tries (in_table g.V.Growing.fixed) g.V.Growing.nodes g.V.Growing.events g.V.Growing.worker _ _ pass.seat.id pass.seat.me pass.live,
+  tries (in_table g.V.Growing.fixed) g.V.Growing.nodes g.V.Growing.events g.V.Growing.worker _ _
+      pass.seat.id pass.seat.me pass.live,
 )
 
 pub exchange-requires : goal.exchange-requires
