@@ -1,11 +1,12 @@
 -- A turn of one pass: what it took, what it gave back, and what it knows then.
-use Rattle.std.proofs.Common.{◌≡◌, ℕ, Bool, true, false, Option, List, ◌++◌, drop, length, sym, refl, ap, ◌∙◌, subst}
+use Rattle.std.proofs.Common.{◌≡◌, ℕ, Bool, true, false, Option, List, drop, sym, refl, ap, ◌∙◌, subst}
 use Rattle.std.specs.Prelude.{Result, Ok, Err, IfOk, OnErr, OnOk}
 use Rattle.std.specs.Global.{Vec}
 use Rattle.tree_core.specs.Replays.{Replays, kept, noted}
 use Rattle.tree_core.specs.Stories.{Story, status}
 use Rattle.tree_core.specs.declared.event.Event.{Event}
 use Rattle.tree_core.specs.declared.event.Kid.{Kid}
+use Rattle.tree_core.specs.declared.node.Node.{Node}
 use Rattle.tree_core.specs.declared.node.Status.TheVariants.{Held}
 use Rattle.fork_spec.specs.Partings.{Place}
 use Rattle.fork_tree.specs.Calls.{IsClaim, release_event}
@@ -17,6 +18,7 @@ use Rattle.fork_tree.specs.declared.content.Content.{Content}
 use Rattle.fork_tree.specs.declared.tree.Claim.{Claim}
 use Rattle.fork_tree.specs.declared.work.Parts.{Parts}
 use Rattle.turn_lock.specs.Growth.{GoesOnBy, StartsWith, by_number}
+use Rattle.turn_lock.specs.Views.{Follows, given, looked}
 use Rattle.work_run.specs.Entering.{IsEntered, IsResult}
 use Rattle.work_run.specs.Seen.{EndsClaim, HasResult, HoldsNode, IsClaimed, IsLater, KnownOf, story_of}
 use Rattle.work_run.specs.Turns.{is_claim, is_release}
@@ -29,15 +31,6 @@ module _ {F R : Type 0} where
   -- the pass once it took the story
   abbrev pub took : KnownOf F R → Story R → KnownOf F R
   took v s = record v { has_turn = true; nodes = s.nodes; events = s.events }
-
-  -- the pass once it gave the story back
-  abbrev pub gave : KnownOf F R → Story R → KnownOf F R
-  gave u t = record u {
-    has_turn = false;
-    nodes = t.nodes;
-    events = t.events;
-    own = u.own ++ drop (length u.events) t.events;
-  }
 
   -- a turn, by which the pass v became w: it was handed s, and gave back t
   pub record IsTurn (v w : KnownOf F R) (s t : Story R) : Type 0 where
@@ -55,13 +48,21 @@ module _ {F R : Type 0} where
         opened own;
   }
 
-  pub turn-of : (v u w : KnownOf F R) (s t : Story R) (by : ℕ) → IsHanded v s → u ≡ took v s →
-      w ≡ gave u t → by ≡ v.number → GrowsBy by s t → IsTurn v w s t
-  turn-of v u w s t by handed taken given mine grows = record {
-    handed = handed;
-    grows = by_same_worker by v.number s t mine grows;
-    is = given ∙ ap (λ x. gave x t) taken;
-  }
+  -- what was handed out, and given back grown, is a turn
+  pub turned : {V : Type 0} {fixed_of : V → F} {nodes_of : V → List (Node R)}
+      {events_of : V → List (Event R ℕ)} (v u w : KnownOf F R) (x y : V) (by : ℕ) →
+      v.opened ≡ 0 → Follows fixed_of nodes_of events_of (λ (e : Event R ℕ). e.by) v x →
+      u ≡ looked nodes_of events_of v x → w ≡ given nodes_of events_of u y → by ≡ v.number →
+      GrowsBy by (record { nodes = nodes_of x; events = events_of x })
+      (record { nodes = nodes_of y; events = events_of y }) →
+      IsTurn v w (record { nodes = nodes_of x; events = events_of x })
+      (record { nodes = nodes_of y; events = events_of y })
+  turned {nodes_of = nodes_of} {events_of = events_of} v u w x y by opened follows taken back mine
+      grows = record {
+        handed = handed-by v _ opened follows.nodes follows.events follows.own;
+        grows = by_same_worker by v.number _ _ mine grows;
+        is = back ∙ ap (λ z. given nodes_of events_of z y) taken;
+      }
 
   -- what the lock asks of what is given back
   pub gives-nodes : (v u : KnownOf F R) (s t : Story R) (by : ℕ) → u ≡ took v s → GrowsBy by s t →
@@ -116,7 +117,8 @@ module _ {F R : Type 0} where
       (held-handed covers v s node replays handed holds).1 ∙ ap Held (sym mine)
 
 -- what a turn came to in which there was no memory for kids
-pub released-all : {F S L X E : Type 0} (v w : KnownOf F (Content S L)) (s t : Story (Content S L)) →
+pub released-all : {F S L X E : Type 0} (v w : KnownOf F (Content S L))
+    (s t : Story (Content S L)) →
     IsTurn v w s t → (by node : ℕ) (answer : Result X E) →
     OnErr answer (t ≡ noted s (release_event by node)) →
     OnErr answer (EndsClaim true node v.own w.own)

@@ -1,6 +1,6 @@
 use Rattle.turn_lock.specs.Passes.{known}
 use Rattle.fork_tree.specs.Trees.{covers_at}
-use Rattle.work_run.proofs.Handing.{entered-all, gives-events, handed-by, held-by, released-all, result-handed, turn-later, turn-of}
+use Rattle.work_run.proofs.Handing.{entered-all, gives-events, handed-by, held-by, released-all, result-handed, turn-later, turned}
 use Rattle.work_run.proofs.turn.enter.Goals as goal
 
 pub enter-entered-requires-clause-held : goal.enter-entered-requires-clause-held
@@ -25,49 +25,32 @@ enter-entered-requires-clause-worked g c =
 pub give-requires-clause-events : goal.give-requires-clause-events
 give-requires-clause-events g c =
     gives-events (known c.args.pass.now) (known c.take-tree.new.pass) c.take-tree.result.tree.story
-    c.enter-entered.new.self.tree.story c.number-by.result c.take-tree.ensures.taken c.number-by.ensures
+    c.enter-entered.new.self.tree.story c.number-by.result c.take-tree.ensures.taken
+    c.number-by.ensures
     c.enter-entered.ensures.grows
 
 pub returns-clause-later : goal.returns-clause-later
 returns-clause-later g c =
-    let v = known c.args.pass.now in
-    let u = known c.take-tree.new.pass in
-    let w = known c.give.new.pass in
-    let s = c.take-tree.result.tree.story in
-    let t = c.enter-entered.new.self.tree.story in
-    let follows = c.take-tree.ensures.follows in
-    let handed = handed-by v s c.requires.rest.1 follows.nodes follows.events follows.own in
-    let turn =
-    turn-of v u w s t c.number-by.result handed c.take-tree.ensures.taken c.give.ensures.given
+    let take = c.take-tree in
+    let turn = turned (known c.args.pass.now) _ _ take.result c.enter-entered.new.self _
+    c.requires.rest.1 take.ensures.follows take.ensures.taken c.give.ensures.given
     c.number-by.ensures c.enter-entered.ensures.grows in
-    turn-later v w s t turn
+    turn-later _ _ _ _ turn
 
 pub returns-clause-ok : goal.returns-clause-ok
 returns-clause-ok g c =
-    let v = known c.args.pass.now in
-    let u = known c.take-tree.new.pass in
-    let w = known c.give.new.pass in
-    let s = c.take-tree.result.tree.story in
-    let t = c.enter-entered.new.self.tree.story in
-    let follows = c.take-tree.ensures.follows in
-    let handed = handed-by v s c.requires.rest.1 follows.nodes follows.events follows.own in
-    let turn =
-    turn-of v u w s t c.number-by.result handed c.take-tree.ensures.taken c.give.ensures.given
+    let take = c.take-tree in
+    let turn = turned (known c.args.pass.now) _ _ take.result c.enter-entered.new.self _
+    c.requires.rest.1 take.ensures.follows take.ensures.taken c.give.ensures.given
     c.number-by.ensures c.enter-entered.ensures.grows in
-    entered-all v w s t turn c.number-by.result c.args.node c.enter-entered.result
+    entered-all _ _ _ _ turn c.number-by.result c.args.node c.enter-entered.result
     c.enter-entered.ensures.ok
 
 pub returns-clause-err : goal.returns-clause-err
 returns-clause-err g c =
-    let v = known c.args.pass.now in
-    let u = known c.take-tree.new.pass in
-    let w = known c.give.new.pass in
-    let s = c.take-tree.result.tree.story in
-    let t = c.enter-entered.new.self.tree.story in
-    let follows = c.take-tree.ensures.follows in
-    let handed = handed-by v s c.requires.rest.1 follows.nodes follows.events follows.own in
-    let turn =
-    turn-of v u w s t c.number-by.result handed c.take-tree.ensures.taken c.give.ensures.given
+    let take = c.take-tree in
+    let turn = turned (known c.args.pass.now) _ _ take.result c.enter-entered.new.self _
+    c.requires.rest.1 take.ensures.follows take.ensures.taken c.give.ensures.given
     c.number-by.ensures c.enter-entered.ensures.grows in
-    released-all v w s t turn c.number-by.result c.args.node c.enter-entered.result
+    released-all _ _ _ _ turn c.number-by.result c.args.node c.enter-entered.result
     c.enter-entered.ensures.err
