@@ -12,8 +12,8 @@ use Rattle.turn_lock.specs.Views.{Follows, looked, grown, without_turn}
 -- What the table knows of one pass, at the seat id: its lists are beginnings of those behind the
 -- lock, its own events are all that bear its number, and so are those of the passes joined to it.
 pub record Sits {F N E : Type 0} (worker : E → ℕ) (opened : ℕ) (fixed : F) (nodes : List N)
-    (events : List E) (turn holder next : ℕ) (seat_of : ℕ → maybe.Option ℕ) (id : ℕ) (v : Known F N E)
-    : Type 0 where
+    (events : List E) (turn holder next : ℕ) (seat_of : ℕ → maybe.Option ℕ) (id : ℕ)
+    (v : Known F N E) : Type 0 where
   pub same_fixed : v.fixed ≡ fixed
   pub opened_is : v.opened ≡ opened
   pub nodes_seen : StartsWith nodes v.nodes
@@ -27,7 +27,8 @@ pub record Sits {F N E : Type 0} (worker : E → ℕ) (opened : ℕ) (fixed : F)
       (λ p. (p.0 < next) × (seat_of p.0 ≡ none) × (by_number worker p.0 (drop opened events) ≡ p.1))
       v.ended
 
-module _ {V F N E : Type 0} (fixed_of : V → F) (nodes_of : V → List N) (events_of : V → List E) where
+module _ {V F N E : Type 0} (fixed_of : V → F) (nodes_of : V → List N)
+    (events_of : V → List E) where
   -- The two lists behind the lock are `nodes` and `events`. While word 0 is 0 the value is at home
   -- and stands for them; else one pass has the turn, and has seen them whole.
   pub record Kept (worker : E → ℕ) (key : V) (s : State (Option V) (Known F N E)) : Type 0 where
@@ -49,7 +50,8 @@ module _ {V F N E : Type 0} (fixed_of : V → F) (nodes_of : V → List N) (even
     pub unborn : (k : ℕ) → next ≤ k →
         (seat_of k ≡ none) × (by_number worker k (drop (length (events_of key)) events) ≡ [])
     pub each : (id : ℕ) (v : Known F N E) → get_elem? s.views id ≡ some v → v.live ≡ true →
-        Sits worker (length (events_of key)) (fixed_of key) nodes events turn holder next seat_of id v
+        Sits worker (length (events_of key)) (fixed_of key) nodes events
+        turn holder next seat_of id v
 
   -- where word 0 was 0 the turn was got, with the value in hand; else nothing changed
   abbrev pub tried : (E → ℕ) → Step (Option V) → Me (Option V) (Known F N E) → ℕ →

@@ -3,7 +3,8 @@ use Rattle.std.specs.Prelude.{◌≡◌, ℕ, ◌+◌, true, false, List, [], �
 use Rattle.turn_lock.specs.declared.known.Known.{Known}
 use Rattle.turn_lock.specs.Growth.{StartsWith, longer, by_number}
 
-module _ {V F N E : Type 0} (fixed_of : V → F) (nodes_of : V → List N) (events_of : V → List E) where
+module _ {V F N E : Type 0} (fixed_of : V → F) (nodes_of : V → List N)
+    (events_of : V → List E) where
   -- of the first pass
   abbrev pub opening_view : V → Known F N E
   opening_view x = record {

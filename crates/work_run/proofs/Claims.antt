@@ -22,7 +22,7 @@ none_below zero = refl
 none_below (suc n) = ap (λ k. k + 0) (none_below n)
 
 module _ {R : Type 0} where
-  -- a claim survives the turns of others, whatever they did: the worker's own events are as they were
+  -- a claim survives the turns of others, whatever they did: the worker's own events stay
   pub stays_held : (covers : R → List ℕ → Bool) (s t : Story R) (nodes : List (Node R))
       (events : List (Event R ℕ)) (m w : ℕ) → Replays covers t → t.nodes ≡ s.nodes ++ nodes →
       t.events ≡ s.events ++ events → events_by w t.events ≡ events_by w s.events →
@@ -41,8 +41,10 @@ module _ {R : Type 0} where
       by_last : (o : Option (Event R ℕ)) → last_on m s.events ≡ o → IsClaimBy w o → ⊥
       by_last None at claim = absurd claim
       by_last (Some e) at claim =
-          let mine : last_on m (events_by w s.events) ≡ Some e = last-own w m s.events e at claim.1 in
-          let ended : is_claim e.deed ≡ false = turns_end m (events_by w s.events) (turns w) e mine in
+          let mine : last_on m (events_by w s.events) ≡ Some e =
+          last-own w m s.events e at claim.1 in
+          let ended : is_claim e.deed ≡ false =
+          turns_end m (events_by w s.events) (turns w) e mine in
           false≢true (sym ended ∙ ap is_claim claim.0)
 
   pub none_held : (s : Story R) → ((w : ℕ) → are_turns (events_by w s.events) ≡ true) →

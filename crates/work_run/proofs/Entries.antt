@@ -37,5 +37,6 @@ pub fit_still : {W S L : Type 0} (rules : W → Rules S L) (state_place : S → 
     IsSplitFit (rules w) state_place leaf_place s by node kids →
     IsSplitFit (rules v) state_place leaf_place t by node kids
 fit_still {W} {S} {L} rules state_place leaf_place by node kids w v s t same is fit =
-    subst (λ (p : W × Story (Content S L)). IsSplitFit (rules p.0) state_place leaf_place p.1 by node
+    subst (λ (p : W × Story (Content S L)). IsSplitFit
+    (rules p.0) state_place leaf_place p.1 by node
     kids) (λ i. (sym same i, sym is i)) fit

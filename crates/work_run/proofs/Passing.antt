@@ -33,13 +33,14 @@ module _ {F R : Type 0} where
     own = v.own ++ drop (length s.events) t.events;
   }
 
-  -- what the lock says of the story s that it hands out, to a pass for which no event was there first
+  -- what the lock says of the story s that it hands out, where it opened with no event
   pub record IsHanded (v : KnownOf F R) (s : Story R) : Type 0 where
     pub nodes : StartsWith s.nodes v.nodes
     pub events : StartsWith s.events v.events
     pub own : by_number (λ (e : Event R ℕ). e.by) v.number s.events ≡ v.own
 
-  module _ (v : KnownOf F R) (s t : Story R) (handed : IsHanded v s) (grows : GrowsBy v.number s t) where
+  module _ (v : KnownOf F R) (s t : Story R) (handed : IsHanded v s)
+      (grows : GrowsBy v.number s t) where
     pub own-passed : (passed v s t).own ≡ v.own ++ grows.1
     own-passed =
         ap (λ l. v.own ++ drop (length s.events) l) grows.3
@@ -58,7 +59,8 @@ module _ {F R : Type 0} where
     pub all-passed : by_number (λ (e : Event R ℕ). e.by) v.number t.events ≡ (passed v s t).own
     all-passed =
         ap (events_by v.number) grows.3
-        ∙ filter-append (λ (e : Event R ℕ). Rattle.std.proofs.Common.eqb e.by v.number) s.events grows.1
+        ∙ filter-append (λ (e : Event R ℕ). Rattle.std.proofs.Common.eqb e.by v.number) s.events
+        grows.1
         ∙ (λ i. handed.own i ++ by_same (λ (e : Event R ℕ). e.by) v.number grows.1 grows.4 i)
         ∙ sym own-passed
 
@@ -79,8 +81,11 @@ module _ {F R : Type 0} where
       handed.nodes.1 handed.events.1 (handed.own ∙ sym holds.own_all) holds.there holds.held in
       let long : length s.nodes ≡ length v.nodes + length handed.nodes.0 =
       ap length handed.nodes.1 ∙ length-append v.nodes handed.nodes.0 in
-      let low : node < length v.nodes = holds.there in
-      (within node (length v.nodes) (length handed.nodes.0) (length s.nodes) low long, stays.0, stays.1)
+      let low : node < length v.nodes = holds.there in (
+        within node (length v.nodes) (length handed.nodes.0) (length s.nodes) low long,
+        stays.0,
+        stays.1,
+      )
     where
       within : (m a b c : ℕ) → m < a → c ≡ a + b → m < c
       within m a b c x y = omega arith

@@ -53,7 +53,8 @@ module _ {S L : Type 0} (by m : ℕ) (u v w : List (Event (Content S L) ℕ))
   a_turn = λ i. true && (not (ends.ends i) && eq-eqb m ends.event.node (sym ends.of_node) i)
 
   goes : w ≡ u ++ first ∷ ends.event ∷ []
-  goes = ends.goes ∙ (ap (λ l. l ++ ends.event ∷ []) claims ∙ append_assoc u (first ∷ []) (ends.event ∷ []))
+  goes = ends.goes ∙ (ap (λ l. l ++ ends.event ∷ []) claims
+      ∙ append_assoc u (first ∷ []) (ends.event ∷ []))
 
   -- a claim and its end are a turn of work
   pub turn-ended : GoesOnByTurns u w
@@ -71,7 +72,8 @@ module _ {S L : Type 0} (by m : ℕ) (u v w : List (Event (Content S L) ℕ))
         ),
       )
 
-module _ {F S L X E : Type 0} (rules : Rules S L) (v u w : KnownOf F (Content S L)) (claim : Claim S)
+module _ {F S L X E : Type 0} (rules : Rules S L) (v u w : KnownOf F (Content S L))
+    (claim : Claim S)
     (m : ℕ) (a : Arc S Global) (is : claim ≡ Claimed m a) (claimed : IsClaimed rules v u claim)
     (answer : Result X E) where
   got : IsClaimed rules v u (Claimed m a)

@@ -52,7 +52,8 @@ module _ {F R : Type 0} where
   }
 
   -- the first worker, alone
-  pub run_alone : (worker : F) (next last : ℕ) (v w : KnownOf F R) → last ≡ next → MayRun worker next v →
+  pub run_alone : (worker : F) (next last : ℕ) (v w : KnownOf F R) → last ≡ next →
+      MayRun worker next v →
       HasWorked v w → HasRun next last v w
   run_alone worker next last v w is may worked =
       let made : w.made ≡ next = worked.later.same.made ∙ may.made in record {
@@ -119,7 +120,8 @@ module _ {F R : Type 0} where
     );
     own = run.own;
     each = All-push P (u.ended ++ w.ended) (w.number, w.own)
-        (All-append P u.ended w.ended run.each (subst (All P) (sym worked.later.same.ended) (All-nil P)))
+        (All-append P u.ended w.ended run.each
+        (subst (All P) (sym worked.later.same.ended) (All-nil P)))
         worked.turns;
     ended = ended_more u w next run.ended (worked.later.same.number ∙ may.made);
   }
@@ -145,10 +147,13 @@ module _ {F R : Type 0} where
       (dite (dec_le v.made k)
       (λ le. ap are_turns (are.others k le))
       (λ not. dite (ℕ_discrete k 0)
-      (λ z. ap are_turns (ap (λ j. by_number (λ (e : Event R ℕ). e.by) j (drop v.opened events)) (z ∙ sym first) ∙ are.own) ∙ own)
+      (λ z. ap are_turns (ap (λ j. by_number (λ (e : Event R ℕ). e.by) j (drop v.opened events))
+      (z ∙ sym first) ∙ are.own) ∙ own)
       (λ nz. let e = ended k nz (lt_of_not-le not) in
       let i : ℕ = e.1.0 in
       let d : ℕ × List (Event R ℕ) = (k, e.0) in
       let list : by_number (λ (e : Event R ℕ). e.by) k (drop v.opened events) ≡ e.0 =
-      subst (λ (q : ℕ × List (Event R ℕ)). by_number (λ (e : Event R ℕ). e.by) q.0 (drop v.opened events) ≡ q.1) e.1.2 (are.ended i d e.1.1) in
-      ap are_turns list ∙ subst (λ (q : ℕ × List (Event R ℕ)). are_turns q.1 ≡ true) e.1.2 (each i d e.1.1))))
+      subst (λ (q : ℕ × List (Event R ℕ)). by_number (λ (e : Event R ℕ). e.by) q.0
+      (drop v.opened events) ≡ q.1) e.1.2 (are.ended i d e.1.1) in
+      ap are_turns list ∙ subst (λ (q : ℕ × List (Event R ℕ)). are_turns q.1 ≡ true) e.1.2
+      (each i d e.1.1))))

@@ -10,8 +10,8 @@ use Rattle.work_run.specs.declared.stopped.Stopped.TheVariants.{Quiet, Left, NoM
 abbrev pub MayLeave : (ℕ → Point → Type 0) → ℕ → Type 0
 MayLeave may worker = (point : Point) × may worker point
 
--- why a worker stopped: the tree that it saw last is quiet, or it may leave; want of memory needs no
--- cause
+-- why a worker stopped: the tree that it saw last is quiet, or it may leave; want of memory needs
+-- no cause
 abbrev pub HasCause : {F R : Type 0} → (ℕ → Point → Type 0) → KnownOf F R → Stopped → Type 0
 HasCause may v Quiet = IsQuiet (story_of v)
 HasCause may v Left = MayLeave may v.number

@@ -24,7 +24,7 @@ pub record IsEntered {R : Type 0} (by node : ℕ) (s t : Story R) : Type 0 where
 
 module _ {S L : Type 0} where
   -- the parts are what comes of the state that the node holds
-  abbrev pub IsResult : Rules S L → (S → Place) → (L → Place) → Story (Content S L) → ℕ → Parts S L →
-      Type 0
+  abbrev pub IsResult : Rules S L → (S → Place) → (L → Place) → Story (Content S L) → ℕ →
+      Parts S L → Type 0
   IsResult rules state_place leaf_place s node parts =
       (x : S) × StateIs (content s node) x × IsWorked rules state_place leaf_place x parts

@@ -44,13 +44,15 @@ module _ {F R : Type 0} where
     pub seen : SeesMore v w
 
 -- The worker holds the node in the story, where its own events are all that are of its number.
-pub record HoldsNode {R : Type 0} (s : Story R) (own : List (Event R ℕ)) (by node : ℕ) : Type 0 where
+pub record HoldsNode {R : Type 0} (s : Story R) (own : List (Event R ℕ))
+    (by node : ℕ) : Type 0 where
   pub there : node < length s.nodes
   pub held : status s node ≡ Held by
   pub own_all : by_number (λ (e : Event R ℕ). e.by) by s.events ≡ own
 
 -- The list goes on with one event, which ends a claim of the node: by a release, or not.
-pub record EndsClaim {R : Type 0} (released : Bool) (node : ℕ) (old new : List (Event R ℕ)) : Type 0 where
+pub record EndsClaim {R : Type 0} (released : Bool) (node : ℕ)
+    (old new : List (Event R ℕ)) : Type 0 where
   pub event : Event R ℕ
   pub goes : new ≡ old ++ event ∷ []
   pub of_node : event.node ≡ node
@@ -62,16 +64,20 @@ module _ {S L : Type 0} where
     -- the worker holds the node, which has this state, and the state is well
     abbrev pub HasClaim : Rules S L → KnownOf F (Content S L) → ℕ → S → Type 0
     HasClaim rules v node x =
-        HoldsNode (story_of v) v.own v.number node × StateIs (content (story_of v) node) x × rules.IsWell x
+        HoldsNode (story_of v) v.own v.number node × StateIs (content (story_of v) node) x ×
+        rules.IsWell x
 
     -- the worker holds the node, and these parts are what comes of its state
-    abbrev pub HasResult : Rules S L → (S → Place) → (L → Place) → KnownOf F (Content S L) → ℕ → Parts S L → Type 0
+    abbrev pub HasResult : Rules S L → (S → Place) → (L → Place) → KnownOf F (Content S L) → ℕ →
+        Parts S L → Type 0
     HasResult rules state_place leaf_place v node parts =
-        HoldsNode (story_of v) v.own v.number node × IsResult rules state_place leaf_place (story_of v) node parts
+        HoldsNode (story_of v) v.own v.number node ×
+        IsResult rules state_place leaf_place (story_of v) node parts
 
-    -- What a turn for a claim answered: a node that the worker holds now; or no event was noted, where
-    -- some nodes are held but none is free, or the tree is quiet.
-    abbrev pub IsClaimed : Rules S L → KnownOf F (Content S L) → KnownOf F (Content S L) → Claim S → Type 0
+    -- What a turn for a claim answered: a node that the worker holds now; or no event was noted,
+    -- where some nodes are held but none is free, or the tree is quiet.
+    abbrev pub IsClaimed : Rules S L → KnownOf F (Content S L) → KnownOf F (Content S L) → Claim S →
+        Type 0
     IsClaimed rules v w (Claimed m a) =
         HasClaim rules w m (arc_value a) × (w.own ≡ v.own ++ kept (claim_event v.number m) ∷ [])
     IsClaimed rules v w Nothing = w.own ≡ v.own

@@ -1,6 +1,5 @@
-use Rattle.std.proofs.Common.{◌≡◌, ℕ, zero, suc, ◌+◌, ◌<◌, ◌≤◌, Bool, true, false, cond, IsTrue, Some, None, List, [], ◌∷◌, ◌++◌, length, sym, refl, ap, ◌∙◌, subst, arith, nat_le}
+use Rattle.std.proofs.Common.{◌≡◌, ℕ, zero, suc, ◌+◌, ◌<◌, Bool, true, false, IsTrue, Some, None, List, [], ◌∷◌, ◌++◌, length, sym, refl, ap, ◌∙◌, subst, arith, nat_le}
 use Rattle.std.specs.Prelude.{if◌then◌else◌, nat_lt}
-use Rattle.std.specs.List.{All}
 use Rattle.std.proofs.lemmas.Bool.Decides.{nat_tests}
 use Rattle.std.proofs.lemmas.List.Elements.{All-cons, All-nil}
 use Rattle.std.proofs.lemmas.List.Sums.{sum_by-cons}
@@ -112,11 +111,17 @@ module _ (low high : Kid (Content Toss Toss))
   kids_apart zero zero a b ne at bt = absurd (ne refl)
   kids_apart zero (suc zero) a b ne at bt =
       subst (λ (k : Place × Place). ArePlacesApart decides k.0 k.1)
-      (λ i. ((sym low_place ∙ ap place_at (same_held low a at)) i, (sym high_place ∙ ap place_at (same_held high b bt)) i)) apart_up
+      (λ i. (
+        (sym low_place ∙ ap place_at (same_held low a at)) i,
+        (sym high_place ∙ ap place_at (same_held high b bt)) i,
+      )) apart_up
   kids_apart zero (suc (suc j)) a b ne at bt = absurd (none_is_some b bt)
   kids_apart (suc zero) zero a b ne at bt =
       subst (λ (k : Place × Place). ArePlacesApart decides k.0 k.1)
-      (λ i. ((sym high_place ∙ ap place_at (same_held high a at)) i, (sym low_place ∙ ap place_at (same_held low b bt)) i)) apart_down
+      (λ i. (
+        (sym high_place ∙ ap place_at (same_held high a at)) i,
+        (sym low_place ∙ ap place_at (same_held low b bt)) i,
+      )) apart_down
   kids_apart (suc zero) (suc zero) a b ne at bt = absurd (ne refl)
   kids_apart (suc zero) (suc (suc j)) a b ne at bt = absurd (none_is_some b bt)
   kids_apart (suc (suc i)) j a b ne at bt = absurd (none_is_some a at)
@@ -157,7 +162,8 @@ two_sides low high is_no low_open low_is is_yes high_open high_is some =
       choices = All-cons Leads low (high ∷ [])
           (ap (λ (p : Place). p.choices) low_place ∙ ap (λ c. c ∷ []) (sym is_no))
           (All-cons Leads high []
-          (ap (λ (p : Place). p.choices) high_place ∙ ap (λ c. c ∷ []) (sym is_yes)) (All-nil Leads));
+          (ap (λ (p : Place). p.choices) high_place ∙ ap (λ c. c ∷ []) (sym is_yes))
+          (All-nil Leads));
       parts = All-cons (Part choices) low (high ∷ [])
           (open_part false choices low low.content low_open low_is)
           (All-cons (Part choices) high []
