@@ -10,6 +10,7 @@ pub mod PartRules
 pub mod ExtensionRules
 pub mod NodeRules
 pub mod Reading
+pub mod Masking
 pub mod BinaryPlans
 pub mod ComparisonPlans
 pub mod PartPlans

@@ -11,6 +11,7 @@ mod choices;
 mod comparisons;
 mod extensions;
 mod machine;
+mod masks;
 mod operations;
 mod parts;
 mod plan;

@@ -161,6 +161,26 @@ fn number(
     build(rt, builder, Node::Num { width, value })
 }
 
+#[test]
+fn a_mask_is_left_out_where_it_changes_nothing(rt: HostRuntime) -> Result<(), Fail> {
+    let mut builder = Builder::new(Terms::new(rt.alloc(), 1));
+    let x = build(&rt, &mut builder, Node::Input(0))?;
+    let wide = Node::Extend {
+        by: 24,
+        signed: false,
+        operand: x,
+    };
+    let wide = build(&rt, &mut builder, wide)?;
+    let all = number(&rt, &mut builder, 32, 255)?;
+    let even = number(&rt, &mut builder, 32, 254)?;
+    let len = builder.len();
+    for (a, b, want) in [(wide, all, wide), (all, wide, wide), (wide, even, len)] {
+        let id = build(&rt, &mut builder, Node::Binary(BinaryOp::And, a, b))?;
+        assert!(rt; id == want, "of {a} and {b}");
+    }
+    Ok(())
+}
+
 fn is_wide(builder: &Builder, a: usize, width: u32) -> bool
     ensures { IsTrue result → width_of builder.now a ≡ width }
 {
