@@ -21,3 +21,4 @@ pub mod Stepping
 pub mod MachineNumbers
 pub mod MachineBuilds
 pub mod OperationNumbers
+pub mod NarrowRemainders

@@ -15,6 +15,7 @@ mod masks;
 mod operations;
 mod parts;
 mod plan;
+mod remainders;
 
 pub use builder::Builder;
 
