@@ -17,4 +17,5 @@ mod tests;
 mod values;
 mod worker;
 
+pub use query_front::Counts;
 pub use worker::Worker;

@@ -14,7 +14,7 @@ use crate::finish::{cut_steps, finish};
 use crate::forked::Forked;
 use crate::pin::{Pin, at_pin};
 use fork_tree::{Parts, Work};
-use query_front::Shared;
+use query_front::{Counts, Shared};
 use std::alloc::{AllocError as NoMemory, Global};
 use std::marker::Model;
 use std::sync::Wait;
@@ -77,6 +77,11 @@ impl Worker {
         ensures targets { 1 ≤ result.targets }
     {
         self.budgets
+    }
+
+    /// How many questions it has asked so far, by what each was answered.
+    pub fn counts(&self) -> Counts {
+        self.shared.counts()
     }
 
     /// Goes on until the run forks, all its runs have ended, or its budget of steps is spent.

@@ -71,7 +71,10 @@ fn decided(
             shared.keep(rt, Solved::new(part, Satisfiability::Unsat))?;
             Ok(Asked::Unsat)
         }
-        Decision::Spent(log) => Ok(Asked::Spent(part, log)),
+        Decision::Spent(log) => {
+            shared.count_spent();
+            Ok(Asked::Spent(part, log))
+        }
     }
 }
 

@@ -19,8 +19,10 @@ pub struct Counts {
     pub cached: u64,
     /// A sample met them.
     pub sampled: u64,
-    /// They were decided, or their budget was spent.
+    /// They had to be decided: by all values of one byte, or by a search, which may have spent its budget.
     pub decided: u64,
+    /// Those of the decided whose budget was spent, with no answer.
+    pub spent: u64,
 }
 
 /// Answers, each true of its question, and samples. Threads look through them and add to them behind a `&`.
@@ -31,6 +33,7 @@ pub struct Shared {
     cached: AtomicU64,
     sampled: AtomicU64,
     decided: AtomicU64,
+    spent: AtomicU64,
 }
 
 // Counts one more.
@@ -47,6 +50,7 @@ impl Shared {
             cached: AtomicU64::new(0),
             sampled: AtomicU64::new(0),
             decided: AtomicU64::new(0),
+            spent: AtomicU64::new(0),
         })
     }
 
@@ -56,6 +60,7 @@ impl Shared {
             cached: self.cached.load(Ordering::SeqCst),
             sampled: self.sampled.load(Ordering::SeqCst),
             decided: self.decided.load(Ordering::SeqCst),
+            spent: self.spent.load(Ordering::SeqCst),
         }
     }
 
@@ -101,6 +106,11 @@ impl Shared {
     /// Counts a question that has to be decided.
     pub(crate) fn count_decided(&self) {
         count(&self.decided);
+    }
+
+    /// Counts a question on which the budget was spent, beside counting it as one that has to be decided.
+    pub(crate) fn count_spent(&self) {
+        count(&self.spent);
     }
 
     /// Keeps an answer for when its question is asked again.

@@ -1,5 +1,5 @@
-//! The routines of bench/routines: each is explored, and each of its tests is replayed. What the tool has to say of them is
-//! the stored run, which is made by brute force.
+//! The routines of bench/routines: each is explored, and for each of its tests the leaf is read back and the test replayed. What the
+//! tool has to say of them is the stored run, which is made by brute force.
 //!
 //! - `routines`: the programs, with their budgets and the number of their tests
 #![tactic(auto)]
@@ -8,6 +8,7 @@ mod routines;
 
 use crate::routines::{ROUTINES, Routine};
 use anyhow::{Context, Result, bail};
+use smt_text::{print_leaf, read_leaf};
 use std::alloc::{AllocError as NoMemory, Global};
 use std::sync::Wait;
 use std::thread::Threads;
@@ -19,6 +20,8 @@ use work_gate::OpenGate;
 const NAME: &str = "rvklee";
 // The folder of the reports: each is written over the one before it.
 const FOLDER: &str = "report";
+// The most bytes of a leaf's file that are read, more than any has.
+const MOST_BYTES: usize = 1 << 24;
 
 // Adds words to a command line.
 fn add(alloc: Global, words: &mut Vec<String>, more: &[&str]) -> Result<(), NoMemory> {
@@ -58,7 +61,22 @@ fn run<R: Threads + Wait + Sync, F: Files>(
     }
 }
 
-// Explores the program, and replays each test that was written.
+// Reads the file of the leaf of this rank, which has to be the text of a leaf.
+fn read_back<F: Files>(alloc: Global, rank: u32, files: &mut F) -> Result<()> {
+    let name = format!(in alloc; "{FOLDER}/leaf-{rank:06}.smt2")?;
+    let Ok(text) = files.read(&name, MOST_BYTES) else {
+        bail!("leaf {rank} isn't there");
+    };
+    let Ok(leaf) = read_leaf(alloc, text.as_slice())? else {
+        bail!("leaf {rank} isn't the text of one");
+    };
+    if print_leaf(alloc, &leaf)?.as_slice() != text.as_slice() {
+        bail!("leaf {rank} is printed otherwise");
+    }
+    Ok(())
+}
+
+// Explores the program, and for each test that was written reads its leaf and replays it.
 fn explore_and_replay<R: Threads + Wait + Sync, F: Files>(
     rt: &R,
     alloc: Global,
@@ -67,6 +85,7 @@ fn explore_and_replay<R: Threads + Wait + Sync, F: Files>(
 ) -> Result<()> {
     run(rt, alloc, &explore_words(alloc, routine)?, files)?;
     for rank in 0..routine.tests {
+        read_back(alloc, rank, files)?;
         run(rt, alloc, &replay_words(alloc, routine, rank)?, files)?;
     }
     Ok(())

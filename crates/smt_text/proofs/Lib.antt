@@ -2,3 +2,17 @@ pub mod TextLines
 pub mod TextParts
 pub mod Fitting
 pub mod Reading
+pub mod Options
+pub mod Words
+pub mod ItemsBack
+pub mod TermsBack
+pub mod Phases
+pub mod LinesBack
+pub mod OneReading
+pub mod CursorSteps
+pub mod ItemsFrom
+pub mod ItemLoops
+pub mod NextLines
+pub mod LinesFrom
+pub mod LinesSaid
+pub mod Whole

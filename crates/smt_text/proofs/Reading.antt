@@ -14,7 +14,8 @@ use Rattle.smt_text.specs.NodeFits.{fits}
 use Rattle.bv_dag.specs.Graphs.{AllFit, width_of}
 use Rattle.bv_dag.specs.Queries.{AreBits}
 use Rattle.bv_dag.specs.declared.nodes.Node.{Node}
-use Rattle.smt_text.specs.Grammar.{Reading, AmongAssertions, AtExit, AtLogic, Closed, IsTextOf, agree, end_of, graph_of, is_small_choice, is_small_step, next_state, past_input, past_node, past_output, read_lines, stands, start, with_line}
+use Rattle.smt_text.specs.declared.spot.Spot.TheVariants.{AmongAssertions, AtExit, AtLogic, Closed}
+use Rattle.smt_text.specs.Grammar.{Reading, IsTextOf, agree, end_of, graph_of, is_small_choice, is_small_step, next_state, past_input, past_node, past_output, read_lines, stands, start, with_line}
 use Rattle.smt_text.specs.LeafLines.{heading, assertions, input_lines, node_lines, output_lines, status_lines, leaf_text, leaf_lines}
 use Rattle.fork_spec.specs.Leaves.{IsByteStatus, IsFull, IsSmallChoice, IsSmallStep, Leaf}
 use Rattle.smt_text.specs.Lines.{LeafLine, LogicLine, InputLine, BaseLine, NodeLine, StatusLine, OutputLine, AssertLine, CheckLine, ExitLine}
@@ -49,7 +50,7 @@ small_choice Yes h = refl
 small_choice (Value v) h = small v h
 small_choice Rest h = refl
 
-small_choices : (cs : List Choice) → All IsSmallChoice cs → list_all is_small_choice cs ≡ true
+pub small_choices : (cs : List Choice) → All IsSmallChoice cs → list_all is_small_choice cs ≡ true
 small_choices [] h = refl
 small_choices (c ∷ cs) h =
     rw (small_choice c (All-head IsSmallChoice c cs h)) (small_choices cs (All-tail IsSmallChoice c cs h))
@@ -59,7 +60,7 @@ small_step Taken h = refl
 small_step NotTaken h = refl
 small_step (Target address) h = small address h
 
-small_path : (steps : List PathStep) → All IsSmallStep steps → list_all is_small_step steps ≡ true
+pub small_path : (steps : List PathStep) → All IsSmallStep steps → list_all is_small_step steps ≡ true
 small_path [] h = refl
 small_path (s ∷ steps) h =
     rw (small_step s (All-head IsSmallStep s steps h)) (small_path steps (All-tail IsSmallStep s steps h))
@@ -166,7 +167,7 @@ in_a_row : {X : Type 0} (heads logic inputs base nodes status outputs asserts ta
 in_a_row heads logic inputs base nodes status outputs asserts tail = simp append_assoc
 
 -- the reading behind the heading
-abbrev begun : Leaf → Reading
+abbrev pub begun : Leaf → Reading
 begun leaf = record start {
   place = AtLogic;
   kind = kind_of leaf.end;
@@ -180,11 +181,11 @@ begun leaf = record start {
 }
 
 -- the reading behind the outputs
-abbrev defined : Leaf → Reading
+abbrev pub defined : Leaf → Reading
 defined leaf =
     record (begun leaf) { declared = leaf.condition.graph.inputs; nodes = leaf.condition.graph.nodes; end = leaf.end; outputs = leaf.outputs }
 
-abbrev ended : Leaf → Reading
+abbrev pub ended : Leaf → Reading
 ended leaf = record (defined leaf) { place = Closed; asserted = leaf.condition.asserted }
 
 tail_read : (leaf : Leaf) → AreBits leaf.condition.graph leaf.condition.asserted →
@@ -198,7 +199,7 @@ tail_read leaf bits =
     ∙ reads (record r { place = AmongAssertions; asserted = leaf.condition.asserted }) CheckLine (ExitLine ∷ []) refl
     ∙ reads (record r { place = AtExit; asserted = leaf.condition.asserted }) ExitLine [] refl
 
-all_read : (leaf : Leaf) → IsFull leaf → read_lines start (leaf_lines leaf) ≡ Some (ended leaf)
+pub all_read : (leaf : Leaf) → IsFull leaf → read_lines start (leaf_lines leaf) ≡ Some (ended leaf)
 unfolding leaf_lines
 all_read leaf h =
     let graph = leaf.condition.graph in

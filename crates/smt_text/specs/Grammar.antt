@@ -13,31 +13,10 @@ use Rattle.fork_spec.specs.Leaves.{Leaf}
 use Rattle.smt_text.specs.Lines.{LeafLine, FormatLine, KindLine, ChoicesLine, PathLine, StepsLine, EndLine, InputsLine, NodesLine, OutputsLine, LogicLine, InputLine, BaseLine, NodeLine, StatusLine, OutputLine, AssertLine, CheckLine, ExitLine, lines_text}
 use Rattle.smt_text.specs.Names.{Kind, finished, cut, EndWord, exit, trap, running}
 use Rattle.smt_text.specs.NodeFits.{fits}
+use Rattle.smt_text.specs.declared.spot.Spot.{Spot}
+use Rattle.smt_text.specs.declared.spot.Spot.TheVariants.{AtFormat, AtKind, AtChoices, AtPath, AtSteps, AtEnd, AtInputs, AtNodes, AtOutputs, AtLogic, AmongInputs, AtBase, AmongNodes, AtStatus, AmongOutputs, AmongAssertions, AtExit, Closed}
 use Rattle.fork_spec.specs.declared.end.LeafEnd.{LeafEnd}
 use Rattle.fork_spec.specs.declared.end.LeafEnd.TheVariants.{Exits, Traps, Cut}
-
--- Which line is to come: each place has one kind of line, and the last but one has two.
-pub data Spot : Type 0 where
-  AtFormat : Spot
-  AtKind : Spot
-  AtChoices : Spot
-  AtPath : Spot
-  AtSteps : Spot
-  AtEnd : Spot
-  AtInputs : Spot
-  AtNodes : Spot
-  AtOutputs : Spot
-  AtLogic : Spot
-  AmongInputs : Spot
-  AtBase : Spot
-  AmongNodes : Spot
-  AtStatus : Spot
-  AmongOutputs : Spot
-  -- an assertion or the check
-  AmongAssertions : Spot
-  AtExit : Spot
-  -- all lines were read
-  Closed : Spot
 
 -- What the lines so far say.
 pub record Reading : Type 0 where

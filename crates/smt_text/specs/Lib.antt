@@ -4,3 +4,8 @@ pub mod Lines
 pub mod LeafLines
 pub mod NodeFits
 pub mod Grammar
+pub mod Pieces
+pub mod LineReading
+pub mod Phases
+pub mod ReadingState
+pub mod Refusals

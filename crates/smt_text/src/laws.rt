@@ -17,3 +17,8 @@ pub fn a_node_line_stands_where_its_node_fits()
 pub fn a_text_reads_as_its_leaf()
     ensures { (leaf : Leaf) → IsFull leaf → IsTextOf (leaf_text leaf) leaf }
 {}
+
+/// A text has one reading: two full leaves with the same text are the same leaf.
+pub fn a_text_is_read_in_one_way()
+    ensures { (leaf other : Leaf) → IsFull leaf → IsFull other → leaf_text leaf ≡ leaf_text other → leaf ≡ other }
+{}

@@ -1,1 +1,2 @@
 mod leaves;
+mod reads;

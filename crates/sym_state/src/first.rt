@@ -9,8 +9,9 @@ ghost use Rattle.sym_state.specs.Placing.{HasBytes, PutsBytes, bytes_expressed, 
 ghost use Rattle.sym_state.specs.Runs.{IsFirst, IsOpen};
 ghost use Rattle.sym_state.specs.Unfolded.{inputs_placed};
 
+use crate::known::Known;
 use crate::program::Program;
-use crate::state::{MOST_DECISIONS, State};
+use crate::state::State;
 use crate::value::Value;
 use cow_pages::{Byte, Pages};
 use cow_vec::CowVec;
@@ -115,7 +116,7 @@ fn begin(alloc: Global, entry: u32, memory: Pages, terms: Builder) -> Result<Sta
         path: CowVec::new(alloc),
         choices: CowVec::new(alloc),
         steps: 0,
-        known: [None; MOST_DECISIONS],
+        known: Known::nothing(),
         sample: Bytes::from_vec(vec![in alloc; 0; inputs]?),
     })
 }

@@ -10,7 +10,8 @@
 //! - `code`: what stands where an instruction is fetched
 //! - `lists`: what copies share, copied out
 //! - `first`: the run of all assignments
-//! - `program`, `decided`: what is run; what is known of a decision
+//! - `program`: what is run
+//! - `decided`, `known`: what is known of a decision, and of those of a step
 //! - `leaf_part`, `evidence`: a leaf, and what shows it
 //! - `laws`: what holds of the terms of runs
 #![tactic(auto)]
@@ -20,6 +21,7 @@ mod code;
 mod decided;
 mod evidence;
 mod first;
+mod known;
 pub mod laws;
 mod leaf_part;
 mod lists;

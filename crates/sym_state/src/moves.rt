@@ -9,7 +9,7 @@ ghost use Rattle.sym_state.specs.Symbolic.{IsFormed, most_decisions, most_steps,
 ghost use Rattle.sym_state.specs.Values.{IsByte, IsWide};
 
 use crate::decided::Decided;
-use crate::state::{MOST_DECISIONS, State};
+use crate::state::State;
 use crate::value::Value;
 use cow_pages::Byte;
 use rv_decode::{PathStep, Register};
@@ -45,7 +45,7 @@ impl State {
         ensures formed { IsFormed self.new }
     {
         self.steps += 1;
-        self.known = [None; MOST_DECISIONS];
+        self.known.clear();
     }
 
     /// Keeps what the decision at a place of the next step is.
@@ -54,7 +54,7 @@ impl State {
         ensures value { self.new ≡ informed self.old place decided }
         ensures formed { IsFormed self.new }
     {
-        self.known[place] = Some(decided);
+        self.known.put(place, decided);
     }
 
     /// Notes an entry of the path.

@@ -7,6 +7,7 @@ ghost use Rattle.sym_state.specs.Symbolic.{IsFormed, known_at, most_decisions, v
 ghost use Rattle.sym_state.specs.Values.{IsByte, IsWide};
 
 use crate::decided::Decided;
+use crate::known::Known;
 use crate::value::Value;
 use cow_pages::{Byte, Pages};
 use cow_vec::CowVec;
@@ -18,9 +19,6 @@ use term_simplify::Builder;
 use term_table::Terms;
 use tool_io::Bytes;
 use tree_core::Choice;
-
-/// The most decisions of one step.
-pub(crate) const MOST_DECISIONS: usize = 5;
 
 /// The bytes of a page.
 pub(crate) const PAGE: u32 = 256;
@@ -44,7 +42,7 @@ pub struct State {
     /// How many steps were made.
     pub(crate) steps: u32,
     /// What is known of the decisions of the step that comes next, by their places.
-    pub(crate) known: [Option<Decided>; MOST_DECISIONS],
+    pub(crate) known: Known,
     /// An assignment that meets the condition.
     pub(crate) sample: Bytes,
 }
@@ -110,7 +108,7 @@ impl State {
             path: self.path.share()?,
             choices: self.choices.share()?,
             steps: self.steps,
-            known: self.known,
+            known: self.known.copy(),
             sample: Bytes::from_slice(self.alloc, self.sample.as_slice())?,
         })
     }
@@ -195,7 +193,7 @@ impl State {
         requires { place < most_decisions }
         ensures { result ≡ known_at self.now place }
     {
-        self.known[place]
+        self.known.at(place)
     }
 
     /// An assignment that meets the condition, one byte for each input.

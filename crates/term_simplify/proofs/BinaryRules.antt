@@ -9,6 +9,7 @@ use Rattle.bv_dag.specs.declared.nodes.BinaryOp.TheVariants.{Add, Sub, Mul, Udiv
 use Rattle.term_trees.specs.Trees.{Tree, Constant, Two, tree_width, tree_value, IsTerm, IsOfWidth}
 use Rattle.term_trees.proofs.Ranges.{in_range}
 use Rattle.term_simplify.specs.Simplified.{tree_number, number_first, number_second, binary_by, binary_of}
+use Rattle.term_simplify.proofs.Masking.{value-masked_first, value-masked_second}
 use Rattle.term_simplify.proofs.Words.{number_value, value_by_test, is_number, is_at_most}
 use Rattle.term_simplify.proofs.Sums.{zero_plus, plus_zero, less_zero}
 use Rattle.term_simplify.proofs.Products.{zero_times, one_times, times_zero, times_one, udiv_by_zero, udiv_by_one, urem_by_zero, urem_by_one}
@@ -78,5 +79,7 @@ pub value-binary_of : (inputs : ℕ) (input : List ℕ) (op : BinaryOp) (s t : T
     tree_value input (binary_of op s t) ≡ tree_value input (Two op s t)
 unfolding binary_of
 value-binary_of inputs input op s t bytes term =
-    value-binary_by input (tree_width s) s t (in_range inputs input bytes s term.0)
-    (rw term.2 (in_range inputs input bytes t term.1)) op _ _ refl refl
+    value-masked_first inputs input op (tree_number s) s t _ bytes term refl
+    (value-masked_second inputs input op (tree_number t) s t _ bytes term refl
+    (value-binary_by input (tree_width s) s t (in_range inputs input bytes s term.0)
+    (rw term.2 (in_range inputs input bytes t term.1)) op _ _ refl refl))

@@ -10,6 +10,7 @@ pub mod PartRules
 pub mod ExtensionRules
 pub mod NodeRules
 pub mod Reading
+pub mod Masking
 pub mod BinaryPlans
 pub mod ComparisonPlans
 pub mod PartPlans
@@ -20,3 +21,4 @@ pub mod Stepping
 pub mod MachineNumbers
 pub mod MachineBuilds
 pub mod OperationNumbers
+pub mod NarrowRemainders

@@ -88,6 +88,11 @@ pub extended_below_64 : (g : Graph) (id by : ℕ) (signed : Bool) (a : ℕ) → 
     slice_get g.nodes id ≡ Some (Extend by signed a) → width_of g a < 64
 extended_below_64 g id by signed a dag is = omega (arith, (term_at g id _ dag is).1, (term_at g id _ dag is).2, width-tree_of g a)
 
+pub extended_narrower : (g : Graph) (id by : ℕ) (signed : Bool) (a : ℕ) → IsDag g →
+    slice_get g.nodes id ≡ Some (Extend by signed a) → width_of g a < width_of g id
+extended_narrower g id by signed a dag is =
+    omega (arith, (term_at g id _ dag is).1, width-tree_of g a, sym (width-tree_of g id) ∙ ap tree_width (tree_by_cases g id _ dag is))
+
 zeros_read : (f : ℕ → Tree) (n : Node) →
     ((by : ℕ) (signed : Bool) (a : ℕ) → n ≡ Extend by signed a → ⊥) →
     None ≡ under_zeros (node_tree f n)

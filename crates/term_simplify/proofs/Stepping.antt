@@ -5,11 +5,11 @@ use Rattle.std.proofs.lemmas.List.{length-take}
 use Rattle.std.specs.Prelude.{Result, Ok, Err}
 use Rattle.std.specs.Result.{IfOk, OnOk}
 use Rattle.std.specs.List.{All}
-use Rattle.bv_dag.specs.BitVectors.{BitVector, bvnot, bvneg, ite, extract, concat}
+use Rattle.bv_dag.specs.BitVectors.{BitVector, bvnot, bvneg, bvurem, ite, extract, concat}
 use Rattle.bv_dag.specs.Graphs.{Graph, val, width_of}
 use Rattle.bv_dag.specs.Nodes.{binary, compare, extend}
 use Rattle.bv_dag.specs.declared.nodes.BinaryOp.{BinaryOp}
-use Rattle.bv_dag.specs.declared.nodes.BinaryOp.TheVariants.{Mul, Urem}
+use Rattle.bv_dag.specs.declared.nodes.BinaryOp.TheVariants.{Mul}
 use Rattle.bv_dag.specs.declared.nodes.Comparison.{Comparison}
 use Rattle.bv_dag.proofs.TermLaws.{there}
 use Rattle.term_trees.specs.Growth.{Continues}
@@ -17,7 +17,7 @@ use Rattle.term_trees.specs.Trees.{Tree, tree_of, tree_width, tree_value, IsTerm
 use Rattle.term_trees.proofs.Ranges.{in_range}
 use Rattle.term_trees.proofs.TreeLaws.{tree-grown, width-grown, value-grown, value-tree_of, width-tree_of}
 use Rattle.term_simplify.specs.Simplified.{complement_of, negative_of, binary_of, comparison_of, choice_of, part_of, extension_by, joined_of}
-use Rattle.term_simplify.specs.Machine.{sign_tree, signed_tree, magnitude_tree, signed_quotient_tree, or_ones_tree, quotient_tree, remainder_tree, upper_tree}
+use Rattle.term_simplify.specs.Machine.{sign_tree, signed_tree, magnitude_tree, signed_quotient_tree, or_ones_tree, quotient_tree, unsigned_remainder_tree, remainder_tree, upper_tree}
 use Rattle.term_simplify.specs.Steps.{Stands, sign_word, signed_word, magnitude_word, or_ones_word}
 
 -- a term is itself
@@ -196,6 +196,18 @@ magnitude_step first n = record {
   value = λ input bytes. n.value input bytes ∙ ap magnitude_word (first.value input bytes);
 }
 
+pub unsigned_remainder_step : {g h : Graph} {a b id : ℕ} {s t : Tree} {w v : ℕ} {F G : List ℕ → BitVector} →
+    Stands g a s w F → Stands g b t v G →
+    Stands h id (unsigned_remainder_tree (tree_of g a) (tree_of g b)) 32 (λ input. bvurem (val g a input) (val g b input)) →
+    Stands h id (unsigned_remainder_tree s t) 32 (λ input. bvurem (F input) (G input))
+unsigned_remainder_step {g = g} {b = b} {s = s} {F = F} first second n = record {
+  there = n.there;
+  tree = n.tree ∙ ap (λ k. unsigned_remainder_tree k (tree_of g b)) first.tree ∙ ap (unsigned_remainder_tree s) second.tree;
+  width = n.width;
+  value = λ input bytes. n.value input bytes ∙ ap (λ k. bvurem k (val g b input))
+      (first.value input bytes) ∙ ap (bvurem (F input)) (second.value input bytes);
+}
+
 -- ---- the machine's trees
 pub as_quotient : {g : Graph} {id : ℕ} {F : List ℕ → BitVector} (s t : Tree) →
     Stands g id (or_ones_tree t (signed_quotient_tree s t)) 32 F →
@@ -204,7 +216,7 @@ unfolding quotient_tree
 as_quotient s t n = n
 
 pub as_remainder : {g : Graph} {id : ℕ} {F : List ℕ → BitVector} (s t : Tree) →
-    Stands g id (signed_tree (sign_tree s) (binary_of Urem (magnitude_tree s) (magnitude_tree t))) 32 F →
+    Stands g id (signed_tree (sign_tree s) (unsigned_remainder_tree (magnitude_tree s) (magnitude_tree t))) 32 F →
     Stands g id (remainder_tree s t) 32 F
 unfolding remainder_tree
 as_remainder s t n = n

@@ -2,6 +2,7 @@
 -- numbers that operands are and by their top nodes. None compares two subtrees, and none decides a
 -- relation between two input bytes.
 use Rattle.std.specs.Prelude.{ℕ, ◌+◌, ◌-◌, ◌^◌, ◌==◌, ◌&&◌, Bool, true, false, not, nat_lt, nat_le, Option, Some, None, if◌then◌else◌}
+use Rattle.std.specs.Int.Bits.{bit_and}
 use Rattle.bv_dag.specs.BitVectors.{BitVector, bit, is_negative, bvnot, bvneg, extract, concat}
 use Rattle.bv_dag.specs.Nodes.{binary, compare, extend}
 use Rattle.bv_dag.specs.declared.nodes.BinaryOp.{BinaryOp}
@@ -86,8 +87,20 @@ binary_by op (Some x) None s t = number_first op x s t
 binary_by op None (Some y) s t = number_second op y s t
 binary_by op None None s t = Two op s t
 
+-- every bit that a term may have, which is a narrower one widened by zeros, is 1 in the number
+abbrev pub keeps : BitVector → Tree → Bool
+keeps y (Widened by false t) = bit_and y.number (2 ^ tree_width t - 1) == 2 ^ tree_width t - 1
+keeps y t = false
+
+-- A term & a number that masks nothing of it is the term.
+abbrev pub masked : BinaryOp → Option BitVector → (t otherwise : Tree) → Tree
+masked And (Some y) t otherwise = if keeps y t then t else otherwise
+masked op y t otherwise = otherwise
+
 unfoldable pub binary_of : BinaryOp → Tree → Tree → Tree
-binary_of op s t = binary_by op (tree_number s) (tree_number t) s t
+binary_of op s t =
+    masked op (tree_number s) t
+    (masked op (tree_number t) s (binary_by op (tree_number s) (tree_number t) s t))
 
 -- ---- Tests.
 -- a term of which no number from this one on is a value, since it is a narrower one widened by

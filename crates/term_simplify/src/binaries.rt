@@ -7,13 +7,14 @@ ghost use Rattle.term_trees.specs.Trees.{tree_of};
 ghost use Rattle.term_simplify.specs.Plans.{Makes, AreAsWide};
 ghost use Rattle.term_simplify.specs.Simplified.{is_ones, number_first, number_second, binary_by, binary_of};
 
+use crate::masks::masked;
 use crate::plan::{Plan, number, number_at, number_if, term_if, zero};
 use bv_dag::{BinaryOp, Node, Word};
 use term_table::Terms;
 
 /// The word of this width whose every bit is 1.
 #[tactic(auto, unfolding(bv_dag::specs::BitVectors::bvnot))]
-fn ones(width: u32) -> Word
+pub(crate) fn ones(width: u32) -> Word
     requires not_empty { 0 < width }
     requires at_most_64 { width ≤ 64 }
     ensures { result ≡ record { width = width; number = 2 ^ width - 1 } }
@@ -90,5 +91,6 @@ pub(crate) fn binary(terms: &Terms, op: BinaryOp, a: usize, b: usize) -> Plan
     ensures makes { Makes terms.now result (binary_of op (tree_of terms.now a) (tree_of terms.now b)) }
     ensures fit { IsDag terms.now }
 {
-    binary_by(op, number_at(terms, a), number_at(terms, b), a, b)
+    let plain = binary_by(op, number_at(terms, a), number_at(terms, b), a, b);
+    masked(terms, op, a, b, masked(terms, op, b, a, plain))
 }

@@ -11,9 +11,11 @@ mod choices;
 mod comparisons;
 mod extensions;
 mod machine;
+mod masks;
 mod operations;
 mod parts;
 mod plan;
+mod remainders;
 
 pub use builder::Builder;
 

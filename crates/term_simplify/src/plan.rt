@@ -76,6 +76,7 @@ pub(crate) fn under_zeros(terms: &Terms, id: usize) -> Option<usize>
     ensures tree { option_map (tree_of terms.now) result ≡ under_zeros (tree_of terms.now id) }
     ensures there { IfSome result (λ k. k < length terms.now.nodes) }
     ensures below_64 { IfSome result (λ k. width_of terms.now k < 64) }
+    ensures narrower { IfSome result (λ k. width_of terms.now k < width_of terms.now id) }
     ensures fit { IsDag terms.now }
 {
     match terms.node(id) {

@@ -161,10 +161,57 @@ fn number(
     build(rt, builder, Node::Num { width, value })
 }
 
+#[test]
+fn a_mask_is_left_out_where_it_changes_nothing(rt: HostRuntime) -> Result<(), Fail> {
+    let mut builder = Builder::new(Terms::new(rt.alloc(), 1));
+    let x = build(&rt, &mut builder, Node::Input(0))?;
+    let wide = build(&rt, &mut builder, widened_by_24(x))?;
+    let all = number(&rt, &mut builder, 32, 255)?;
+    let even = number(&rt, &mut builder, 32, 254)?;
+    let len = builder.len();
+    for (a, b, want) in [(wide, all, wide), (all, wide, wide), (wide, even, len)] {
+        let id = build(&rt, &mut builder, Node::Binary(BinaryOp::And, a, b))?;
+        assert!(rt; id == want, "of {a} and {b}");
+    }
+    Ok(())
+}
+
 fn is_wide(builder: &Builder, a: usize, width: u32) -> bool
     ensures { IsTrue result → width_of builder.now a ≡ width }
 {
     a < builder.len() && builder.terms().width_of(a) == width
+}
+
+fn widened_by_24(operand: usize) -> Node {
+    Node::Extend {
+        by: 24,
+        signed: false,
+        operand,
+    }
+}
+
+#[test]
+fn a_remainder_of_widened_bytes_is_that_of_the_bytes(rt: HostRuntime) -> Result<(), Fail> {
+    let mut builder = Builder::new(Terms::new(rt.alloc(), 2));
+    build(&rt, &mut builder, Node::Input(0))?;
+    build(&rt, &mut builder, Node::Input(1))?;
+    let a = build(&rt, &mut builder, widened_by_24(0))?;
+    let b = build(&rt, &mut builder, widened_by_24(1))?;
+    assert!(rt; is_wide(&builder, a, 32) && is_wide(&builder, b, 32));
+    assert!(rt; builder.remu(a, b)? == 5);
+    for (id, want) in [
+        (4, Node::Binary(BinaryOp::Urem, 0, 1)),
+        (5, widened_by_24(4)),
+    ] {
+        assert!(rt;
+            id < builder.len() && builder.terms().node(id) == want,
+            "at {id}"
+        );
+    }
+    // A widened byte isn't negative.
+    assert!(rt; is_wide(&builder, a, 32) && is_wide(&builder, b, 32));
+    assert!(rt; builder.rem(a, b)? == 5);
+    Ok(())
 }
 
 #[test]

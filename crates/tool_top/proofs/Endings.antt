@@ -11,17 +11,23 @@ use Rattle.elf_load.specs.Refusals.{refusal}
 use Rattle.elf_load.specs.declared.refused.Refused.{Refused as WhyRefused}
 use Rattle.elf_load.specs.declared.region.Region.{Region}
 use Rattle.elf_load.specs.declared.unfit.Unfit.{Unfit as WhyUnfit}
-use Rattle.tool_words.specs.Job.{Job, Explore, Replay}
-use Rattle.tool_top.specs.Lines.{no_memory}
+use Rattle.prog_gen.specs.Generated.{generated_file, generated_regions}
+use Rattle.tool_words.specs.Job.{Job, Bench, Explore, Replay}
+use Rattle.tool_words.specs.Limits.{default_budgets}
+use Rattle.tool_top.specs.Lines.{bench_line, no_memory}
+use Rattle.tool_top.specs.Reports.{IsReportOf}
 use Rattle.tool_top.specs.Plan.{Plan, names_of, IsPlan, IsPlanned, IsReadFault, IsReported, IsRefusal, IsMisfit, Means, OnlyReads, most_bytes}
 use Rattle.elf_load.specs.Images.{Image, Loads}
 use Rattle.elf_load.proofs.OneImage.{one_image}
 use Rattle.tree_core.specs.declared.budgets.Budgets.{Budgets}
 use Rattle.replay_core.specs.Replays.{IsAsSaid}
+use Rattle.tool_top.proofs.BenchEndings.{benched, not_benched}
 use Rattle.tool_top.proofs.ReplayEndings.{given_held, replay_fault, replay_kept, replay_no_job, replay_misfit, replay_no_program, replay_no_test, replay_other, replay_puts, replay_same}
-use Rattle.report_text.specs.Claims.{Entry, IsReport}
+use Rattle.report_text.specs.Claims.{Entry, IsReport, leaves_of}
 use Rattle.report_text.specs.Files.{files_of, summary_of}
 use Rattle.tool_top.specs.Answer.{Answered, status_of, IsAnswered, IsFaulted, IsWanting, IsCarriedOut, IsCutByFault, IsWritten, OnWritten, OnReplayed, HoldsProgram, HoldsNoProgram, HoldsMisfit, HoldsNoTest, HoldsOther, HoldsTest, verdict_status}
+use Rattle.tool_top.specs.ReadBack.{AreReadBack}
+use Rattle.tool_top.proofs.ReadingBack.{read_back}
 use Rattle.tool_top.specs.declared.verdict.Verdict.{Verdict}
 use Rattle.tool_top.specs.declared.verdict.Verdict.TheVariants.{Done, Differs, NoJob, Refused, Unfit, ReadFault, TestRefused}
 use Rattle.tool_top.specs.declared.verdict.Ending.{Ending}
@@ -40,10 +46,23 @@ means_names : (told : Told) (job : Option Job) (plan : Plan) → Means told job 
 means_names told None plan is = rw is (IsPrefix-whole _)
 means_names told (Some (Explore program out asked budgets workers)) plan (bytes, given, names, treated) = rw names (IsPrefix-whole _)
 means_names told (Some (Replay program test)) plan (bytes, text, given, also, names, treated) = rw names (IsPrefix-whole _)
+means_names told (Some (Bench number workers out)) plan (names, benched) = rw names (IsPrefix-whole _)
+
+fault_names : (job : Option Job) (plan : Plan) → IsReadFault job plan → IsPrefix plan.names (names_of job)
+fault_names None plan none = absurd none
+fault_names (Some (Explore program out asked budgets workers)) plan (begins, is) = begins
+fault_names (Some (Replay program test)) plan (begins, is) = begins
+fault_names (Some (Bench number workers out)) plan none = absurd none
+
+fault_verdict : (job : Option Job) (plan : Plan) → IsReadFault job plan → plan.verdict ≡ ReadFault
+fault_verdict None plan none = absurd none
+fault_verdict (Some (Explore program out asked budgets workers)) plan (begins, is) = ap (λ (p : Plan). p.verdict) is
+fault_verdict (Some (Replay program test)) plan (begins, is) = ap (λ (p : Plan). p.verdict) is
+fault_verdict (Some (Bench number workers out)) plan none = absurd none
 
 pub plan_names : (old new : Seen) (job : Option Job) (plan : Plan) → IsPlan old new job plan → IsPrefix plan.names (names_of job)
 plan_names old new job plan (inl means) = means_names old.told job plan means
-plan_names old new job plan (inr (rose, fault)) = fault.0
+plan_names old new job plan (inr (rose, fault)) = fault_names job plan fault
 
 -- The verdict of a plan says which plan it is.
 left_of : {A B : Type 0} → A ⊎ B → (B → ⊥) → A
@@ -55,7 +74,7 @@ not_done bytes asked verdict puts text done (inl none) = let other = none.is in 
 not_done bytes asked verdict puts text done (inr misfit) = let other = misfit.is in cc
 
 not_fault : (old new : Seen) (job : Option Job) (plan : Plan) → plan.verdict ≡ Done → Rose old.reads new.reads × IsReadFault job plan → ⊥
-not_fault old new job plan done (rose, (begins, is)) = let other : plan.verdict ≡ ReadFault = ap (λ (p : Plan). p.verdict) is in cc
+not_fault old new job plan done (rose, fault) = let other : plan.verdict ≡ ReadFault = fault_verdict job plan fault in cc
 
 done_reported : (old new : Seen) (program out : List ℕ) (asked : List Region) (budgets : Budgets) (workers : ℕ) (plan : Plan) → plan.verdict ≡ Done → IsPlan old new (Some (Explore program out asked budgets workers)) plan → (bytes : List ℕ) × Gives old.told program most_bytes bytes × IsReported out bytes asked budgets workers plan.verdict plan.puts plan.text
 done_reported old new program out asked budgets workers plan done planned =
@@ -97,20 +116,17 @@ not_explored old new program out asked budgets workers plan verdict is done refu
   | inr (inr (inr it)) ↦ fault (sym is ∙ it)
 ]
 
--- without a job the plan is one verdict or another, and puts nothing
+-- without a job the plan says so, and puts nothing
 none_puts : (old new : Seen) (plan : Plan) → IsPlan old new None plan → plan.puts ≡ []
 none_puts old new plan (inl is) = ap (λ (p : Plan). p.puts) is
-none_puts old new plan (inr (rose, (begins, is))) = ap (λ (p : Plan). p.puts) is
+none_puts old new plan (inr (rose, none)) = absurd none
 
-none_only : (old new : Seen) (plan : Plan) → IsPlan old new None plan → (plan.verdict ≡ NoJob) ⊎ (plan.verdict ≡ ReadFault)
-none_only old new plan (inl is) = inl (ap (λ (p : Plan). p.verdict) is)
-none_only old new plan (inr (rose, (begins, is))) = inr (ap (λ (p : Plan). p.verdict) is)
+none_only : (old new : Seen) (plan : Plan) → IsPlan old new None plan → plan.verdict ≡ NoJob
+none_only old new plan (inl is) = ap (λ (p : Plan). p.verdict) is
+none_only old new plan (inr (rose, none)) = absurd none
 
-none_other : (old new : Seen) (plan : Plan) (verdict : Verdict) → plan.verdict ≡ verdict → verdict ≢ NoJob → verdict ≢ ReadFault → IsPlan old new None plan → ⊥
-none_other old new plan verdict is no_job fault planned = elim (none_only old new plan planned) [
-  | inl it ↦ no_job (sym is ∙ it)
-  | inr it ↦ fault (sym is ∙ it)
-]
+none_other : (old new : Seen) (plan : Plan) (verdict : Verdict) → plan.verdict ≡ verdict → verdict ≢ NoJob → IsPlan old new None plan → ⊥
+none_other old new plan verdict is no_job planned = no_job (sym is ∙ none_only old new plan planned)
 
 -- a plan that puts files is done
 some_puts_done : (old new : Seen) (job : Option Job) (plan : Plan) → plan.puts ≢ [] → IsPlan old new job plan → plan.verdict ≡ Done
@@ -120,6 +136,7 @@ some_puts_done old new (Some (Explore program out asked budgets workers)) plan s
 some_puts_done old new (Some (Explore program out asked budgets workers)) plan some (inl (bytes, given, names, inr (inr misfit))) = absurd (some misfit.no_files)
 some_puts_done old new (Some (Explore program out asked budgets workers)) plan some (inr (rose, (begins, is))) = absurd (some (ap (λ (p : Plan). p.puts) is))
 some_puts_done old new (Some (Replay program test)) plan some planned = absurd (some (replay_puts old new program test plan planned))
+some_puts_done old new (Some (Bench number workers out)) plan some planned = (benched old new number workers out plan planned).done
 
 pub answered : (old mid new : Seen) (job : Option Job) (verdict : Verdict) (puts : List Put) (text : List ℕ) → IsPlanned old mid job verdict puts text → mid.writes ≡ old.writes → new.reads ≡ mid.reads → IsCarriedOut mid new verdict puts text [] → IsAnswered old new job verdict
 answered old mid new job verdict puts text planned writes reads out = record {
@@ -183,62 +200,76 @@ answered_names old new job WriteFault h = names_since-after _ _ (record { names 
 answered_names old new job NoMemory h = names_since-after _ _ (record { names = h.names; puts = h.out.puts; said = h.out.said }) _ h.out.changes h.reading
 
 -- what was written, where the plan is done and all was put and said
-written : (old new : Seen) (name out bytes : List ℕ) (asked : List Region) (budgets : Budgets) (workers : ℕ) (Claim : Image → List Region → Budgets → ℕ → List Line → List Entry → Type 0) (plan : Plan)
-    → ((image : Image) (lines : List Line) (entries : List Entry) → IsReport image asked budgets workers lines entries → Claim image asked budgets workers lines entries) → Gives old.told name most_bytes bytes
-    → IsReported out bytes asked budgets workers plan.verdict plan.puts plan.text → IsCarriedOut old new Done plan.puts plan.text plan.names → IsWritten old.told new.told name out asked budgets workers Claim
-written old new name out bytes asked budgets workers Claim plan claims given reported carried =
-    let report = reported.report in
+written : (old new : Seen) (IsFile : List ℕ → Type 0) (line : List ℕ → List ℕ) (out bytes : List ℕ) (image : Image) (asked : List Region) (budgets : Budgets) (workers : ℕ)
+    (Claim : Image → List Region → Budgets → ℕ → List Line → List Entry → Type 0) (plan : Plan) (summary : List ℕ)
+    → ((lines : List Line) (entries : List Entry) → IsReport image asked budgets workers lines entries → Claim image asked budgets workers lines entries)
+    → IsFile bytes → Loads bytes image → unfit image asked ≡ None → IsReportOf out image asked budgets workers plan.puts summary → plan.text ≡ line summary
+    → IsCarriedOut old new Done plan.puts plan.text plan.names → IsWritten old.told new.told IsFile line out asked budgets workers Claim
+written old new IsFile line out bytes image asked budgets workers Claim plan summary claims given loads fits report text carried =
     let deeds : Deeds = record { names = plan.names; puts = plan.puts; said = carried.said } in
     let said : carried.said ≡ plan.text = elim carried.whole [ inl all ↦ all | inr cut ↦ absurd (cut.1 refl) ] in
     record {
-      image = reported.image;
+      image = image;
       lines = report.lines;
       entries = report.entries;
       bytes = bytes;
       given = given;
-      loads = reported.loads;
-      fits = reported.fits;
+      loads = loads;
+      fits = fits;
       files = puts_since-after old.told new.told deeds (λ puts. puts ≡ files_of out budgets workers asked report.lines report.entries) carried.changes report.files;
-      summary = said_since-after old.told new.told deeds (λ said. said ≡ summary_of report.entries) carried.changes (said ∙ report.summary);
-      claim = claims reported.image report.lines report.entries report.claims;
+      read_back =
+          puts_since-after old.told new.told deeds (λ puts. AreReadBack out puts (leaves_of report.entries)) carried.changes
+          (subst (λ puts. AreReadBack out puts (leaves_of report.entries)) (sym report.files) (read_back out budgets workers asked report.lines report.entries report.claims.full));
+      summary = said_since-after old.told new.told deeds (λ said. said ≡ line (summary_of report.entries)) carried.changes (said ∙ text ∙ ap line report.summary);
+      claim = claims report.lines report.entries report.claims;
     }
 
 pub done_written : (old new : Seen) (job : Option Job) (Claim : Image → List Region → Budgets → ℕ → List Line → List Entry → Type 0)
     → ((image : Image) (regions : List Region) (budgets : Budgets) (workers : ℕ) (lines : List Line) (entries : List Entry) → IsReport image regions budgets workers lines entries → Claim image regions budgets workers lines entries) → IsAnswered old new job Done → OnWritten old.told new.told job Claim
-done_written old new None Claim claims h = none_other old new h.plan Done h.is (λ e. cc) (λ e. cc) h.planned
+done_written old new None Claim claims h = none_other old new h.plan Done h.is (λ e. cc) h.planned
 done_written old new (Some (Explore program out asked budgets workers)) Claim claims h =
     let r = done_reported old new program out asked budgets workers h.plan h.is h.planned in
-    written old new program out r.0 asked budgets workers Claim h.plan (λ image. claims image asked budgets workers) r.1 r.2 h.out
+    written old new (Gives old.told program most_bytes) (λ summary. summary) out r.0 r.2.image asked budgets workers Claim h.plan h.plan.text
+    (claims r.2.image asked budgets workers) r.1 r.2.loads r.2.fits r.2.report refl h.out
 done_written old new (Some (Replay program test)) Claim claims h = tt
+done_written old new (Some (Bench number workers out)) Claim claims h =
+    let is = benched old new number workers out h.plan h.planned in
+    written old new (λ bytes. bytes ≡ generated_file number) (bench_line number) out (generated_file number) is.image (generated_regions number) default_budgets workers Claim h.plan is.summary
+    (claims is.image (generated_regions number) default_budgets workers) refl is.loads is.fits is.report is.line h.out
 
 -- what was the same, and what was not
 pub done_same : (old new : Seen) (job : Option Job) → IsAnswered old new job Done → OnReplayed old.told job IsAsSaid
-done_same old new None h = none_other old new h.plan Done h.is (λ e. cc) (λ e. cc) h.planned
+done_same old new None h = none_other old new h.plan Done h.is (λ e. cc) h.planned
 done_same old new (Some (Explore program out asked budgets workers)) h = tt
+done_same old new (Some (Bench number workers out)) h = tt
 done_same old new (Some (Replay program test)) h = replay_same old new program test h.plan h.is h.planned
 
 pub differs_other : (old new : Seen) (job : Option Job) → IsAnswered old new job Differs → HoldsOther old.told job
-differs_other old new None h = none_other old new h.plan Differs h.is (λ e. cc) (λ e. cc) h.planned
+differs_other old new None h = none_other old new h.plan Differs h.is (λ e. cc) h.planned
 differs_other old new (Some (Explore program out asked budgets workers)) h = not_explored old new program out asked budgets workers h.plan Differs h.is (λ e. cc) (λ e. cc) (λ e. cc) (λ e. cc) h.planned
 differs_other old new (Some (Replay program test)) h = replay_other old new program test h.plan h.is h.planned
+differs_other old new (Some (Bench number workers out)) h = not_benched old new number workers out h.plan Differs h.is (λ e. cc) h.planned
 
 -- what is refused is no test
 pub refused_no_test : (old new : Seen) (job : Option Job) → IsAnswered old new job TestRefused → HoldsNoTest old.told job
-refused_no_test old new None h = none_other old new h.plan TestRefused h.is (λ e. cc) (λ e. cc) h.planned
+refused_no_test old new None h = none_other old new h.plan TestRefused h.is (λ e. cc) h.planned
 refused_no_test old new (Some (Explore program out asked budgets workers)) h = not_explored old new program out asked budgets workers h.plan TestRefused h.is (λ e. cc) (λ e. cc) (λ e. cc) (λ e. cc) h.planned
 refused_no_test old new (Some (Replay program test)) h = replay_no_test old new program test h.plan h.is h.planned
+refused_no_test old new (Some (Bench number workers out)) h = not_benched old new number workers out h.plan TestRefused h.is (λ e. cc) h.planned
 
 -- what is refused is no program
 pub refused_no_program : (old new : Seen) (job : Option Job) → IsAnswered old new job Refused → HoldsNoProgram old.told job
-refused_no_program old new None h = none_other old new h.plan Refused h.is (λ e. cc) (λ e. cc) h.planned
+refused_no_program old new None h = none_other old new h.plan Refused h.is (λ e. cc) h.planned
 refused_no_program old new (Some (Explore program out asked budgets workers)) h = refused_refusal old new program out asked budgets workers h.plan h.is h.planned
 refused_no_program old new (Some (Replay program test)) h = replay_no_program old new program test h.plan h.is h.planned
+refused_no_program old new (Some (Bench number workers out)) h = not_benched old new number workers out h.plan Refused h.is (λ e. cc) h.planned
 
 -- what doesn't fit is a program for another input
 pub unfit_holds : (old new : Seen) (job : Option Job) → IsAnswered old new job Unfit → HoldsMisfit old.told job
-unfit_holds old new None h = none_other old new h.plan Unfit h.is (λ e. cc) (λ e. cc) h.planned
+unfit_holds old new None h = none_other old new h.plan Unfit h.is (λ e. cc) h.planned
 unfit_holds old new (Some (Explore program out asked budgets workers)) h = unfit_misfit old new program out asked budgets workers h.plan h.is h.planned
 unfit_holds old new (Some (Replay program test)) h = replay_misfit old new program test h.plan h.is h.planned
+unfit_holds old new (Some (Bench number workers out)) h = not_benched old new number workers out h.plan Unfit h.is (λ e. cc) h.planned
 
 -- Each status is that of one ending.
 abbrev verdict_of : ℕ → Option Verdict
@@ -280,20 +311,22 @@ pub no_job_none : (old new : Seen) (job : Option Job) → IsAnswered old new job
 no_job_none old new None h = refl
 no_job_none old new (Some (Explore program out asked budgets workers)) h = absurd (not_explored old new program out asked budgets workers h.plan NoJob h.is (λ e. cc) (λ e. cc) (λ e. cc) (λ e. cc) h.planned)
 no_job_none old new (Some (Replay program test)) h = absurd (replay_no_job old new program test h.plan h.is h.planned)
+no_job_none old new (Some (Bench number workers out)) h = absurd (not_benched old new number workers out h.plan NoJob h.is (λ e. cc) h.planned)
 
 -- a read fault was counted, where that is said
 none_fault : (old new : Seen) (plan : Plan) → plan.verdict ≡ ReadFault → IsPlan old new None plan → Rose old.reads new.reads
 none_fault old new plan fault (inl is) = let other : plan.verdict ≡ NoJob = ap (λ (p : Plan). p.verdict) is in cc
-none_fault old new plan fault (inr (rose, read)) = rose
+none_fault old new plan fault (inr (rose, none)) = absurd none
 
 pub read_rose : (old new : Seen) (job : Option Job) → IsAnswered old new job ReadFault → Rose old.reads new.reads
 read_rose old new None h = none_fault old new h.plan h.is h.planned
 read_rose old new (Some (Explore program out asked budgets workers)) h = fault_rose old new program out asked budgets workers h.plan h.is h.planned
 read_rose old new (Some (Replay program test)) h = replay_fault old new program test h.plan h.is h.planned
+read_rose old new (Some (Bench number workers out)) h = absurd (not_benched old new number workers out h.plan ReadFault h.is (λ e. cc) h.planned)
 
 -- a write fault is answered only where there is a job
 pub faulted_job : (old new : Seen) (job : Option Job) → IsFaulted old new job → job ≢ None
-faulted_job old new None h is = none_other old new h.plan Done h.only_done (λ e. cc) (λ e. cc) h.planned
+faulted_job old new None h is = none_other old new h.plan Done h.only_done (λ e. cc) h.planned
 faulted_job old new (Some job) h is = cc
 
 -- a file that loads is not refused
@@ -304,6 +337,7 @@ held_not_refused told (Some (Explore program out asked budgets workers)) (bytes,
     let fine : refusal given ≡ None = ap refusal same ∙ loads.fine in
     cc
 held_not_refused told (Some (Replay program test)) holds none = holds
+held_not_refused told (Some (Bench number workers out)) holds none = none
 
 -- nor is an input that fits
 held_not_unfit : (told : Told) (job : Option Job) → HoldsProgram told job → HoldsMisfit told job → ⊥
@@ -314,11 +348,14 @@ held_not_unfit told (Some (Explore program out asked budgets workers)) (bytes, h
     let also : unfit image asked ≡ None = subst (λ (i : Image). unfit i asked ≡ None) one fits in
     cc
 held_not_unfit told (Some (Replay program test)) holds misfit = holds
+held_not_unfit told (Some (Bench number workers out)) holds misfit = misfit
 
 -- where it is held, and no fault was counted, it is explored to the end
 explored_whole : (old new : Seen) (job : Option Job) (verdict : Verdict) (status : ℕ) → IsAnswered old new job verdict → status ≡ verdict_status verdict → HoldsProgram old.told job → ¬ Rose old.reads new.reads → status ≡ 0
 explored_whole old new None verdict status h is holds read = absurd holds
 explored_whole old new (Some (Replay program test)) verdict status h is holds read = absurd holds
+explored_whole old new (Some (Bench number workers out)) verdict status h is holds read =
+    is ∙ ap verdict_status (sym h.is ∙ (benched old new number workers out h.plan h.planned).done)
 explored_whole old new (Some (Explore program out asked budgets workers)) verdict status h is holds read =
     let job : Option Job = Some (Explore program out asked budgets workers) in
     let said : (v : Verdict) → h.plan.verdict ≡ v → IsAnswered old new job v = λ v e. subst (IsAnswered old new job) (sym h.is ∙ e) h in
@@ -338,6 +375,7 @@ complete old new job NoMemory status h is holds read wrote = inr is
 replayed_whole : (old new : Seen) (job : Option Job) (verdict : Verdict) (status : ℕ) → IsAnswered old new job verdict → status ≡ verdict_status verdict → HoldsTest old.told job → ¬ Rose old.reads new.reads → (status ≡ 0) ⊎ (status ≡ 1)
 replayed_whole old new None verdict status h is holds read = absurd holds
 replayed_whole old new (Some (Explore program out asked budgets workers)) verdict status h is holds read = absurd holds
+replayed_whole old new (Some (Bench number workers out)) verdict status h is holds read = absurd holds
 replayed_whole old new (Some (Replay program test)) verdict status h is (bytes, text, image, test_read, held, held_text, replayable) read =
     elim (replay_kept old new program test h.plan bytes text image test_read held held_text replayable read h.planned) [
       | inl done ↦ inl (is ∙ ap verdict_status (sym h.is ∙ done))

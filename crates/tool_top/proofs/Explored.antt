@@ -1,5 +1,5 @@
--- A tree that its worker has drained gives the report of its program.
-use Rattle.std.proofs.Common.{◌≡◌, ℕ, ◌<◌, ◌≤◌, ◌&&◌, ◌++◌, IsTrue, true, refl, sym, ap, subst, ◌∙◌, arith}
+-- A tree that was worked until nothing was left gives the report of its program.
+use Rattle.std.proofs.Common.{◌≡◌, ℕ, ◌<◌, ◌&&◌, ◌++◌, IsTrue, true, refl, sym, ap, subst, ◌∙◌, arith}
 use Rattle.std.specs.Prelude.{List, All, Bool, Option, Some, ◌==◌, length, nat_lt}
 use Rattle.std.proofs.lemmas.Bool.Decides.{nat_tests}
 use Rattle.std.proofs.lemmas.List.Sums.{list_all-from_AllPass}
@@ -15,7 +15,7 @@ use Rattle.fork_spec.specs.Parts.{Part}
 use Rattle.fork_spec.specs.Written.{lines_of}
 use Rattle.fork_tree.specs.Calls.{IsOpening}
 use Rattle.fork_tree.specs.Contents.{cut_in, place_in}
-use Rattle.fork_tree.specs.Drains.{GrowsBy, IsDrained}
+use Rattle.fork_tree.specs.Drains.{IsDrained}
 use Rattle.fork_tree.specs.Nodes.{HasLeaf, IsLeafRight}
 use Rattle.fork_tree.specs.declared.content.Content.{Content}
 use Rattle.fork_tree.specs.declared.content.Content.TheVariants.{Open, Shut}
@@ -28,6 +28,7 @@ use Rattle.sym_state.specs.Programs.{Program}
 use Rattle.sym_state.specs.Runs.{IsFirst}
 use Rattle.sym_state.specs.Symbolic.{Symbolic, stands_for}
 use Rattle.tool_io.specs.Told.{Put}
+use Rattle.turn_lock.specs.Growth.{StartsWith}
 use Rattle.tool_top.specs.Reports.{IsReportOf}
 
 abbrev covers_at : Content Symbolic Part → List ℕ → Bool
@@ -45,18 +46,11 @@ stands_for_all p s first input (long, small) =
 -- a root that stands for every assignment still does when the tree has grown
 rooted : (regions : List Region) (root : Symbolic) (old new : Story (Content Symbolic Part)) → IsOpening root old
     → ((input : List ℕ) → IsAssignment regions input → IsTrue ((run_place root).covers input))
-    → GrowsBy 0 old new → (input : List ℕ) → IsAssignment regions input → covered covers_at (root_content new) input ≡ true
+    → StartsWith new.nodes old.nodes → (input : List ℕ) → IsAssignment regions input → covered covers_at (root_content new) input ≡ true
 rooted regions root old new (Open a, is, same) whole grows input assigned =
-    ap (λ nodes. covered covers_at (root_content (record { nodes = nodes; events = new.events })) input) (grows.2 ∙ ap (λ (s : Story (Content Symbolic Part)). s.nodes ++ grows.0) is)
+    ap (λ nodes. covered covers_at (root_content (record { nodes = nodes; events = new.events })) input) (grows.1 ∙ ap (λ (s : Story (Content Symbolic Part)). s.nodes ++ grows.0) is)
     ∙ ap (λ (r : Symbolic). (run_place r).covers input) same ∙ whole input assigned
 rooted regions root old new (Shut l, is, same) whole grows input assigned = absurd same
-
--- only the workers that were asked for have noted events
-by_few : (root : Symbolic) (old new : Story (Content Symbolic Part)) (workers : ℕ) → 1 ≤ workers → IsOpening root old → GrowsBy 0 old new
-    → All (λ (e : Event (Content Symbolic Part) ℕ). e.by < workers) new.events
-by_few root old new workers some opens grows =
-    subst (All (λ (e : Event (Content Symbolic Part) ℕ). e.by < workers)) (sym (grows.3 ∙ ap (λ (s : Story (Content Symbolic Part)). s.events ++ grows.1) opens.1))
-    (λ k d lt. let zero : _ ≡ 0 = grows.4 k d lt in omega (arith, zero, some))
 
 module _ (p : Program) (budgets : Budgets) where
   -- what the worker asks of leaves is what is claimed of them
@@ -69,18 +63,19 @@ module _ (p : Program) (budgets : Budgets) where
     targets = refl;
   }
 
-  -- the report of a tree that this worker's root has grown to is one of the program
+  -- the report of a tree that grew from the program's first run, by the events of so many workers, is one of the program
   pub is_report_of : (root : Symbolic) (old new : Story (Content Symbolic Part)) → IsOpening root old
-      → IsFirst p root → GrowsBy 0 old new
-      → IsDrained (rules_of p budgets) run_place leaf_place new → (workers : ℕ) → 1 ≤ workers → (out : List ℕ) (puts : List Put) (text : List ℕ)
+      → IsFirst p root → StartsWith new.nodes old.nodes
+      → IsDrained (rules_of p budgets) run_place leaf_place new → (workers : ℕ) → All (λ (e : Event (Content Symbolic Part) ℕ). e.by < workers) new.events
+      → (out : List ℕ) (puts : List Put) (text : List ℕ)
       → IsReportOfTree (λ (part : Part). part) (λ part. cause_of part.leaf.end) out p.regions budgets workers new puts text
       → IsReportOf out p.image p.regions budgets workers puts text
-  is_report_of root old new opens first grows drained workers some out puts text made = record {
+  is_report_of root old new opens first grows drained workers few out puts text made = record {
     lines = lines_of (cut_in (λ (part : Part). cause_of part.leaf.end)) new;
     entries = entries_of p.regions 0 made.leaves;
     claims =
         are_a_report (λ (part : Part). part) (rules_of p budgets) run_place leaf_place p.image p.regions budgets asks new drained
-        (entries_of p.regions 0 made.leaves) are (rooted p.regions root old new opens (stands_for_all p root first) grows) workers (by_few root old new workers some opens grows);
+        (entries_of p.regions 0 made.leaves) are (rooted p.regions root old new opens (stands_for_all p root first) grows) workers few;
     files = made.files;
     summary = made.summary;
   }

@@ -1,10 +1,11 @@
 -- Making a plan, from what its parts are.
-use Rattle.std.proofs.Common.{◌≡◌, ℕ, ◌+◌, ◌∙◌, true, false, List, [], ◌∷◌, refl, ap, inl, inr, arith}
+use Rattle.std.proofs.Common.{◌≡◌, ℕ, ◌+◌, ◌∙◌, true, false, List, [], ◌∷◌, refl, sym, subst, ap, inl, inr, arith}
 use Rattle.std.specs.Prelude.{Bool, if◌then◌else◌, nat_lt, sum_by, Option, None, Some, Result, Ok, Err, IfOk, OnErr}
 use Rattle.std.proofs.lemmas.Bool.Decides.{nat_tests}
 use Rattle.std.proofs.lemmas.List.Sums.{sum_by-cons}
 use Rattle.std.specs.declared.alloc.AllocError.{AllocError}
 use Rattle.tool_io.specs.Told.{Seen, after, IsPrefix}
+use Rattle.tool_io.proofs.Deeds.{after-nothing}
 use Rattle.elf_load.specs.Fits.{unfit, unfit_empty, unfit_too_long, unfit_too_many}
 use Rattle.elf_load.specs.Images.{Image, Loads}
 use Rattle.elf_load.specs.Refusals.{refusal}
@@ -13,12 +14,12 @@ use Rattle.elf_load.specs.declared.region.Region.{Region}
 use Rattle.elf_load.specs.declared.unfit.Unfit.{Unfit as WhyUnfit}
 use Rattle.elf_load.specs.declared.unfit.Unfit.TheVariants.{Empty, TooLong, TooMany}
 use Rattle.fork_spec.specs.Leaves.{IsSmall}
-use Rattle.tool_words.specs.Job.{Job}
+use Rattle.tool_words.specs.Job.{Bench, Job}
 use Rattle.rv_spec.specs.Memory.{count_of}
 use Rattle.tree_core.specs.declared.budgets.Budgets.{Budgets}
 use Rattle.tool_top.specs.Reports.{IsReportOf}
 use Rattle.tool_top.specs.Lines.{refused_line, unfit_line, usage}
-use Rattle.tool_top.specs.Plan.{Treats, names_of, IsPlanned, OnlyReads}
+use Rattle.tool_top.specs.Plan.{IsBenched, IsPlan, IsPlanned, OnlyReads, Plan, Treats, names_of}
 use Rattle.tool_top.specs.declared.plan.Plan.{Plan as Made}
 use Rattle.tool_top.specs.declared.verdict.Verdict.TheVariants.{Done, NoJob, Refused, Unfit}
 
@@ -31,6 +32,18 @@ planned_usage old new None (Ok p) none c v f t = record {
   changes = c;
 }
 planned_usage old new (Some job) made none c v f t = cc
+
+-- a bench reads nothing
+pub planned_bench : (old : Seen) (job : Option Job) (number workers : ℕ) (out : List ℕ) (made : Result Made AllocError) → job ≡ Some (Bench number workers out)
+    → IfOk made (λ p. IsBenched number workers out p.verdict p.files.items p.text) → IfOk made (λ p. IsPlanned old old job p.verdict p.files.items p.text)
+planned_bench old job number workers out (Err e) is benched = tt
+planned_bench old job number workers out (Ok p) is benched =
+    let plan : Plan = record { verdict = p.verdict; names = []; puts = p.files.items; text = p.text } in
+    record {
+      names = [];
+      plan = subst (λ (j : Option Job). IsPlan old old j plan) (sym is) (inl (refl, benched));
+      changes = sym (after-nothing old.told);
+    }
 
 -- some names were read, whatever came then
 pub only_reads : {T : Type 0} (old new : Seen) (job : Option Job) (names : List (List ℕ)) (made : Result T AllocError) → IsPrefix names (names_of job) → new.told ≡ after old.told (record { names = names; puts = []; said = [] }) → OnErr made (OnlyReads old new job)

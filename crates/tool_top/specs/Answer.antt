@@ -9,13 +9,16 @@ use Rattle.elf_load.specs.Refusals.{refusal}
 use Rattle.elf_load.specs.declared.refused.Refused.{Refused as WhyRefused}
 use Rattle.elf_load.specs.declared.region.Region.{Region}
 use Rattle.elf_load.specs.declared.unfit.Unfit.{Unfit as WhyUnfit}
-use Rattle.tool_words.specs.Job.{Job, Explore, Replay}
-use Rattle.tool_top.specs.Lines.{no_memory}
+use Rattle.prog_gen.specs.Generated.{generated_file, generated_regions}
+use Rattle.tool_words.specs.Job.{Job, Bench, Explore, Replay}
+use Rattle.tool_words.specs.Limits.{default_budgets}
+use Rattle.tool_top.specs.Lines.{bench_line, no_memory}
 use Rattle.tool_top.specs.Plan.{Plan, IsPlan, names_of, most_bytes}
 use Rattle.tree_core.specs.declared.budgets.Budgets.{Budgets}
 use Rattle.elf_load.specs.Images.{Image, Loads}
+use Rattle.tool_top.specs.ReadBack.{AreReadBack}
 use Rattle.tool_top.specs.Replaying.{IsReplayable, most_test_bytes}
-use Rattle.report_text.specs.Claims.{Entry}
+use Rattle.report_text.specs.Claims.{Entry, leaves_of}
 use Rattle.report_text.specs.Files.{files_of, summary_of}
 use Rattle.replay_core.specs.Replays.{IsAsSaid}
 use Rattle.test_files.specs.Reading.{reading}
@@ -96,26 +99,31 @@ Answered old new job WriteFault = IsFaulted old new job
 Answered old new job NoMemory = IsWanting old new job
 
 -- The claims are facts of an image, the regions of its input bytes, budgets, a number of workers, events and entries, that is, of leaves and
--- what stands beside them. The image is that of the file that the program's name gave; the regions, the budgets and the number of workers are the job's.
--- The events and entries are those that were written: where the object tells its files, the files put are their texts, and no others;
--- where it tells what was said, the line said is the summary. The claim holds of all of these.
-pub record IsWritten (old new : Told) (name out : List ℕ) (asked : List Region) (budgets : Budgets) (workers : ℕ) (Claim : Image → List Region → Budgets → ℕ → List Line → List Entry → Type 0) : Type 0 where
+-- what stands beside them. The image is that of a program's file; the regions, the budgets and the number of workers are the job's.
+-- The events and entries are those that were written: where the object tells its files, the files put are their texts, and no others,
+-- and the file of each leaf reads as this leaf; where it tells what was said, the line said has the summary. The claim holds of all of these.
+pub record IsWritten (old new : Told) (IsFile : List ℕ → Type 0) (line : List ℕ → List ℕ) (out : List ℕ) (asked : List Region) (budgets : Budgets) (workers : ℕ)
+    (Claim : Image → List Region → Budgets → ℕ → List Line → List Entry → Type 0) : Type 0 where
   pub image : Image
   pub lines : List Line
   pub entries : List Entry
   pub bytes : List ℕ
-  pub given : Gives old name most_bytes bytes
+  pub given : IsFile bytes
   pub loads : Loads bytes image
   pub fits : unfit image asked ≡ None
   pub files : IfSome (puts_since old new) (λ puts. puts ≡ files_of out budgets workers asked lines entries)
-  pub summary : IfSome (said_since old new) (λ said. said ≡ summary_of entries)
+  pub read_back : IfSome (puts_since old new) (λ puts. AreReadBack out puts (leaves_of entries))
+  pub summary : IfSome (said_since old new) (λ said. said ≡ line (summary_of entries))
   pub claim : Claim image asked budgets workers lines entries
 
--- there is a job, and the claim holds of what was written for it, where it is to explore
+-- There is a job, and the claim holds of what was written for it, where it is to explore: a program's file that its name gives, or one that is generated.
 abbrev pub OnWritten : Told → Told → Option Job → (Image → List Region → Budgets → ℕ → List Line → List Entry → Type 0) → Type 0
 OnWritten old new None Claim = ⊥
-OnWritten old new (Some (Explore program out asked budgets workers)) Claim = IsWritten old new program out asked budgets workers Claim
+OnWritten old new (Some (Explore program out asked budgets workers)) Claim =
+    IsWritten old new (Gives old program most_bytes) (λ summary. summary) out asked budgets workers Claim
 OnWritten old new (Some (Replay program test)) Claim = Unit {0}
+OnWritten old new (Some (Bench number workers out)) Claim =
+    IsWritten old new (λ bytes. bytes ≡ generated_file number) (bench_line number) out (generated_regions number) default_budgets workers Claim
 
 -- The names of a program and of a test give the file of a program and that of a test whose regions fit it,
 -- and the claim holds of the program's image and of the test.
@@ -134,17 +142,20 @@ abbrev pub OnReplayed : Told → Option Job → (Image → Test → Type 0) → 
 OnReplayed told None Claim = ⊥
 OnReplayed told (Some (Explore program out asked budgets workers)) Claim = Unit {0}
 OnReplayed told (Some (Replay program test)) Claim = IsRunTest told program test Claim
+OnReplayed told (Some (Bench number workers out)) Claim = Unit {0}
 
 -- there is a job to replay a test, and the claim holds of its program and its test
 abbrev pub HoldsOther : Told → Option Job → Type 0
 HoldsOther told None = ⊥
 HoldsOther told (Some (Explore program out asked budgets workers)) = ⊥
+HoldsOther told (Some (Bench number workers out)) = ⊥
 HoldsOther told (Some (Replay program test)) = IsRunTest told program test (λ image read. ¬ IsAsSaid image read)
 
 -- there is a job to replay a test, its program's name gives the file of a program, and the other name's bytes are no test
 abbrev pub HoldsNoTest : Told → Option Job → Type 0
 HoldsNoTest told None = ⊥
 HoldsNoTest told (Some (Explore program out asked budgets workers)) = ⊥
+HoldsNoTest told (Some (Bench number workers out)) = ⊥
 HoldsNoTest told (Some (Replay program test)) =
     (bytes : List ℕ) × (text : List ℕ) × (image : Image) × (why : WhyNoTest)
     × Gives told program most_bytes bytes × Gives told test most_test_bytes text × Loads bytes image × (reading text ≡ Err why)
@@ -152,6 +163,7 @@ HoldsNoTest told (Some (Replay program test)) =
 -- there is a job, and the bytes that its program's name gives are the file of no program
 abbrev pub HoldsNoProgram : Told → Option Job → Type 0
 HoldsNoProgram told None = ⊥
+HoldsNoProgram told (Some (Bench number workers out)) = ⊥
 HoldsNoProgram told (Some (Explore program out asked budgets workers)) =
     (bytes : List ℕ) × (why : WhyRefused) × Gives told program most_bytes bytes × (refusal bytes ≡ Some why)
 HoldsNoProgram told (Some (Replay program test)) =
@@ -160,23 +172,27 @@ HoldsNoProgram told (Some (Replay program test)) =
 -- there is a job, and the bytes that its program's name gives are the file of a program, but the input that is asked, or that the test has, doesn't fit it
 abbrev pub HoldsMisfit : Told → Option Job → Type 0
 HoldsMisfit told None = ⊥
+HoldsMisfit told (Some (Bench number workers out)) = ⊥
 HoldsMisfit told (Some (Explore program out asked budgets workers)) =
     (bytes : List ℕ) × (image : Image) × (why : WhyUnfit) × Gives told program most_bytes bytes × Loads bytes image × (unfit image asked ≡ Some why)
 HoldsMisfit told (Some (Replay program test)) =
     (bytes : List ℕ) × (text : List ℕ) × (image : Image) × (read : Test) × (why : WhyUnfit)
     × Gives told program most_bytes bytes × Gives told test most_test_bytes text × Loads bytes image × (reading text ≡ Ok read) × (unfit image read.regions ≡ Some why)
 
--- there is a job to explore, it is told that its program's name holds the file of a program, and the input that is asked fits it
+-- there is a job to explore; and it is told that its program's name holds the file of a program, and the input that is asked fits it, unless
+-- the program is one that is generated
 abbrev pub HoldsProgram : Told → Option Job → Type 0
 HoldsProgram told None = ⊥
 HoldsProgram told (Some (Explore program out asked budgets workers)) =
     (bytes : List ℕ) × (image : Image) × (option_map (take most_bytes) (told_held told program) ≡ Some bytes) × Loads bytes image × (unfit image asked ≡ None)
 HoldsProgram told (Some (Replay program test)) = ⊥
+HoldsProgram told (Some (Bench number workers out)) = Unit {0}
 
 -- there is a job to replay a test, and it is told that its names hold the files of a program and of a test whose regions fit it
 abbrev pub HoldsTest : Told → Option Job → Type 0
 HoldsTest told None = ⊥
 HoldsTest told (Some (Explore program out asked budgets workers)) = ⊥
+HoldsTest told (Some (Bench number workers out)) = ⊥
 HoldsTest told (Some (Replay program test)) =
     (bytes : List ℕ) × (text : List ℕ) × (image : Image) × (read : Test) × (option_map (take most_bytes) (told_held told program) ≡ Some bytes)
     × (option_map (take most_test_bytes) (told_held told test) ≡ Some text) × IsReplayable bytes text image read

@@ -2,4 +2,5 @@ pub mod Reports
 pub mod Lines
 pub mod Replaying
 pub mod Plan
+pub mod ReadBack
 pub mod Answer

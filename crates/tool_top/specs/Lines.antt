@@ -38,3 +38,7 @@ test_refused why = codes "test refused " ++ decimal (test_number why) ++ codes "
 
 abbrev pub same : List ℕ
 same = codes "same\n"
+
+-- the line of `bench`: which program it explored, and the summary of its report
+abbrev pub bench_line : (number : ℕ) → (summary : List ℕ) → List ℕ
+bench_line number summary = codes "bench " ++ decimal number ++ codes " " ++ summary

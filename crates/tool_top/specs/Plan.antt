@@ -8,9 +8,11 @@ use Rattle.elf_load.specs.Refusals.{refusal}
 use Rattle.elf_load.specs.declared.refused.Refused.{Refused as WhyRefused}
 use Rattle.elf_load.specs.declared.region.Region.{Region}
 use Rattle.elf_load.specs.declared.unfit.Unfit.{Unfit as WhyUnfit}
-use Rattle.tool_words.specs.Job.{Job, Explore, Replay}
+use Rattle.prog_gen.specs.Generated.{generated_file, generated_regions}
+use Rattle.tool_words.specs.Job.{Job, Bench, Explore, Replay}
+use Rattle.tool_words.specs.Limits.{default_budgets}
 use Rattle.tree_core.specs.declared.budgets.Budgets.{Budgets}
-use Rattle.tool_top.specs.Lines.{read_fault, refused_line, unfit_line, usage}
+use Rattle.tool_top.specs.Lines.{bench_line, read_fault, refused_line, unfit_line, usage}
 use Rattle.tool_top.specs.Replaying.{IsNoTest, IsReplayed, IsTestMisfit, most_test_bytes}
 use Rattle.tool_top.specs.Reports.{IsReportOf}
 use Rattle.tool_top.specs.declared.verdict.Verdict.{Verdict}
@@ -21,6 +23,7 @@ abbrev pub names_of : Option Job → List (List ℕ)
 names_of None = []
 names_of (Some (Explore program out asked budgets workers)) = program ∷ []
 names_of (Some (Replay program test)) = program ∷ test ∷ []
+names_of (Some (Bench number workers out)) = []
 
 -- the names that were read, and what is to be put and said
 pub record Plan : Type 0 where
@@ -63,6 +66,16 @@ pub record IsMisfit (bytes : List ℕ) (asked : List Region) (verdict : Verdict)
   pub no_files : puts ≡ []
   pub line : text ≡ unfit_line why
 
+-- the report of the generated program of this number, with the default budgets, is put into `out`
+pub record IsBenched (number workers : ℕ) (out : List ℕ) (verdict : Verdict) (puts : List Put) (text : List ℕ) : Type 0 where
+  pub image : Image
+  pub loads : Loads (generated_file number) image
+  pub fits : unfit image (generated_regions number) ≡ None
+  pub done : verdict ≡ Done
+  pub summary : List ℕ
+  pub report : IsReportOf out image (generated_regions number) default_budgets workers puts summary
+  pub line : text ≡ bench_line number summary
+
 -- what is put and said for the bytes of a program's file, the regions that are asked, the budgets and the number of workers
 abbrev pub Treats : (out bytes : List ℕ) → List Region → Budgets → (workers : ℕ) → Verdict → List Put → List ℕ → Type 0
 Treats out bytes asked budgets workers verdict puts text =
@@ -82,10 +95,18 @@ Means told (Some (Explore program out asked budgets workers)) plan =
 Means told (Some (Replay program test)) plan =
     (bytes : List ℕ) × (text : List ℕ) × Gives told program most_bytes bytes × Gives told test most_test_bytes text
     × (plan.names ≡ program ∷ test ∷ []) × Replays bytes text plan.verdict plan.puts plan.text
+Means told (Some (Bench number workers out)) plan = (plan.names ≡ []) × IsBenched number workers out plan.verdict plan.puts plan.text
 
--- a read failed, of the names from the first on
+-- of these names some were read, from the first on, the last of them in vain
+abbrev pub IsFaultAmong : (names : List (List ℕ)) → Plan → Type 0
+IsFaultAmong names plan = IsPrefix plan.names names × (plan ≡ says_only ReadFault plan.names read_fault)
+
+-- a read failed, where the job reads at all
 abbrev pub IsReadFault : Option Job → Plan → Type 0
-IsReadFault job plan = IsPrefix plan.names (names_of job) × (plan ≡ says_only ReadFault plan.names read_fault)
+IsReadFault None plan = ⊥
+IsReadFault (Some (Explore program out asked budgets workers)) plan = IsFaultAmong (program ∷ []) plan
+IsReadFault (Some (Replay program test)) plan = IsFaultAmong (program ∷ test ∷ []) plan
+IsReadFault (Some (Bench number workers out)) plan = ⊥
 
 -- the plan of a job, for the bytes that its names give
 abbrev pub IsPlan : Seen → Seen → Option Job → Plan → Type 0

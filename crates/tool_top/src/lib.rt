@@ -1,7 +1,9 @@
 //! The top call of the tool: it explores a program by its words, and puts and says what it found.
 #![tactic(auto)]
 
+mod benching;
 mod carry;
+mod exploring;
 mod plan;
 mod refusals;
 mod replaying;

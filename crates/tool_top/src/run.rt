@@ -19,10 +19,16 @@ use std::thread::Threads;
 use tool_io::{Fault, Files};
 use work_gate::Gate;
 
-fn run_words<F: Files>(rt: &impl Wait, alloc: Global, words: &[String], files: &mut F) -> Ending
+fn run_words<R: Threads + Wait + Sync, F: Files, G: Gate + Sync>(
+    rt: &R,
+    alloc: Global,
+    words: &[String],
+    files: &mut F,
+    gate: &G,
+) -> Ending
     ensures { Answered (F.seen files.old) (F.seen files.new) (job_of (map string_bytes words.now)) result }
 {
-    match make_plan(rt, alloc, words, files) {
+    match make_plan(rt, alloc, words, files, gate) {
         Ok(plan) => match carry_out(files, &plan) {
             Ok(()) => Ending::Planned(plan.verdict),
             Err(Fault::Failed) => Ending::WriteFault,
@@ -117,5 +123,5 @@ pub fn run_tool<R: Threads + Wait + Sync, F: Files, G: Gate + Sync>(
         → ¬ Rose (F.seen files.old).writes (F.seen files.new).writes
         → (result ≡ 0) ⊎ (result ≡ 1) ⊎ (result ≡ 8) }
 {
-    run_words(rt, alloc, words, files).status()
+    run_words(rt, alloc, words, files, gate).status()
 }

@@ -6,3 +6,4 @@ mod refusals;
 mod replays;
 mod rows;
 mod runs;
+mod workers;

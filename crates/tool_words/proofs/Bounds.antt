@@ -7,8 +7,8 @@ use Rattle.clap.specs.Words.{Kinds, Row, all_of, fault_of, first_of, subcommand_
 use Rattle.elf_load.specs.declared.region.Region.{Region}
 use Rattle.tool_words.specs.Command.{rvklee_command}
 use Rattle.tool_words.specs.Job as spec
-use Rattle.tool_words.specs.Job.{Explore, IsWithinLimits, Replay, command_job, explore_job, explore_with, job_of, replay_job, replay_with, without_fault}
-use Rattle.tool_words.specs.Limits.{IsBudgets, IsWithin, budgets_found, budgets_with, conflicts_limit, is_within, number_found, number_given, plain_number, steps_limit, targets_limit, within, workers_found, workers_limit}
+use Rattle.tool_words.specs.Job.{Bench, Explore, IsWithinLimits, Replay, bench_job, bench_with, command_job, explore_job, explore_with, job_of, replay_job, replay_with, without_fault}
+use Rattle.tool_words.specs.Limits.{IsBudgets, IsWithin, budgets_found, budgets_with, conflicts_limit, is_within, number_found, number_given, number_said, number_within, numbers_limit, plain_number, steps_limit, targets_limit, within, workers_found, workers_limit}
 use Rattle.tool_words.specs.Region.{regions_of}
 use Rattle.tool_words.specs.Seen.{IsRead, job_seen}
 use Rattle.tool_words.specs.declared.job.Job.{Job}
@@ -27,15 +27,25 @@ within_bounds limit n m is = go (is_within limit n) refl is
         rw (← same) (grind (arith, nat_tests, tests))
     go false tests is = cc
 
-pub given_bounds : (limit : Limit) (value : Option (List ℕ)) (n : ℕ) → IsWithin limit limit.default → number_given limit value ≡ Some n → IsWithin limit n
-given_bounds limit None n default is =
-    let same : limit.default ≡ n = cc in
-    rw (← same) default
-given_bounds limit (Some value) n default is = go (plain_number value) is
+number_bounds : (limit : Limit) (value : List ℕ) (n : ℕ) → number_within limit value ≡ Some n → IsWithin limit n
+number_bounds limit value n is = go (plain_number value) is
   where
     go : (number : Option ℕ) → option_and_then (within limit) number ≡ Some n → IsWithin limit n
     go None is = cc
     go (Some m) is = within_bounds limit m n is
+
+said_bounds : (limit : Limit) (name : List ℕ) (rows : List Row) (n : ℕ) → number_said limit name rows ≡ Some n → IsWithin limit n
+said_bounds limit name rows n = go (first_of name rows)
+  where
+    go : (value : Option (List ℕ)) → option_and_then (number_within limit) value ≡ Some n → IsWithin limit n
+    go None is = cc
+    go (Some value) is = number_bounds limit value n is
+
+pub given_bounds : (limit : Limit) (value : Option (List ℕ)) (n : ℕ) → IsWithin limit limit.default → number_given limit value ≡ Some n → IsWithin limit n
+given_bounds limit None n default is =
+    let same : limit.default ≡ n = cc in
+    rw (← same) default
+given_bounds limit (Some value) n default is = number_bounds limit value n is
 
 budgets_bounds : (steps targets conflicts : Option ℕ) (budgets : Budgets) → ((n : ℕ) → steps ≡ Some n → IsWithin steps_limit n)
     → ((n : ℕ) → targets ≡ Some n → IsWithin targets_limit n) → ((n : ℕ) → conflicts ≡ Some n → IsWithin conflicts_limit n)
@@ -87,15 +97,32 @@ replay_bounds : (rows : List Row) (job : spec.Job) → replay_job rows ≡ Some 
 unfolding replay_job
 replay_bounds rows job = replay_with_bounds (first_of (codes "PROGRAM") rows) (first_of (codes "TEST") rows) job
 
+bench_with_bounds : (number workers : Option ℕ) (out : Option (List ℕ)) (job : spec.Job) → ((n : ℕ) → number ≡ Some n → IsWithin numbers_limit n)
+    → ((n : ℕ) → workers ≡ Some n → IsWithin workers_limit n) → bench_with number workers out ≡ Some job → IsWithinLimits job
+bench_with_bounds None workers out job b w is = cc
+bench_with_bounds (Some number) None out job b w is = cc
+bench_with_bounds (Some number) (Some workers) None job b w is = cc
+bench_with_bounds (Some number) (Some workers) (Some out) job b w is =
+    let same : Bench number workers out ≡ job = cc in
+    rw (← same) (b number refl, w workers refl)
+
+bench_bounds : (rows : List Row) (job : spec.Job) → bench_job rows ≡ Some job → IsWithinLimits job
+unfolding bench_job
+bench_bounds rows job = bench_with_bounds (number_said numbers_limit (codes "NUMBER") rows) (number_said workers_limit (codes "WORKERS") rows) (first_of (codes "OUT") rows) job
+    (said_bounds numbers_limit (codes "NUMBER") rows) (said_bounds workers_limit (codes "WORKERS") rows)
+
 command_bounds : (found : Option (List ℕ × List Row)) (job : spec.Job) → command_job found ≡ Some job → IsWithinLimits job
 command_bounds None job is = cc
-command_bounds (Some (name, rows)) job is = go (bytes_eq name (codes "explore")) (bytes_eq name (codes "replay")) (explore_bounds rows job) (replay_bounds rows job) is
+command_bounds (Some (name, rows)) job is =
+    go (bytes_eq name (codes "explore")) (bytes_eq name (codes "replay")) (bytes_eq name (codes "bench")) (explore_bounds rows job) (replay_bounds rows job) (bench_bounds rows job) is
   where
-    go : (b c : Bool) → (explore_job rows ≡ Some job → IsWithinLimits job) → (replay_job rows ≡ Some job → IsWithinLimits job)
-        → (if b then explore_job rows else if c then replay_job rows else None) ≡ Some job → IsWithinLimits job
-    go true c bounds also is = bounds is
-    go false true bounds also is = also is
-    go false false bounds also is = cc
+    go : (e r b : Bool) → (explore_job rows ≡ Some job → IsWithinLimits job) → (replay_job rows ≡ Some job → IsWithinLimits job)
+        → (bench_job rows ≡ Some job → IsWithinLimits job)
+        → (if e then explore_job rows else if r then replay_job rows else if b then bench_job rows else None) ≡ Some job → IsWithinLimits job
+    go true r b explores replays benches is = explores is
+    go false true b explores replays benches is = replays is
+    go false false true explores replays benches is = benches is
+    go false false false explores replays benches is = cc
 
 pub job_bounds : (words : List (List ℕ)) (job : spec.Job) → job_of words ≡ Some job → IsWithinLimits job
 unfolding job_of

@@ -1,12 +1,12 @@
--- The job of `explore`, from what the getters of clap's matches give.
+-- The job of a command, from what the getters of clap's matches give.
 use Rattle.std.proofs.Common.{ℕ, List, ◌≡◌, codes, refl, Option, None, Some, Result, Err, option_map}
 use Rattle.std.specs.Prelude.{option_and_then}
 use Rattle.clap.specs.Words.{first_value, matched_of, raw_values, rows_of}
 use Rattle.clap.specs.declared.parser.matches.Found.{Found}
 use Rattle.clap.proofs.WalkLemmas.{first_value-rows, raw_values-rows}
 use Rattle.elf_load.specs.declared.region.Region.{Region}
-use Rattle.tool_words.specs.Job.{explore_job, explore_with, replay_job, replay_with}
-use Rattle.tool_words.specs.Limits.{budgets_found, workers_found}
+use Rattle.tool_words.specs.Job.{bench_job, bench_with, explore_job, explore_with, replay_job, replay_with}
+use Rattle.tool_words.specs.Limits.{budgets_found, number_said, numbers_limit, workers_found, workers_limit}
 use Rattle.tool_words.specs.Region.{regions_of}
 use Rattle.tree_core.specs.declared.budgets.Budgets.{Budgets}
 use Rattle.tool_words.specs.Seen.{IsRead}
@@ -25,6 +25,11 @@ pub replay_job_is : (found : Found) (program test : Option (List ℕ)) → progr
     → replay_job (rows_of found) ≡ replay_with program test
 unfolding replay_job
 replay_job_is found program test is_program is_test = rw (is_program, is_test, first_value-rows found (codes "PROGRAM"), first_value-rows found (codes "TEST")) refl
+
+pub bench_job_is : (found : Found) (number workers : Option ℕ) (out : Option (List ℕ)) → number ≡ number_said numbers_limit (codes "NUMBER") (rows_of found)
+    → workers ≡ number_said workers_limit (codes "WORKERS") (rows_of found) → out ≡ first_value found (codes "OUT") → bench_job (rows_of found) ≡ bench_with number workers out
+unfolding bench_job
+bench_job_is found number workers out is_number is_workers is_out = rw (is_number, is_workers, is_out, first_value-rows found (codes "OUT")) refl
 
 -- without one of the numbers there is no job
 pub no_budgets : (program out : List ℕ) (regions : Option (List Region)) (workers : Option ℕ) → explore_with (Some program) (Some out) regions None workers ≡ None

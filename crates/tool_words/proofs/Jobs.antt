@@ -1,6 +1,5 @@
 -- The job of the words, from what `clap` answers.
-use Rattle.std.proofs.Common.{ℕ, List, [], ◌∷◌, ◌≡◌, ◌≢◌, ◌∙◌, sym, ap, codes, refl, Option, Some, None, true, false, Err, option_map, Box, Global}
-use Rattle.std.specs.Str.{bytes_eq}
+use Rattle.std.proofs.Common.{ℕ, List, [], ◌∷◌, ◌≡◌, ◌≢◌, ◌∙◌, sym, ap, refl, Option, Some, None, Err, option_map, Box, Global}
 use Rattle.clap.specs.Matches.{subcommand_name_of}
 use Rattle.clap.specs.Simple.{subcommand_rows}
 use Rattle.clap.specs.Words.{Kinds, Row, fault_of, subcommand_of, subcommand_rows_of}

@@ -34,7 +34,13 @@ unfoldable pub replay_command : App
 replay_command = with_rule (with_rule (new_app (codes "replay"))
     (required_word (codes "PROGRAM"))) (required_word (codes "TEST"))
 
+-- bench NUMBER WORKERS OUT
+unfoldable pub bench_command : App
+bench_command = with_rule (with_rule (with_rule (new_app (codes "bench"))
+    (required_word (codes "NUMBER"))) (required_word (codes "WORKERS"))) (required_word (codes "OUT"))
+
 -- rvklee COMMAND ..
 unfoldable pub rvklee_command : App
-rvklee_command = with_subcommand (with_subcommand (on_top (λ top. record top { subcommand_required = true })
-    (new_app (codes "rvklee"))) explore_command.top) replay_command.top
+rvklee_command = with_subcommand (with_subcommand (with_subcommand
+    (on_top (λ top. record top { subcommand_required = true }) (new_app (codes "rvklee")))
+    explore_command.top) replay_command.top) bench_command.top

@@ -4,7 +4,7 @@ use Rattle.std.specs.Str.{bytes_eq}
 use Rattle.clap.specs.Words.{Kinds, Row, all_of, fault_of, first_of, subcommand_of}
 use Rattle.elf_load.specs.declared.region.Region.{Region}
 use Rattle.tool_words.specs.Command.{rvklee_command}
-use Rattle.tool_words.specs.Limits.{IsBudgets, IsWithin, budgets_found, workers_found, workers_limit}
+use Rattle.tool_words.specs.Limits.{IsBudgets, IsWithin, budgets_found, number_said, numbers_limit, workers_found, workers_limit}
 use Rattle.tool_words.specs.Region.{regions_of}
 use Rattle.tree_core.specs.declared.budgets.Budgets.{Budgets}
 
@@ -14,6 +14,9 @@ pub data Job : Type 0 where
   Explore : (program out : List ℕ) → (regions : List Region) → (budgets : Budgets) → (workers : ℕ) → Job
   -- the run of a test's file on a program's file is compared with what the test says
   Replay : (program test : List ℕ) → Job
+  -- the leaves of the generated program of this number, and their tests, are put into the folder `out`,
+  -- by so many workers
+  Bench : (number workers : ℕ) → (out : List ℕ) → Job
 
 -- the job, where all is there
 abbrev pub explore_with : Option (List ℕ) → Option (List ℕ) → Option (List Region) → Option Budgets → Option ℕ → Option Job
@@ -34,12 +37,22 @@ replay_with _ _ = None
 unfoldable pub replay_job : List Row → Option Job
 replay_job rows = replay_with (first_of (codes "PROGRAM") rows) (first_of (codes "TEST") rows)
 
+abbrev pub bench_with : Option ℕ → Option ℕ → Option (List ℕ) → Option Job
+bench_with (Some number) (Some workers) (Some out) = Some (Bench number workers out)
+bench_with _ _ _ = None
+
+-- the job of `bench`, likewise
+unfoldable pub bench_job : List Row → Option Job
+bench_job rows = bench_with (number_said numbers_limit (codes "NUMBER") rows)
+    (number_said workers_limit (codes "WORKERS") rows) (first_of (codes "OUT") rows)
+
 -- the job of the command that `clap` finds in the words
 abbrev pub command_job : Option (List ℕ × List Row) → Option Job
 command_job None = None
 command_job (Some (name, rows)) =
     if bytes_eq name (codes "explore") then explore_job rows else
-    if bytes_eq name (codes "replay") then replay_job rows else None
+    if bytes_eq name (codes "replay") then replay_job rows else
+    if bytes_eq name (codes "bench") then bench_job rows else None
 
 -- no job where `clap` finds a fault, a call for help among them
 abbrev pub without_fault : Kinds → Option Job → Option Job
@@ -47,7 +60,7 @@ without_fault [] job = job
 without_fault (fault ∷ faults) job = None
 
 -- the job of these words, of which the first is the tool's name: there is one where `clap` finds no
--- fault in them, each INPUT names a region, and each option a number within its limit
+-- fault in them, each INPUT names a region, and each option, NUMBER and WORKERS a number within its limit
 unfoldable pub job_of : List (List ℕ) → Option Job
 job_of words = without_fault (fault_of rvklee_command words)
     (command_job (subcommand_of rvklee_command words))
@@ -57,3 +70,5 @@ abbrev pub IsWithinLimits : Job → Type 0
 IsWithinLimits (Explore program out regions budgets workers) =
     IsBudgets budgets × IsWithin workers_limit workers
 IsWithinLimits (Replay program test) = Unit {0}
+IsWithinLimits (Bench number workers out) =
+    IsWithin numbers_limit number × IsWithin workers_limit workers

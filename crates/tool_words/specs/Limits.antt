@@ -1,4 +1,4 @@
--- The numbers that options say: what a run may spend, and how many work at it.
+-- The numbers that options and words say, and their limits.
 use Rattle.std.specs.Prelude.{ℕ, Bool, false, List, [], ◌∷◌, ◌==◌, ◌&&◌, ◌≤◌, nat_le, Option, None, Some, if◌then◌else◌, codes, option_and_then}
 use Rattle.clap.specs.Words.{Row, first_of}
 use Rattle.tool_words.specs.Region.{number_of}
@@ -16,6 +16,10 @@ conflicts_limit = record { most = 100000; default = 2000 }
 
 abbrev pub workers_limit : Limit
 workers_limit = record { most = 64; default = 4 }
+
+-- of `bench`, which always gives a number
+abbrev pub numbers_limit : Limit
+numbers_limit = record { most = 12; default = 1 }
 
 -- the budgets where no option says another
 abbrev pub default_budgets : Budgets
@@ -55,6 +59,10 @@ number_given limit (Some value) = number_within limit value
 -- the number of the option of this name, from what `clap` finds
 abbrev pub number_found : Limit → List ℕ → List Row → Option ℕ
 number_found limit name rows = number_given limit (first_of name rows)
+
+-- the number of the word of this name, which has a place of its own
+abbrev pub number_said : Limit → List ℕ → List Row → Option ℕ
+number_said limit name rows = option_and_then (number_within limit) (first_of name rows)
 
 -- where all are there, the budgets of these numbers
 abbrev pub budgets_with : Option ℕ → Option ℕ → Option ℕ → Option Budgets

@@ -4,7 +4,7 @@ use Rattle.clap.specs.declared.error.kind.ErrorKind.{ErrorKind}
 use Rattle.clap.specs.declared.error.kind.ErrorKind.TheVariants.{OutOfMemory}
 use Rattle.tool_words.specs.Job as spec
 use Rattle.tool_words.specs.declared.job.Job.{Job}
-use Rattle.tool_words.specs.declared.job.Job.TheVariants.{Explore, Replay}
+use Rattle.tool_words.specs.declared.job.Job.TheVariants.{Bench, Explore, Replay}
 use Rattle.tool_words.specs.declared.job.WordsError.{WordsError}
 use Rattle.tool_words.specs.declared.job.WordsError.TheVariants.{Usage, NoMemory}
 
@@ -13,6 +13,7 @@ abbrev pub job_seen : Job → spec.Job
 job_seen (Explore program out regions budgets workers) =
     spec.Explore (string_bytes program) (string_bytes out) regions budgets workers
 job_seen (Replay program test) = spec.Replay (string_bytes program) (string_bytes test)
+job_seen (Bench number workers out) = spec.Bench number workers (string_bytes out)
 
 -- what stands for an error of `clap`'s
 abbrev pub error_of : ErrorKind → WordsError

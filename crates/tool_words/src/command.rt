@@ -3,7 +3,7 @@
 ghost use Rattle.std.specs.Prelude.{◌≡◌, IfOk, false};
 ghost use Rattle.clap.specs.Words.{app_of, rule_of};
 ghost use Rattle.clap.specs.declared.builder.command.Command.TheViews.{out-Command as fields_of};
-ghost use Rattle.tool_words.specs.Command.{explore_command, number_option, replay_command, required_word, required_words, rvklee_command};
+ghost use Rattle.tool_words.specs.Command.{bench_command, explore_command, number_option, replay_command, required_word, required_words, rvklee_command};
 
 use clap::{Arg, Command};
 use std::alloc::{AllocError as NoMemory, Global};
@@ -15,7 +15,8 @@ pub(crate) fn rvklee<'a>(alloc: Global) -> Result<Command<'a>, NoMemory>
     Command::new(alloc, "rvklee")
         .subcommand_required(true)
         .subcommand(explore(alloc)?)?
-        .subcommand(replay(alloc)?)
+        .subcommand(replay(alloc)?)?
+        .subcommand(bench(alloc)?)
 }
 
 /// `explore [--steps N] [--targets N] [--conflicts N] [--workers N] PROGRAM OUT INPUT..`.
@@ -41,6 +42,17 @@ fn replay<'a>(alloc: Global) -> Result<Command<'a>, NoMemory>
     Command::new(alloc, "replay")
         .arg(required_word(alloc, "PROGRAM"))?
         .arg(required_word(alloc, "TEST"))
+}
+
+/// `bench NUMBER WORKERS OUT`.
+fn bench<'a>(alloc: Global) -> Result<Command<'a>, NoMemory>
+    ensures app { IfOk result (λ command. app_of command ≡ bench_command) }
+    ensures local { IfOk result (λ command. (fields_of command).has_globals ≡ false) }
+{
+    Command::new(alloc, "bench")
+        .arg(required_word(alloc, "NUMBER"))?
+        .arg(required_word(alloc, "WORKERS"))?
+        .arg(required_word(alloc, "OUT"))
 }
 
 /// An option with a value, `--name N`, that may be given once.

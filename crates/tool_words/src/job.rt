@@ -27,6 +27,13 @@ pub enum Job {
         program: String,
         test: String,
     },
+    /// The leaves of the generated program of this number, and their tests, are to be put into the folder
+    /// `out`, by so many workers.
+    Bench {
+        number: u32,
+        workers: u32,
+        out: String,
+    },
 }
 
 /// Why there is no job.

@@ -35,11 +35,11 @@ pub fn a_number_is_written_in_one_way()
     ensures { (text : List ℕ) (n : ℕ) → n < 2 ^ 64 → (plain_number text ≡ Some n ↔ text ≡ decimal n) }
 {}
 
-/// Words whose second is neither `explore`, `replay` nor an option have no job: there is no other command,
-/// and `help` asks for help.
+/// Words whose second is neither `explore`, `replay`, `bench` nor an option have no job: there is no other
+/// command, and `help` asks for help.
 pub fn other_commands_have_no_job()
     ensures { (tool command : List ℕ) (rest : List (List ℕ)) → has_no_hyphen command ≡ true
-        → command ≢ codes "explore" → command ≢ codes "replay" → job_of (tool ∷ command ∷ rest) ≡ None }
+        → command ≢ codes "explore" → command ≢ codes "replay" → command ≢ codes "bench" → job_of (tool ∷ command ∷ rest) ≡ None }
 {}
 
 /// Words that ask for help or for the version have no job.

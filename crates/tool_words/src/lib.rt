@@ -9,7 +9,7 @@ mod region;
 mod words;
 
 pub use job::{Job, WordsError};
-pub use limit::{CONFLICTS, Limit, STEPS, TARGETS, WORKERS};
+pub use limit::{CONFLICTS, Limit, NUMBERS, STEPS, TARGETS, WORKERS};
 pub use words::read_words;
 
 #[cfg(test)]

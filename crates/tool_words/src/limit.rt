@@ -1,13 +1,13 @@
-//! The numbers that options say, and their limits.
+//! The numbers that options and words say, and their limits.
 
 ghost use Rattle.std.specs.Prelude.{◌≡◌};
 ghost use Rattle.clap.specs.Words.{found_of, rows_of};
-ghost use Rattle.tool_words.specs.Limits.{budgets_found, number_found, number_within, workers_found};
+ghost use Rattle.tool_words.specs.Limits.{budgets_found, number_found, number_said, number_within, workers_found};
 
 use clap::ArgMatches;
 use tree_core::Budgets;
 
-/// The numbers that an option takes, from 1 to `most`, and the number where it isn't given.
+/// The numbers that an option or a word takes, from 1 to `most`, and the number where it isn't given.
 #[derive(Clone, Copy, Debug, PartialEq, Eq)]
 pub struct Limit {
     pub most: u32,
@@ -38,6 +38,12 @@ pub const WORKERS: Limit = Limit {
     default: 4,
 };
 
+/// Of `bench`, which always gives a number.
+pub const NUMBERS: Limit = Limit {
+    most: 12,
+    default: 1,
+};
+
 /// The budgets that were given, each the default where it wasn't, or none where one is out of form.
 pub(crate) fn read_budgets(found: &ArgMatches<'_>) -> Option<Budgets>
     ensures { result ≡ budgets_found (rows_of (found_of found.now)) }
@@ -54,6 +60,14 @@ pub(crate) fn read_workers(found: &ArgMatches<'_>) -> Option<u32>
     ensures { result ≡ workers_found (rows_of (found_of found.now)) }
 {
     read_given(found, "workers", WORKERS)
+}
+
+/// The number that the word of this name says, which has a place of its own.
+pub(crate) fn read_said(found: &ArgMatches<'_>, name: &str, limit: Limit) -> Option<u32>
+    ensures { result ≡ number_said limit name.now (rows_of (found_of found.now)) }
+{
+    let said = found.get_str(name)?;
+    read_within(limit, said)
 }
 
 /// The number that the option was given.

@@ -204,7 +204,7 @@ const TAKEN: [Row<'static>; 14] = [
     },
 ];
 
-const REFUSED: [&[&str]; 34] = [
+const REFUSED: [&[&str]; 42] = [
     &[],
     &["rvklee"],
     &["rvklee", "explore"],
@@ -247,6 +247,14 @@ const REFUSED: [&[&str]; 34] = [
     &["rvklee", "replay", "a.elf", "t.json", "00011000:1"],
     &["rvklee", "replay", "--steps", "5", "a.elf", "t.json"],
     &["rvklee", "replay", "--help"],
+    &["rvklee", "bench", "13", "1", "out"],
+    &["rvklee", "bench", "0", "1", "out"],
+    &["rvklee", "bench", "08", "1", "out"],
+    &["rvklee", "bench", "8", "65", "out"],
+    &["rvklee", "bench", "8", "0", "out"],
+    &["rvklee", "bench", "8", "2"],
+    &["rvklee", "bench", "8", "2", "out", "00011000:8"],
+    &["rvklee", "bench", "--workers", "2", "8", "2", "out"],
 ];
 
 // Out of form, out of the limit, given twice, or no option; they stand before a program, a folder and
@@ -290,6 +298,13 @@ const REPLAYS: [(&[&str], (&str, &str)); 3] = [
         &["rvklee", "replay", "--", "-a.elf", "--help"],
         ("-a.elf", "--help"),
     ),
+];
+
+/// Command lines of `bench`, and their number, workers and folder.
+const BENCHES: [(&[&str], (u32, u32, &str)); 3] = [
+    (&["rvklee", "bench", "8", "2", "out"], (8, 2, "out")),
+    (&["rvklee", "bench", "12", "64", "bench"], (12, 64, "bench")),
+    (&["rvklee", "bench", "--", "1", "1", "-out"], (1, 1, "-out")),
 ];
 
 /// The words as a program is given them.
@@ -338,6 +353,26 @@ fn these_words_have_a_replay(rt: HostRuntime) -> Result<(), Fail> {
             return Err("a replay".into());
         };
         assert_eq!(rt; (program.as_str(), test.as_str()), files);
+    }
+    Ok(())
+}
+
+#[test]
+fn these_words_have_a_bench(rt: HostRuntime) -> Result<(), Fail> {
+    let alloc = rt.alloc();
+    for (words, wanted) in BENCHES {
+        let words = owned(alloc, words)?;
+        let Ok(
+            Job::Bench {
+                number,
+                workers,
+                out,
+            },
+        ) = read_words(alloc, words.as_slice())
+        else {
+            return Err("a bench".into());
+        };
+        assert_eq!(rt; (number, workers, out.as_str()), wanted);
     }
     Ok(())
 }

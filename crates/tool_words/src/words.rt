@@ -4,13 +4,13 @@ ghost use Rattle.std.specs.Prelude.{◌≡◌, ◌≢◌, [], IfErr, IfOk, Some,
 ghost use Rattle.clap.specs.Words.{fault_of, found_of, kind_of, rows_of, subcommand_of, subcommand_rows_of};
 ghost use Rattle.clap.specs.declared.error.kind.ErrorKind.TheVariants.{OutOfMemory};
 ghost use Rattle.tool_words.specs.Command.{rvklee_command};
-ghost use Rattle.tool_words.specs.Job.{IsWithinLimits, command_job, explore_job, job_of, replay_job};
+ghost use Rattle.tool_words.specs.Job.{IsWithinLimits, bench_job, command_job, explore_job, job_of, replay_job};
 ghost use Rattle.tool_words.specs.Region.{regions_of};
 ghost use Rattle.tool_words.specs.Seen.{IsRead, job_seen};
 
 use crate::command::rvklee;
 use crate::job::{Job, WordsError};
-use crate::limit::{read_budgets, read_workers};
+use crate::limit::{NUMBERS, WORKERS, read_budgets, read_said, read_workers};
 use crate::region::read_region;
 use clap::ArgMatches;
 use elf_load::Regions;
@@ -36,6 +36,8 @@ fn read_command(alloc: Global, name: &str, found: &ArgMatches<'_>) -> Result<Job
         read_explore(alloc, found)
     } else if name == "replay" {
         read_replay(alloc, found)
+    } else if name == "bench" {
+        read_bench(alloc, found)
     } else {
         Err(WordsError::Usage)
     }
@@ -85,6 +87,24 @@ fn read_replay(alloc: Global, found: &ArgMatches<'_>) -> Result<Job, WordsError>
     Ok(Job::Replay {
         program: String::from_str(alloc, program)?,
         test: String::from_str(alloc, test)?,
+    })
+}
+
+/// The job of `bench`.
+fn read_bench(alloc: Global, found: &ArgMatches<'_>) -> Result<Job, WordsError>
+    ensures { IsRead job_seen (bench_job (rows_of (found_of found.now))) result }
+{
+    let (Some(number), Some(workers), Some(folder)) = (
+        read_said(found, "NUMBER", NUMBERS),
+        read_said(found, "WORKERS", WORKERS),
+        found.get_str("OUT"),
+    ) else {
+        return Err(WordsError::Usage);
+    };
+    Ok(Job::Bench {
+        number,
+        workers,
+        out: String::from_str(alloc, folder)?,
     })
 }
 

@@ -98,6 +98,7 @@ fn what_was_found_serves_again(rt: HostRuntime) -> Result<(), Fail> {
         cached: 1,
         sampled: 1,
         decided: 2,
+        spent: 0,
     };
     assert_eq!(rt; shared.counts(), counts);
     Ok(())

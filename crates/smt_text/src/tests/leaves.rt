@@ -9,7 +9,8 @@ use std::process::Abort;
 use std::test::Fail;
 use tree_core::{Cause, Choice};
 
-const FINISHED: &str = "; rvklee leaf 1
+/// The text of a leaf that is finished.
+pub const FINISHED: &str = "; rvklee leaf 1
 ; kind finished
 ; choices Y.
 ; path T.
@@ -31,7 +32,8 @@ const FINISHED: &str = "; rvklee leaf 1
 (exit)
 ";
 
-const CUT: &str = "; rvklee leaf 1
+/// The text of a leaf that was cut.
+pub const CUT: &str = "; rvklee leaf 1
 ; kind targets
 ; choices N=00010028YR.
 ; path TN@0001002c.
@@ -75,7 +77,8 @@ const CUT: &str = "; rvklee leaf 1
 (exit)
 ";
 
-const LETTER: [Node; 4] = [
+/// The terms of the leaf that is finished.
+pub const LETTER: [Node; 4] = [
     Node::Input(0),
     Node::Num {
         width: 8,
@@ -85,8 +88,8 @@ const LETTER: [Node; 4] = [
     Node::Num { width: 8, value: 1 },
 ];
 
-// Each kind of node.
-const EACH: [Node; 23] = [
+/// Each kind of node.
+pub const EACH: [Node; 23] = [
     Node::Input(1),
     Node::Num {
         width: 8,
@@ -132,7 +135,7 @@ const EACH: [Node; 23] = [
 ];
 
 /// The condition that these terms of these nodes are 1.
-fn make_condition(
+pub fn make_condition(
     rt: &impl Abort,
     alloc: Global,
     inputs: usize,

@@ -43,13 +43,31 @@ const WRITTEN: [u32; 9] = [
     0x0000_0073,
 ];
 
-const TWO_BYTES: [&str; 5] = ["rvklee", "explore", "p.elf", "out", "00011000:2"];
-
-const MOST_BYTES: [&str; 5] = ["rvklee", "explore", "p.elf", "out", "00011000:256"];
-
-const ONE_CONFLICT: [&str; 7] = [
+const TWO_BYTES: [&str; 7] = [
     "rvklee",
     "explore",
+    "--workers",
+    "1",
+    "p.elf",
+    "out",
+    "00011000:2",
+];
+
+const MOST_BYTES: [&str; 7] = [
+    "rvklee",
+    "explore",
+    "--workers",
+    "1",
+    "p.elf",
+    "out",
+    "00011000:256",
+];
+
+const ONE_CONFLICT: [&str; 9] = [
+    "rvklee",
+    "explore",
+    "--workers",
+    "1",
     "--conflicts",
     "1",
     "p.elf",
@@ -57,7 +75,7 @@ const ONE_CONFLICT: [&str; 7] = [
     "00011000:2",
 ];
 
-const ROWS: [Row; 4] = [
+pub(crate) const ROWS: [Row; 4] = [
     Row {
         program: &STRAIGHT,
         words: &MOST_BYTES,

@@ -81,9 +81,11 @@ const TABLE: [u32; 22] = [
 // It exits with 0. The last byte of its first instruction, ADDI x10, x0, 0, is the input: the upper bits of the immediate.
 const CODE: [u32; 3] = [0x0000_0513, 0x05D0_0893, 0x0000_0073];
 
-const CODE_BYTE: [&str; 7] = [
+const CODE_BYTE: [&str; 9] = [
     "rvklee",
     "explore",
+    "--workers",
+    "1",
     "--targets",
     "4",
     "p.elf",
@@ -91,9 +93,11 @@ const CODE_BYTE: [&str; 7] = [
     "00010003:1",
 ];
 
-const SIX_TARGETS: [&str; 7] = [
+const SIX_TARGETS: [&str; 9] = [
     "rvklee",
     "explore",
+    "--workers",
+    "1",
     "--targets",
     "6",
     "p.elf",
@@ -101,7 +105,7 @@ const SIX_TARGETS: [&str; 7] = [
     "00011000:1",
 ];
 
-const ROWS: [Row; 8] = [
+pub(crate) const ROWS: [Row; 8] = [
     // Nothing is decided by the input, so there is one leaf; its sample is zeros.
     Row {
         program: &QUOTIENT,

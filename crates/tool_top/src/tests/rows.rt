@@ -2,6 +2,7 @@
 
 use crate::tests::runs::{EXPLORE, files, run};
 use row_files::programs::{CALLED, COMPARED, COUNTED, FORKED, STRAIGHT};
+use smt_text::{print_leaf, read_leaf};
 use std::alloc::Global;
 use std::process::Abort;
 use std::sync::Wait;
@@ -19,19 +20,11 @@ pub(crate) struct Row {
     pub files: &'static [(usize, &'static str, &'static str)],
 }
 
-const ONE_WORKER: [&str; 7] = [
+const FIFTY_STEPS: [&str; 9] = [
     "rvklee",
     "explore",
     "--workers",
     "1",
-    "p.elf",
-    "out",
-    "00011000:1",
-];
-
-const FIFTY_STEPS: [&str; 7] = [
-    "rvklee",
-    "explore",
     "--steps",
     "50",
     "p.elf",
@@ -39,9 +32,11 @@ const FIFTY_STEPS: [&str; 7] = [
     "00011000:1",
 ];
 
-const FEWER_STEPS: [&str; 7] = [
+const FEWER_STEPS: [&str; 9] = [
     "rvklee",
     "explore",
+    "--workers",
+    "1",
     "--steps",
     "49",
     "p.elf",
@@ -49,9 +44,11 @@ const FEWER_STEPS: [&str; 7] = [
     "00011000:1",
 ];
 
-pub(crate) const FOUR_TARGETS: [&str; 7] = [
+pub(crate) const FOUR_TARGETS: [&str; 9] = [
     "rvklee",
     "explore",
+    "--workers",
+    "1",
     "--targets",
     "4",
     "p.elf",
@@ -59,10 +56,10 @@ pub(crate) const FOUR_TARGETS: [&str; 7] = [
     "00011000:1",
 ];
 
-const ROWS: [Row; 6] = [
+pub(crate) const ROWS: [Row; 6] = [
     Row {
         program: &STRAIGHT,
-        words: &ONE_WORKER,
+        words: &EXPLORE,
         said: "leaves 1 finished 1 cut 0 tests 1 steps 3\n",
         puts: 4,
         files: &[
@@ -228,6 +225,19 @@ fn check_files(rt: &impl Abort, puts: &[NamedFile], files: &[(usize, &str, &str)
     }
 }
 
+// Each leaf file is read as a leaf, which is printed to the same bytes.
+fn read_back<R: AllocGlobal + Abort>(rt: &R, puts: &[NamedFile]) -> Result<(), Fail> {
+    for file in puts {
+        if file.name().starts_with("out/leaf-") {
+            let Ok(leaf) = read_leaf(rt.alloc(), file.bytes())? else {
+                return Err("a leaf".into());
+            };
+            assert!(rt; print_leaf(rt.alloc(), &leaf)?.as_slice() == file.bytes());
+        }
+    }
+    Ok(())
+}
+
 // What is put and said is as the row says.
 pub(crate) fn explores<R: Threads + Wait + Sync + AllocGlobal + Abort>(
     rt: &R,
@@ -238,7 +248,7 @@ pub(crate) fn explores<R: Threads + Wait + Sync + AllocGlobal + Abort>(
     assert_eq!(rt; held.said(), row.said.as_bytes());
     assert_eq!(rt; held.puts().len(), row.puts);
     check_files(rt, held.puts(), row.files);
-    Ok(())
+    read_back(rt, held.puts())
 }
 
 // The names of the tests among these files.

@@ -19,7 +19,15 @@ const TEST_0: &str =
 const TEST_1: &str =
     "{\"end\":\"exit 1\",\"format\":1,\"input\":\"41\",\"leaf\":1,\"output\":\"\",\"path\":\"T\",\"regions\":[\"00011000:1\"],\"steps\":7}\n";
 
-pub(crate) const EXPLORE: [&str; 5] = ["rvklee", "explore", "p.elf", "out", "00011000:1"];
+pub(crate) const EXPLORE: [&str; 7] = [
+    "rvklee",
+    "explore",
+    "--workers",
+    "1",
+    "p.elf",
+    "out",
+    "00011000:1",
+];
 
 const OTHER_INPUT: [&str; 5] = ["rvklee", "explore", "p.elf", "out", "00012000:1"];
 
@@ -35,7 +43,7 @@ const NO_STEPS: [&str; 7] = [
     "00011000:1",
 ];
 
-fn strings(alloc: Global, words: &[&str]) -> Result<Vec<String>, Fail> {
+pub(crate) fn strings(alloc: Global, words: &[&str]) -> Result<Vec<String>, Fail> {
     let mut strings = Vec::new(alloc);
     for word in words {
         strings.push(String::from_str(alloc, word)?)?;
@@ -89,7 +97,7 @@ fn other_runs_say_one_line(rt: HostRuntime) -> Result<(), Fail> {
     let fault = "read fault\n";
     for (words, program, to_fail, status, said, names, puts) in [
         (&EXPLORE[..1], &FORKED[..], 9, 2, usage, 0, 0),
-        (&EXPLORE[..4], &FORKED[..], 9, 2, usage, 0, 0),
+        (&EXPLORE[..6], &FORKED[..], 9, 2, usage, 0, 0),
         (&NO_INPUT[..], &FORKED[..], 9, 2, usage, 0, 0),
         (&NO_STEPS[..], &FORKED[..], 9, 2, usage, 0, 0),
         (&OTHER_INPUT[..], &FORKED[..], 9, 4, unfit, 1, 0),
@@ -129,9 +137,9 @@ fn other_runs_say_one_line(rt: HostRuntime) -> Result<(), Fail> {
 fn a_program_that_is_refused(rt: HostRuntime) -> Result<(), Fail> {
     let refused = "program refused 2 Short\n";
     for (words, to_fail, said) in [
-        (&EXPLORE, 9, refused),
-        (&OTHER_INPUT, 9, refused),
-        (&EXPLORE, 2, ""),
+        (&EXPLORE[..], 9, refused),
+        (&OTHER_INPUT[..], 9, refused),
+        (&EXPLORE[..], 2, ""),
     ] {
         let mut files = no_program(rt.alloc(), &[to_fail])?;
         assert_eq!(rt; run(&rt, words, &mut files)?, 3, "call {to_fail}");

@@ -1,4 +1,4 @@
-use Rattle.term_simplify.proofs.Reading.{operand, extended_below_64, not_extended, extended_signed, extended_zeros}
+use Rattle.term_simplify.proofs.Reading.{operand, extended_below_64, extended_narrower, not_extended, extended_signed, extended_zeros}
 use Rattle.term_simplify.proofs.plan.under_zeros.Goals as goal
 
 pub returns-then-signed-clause-tree : goal.returns-then-signed-clause-tree
@@ -16,6 +16,9 @@ returns-else-signed-clause-there c =
 
 pub returns-else-signed-clause-below_64 : goal.returns-else-signed-clause-below_64
 returns-else-signed-clause-below_64 c = extended_below_64 c.args.terms.now c.args.id _ _ _ c.node.ensures.fit c.in-Extend.ensures.is
+
+pub returns-else-signed-clause-narrower : goal.returns-else-signed-clause-narrower
+returns-else-signed-clause-narrower c = extended_narrower c.args.terms.now c.args.id _ _ _ c.node.ensures.fit c.in-Extend.ensures.is
 
 pub returns-in_default-clause-tree : goal.returns-in_default-clause-tree
 returns-in_default-clause-tree c = not_extended c.args.terms.now c.args.id c.node.result

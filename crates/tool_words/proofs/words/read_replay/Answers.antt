@@ -1,4 +1,4 @@
-use Rattle.std.proofs.Common.{ap, option_map}
+use Rattle.std.proofs.Common.{option_map}
 use Rattle.clap.specs.Words.{found_of}
 use Rattle.tool_words.proofs.Exploring.{replay_job_is}
 use Rattle.tool_words.proofs.words.read_replay.Goals.{in_default-via-in-Some+in_default, in_default-via-in_default}

@@ -1,0 +1,100 @@
+//! What an exploration comes to: how many leaves there are, how many of them each budget cut, and by what the questions of the
+//! runs were answered. It makes no report, and writes no file.
+//!
+//! - `words`: the words of the command line
+//! - `ends`: how the leaves end
+#![tactic(auto)]
+
+mod ends;
+mod words;
+
+ghost use Rattle.std.specs.Prelude.{◌≤◌, IfOk};
+ghost use Rattle.tool_words.specs.Limits.{IsBudgets};
+
+use crate::ends::{count_cut, ends_of};
+use crate::words::{Job, read_job};
+use anyhow::{Result, bail};
+use elf_load::{Region, Regions, fit, load};
+use fork_spec::LeafEnd;
+use node_split::{Counts, Worker};
+use std::alloc::Global;
+use std::rt::Env;
+use std::sync::Wait;
+use std::thread::Threads;
+use std::{env, io};
+use sym_state::{Program, State};
+use tool_io::{Files, HostFiles};
+use tree_core::{Budgets, Cause};
+use work_gate::OpenGate;
+use work_run::explore;
+
+const USAGE: &str = "PROGRAM ADDRESS:COUNT STEPS TARGETS CONFLICTS WORKERS";
+
+// The most bytes of a program's file that are read, which is one more than it may have.
+const MOST_BYTES: usize = 1_048_577;
+
+// The worker of the program in these bytes.
+fn worker_of(alloc: Global, bytes: &[u8], input: Region, budgets: Budgets) -> Result<Worker>
+    requires { IsBudgets budgets }
+    ensures { IfOk result (λ worker. IsBudgets worker.budgets) }
+{
+    let image = load(alloc, bytes)?;
+    let regions = Regions::from_vec(vec![in alloc; input]?);
+    if let Err(why) = fit(&image, &regions) {
+        bail!("the input doesn't fit: {}", why.name());
+    }
+    Ok(Worker::new(alloc, Program::new(image, regions), budgets)?)
+}
+
+// How the leaves end that so many workers find.
+fn explored<R: Threads + Wait + Sync>(
+    rt: &R,
+    alloc: Global,
+    worker: &Worker,
+    workers: u32,
+) -> Result<Vec<LeafEnd>>
+    requires within { IsBudgets worker.now.budgets }
+    requires some { 1 ≤ workers }
+{
+    let root = State::first(alloc, worker.program())?;
+    let tree = explore(rt, alloc, worker, root, workers, &OpenGate)?;
+    Ok(ends_of(alloc, &tree)?)
+}
+
+fn print_line(rt: &impl Print, ends: &[LeafEnd], counts: Counts) -> Result<()> {
+    println!(rt;
+        "leaves {} cut by steps {} targets {} conflicts {} questions cached {} sampled {} decided {} spent {}",
+        ends.len(),
+        count_cut(ends, Cause::Steps),
+        count_cut(ends, Cause::Targets),
+        count_cut(ends, Cause::Conflicts),
+        counts.cached,
+        counts.sampled,
+        counts.decided,
+        counts.spent
+    )?;
+    Ok(())
+}
+
+// The words behind the name of the program.
+fn gather<R: Env + AllocGlobal>(rt: &R) -> io::Result<Vec<String>> {
+    let mut words = Vec::new(rt.alloc());
+    for word in env::args(rt)?.skip(1) {
+        words.push(word)?;
+    }
+    Ok(words)
+}
+
+fn main(rt: HostRuntime) -> Result<()> {
+    let alloc = rt.alloc();
+    let words = gather(&rt)?;
+    let Some(job) = read_job(&words) else {
+        bail!("the words are: {USAGE}");
+    };
+    let Ok(bytes) = HostFiles::new(&rt, alloc).read(job.program, MOST_BYTES) else {
+        bail!("{} can't be read", job.program);
+    };
+    let worker = worker_of(alloc, bytes.as_slice(), job.input, job.budgets)?;
+    let ends = explored(&rt, alloc, &worker, job.workers)?;
+    print_line(&rt, &ends, worker.counts())
+}

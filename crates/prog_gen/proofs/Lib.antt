@@ -1,0 +1,3 @@
+mod Pushed
+mod Enlarged
+pub mod Programs

@@ -1,0 +1,251 @@
+-- The line that a text begins with, at each place of a leaf's text. It may stand there where the grammar
+-- says so.
+use Rattle.std.specs.Prelude.{◌≡◌, ℕ, suc, ◌^◌, Bool, true, false, nat_lt, if◌then◌else◌, List, [], ◌∷◌, length, Option, None, Some, codes, option_map, option_and_then}
+use Rattle.std.specs.Option.{option_or}
+use Rattle.bv_dag.specs.declared.nodes.BinaryOp.TheVariants.{Add, Sub, Mul, Udiv, Urem, And, Or, Xor, Shl, Lshr, Ashr}
+use Rattle.bv_dag.specs.declared.nodes.Comparison.TheVariants.{Ult, Slt, Eq}
+use Rattle.bv_dag.specs.declared.nodes.Node.{Node}
+use Rattle.bv_dag.specs.declared.nodes.Node.TheVariants.{Num, Input, Not, Neg, Binary, Compare, Ite, Extract, Extend, Concat}
+use Rattle.rv_decode.specs.declared.ends.PathStep.{PathStep}
+use Rattle.rv_decode.specs.declared.ends.PathStep.TheVariants.{Taken, NotTaken, Target}
+use Rattle.rv_decode.specs.declared.ends.Trap.TheVariants.{Illegal, FetchMisaligned, FetchAccess, LoadMisaligned, LoadAccess, StoreMisaligned, StoreAccess, Break, Call}
+use Rattle.tree_core.specs.declared.cause.Cause.{Cause}
+use Rattle.tree_core.specs.declared.cause.Cause.TheVariants.{Steps, Targets, Conflicts}
+use Rattle.tree_core.specs.declared.choice.Choice.{Choice}
+use Rattle.tree_core.specs.declared.choice.Choice.TheVariants.{No, Yes, Value, Rest}
+use Rattle.fork_spec.specs.declared.end.LeafEnd.{LeafEnd}
+use Rattle.smt_text.specs.Grammar.{Reading, agree, behind_nodes, end_of, next_state, stands, with_line}
+use Rattle.smt_text.specs.Lines.{LeafLine, FormatLine, KindLine, ChoicesLine, PathLine, StepsLine, EndLine, InputsLine, NodesLine, OutputsLine, LogicLine, InputLine, BaseLine, NodeLine, StatusLine, OutputLine, AssertLine, CheckLine, ExitLine, line_text}
+use Rattle.smt_text.specs.Names.{Kind, finished, cut, EndWord, exit, trap, running}
+use Rattle.smt_text.specs.Pieces.{Reader, before, behind, eight, items, made, named, number, one, three, two}
+use Rattle.smt_text.specs.declared.ending.Ending.{Ending}
+use Rattle.smt_text.specs.declared.ending.Ending.TheVariants as ending
+use Rattle.smt_text.specs.declared.head.Head.{Head}
+use Rattle.smt_text.specs.declared.head.Head.TheVariants as head
+use Rattle.smt_text.specs.declared.take_terms.NodeSaid.{NodeSaid}
+use Rattle.smt_text.specs.declared.spot.Spot.{Spot}
+use Rattle.smt_text.specs.declared.spot.Spot.TheVariants.{AtFormat, AtKind, AtChoices, AtPath, AtSteps, AtEnd, AtInputs, AtNodes, AtOutputs, AtLogic, AmongInputs, AtBase, AmongNodes, AtStatus, AmongOutputs, AmongAssertions, AtExit, Closed}
+
+-- ---- the heading
+
+-- the words of kinds and of ends, each with the end of its line; a kind is the budget that was spent,
+-- where one was
+abbrev pub kinds : List (List ℕ × Option Cause)
+kinds =
+    (codes "finished\n", None)
+    ∷ (codes "steps\n", Some Steps)
+    ∷ (codes "targets\n", Some Targets)
+    ∷ (codes "conflicts\n", Some Conflicts)
+    ∷ []
+
+abbrev pub kind_word : Reader (Option Cause)
+kind_word text = named kinds text
+
+abbrev pub kind_said : Option Cause → Kind
+kind_said None = finished
+kind_said (Some cause) = cut cause
+
+abbrev pub endings : List (List ℕ × Ending)
+endings =
+    (codes "exit\n", ending.Exit)
+    ∷ (codes "running\n", ending.Running)
+    ∷ (codes "Illegal\n", ending.Trapped Illegal)
+    ∷ (codes "FetchMisaligned\n", ending.Trapped FetchMisaligned)
+    ∷ (codes "FetchAccess\n", ending.Trapped FetchAccess)
+    ∷ (codes "LoadMisaligned\n", ending.Trapped LoadMisaligned)
+    ∷ (codes "LoadAccess\n", ending.Trapped LoadAccess)
+    ∷ (codes "StoreMisaligned\n", ending.Trapped StoreMisaligned)
+    ∷ (codes "StoreAccess\n", ending.Trapped StoreAccess)
+    ∷ (codes "Break\n", ending.Trapped Break)
+    ∷ (codes "Call\n", ending.Trapped Call)
+    ∷ []
+
+abbrev pub end_word : Reader Ending
+end_word text = named endings text
+
+abbrev pub word_said : Ending → EndWord
+word_said ending.Exit = exit
+word_said (ending.Trapped t) = trap t
+word_said ending.Running = running
+
+-- the end that a kind and a word stand for, where they agree
+abbrev pub end_said : Option Cause → Ending → Option LeafEnd
+end_said kind said =
+    if agree (kind_said kind) (word_said said) then Some (end_of (kind_said kind) (word_said said))
+    else None
+
+-- a choice
+abbrev pub plain_choices : List (List ℕ × Choice)
+plain_choices = (codes "N", No) ∷ (codes "Y", Yes) ∷ (codes "R", Rest) ∷ []
+
+abbrev pub plain_choice : Reader Choice
+plain_choice text = named plain_choices text
+
+abbrev pub value_choice : Reader Choice
+value_choice text = made Value (option_and_then eight (behind (codes "=") text))
+
+unfoldable pub choice : Reader Choice
+choice text = option_or (plain_choice text) (value_choice text)
+
+-- an entry of a path
+abbrev pub branches : List (List ℕ × PathStep)
+branches = (codes "T", Taken) ∷ (codes "N", NotTaken) ∷ []
+
+abbrev pub branch : Reader PathStep
+branch text = named branches text
+
+abbrev pub target : Reader PathStep
+target text = made Target (option_and_then eight (behind (codes "@") text))
+
+unfoldable pub step : Reader PathStep
+step text = option_or (branch text) (target text)
+
+-- all choices, and all entries, of a list; each takes a byte or more
+abbrev pub all_choices : Reader (List Choice)
+all_choices text = items choice (suc (length text)) text
+
+abbrev pub all_steps : Reader (List PathStep)
+all_steps text = items step (suc (length text)) text
+
+-- ---- terms
+
+abbrev pub heads : List (List ℕ × Head)
+heads =
+    (codes "(_ bv", head.Num)
+    ∷ (codes "b", head.Input)
+    ∷ (codes "(bvnot n", head.Not)
+    ∷ (codes "(bvneg n", head.Neg)
+    ∷ (codes "(bvadd n", head.Binary Add)
+    ∷ (codes "(bvsub n", head.Binary Sub)
+    ∷ (codes "(bvmul n", head.Binary Mul)
+    ∷ (codes "(bvudiv n", head.Binary Udiv)
+    ∷ (codes "(bvurem n", head.Binary Urem)
+    ∷ (codes "(bvand n", head.Binary And)
+    ∷ (codes "(bvor n", head.Binary Or)
+    ∷ (codes "(bvxor n", head.Binary Xor)
+    ∷ (codes "(bvshl n", head.Binary Shl)
+    ∷ (codes "(bvlshr n", head.Binary Lshr)
+    ∷ (codes "(bvashr n", head.Binary Ashr)
+    ∷ (codes "(ite (bvult n", head.Test Ult)
+    ∷ (codes "(ite (bvslt n", head.Test Slt)
+    ∷ (codes "(ite (= n", head.Equal)
+    ∷ (codes "((_ extract ", head.Extract)
+    ∷ (codes "((_ sign_extend ", head.Extend true)
+    ∷ (codes "((_ zero_extend ", head.Extend false)
+    ∷ (codes "(concat n", head.Concat)
+    ∷ []
+
+-- a number of 32 bits
+abbrev pub if_word : {X : Type 0} → ℕ → Option X → Option X
+if_word n found = if nat_lt n (2 ^ 32) then found else None
+
+-- what a test answers: the bits 1 and 0
+abbrev pub answers : List ℕ
+answers = codes ") (_ bv1 1) (_ bv0 1))"
+
+abbrev pub term_head : Reader Head
+term_head text = named heads text
+
+-- two terms, of which it is asked whether they are equal
+abbrev pub equal_operands : Reader Node
+equal_operands text = made (λ (a, b). Compare Eq a b) (two (codes " n") answers text)
+
+-- the condition and the two sides of a choice
+abbrev pub ite_operands : Reader Node
+ite_operands text =
+    made (λ (c, a, b). Ite c a b) (three (codes " (_ bv1 1)) n") (codes " n") (codes ")") text)
+
+-- what stands behind the head of a term
+unfoldable pub operands : Head → Reader Node
+operands head.Num text =
+    option_and_then (λ ((value, width), rest). if_word width (Some (Num width value, rest)))
+    (two (codes " ") (codes ")") text)
+operands head.Input text = made Input (number text)
+operands head.Not text = made Not (one (codes ")") text)
+operands head.Neg text = made Neg (one (codes ")") text)
+operands (head.Binary op) text = made (λ (a, b). Binary op a b) (two (codes " n") (codes ")") text)
+operands (head.Test op) text = made (λ (a, b). Compare op a b) (two (codes " n") answers text)
+operands head.Equal text = option_or (equal_operands text) (ite_operands text)
+operands head.Extract text =
+    option_and_then (λ ((high, low, a), rest). if_word high (if_word low (Some (Extract high low a, rest))))
+    (three (codes " ") (codes ") n") (codes ")") text)
+operands (head.Extend signed) text =
+    option_and_then (λ ((by, a), rest). if_word by (Some (Extend by signed a, rest)))
+    (two (codes ") n") (codes ")") text)
+operands head.Concat text = made (λ (a, b). Concat a b) (two (codes " n") (codes ")") text)
+
+unfoldable pub term : Reader Node
+term text = option_and_then (λ (head, rest). operands head rest) (term_head text)
+
+-- the line of a node, by its number, its width and the node
+abbrev pub line_said : NodeSaid → LeafLine
+line_said said = NodeLine said.id said.width said.node
+
+unfoldable pub node_line : Reader LeafLine
+node_line text =
+    option_and_then (λ ((id, width), rest). made (NodeLine id width) (before term (codes ")\n") rest))
+    (option_and_then (two (codes " () (_ BitVec ") (codes ") ")) (behind (codes "(define-fun n") text))
+
+-- the line of a byte of output: its number, and that of its term
+abbrev pub output_said : Reader (ℕ × ℕ)
+output_said text =
+    option_and_then (two (codes " () (_ BitVec 8) n") (codes ")\n")) (behind (codes "(define-fun out") text)
+
+-- the line of an assertion: the number of its term
+abbrev pub assertion_said : Reader ℕ
+assertion_said text =
+    option_and_then (one (codes " (_ bv1 1)))\n")) (behind (codes "(assert (= n") text)
+
+-- a number below 2 ^ 32 before the end of its line
+abbrev pub count : Reader ℕ
+count text = option_and_then (λ (n, rest). if_word n (Some (n, rest))) (one (codes "\n") text)
+
+-- ---- all lines
+
+-- a line that says nothing of its own
+abbrev pub fixed : LeafLine → Reader LeafLine
+fixed line text = option_map (λ rest. (line, rest)) (behind (line_text line) text)
+
+-- the line that the text begins with, at this place
+abbrev pub line_at : Spot → Reader LeafLine
+line_at AtFormat text = fixed FormatLine text
+line_at AtKind text =
+    made (λ cause. KindLine (kind_said cause)) (option_and_then kind_word (behind (codes "; kind ") text))
+line_at AtChoices text =
+    made ChoicesLine (option_and_then all_choices (behind (codes "; choices ") text))
+line_at AtPath text =
+    made PathLine (option_and_then all_steps (behind (codes "; path ") text))
+line_at AtSteps text =
+    made StepsLine (option_and_then (one (codes "\n")) (behind (codes "; steps ") text))
+line_at AtEnd text =
+    made (λ said. EndLine (word_said said)) (option_and_then end_word (behind (codes "; end ") text))
+line_at AtInputs text =
+    made InputsLine (option_and_then (one (codes "\n")) (behind (codes "; inputs ") text))
+line_at AtNodes text =
+    made NodesLine (option_and_then (one (codes "\n")) (behind (codes "; nodes ") text))
+line_at AtOutputs text =
+    made OutputsLine (option_and_then (one (codes "\n")) (behind (codes "; outputs ") text))
+line_at AtLogic text = fixed LogicLine text
+line_at AmongInputs text =
+    made InputLine (option_and_then (one (codes " () (_ BitVec 8))\n")) (behind (codes "(declare-fun b") text))
+line_at AtBase text = fixed BaseLine text
+line_at AmongNodes text = node_line text
+line_at AtStatus text =
+    made StatusLine (option_and_then (one (codes ")\n")) (behind (codes "(define-fun status () (_ BitVec 8) n") text))
+line_at AmongOutputs text =
+    made (λ (i, id). OutputLine i id) (output_said text)
+line_at AmongAssertions text =
+    option_or (made AssertLine (assertion_said text)) (fixed CheckLine text)
+line_at AtExit text = fixed ExitLine text
+line_at Closed text = None
+
+-- whether the line may stand, where it is read with it
+abbrev pub IsPushed : Reading → LeafLine → Reading → Bool → Type 0
+IsPushed old line new true = (stands AmongNodes old line ≡ true) × (record new { place = behind_nodes new } ≡ with_line old line)
+IsPushed old line new false = stands AmongNodes old line ≡ false
+
+-- what is read with the line that the text begins with, where it may stand, and what is behind it
+unfoldable pub next_line : Reading → Reader Reading
+next_line r text =
+    option_and_then (λ (line, rest). option_map (λ next. (next, rest)) (next_state r line))
+    (line_at r.place text)

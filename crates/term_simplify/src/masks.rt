@@ -1,0 +1,37 @@
+//! Masks that change nothing of a term.
+
+ghost use Rattle.std.specs.Prelude.{◌≡◌, ◌<◌, length};
+ghost use Rattle.term_trees.specs.Trees.{Tree, tree_of};
+ghost use Rattle.term_simplify.specs.Plans.{Makes};
+ghost use Rattle.term_simplify.specs.Simplified.{tree_number, keeps, masked};
+
+use crate::binaries::ones;
+use crate::plan::{Plan, number_at, term_if, under_zeros};
+use bv_dag::{BinaryOp, Word};
+use term_table::Terms;
+
+/// Whether every bit that a term may have, which is a narrower one widened by zeros, is 1 in the number.
+fn keeps(terms: &Terms, mask: Word, id: usize) -> bool
+    requires { id < length terms.now.nodes }
+    ensures { result ≡ keeps mask (tree_of terms.now id) }
+{
+    match under_zeros(terms, id) {
+        Some(narrow) => {
+            let all = ones(terms.width_of(narrow)).number();
+            mask.number() & all == all
+        }
+        None => false,
+    }
+}
+
+/// A term, where it is joined by & with a number that masks nothing of it, and else another plan.
+pub(crate) fn masked(terms: &Terms, op: BinaryOp, mask: usize, id: usize, otherwise: Plan) -> Plan
+    requires mask { mask < length terms.now.nodes }
+    requires term { id < length terms.now.nodes }
+    ensures { (tree : Tree) → Makes terms.now otherwise tree → Makes terms.now result (masked op (tree_number (tree_of terms.now mask)) (tree_of terms.now id) tree) }
+{
+    match (op, number_at(terms, mask)) {
+        (BinaryOp::And, Some(number)) => term_if(keeps(terms, number, id), id, otherwise),
+        _ => otherwise,
+    }
+}

@@ -1,0 +1,20 @@
+use Rattle.std.proofs.Common.{option_map}
+use Rattle.clap.specs.Words.{found_of}
+use Rattle.tool_words.proofs.Exploring.{bench_job_is}
+use Rattle.tool_words.proofs.words.read_bench.Goals.{in_default-via-in-Some+in-Some+in_default, in_default-via-in-Some+in_default, in_default-via-in_default}
+use Rattle.tool_words.proofs.words.read_bench.Goals as goal
+
+pub returns-in_default : goal.returns-in_default
+returns-in_default c =
+    let job = bench_job_is (found_of c.args.found.now) c.read_said.result c.read_said-2.result (option_map (λ s. s.now) c.get_str.result) c.read_said.ensures c.read_said-2.ensures c.get_str.ensures in
+    elim c.in_default.branch [
+      | in_default-via-in-Some+in-Some+in_default w ↦ rw (w.in_default.is-0, w.in_default.is-1, w.in_default.is-2) at job
+      | in_default-via-in-Some+in_default w ↦ rw (w.in_default.is-0, w.in_default.is-1) at job
+      | in_default-via-in_default w ↦ rw w.in_default.is-0 at job
+    ]
+
+pub returns : goal.returns
+returns c =
+    let job = bench_job_is (found_of c.args.found.now) c.read_said.result c.read_said-2.result (option_map (λ s. s.now) c.get_str.result) c.read_said.ensures c.read_said-2.ensures c.get_str.ensures in
+    let found = c.in-Some-Some-Some in
+    rw (found.is-0, found.is-1, found.is-2, ← c.in_ok-from_str.ensures.ok) at job

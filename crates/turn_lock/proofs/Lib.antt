@@ -1,0 +1,6 @@
+pub mod Growths
+pub mod Seen
+pub mod Seats
+pub mod Keeps
+pub mod Joining
+pub mod Ends

@@ -1,0 +1,5 @@
+pub mod Growth
+pub mod Views
+pub mod Hands
+pub mod Turns
+pub mod Passes

@@ -1,0 +1,27 @@
+//! Workers before a gate at which two meet.
+
+use crate::{Gate, MeetGate, Next, Point};
+use std::thread::join;
+
+#[test]
+fn the_first_and_other_points_pass(rt: HostRuntime) {
+    let gate = MeetGate::new();
+    assert_eq!(rt; gate.reached(0, Point::AfterClaim), Next::Go);
+    assert_eq!(rt; gate.reached(0, Point::Working), Next::Go);
+    assert_eq!(rt; gate.reached(0, Point::BeforeGive), Next::Go);
+    assert_eq!(rt; gate.reached(1, Point::Idle), Next::Go);
+    assert!(rt; !gate.have_met() && !gate.was_limit_reached());
+}
+
+#[test]
+fn two_workers_meet_or_the_limit_is_reached(rt: HostRuntime) {
+    let gate = MeetGate::new();
+    gate.reached(0, Point::Working);
+    let (zero, one) = join(
+        &rt,
+        || gate.reached(0, Point::Working),
+        || gate.reached(1, Point::Working),
+    );
+    assert_eq!(rt; (zero, one), (Next::Go, Next::Go));
+    assert!(rt; gate.have_met() || gate.was_limit_reached());
+}

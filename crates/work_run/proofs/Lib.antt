@@ -1,0 +1,9 @@
+pub mod Turning
+pub mod Numbers
+pub mod Claims
+pub mod Entries
+pub mod Passing
+pub mod Handing
+pub mod Rounds
+pub mod Running
+pub mod Closing

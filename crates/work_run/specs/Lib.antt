@@ -1,0 +1,5 @@
+pub mod Turns
+pub mod Entering
+pub mod Seen
+pub mod Causes
+pub mod Runs

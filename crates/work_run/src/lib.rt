@@ -1,0 +1,18 @@
+//! Any number of workers on one fork tree, which is handed out in turns.
+#![tactic(auto)]
+
+mod lent;
+mod round;
+mod run;
+mod stopped;
+#[cfg(test)]
+mod tests;
+mod turn;
+mod turn_tree;
+mod worker;
+
+pub use lent::Lent;
+pub use run::explore;
+pub use stopped::Stopped;
+pub use turn_tree::TurnTree;
+pub use worker::work;

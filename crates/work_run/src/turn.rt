@@ -1,0 +1,76 @@
+//! What a worker does in one turn at a lock: it takes the tree, does one thing to it, and gives it back.
+
+ghost use Rattle.std.specs.Prelude.{◌≡◌, IfOk, OnErr, OnOk, false, true};
+ghost use Rattle.turn_lock.specs.Passes.{IsPassOf, known};
+ghost use Rattle.work_run.specs.Seen.{EndsClaim, HasResult, HoldsNode, IsAtRest, IsClaimed, IsLater, story_of};
+
+use crate::turn_tree::TurnTree;
+use fork_tree::{Claim, Parts, Work};
+use std::alloc::AllocError as NoMemory;
+use std::sync::Wait;
+use turn_lock::{Pass, TurnLock};
+
+/// Claims a free node.
+pub(crate) fn claim<W: Work, R: Wait>(
+    rt: &R,
+    lock: &TurnLock<TurnTree<W>>,
+    pass: &mut Pass<TurnTree<W>>,
+) -> Result<Claim<W::State>, NoMemory>
+    requires lock { IsPassOf lock.now pass.old }
+    requires rest { IsAtRest (known pass.old) }
+    ensures lock { IsPassOf lock.now pass.new }
+    ensures later { IsLater (known pass.old) (known pass.new) }
+    ensures ok { IfOk result (IsClaimed (W.rules (known pass.old).fixed) (known pass.old) (known pass.new)) }
+    ensures err { OnErr result ((known pass.new).own ≡ (known pass.old).own) }
+{
+    let by = pass.number();
+    let mut tree = lock.take(rt, pass);
+    let claimed = tree.claim(by);
+    lock.give(pass, tree);
+    claimed
+}
+
+/// Enters what came of a node that the worker holds. Where there is no memory for its kids, it is free again.
+pub(crate) fn enter<W: Work, R: Wait>(
+    rt: &R,
+    lock: &TurnLock<TurnTree<W>>,
+    pass: &mut Pass<TurnTree<W>>,
+    node: usize,
+    parts: Parts<W::State, W::Leaf>,
+) -> Result<(), NoMemory>
+    requires lock { IsPassOf lock.now pass.old }
+    requires rest { IsAtRest (known pass.old) }
+    requires worked { HasResult (W.rules (known pass.old).fixed) W.State.place W.Leaf.place (known pass.old) node parts }
+    ensures lock { IsPassOf lock.now pass.new }
+    ensures later { IsLater (known pass.old) (known pass.new) }
+    ensures ok { OnOk result (EndsClaim false node (known pass.old).own (known pass.new).own) }
+    ensures err { OnErr result (EndsClaim true node (known pass.old).own (known pass.new).own) }
+{
+    let by = pass.number();
+    let mut tree = lock.take(rt, pass);
+    tree.tree.is_whole();
+    let entered = tree.enter(by, node, parts);
+    lock.give(pass, tree);
+    entered
+}
+
+/// Frees a node that the worker holds.
+pub(crate) fn release<W: Work, R: Wait>(
+    rt: &R,
+    lock: &TurnLock<TurnTree<W>>,
+    pass: &mut Pass<TurnTree<W>>,
+    node: usize,
+)
+    requires lock { IsPassOf lock.now pass.old }
+    requires rest { IsAtRest (known pass.old) }
+    requires holds { HoldsNode (story_of (known pass.old)) (known pass.old).own (known pass.old).number node }
+    ensures lock { IsPassOf lock.now pass.new }
+    ensures later { IsLater (known pass.old) (known pass.new) }
+    ensures own { EndsClaim true node (known pass.old).own (known pass.new).own }
+{
+    let by = pass.number();
+    let mut tree = lock.take(rt, pass);
+    tree.tree.is_whole();
+    tree.release(by, node);
+    lock.give(pass, tree);
+}

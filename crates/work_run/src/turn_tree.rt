@@ -1,0 +1,93 @@
+//! A tree as a lock hands it out, and what a worker does to it in one turn.
+
+ghost use Rattle.std.specs.Prelude.{◌≡◌, ◌<◌, IfOk, OnErr, OnOk, length};
+ghost use Rattle.tree_core.specs.declared.node.Status.TheVariants.{Held};
+ghost use Rattle.tree_core.specs.Replays.{noted};
+ghost use Rattle.tree_core.specs.Stories.{status};
+ghost use Rattle.fork_tree.specs.Calls.{IsClaim, release_event};
+ghost use Rattle.fork_tree.specs.Drains.{GrowsBy};
+ghost use Rattle.work_run.specs.Entering.{IsEntered, IsResult};
+
+use fork_tree::{Claim, Content, Parts, Tree, Work};
+use std::alloc::AllocError as NoMemory;
+use tree_core::{Node, Noted};
+use turn_lock::Growing;
+
+/// A tree as a lock hands it out. Its nodes and events grow, and its worker stays.
+#[derive(Drop)]
+pub struct TurnTree<W: Work> {
+    pub tree: Tree<W>,
+}
+
+impl<W: Work> Growing for TurnTree<W> {
+    type Fixed = W;
+
+    type Node = Node<Content<W::State, W::Leaf>>;
+
+    type Event = Noted<Content<W::State, W::Leaf>>;
+
+    ghost fixed = { λ t. t.tree.worker };
+
+    ghost nodes = { λ t. t.tree.story.nodes };
+
+    ghost events = { λ t. t.tree.story.events };
+
+    ghost worker = { λ e. e.by };
+
+    fn event_count(&self) -> u64 {
+        self.tree.events().len() as u64
+    }
+}
+
+impl<W: Work> TurnTree<W> {
+    /// Claims a free node, and hands out its state.
+    pub(crate) fn claim(&mut self, by: u32) -> Result<Claim<W::State>, NoMemory>
+        ensures worker { self.new.tree.worker ≡ self.old.tree.worker }
+        ensures ok { IfOk result (λ claim. IsClaim (W.rules self.old.tree.worker).IsWell self.old.tree.story by claim self.new.tree.story) }
+        ensures err { OnErr result (self.new.tree.story ≡ self.old.tree.story) }
+        ensures grows { GrowsBy by self.old.tree.story self.new.tree.story }
+    {
+        self.tree.reserve(0)?;
+        self.tree.claim(by)
+    }
+
+    /// Enters what came of a node that the worker holds. Where there is no memory for its kids, it is free again.
+    pub(crate) fn enter(
+        &mut self,
+        by: u32,
+        node: usize,
+        parts: Parts<W::State, W::Leaf>,
+    ) -> Result<(), NoMemory>
+        requires there { node < length self.old.tree.story.nodes }
+        requires held { status self.old.tree.story node ≡ Held by }
+        requires worked { IsResult (W.rules self.old.tree.worker) W.State.place W.Leaf.place self.old.tree.story node parts }
+        ensures worker { self.new.tree.worker ≡ self.old.tree.worker }
+        ensures ok { OnOk result (IsEntered by node self.old.tree.story self.new.tree.story) }
+        ensures err { OnErr result (self.new.tree.story ≡ noted self.old.tree.story (release_event by node)) }
+        ensures grows { GrowsBy by self.old.tree.story self.new.tree.story }
+    {
+        match parts {
+            Parts::Finished(leaf) => self.tree.finish(by, node, leaf),
+            Parts::CutSteps(leaf) => self.tree.cut(by, node, leaf),
+            Parts::Kids(kids) => {
+                if self.tree.reserve(kids.len()).is_err() {
+                    self.tree.release(by, node);
+                    return Err(NoMemory);
+                }
+                self.tree.split(by, node, kids);
+            }
+        }
+        Ok(())
+    }
+
+    /// Frees a node that the worker holds.
+    pub(crate) fn release(&mut self, by: u32, node: usize)
+        requires there { node < length self.old.tree.story.nodes }
+        requires held { status self.old.tree.story node ≡ Held by }
+        ensures worker { self.new.tree.worker ≡ self.old.tree.worker }
+        ensures story { self.new.tree.story ≡ noted self.old.tree.story (release_event by node) }
+        ensures grows { GrowsBy by self.old.tree.story self.new.tree.story }
+    {
+        self.tree.release(by, node);
+    }
+}
