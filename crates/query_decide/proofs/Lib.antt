@@ -1,3 +1,4 @@
 pub mod Joining
 pub mod Agreeing
 pub mod Failing
+pub mod Fewer
