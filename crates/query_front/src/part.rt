@@ -25,8 +25,11 @@ pub fn part_of<T: Table>(
     let mut all = condition;
     all.push(new)?;
     let whole = pick(alloc, terms, &all)?;
-    match whole.asserted().last() {
-        Some(last) => slice(alloc, &whole, *last),
-        None => unreachable!(),
+    let Some(last) = whole.asserted().last() else {
+        unreachable!()
+    };
+    match slice(alloc, &whole, *last)? {
+        Some(part) => Ok(part),
+        None => Ok(whole),
     }
 }

@@ -46,14 +46,20 @@ fn question(
 }
 
 // The slice for the asserted term at a place of the list.
-fn sliced(rt: &impl Abort, alloc: Global, query: &Query, index: usize) -> Result<Query, NoMemory> {
+fn sliced(
+    rt: &impl Abort,
+    alloc: Global,
+    query: &Query,
+    index: usize,
+) -> Result<Option<Query>, NoMemory> {
     assert!(rt; index < query.asserted().len());
     slice(alloc, query, query.asserted()[index])
 }
 
-// How many terms the slice asserts, and how many there are in its graph.
-fn size(query: &Query) -> (usize, usize) {
-    (query.asserted().len(), query.dag().len())
+// How many terms the slice asserts, and how many there are in its graph, where it leaves out any.
+fn size(part: Option<&Query>) -> Option<(usize, usize)> {
+    let part = part?;
+    Some((part.asserted().len(), part.dag().len()))
 }
 
 /// The bytes 0; 0 and 1; 1 and 2; 3; and, for the new term, 2.
@@ -63,9 +69,11 @@ const ROW: [(usize, usize); 5] = [(0, NUMBER), (0, 1), (1, 2), (3, NUMBER), (2, 
 fn all_but_the_fourth_byte_is_reached(rt: HostRuntime) -> Result<(), Fail> {
     let alloc = rt.alloc();
     let query = question(&rt, alloc, &ROW)?;
-    let part = sliced(&rt, alloc, &query, 4)?;
+    let Some(part) = sliced(&rt, alloc, &query, 4)? else {
+        return Err("nothing is left out".into());
+    };
     // Three bytes, the number and four comparisons.
-    assert_eq!(rt; size(&part), (4, 8));
+    assert_eq!(rt; size(Some(&part)), Some((4, 8)));
     let sample = Bytes::from_slice(alloc, &[0x10, 0x20, 0x30, 0x40])?;
     let answer = Bytes::from_slice(alloc, &[0x01, 0x02, 0x03, 0x00])?;
     assert!(rt; part.inputs() == 4);
@@ -79,7 +87,15 @@ fn all_but_the_fourth_byte_is_reached(rt: HostRuntime) -> Result<(), Fail> {
 fn a_term_on_no_byte_reaches_only_itself(rt: HostRuntime) -> Result<(), Fail> {
     let alloc = rt.alloc();
     let query = question(&rt, alloc, &[(NUMBER, NUMBER), (0, 1), (NUMBER, NUMBER)])?;
-    assert_eq!(rt; size(&sliced(&rt, alloc, &query, 2)?), (1, 2));
-    assert_eq!(rt; size(&sliced(&rt, alloc, &query, 1)?), (1, 3));
+    assert_eq!(rt; size(sliced(&rt, alloc, &query, 2)?.as_ref()), Some((1, 2)));
+    assert_eq!(rt; size(sliced(&rt, alloc, &query, 1)?.as_ref()), Some((1, 3)));
+    Ok(())
+}
+
+#[test]
+fn where_each_term_is_reached_nothing_is_cut(rt: HostRuntime) -> Result<(), Fail> {
+    let alloc = rt.alloc();
+    let query = question(&rt, alloc, &[(0, NUMBER), (0, 1), (1, 2)])?;
+    assert_eq!(rt; size(sliced(&rt, alloc, &query, 2)?.as_ref()), None);
     Ok(())
 }
