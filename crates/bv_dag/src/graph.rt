@@ -190,9 +190,14 @@ impl Ord for Dag {
     ghost matches_eq = { graph_ties };
 
     fn cmp(&self, other: &Dag) -> Ordering {
-        self.inputs
+        let sizes = self
+            .inputs
             .cmp(&other.inputs)
-            .then(self.nodes.cmp(&other.nodes))
+            .then(self.nodes.len().cmp(&other.nodes.len()));
+        match sizes {
+            Ordering::Equal => self.nodes.cmp(&other.nodes),
+            unequal => unequal,
+        }
     }
 }
 
