@@ -60,7 +60,7 @@ fn decided(
     ensures { IfOk result (λ asked. (q : Condition) (new : ℕ) → IsPart q new part → holds q sample.now ≡ true → IsAsked q new budget asked) }
 {
     shared.count_decided();
-    match decide(alloc, &part, budget)? {
+    match decide(alloc, &part, sample.as_slice(), budget)? {
         Decision::Sat(input) => {
             let merged = merge(alloc, sample, &input, &part)?;
             shared.offer(rt, alloc, &merged)?;

@@ -25,8 +25,9 @@ pub fn part_of<T: Table>(
     let mut all = condition;
     all.push(new)?;
     let whole = pick(alloc, terms, &all)?;
-    match whole.asserted().last() {
-        Some(last) => slice(alloc, &whole, *last),
+    let last = match whole.asserted().last() {
+        Some(last) => *last,
         None => unreachable!(),
-    }
+    };
+    slice(alloc, whole, last)
 }

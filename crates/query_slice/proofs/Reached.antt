@@ -1,8 +1,9 @@
 -- Which terms are reached is told by the labels of the bytes under them.
-use Rattle.std.proofs.Common.{◌≡◌, ◌==◌, ◌⊎◌, ℕ, ◌<◌, true, false, inl, inr, List, length, map, filter, get_or, Option, Some, None, refl, sym, ap, subst, ◌∙◌, slice_index, arith}
+use Rattle.std.proofs.Common.{◌≡◌, ◌==◌, ◌⊎◌, ℕ, ◌<◌, ◌≤◌, Bool, true, false, cond, inl, inr, List, [], ◌∷◌, length, map, filter, get_or, Option, Some, None, refl, sym, ap, subst, ◌∙◌, slice_index, arith}
 use Rattle.std.specs.Prelude.{Contains}
 use Rattle.std.specs.List.{slice_get}
 use Rattle.std.proofs.lemmas.Bool.{eq-eqb, eqb-true, or_cases, or_left, or_right}
+use Rattle.std.proofs.lemmas.List.Sums.{count_by-le-length, length-filter}
 use Rattle.std.proofs.lemmas.Option.{slice_get-get_or}
 use Rattle.bv_dag.specs.Graphs.{IsDag}
 use Rattle.bv_dag.specs.Inputs.{inputs_of, inputs_under}
@@ -11,10 +12,19 @@ use Rattle.term_trees.specs.Trees.{tree_of}
 use Rattle.query_pick.specs.Picks.{IsFromCone}
 use Rattle.query_slice.specs.Classes.{AreClasses, are_same, first_of, is_reached, label_of}
 use Rattle.query_slice.specs.Reaching.{IsReached, itself, sharing}
-use Rattle.query_slice.specs.Slices.{IsSlice}
+use Rattle.query_slice.specs.Slices.{IsCut, IsSlice}
 use Rattle.query_slice.proofs.Firsts.{first_is_there, first_there, first_under}
 use Rattle.query_slice.proofs.Links.{reached_by_link}
 use Rattle.query_slice.proofs.Walked.{inputs_below}
+
+-- a filter that keeps as many items as there are keeps each
+kept_first : (x : ℕ) (xs ys : List ℕ) (b : Bool) → length ys ≤ length xs → length (cond b (x ∷ ys) ys) ≡ length (x ∷ xs) → (length ys ≡ length xs → ys ≡ xs) → cond b (x ∷ ys) ys ≡ x ∷ xs
+kept_first x xs ys true few long same = ap (λ (zs : List ℕ). x ∷ zs) (same (omega (arith, long)))
+kept_first x xs ys false few long same = absurd (omega (arith, few, long))
+
+all_kept : (p : ℕ → Bool) (xs : List ℕ) → length (filter p xs) ≡ length xs → filter p xs ≡ xs
+all_kept p [] long = refl
+all_kept p (x ∷ xs) long = kept_first x xs (filter p xs) (p x) (omega (arith, length-filter p xs, count_by-le-length p xs)) long (all_kept p xs)
 
 -- labels that are the same belong to bytes of one label
 bytes_of_same : (labels : List ℕ) (n : ℕ) (o p : Option ℕ) → length labels ≡ n → ((i : ℕ) → o ≡ Some i → i < n) → ((i : ℕ) → p ≡ Some i → i < n) → are_same (label_of labels o) (label_of labels p) ≡ true → (i : ℕ) × (k : ℕ) × (o ≡ Some i) × (p ≡ Some k) × (slice_index labels i ≡ slice_index labels k)
@@ -82,13 +92,21 @@ module _ (q : Condition) (new : ℕ) (firsts : List (Option ℕ)) (labels : List
       ]
 
   -- so what is kept is a slice
-  pub sliced : (s : Condition) (kept : List ℕ) → kept ≡ filter (is_reached labels firsts new) q.asserted → s.graph.inputs ≡ q.graph.inputs → map (tree_of s.graph) s.asserted ≡ map (tree_of q.graph) kept → IsFromCone q.graph kept s.graph → IsSlice q new s
-  sliced s kept are_kept inputs trees only = record {
+  sliced : (s : Condition) (kept : List ℕ) → kept ≡ filter (is_reached labels firsts new) q.asserted → s.graph.inputs ≡ q.graph.inputs → map (tree_of s.graph) s.asserted ≡ map (tree_of q.graph) kept → IsSlice q new s
+  sliced s kept are_kept inputs trees = record {
     reaches = is_reached labels firsts new;
     just = λ id asserted. (found id asserted, tested id);
     kept = kept;
     in_order = are_kept;
     inputs = inputs;
     same_trees = trees;
-    only_cone = only;
   }
+
+  pub cut : (s : Condition) (kept : List ℕ) → kept ≡ filter (is_reached labels firsts new) q.asserted → s.graph.inputs ≡ q.graph.inputs → map (tree_of s.graph) s.asserted ≡ map (tree_of q.graph) kept → IsFromCone q.graph kept s.graph → IsCut q new s
+  unfolding sliced
+  cut s kept are_kept inputs trees only = record { slice = sliced s kept are_kept inputs trees; only_cone = only }
+
+  -- where as many terms are kept as there are, the condition is its own slice
+  pub uncut : (kept : List ℕ) → kept ≡ filter (is_reached labels firsts new) q.asserted → length kept ≡ length q.asserted → IsSlice q new q
+  uncut kept are_kept long =
+      sliced q kept are_kept refl (ap (map (tree_of q.graph)) (sym (are_kept ∙ all_kept (is_reached labels firsts new) q.asserted (ap length (sym are_kept) ∙ long))))

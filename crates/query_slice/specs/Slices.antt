@@ -6,7 +6,7 @@ use Rattle.query_pick.specs.Picks.{IsFromCone}
 use Rattle.query_slice.specs.Reaching.{IsReached}
 
 -- The slice asserts just those of the condition's terms that are reached from the new one, in their order: the same trees, over
--- as many input bytes, in a graph of only what they stand on.
+-- as many input bytes.
 pub record IsSlice (q : Condition) (new : ℕ) (s : Condition) : Type 0 where
   pub reaches : ℕ → Bool
   pub just : (id : ℕ) → Contains q.asserted id → IsTrue (reaches id) ↔ IsReached q new id
@@ -14,4 +14,8 @@ pub record IsSlice (q : Condition) (new : ℕ) (s : Condition) : Type 0 where
   pub in_order : kept ≡ filter reaches q.asserted
   pub inputs : s.graph.inputs ≡ q.graph.inputs
   pub same_trees : map (tree_of s.graph) s.asserted ≡ map (tree_of q.graph) kept
-  pub only_cone : IsFromCone q.graph kept s.graph
+
+-- a slice in a graph of only what its terms stand on
+pub record IsCut (q : Condition) (new : ℕ) (s : Condition) : Type 0 where
+  pub slice : IsSlice q new s
+  pub only_cone : IsFromCone q.graph slice.kept s.graph

@@ -1,8 +1,8 @@
 //! The slice of a question.
 
-ghost use Rattle.std.specs.Prelude.{◌≡◌, Contains, IfOk, filter};
+ghost use Rattle.std.specs.Prelude.{◌≡◌, ◌⊎◌, Contains, IfOk, filter};
 ghost use Rattle.query_slice.specs.Classes.{is_reached};
-ghost use Rattle.query_slice.specs.Slices.{IsSlice};
+ghost use Rattle.query_slice.specs.Slices.{IsCut, IsSlice};
 
 use crate::classes::Classes;
 use crate::first_inputs::{first_at, first_inputs};
@@ -38,14 +38,18 @@ fn reached(
 }
 
 /// The part of a question that matters for one of its terms: the asserted terms that share input bytes with it, directly
-/// or through others, in a graph of only what they stand on.
-pub fn slice(alloc: Global, query: &Query, new: usize) -> Result<Query, NoMemory>
-    requires { Contains query.now.asserted new }
-    ensures { IfOk result (IsSlice query.now new) }
+/// or through others, in a graph of only what they stand on. Where these are all of its terms, it is the question itself.
+pub fn slice(alloc: Global, query: Query, new: usize) -> Result<Query, NoMemory>
+    requires { Contains query.asserted new }
+    ensures slice { IfOk result (IsSlice query new) }
+    ensures cut { IfOk result (λ part. (part ≡ query) ⊎ IsCut query new part) }
 {
     let firsts = first_inputs(alloc, query.dag().nodes())?;
-    let classes = classes_of(alloc, query, &firsts)?;
+    let classes = classes_of(alloc, &query, &firsts)?;
     let kept = reached(alloc, &classes, &firsts, new, query.asserted())?;
+    if kept.len() == query.asserted().len() {
+        return Ok(query);
+    }
     let picked = pick_terms(alloc, query.dag(), &kept)?;
     Ok(Query::new(picked.graph, picked.ids))
 }

@@ -48,7 +48,7 @@ fn question(
 // The slice for the asserted term at a place of the list.
 fn sliced(rt: &impl Abort, alloc: Global, query: &Query, index: usize) -> Result<Query, NoMemory> {
     assert!(rt; index < query.asserted().len());
-    slice(alloc, query, query.asserted()[index])
+    slice(alloc, query.clone()?, query.asserted()[index])
 }
 
 // How many terms the slice asserts, and how many there are in its graph.
@@ -81,5 +81,14 @@ fn a_term_on_no_byte_reaches_only_itself(rt: HostRuntime) -> Result<(), Fail> {
     let query = question(&rt, alloc, &[(NUMBER, NUMBER), (0, 1), (NUMBER, NUMBER)])?;
     assert_eq!(rt; size(&sliced(&rt, alloc, &query, 2)?), (1, 2));
     assert_eq!(rt; size(&sliced(&rt, alloc, &query, 1)?), (1, 3));
+    Ok(())
+}
+
+#[test]
+fn where_each_term_is_reached_nothing_is_cut(rt: HostRuntime) -> Result<(), Fail> {
+    let alloc = rt.alloc();
+    let query = question(&rt, alloc, &[(0, NUMBER), (0, 1), (1, 2)])?;
+    // Its graph has also what nothing asserted stands on.
+    assert_eq!(rt; size(&sliced(&rt, alloc, &query, 2)?), size(&query));
     Ok(())
 }

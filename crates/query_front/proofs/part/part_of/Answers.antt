@@ -20,4 +20,4 @@ returns g c =
     c.in-Some.last.now
     (c.in-Some.ensures.value ∙ ap (λ (ids : List ℕ). slice_get ids (length ids - 1)) c.asserted.ensures.value)
     part cut)
-    c.slice.ensures
+    c.slice.ensures.slice
