@@ -1,6 +1,6 @@
 -- What is known of the input bytes under terms says what is known of those under further terms.
 use Rattle.std.proofs.Common.{◌≡◌, ◌≢◌, ℕ, zero, suc, List, [], ◌∷◌, ◌++◌, ◌<◌, ◌+◌, length, take, get_or, refl, ap, ◌∙◌, arith}
-use Rattle.std.specs.List.{Contains, AllZip, flat_map}
+use Rattle.std.specs.List.{AllZip, flat_map}
 use Rattle.std.proofs.Math.Seq.{take-suc}
 use Rattle.std.proofs.lemmas.Grind.{flat_map-append}
 use Rattle.std.proofs.lemmas.List.{append-nil}

@@ -1,3 +1,5 @@
 pub mod Joining
 pub mod Agreeing
 pub mod Failing
+pub mod Fewer
+pub mod Around

@@ -17,11 +17,17 @@ use std::alloc::{AllocError as NoMemory, Global};
 use tool_io::Bytes;
 
 // The answer of a question that rests on this byte alone, or on none: no budget is spent.
-fn decide_byte(alloc: Global, query: &Query, place: usize) -> Result<Decision, NoMemory>
+fn decide_byte(
+    alloc: Global,
+    query: &Query,
+    place: usize,
+    near: &[u8],
+) -> Result<Decision, NoMemory>
     requires { IsAlone (asserted_inputs query.now) place }
     ensures { (budget : ℕ) → IfOk result (IsDecided query.now budget) }
 {
-    match try_byte(alloc, query, place)? {
+    let first = near.get(place).copied().unwrap_or(0);
+    match try_byte(alloc, query, place, first)? {
         Some(input) => Ok(Decision::Sat(Bytes::from_vec(input))),
         None => Ok(Decision::Unsat),
     }
@@ -46,13 +52,13 @@ fn decide_by_clauses(alloc: Global, query: &Query, budget: u32) -> Result<Decisi
 }
 
 /// Whether some input bytes meet the condition. One that rests on one input byte at most is decided by the values of
-/// that byte, and else by its clauses and a search that derives at most so many.
-pub fn decide(alloc: Global, query: &Query, budget: u32) -> Result<Decision, NoMemory>
+/// that byte, from the one that it has in `near` on, and else by its clauses and a search that derives at most so many.
+pub fn decide(alloc: Global, query: &Query, near: &[u8], budget: u32) -> Result<Decision, NoMemory>
     ensures { IfOk result (IsDecided query.now budget) }
 {
     match occurring(alloc, query.dag().nodes(), query.asserted())? {
-        Occurrence::NoInput => decide_byte(alloc, query, 0),
-        Occurrence::OneInput(place) => decide_byte(alloc, query, place),
+        Occurrence::NoInput => decide_byte(alloc, query, 0, near),
+        Occurrence::OneInput(place) => decide_byte(alloc, query, place, near),
         Occurrence::MoreInputs => decide_by_clauses(alloc, query, budget),
     }
 }

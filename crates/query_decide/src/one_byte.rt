@@ -1,9 +1,14 @@
 //! Trying the values of one input byte.
+//!
+//! They are tried from a given one on, since what lies near bytes that meet most of a condition often
+//! meets all of it; and each is tried first on the term that is asserted last, in a graph of only what
+//! that stands on: it is the term that is asked about, and most values fail on it alone.
 
-ghost use Rattle.std.specs.Prelude.{◌≡◌, ◌<◌, ℕ, false, true, IfOk, IfSome, None, length, replicate, slice_set};
+ghost use Rattle.std.specs.Prelude.{◌≡◌, ◌<◌, ℕ, List, false, true, IfOk, IfSome, None, length, replicate, slice_set};
 ghost use Rattle.bv_dag.specs.Queries.{holds};
 
 use bv_dag::Query;
+use query_pick::pick;
 use std::alloc::{AllocError as NoMemory, Global};
 
 /// How many values a byte has.
@@ -20,14 +25,31 @@ fn one_byte(alloc: Global, count: usize, place: usize, value: u8) -> Result<Vec<
     Ok(input)
 }
 
-/// Input bytes that meet the condition, of those that are 0 but at this place.
-pub fn try_byte(alloc: Global, query: &Query, place: usize) -> Result<Option<Vec<u8>>, NoMemory>
+// The part of a question that is asked last: its last term alone, or nothing where it has none.
+fn last_part(alloc: Global, query: &Query) -> Result<Query, NoMemory>
+    ensures { IfOk result (λ last. (input : List ℕ) → holds query.now input ≡ true → holds last input ≡ true) }
+{
+    let asserted = query.asserted();
+    let before = asserted.len().saturating_sub(1);
+    pick(alloc, query.dag(), &asserted[before..])
+}
+
+/// Input bytes that meet the condition, of those that are 0 but at this place. Its values are tried
+/// from this first one on, behind 255 from 0 on.
+pub fn try_byte(
+    alloc: Global,
+    query: &Query,
+    place: usize,
+    first: u8,
+) -> Result<Option<Vec<u8>>, NoMemory>
     ensures some { IfOk result (λ found. IfSome found (λ input. holds query.now input.items ≡ true)) }
     ensures none { IfOk result (λ found. found ≡ None → (b : ℕ) → b < 256 → holds query.now (slice_set (replicate query.now.graph.inputs 0) place b) ≡ false) }
 {
-    for value in 0..VALUES {
-        let input = one_byte(alloc, query.inputs(), place, value as u8)?;
-        if query.holds(alloc, &input)? {
+    let last = last_part(alloc, query)?;
+    for steps in 0..VALUES {
+        let value = first.wrapping_add(steps as u8);
+        let input = one_byte(alloc, query.inputs(), place, value)?;
+        if last.holds(alloc, &input)? && query.holds(alloc, &input)? {
             return Ok(Some(input));
         }
     }

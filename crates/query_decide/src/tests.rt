@@ -110,7 +110,7 @@ fn question(rt: &impl Abort, alloc: Global, row: &Row) -> Result<Query, NoMemory
 
 // What is answered. What is found is tried.
 fn answered(rt: &impl Abort, alloc: Global, query: &Query, budget: u32) -> Result<Known, NoMemory> {
-    match decide(alloc, query, budget)? {
+    match decide(alloc, query, &[0x80], budget)? {
         Decision::Sat(input) => {
             assert!(rt; query.holds(alloc, input.as_slice())?);
             Ok(Known::Sat)

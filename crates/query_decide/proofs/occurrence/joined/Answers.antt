@@ -1,4 +1,4 @@
-use Rattle.std.proofs.Common.{◌≡◌, subst}
+use Rattle.std.proofs.Common.{subst}
 use Rattle.query_decide.specs.Occurring.{IsOccurrence}
 use Rattle.query_decide.proofs.Joining.{two_left, two_right, two_apart}
 use Rattle.query_decide.proofs.occurrence.joined.Goals as goal

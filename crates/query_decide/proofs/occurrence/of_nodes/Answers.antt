@@ -1,9 +1,7 @@
-use Rattle.std.proofs.Common.{◌≡◌, List, [], ◌∷◌, ◌++◌, refl, subst, sym, take, get_or}
+use Rattle.std.proofs.Common.{take}
 use Rattle.bv_dag.specs.Nodes.{map_in_turn}
 use Rattle.bv_dag.specs.declared.nodes.Node.TheVariants.{Num}
-use Rattle.bv_dag.proofs.InTurn.{map_in_turn_more}
 use Rattle.bv_dag.specs.Inputs.{inputs_of}
-use Rattle.query_decide.specs.Occurring.{AreOccurrences}
 use Rattle.query_decide.proofs.Joining.{one_more, one_node_more}
 use Rattle.query_decide.proofs.occurrence.of_nodes.Goals as goal
 

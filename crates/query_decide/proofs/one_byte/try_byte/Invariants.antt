@@ -1,6 +1,6 @@
-use Rattle.std.proofs.Common.{◌≡◌, ◌<◌, ℕ, false, replicate, slice_set}
+use Rattle.std.proofs.Common.{◌≡◌, ◌<◌, ◌+◌, ◌%◌, ℕ, false, replicate, slice_set}
 use Rattle.bv_dag.specs.Queries.{holds}
 use Rattle.query_decide.proofs.one_byte.try_byte.Given as goal
 
-abbrev pub invariant-loop-value : goal.invariant-loop-value
-invariant-loop-value l = (b : ℕ) → b < l.value → holds l.query (slice_set (replicate l.query.graph.inputs 0) l.place b) ≡ false
+abbrev pub invariant-loop-steps : goal.invariant-loop-steps
+invariant-loop-steps l = (k : ℕ) → k < l.steps → holds l.query (slice_set (replicate l.query.graph.inputs 0) l.place ((l.first + k) % 256)) ≡ false
