@@ -44,6 +44,18 @@ find_in_gap groups k i gap = find_no_group groups k (λ j small same. elim (case
   | inr behind ↦ omega (arith, gap.above j behind small)
 ])
 
+-- a number below the first has its place in front
+pub gap_in_front : (groups : Groups) (k : ℕ) → AreGroups groups → 0 < length groups → k < (group_at groups 0).0
+    → IsGapFor groups k 0
+gap_in_front groups k are some less = record {
+  in_range = omega arith;
+  below = λ j lt. absurd (omega (arith, lt));
+  above = λ j le small. elim (cases_eq j 0) [
+    | inl same ↦ omega (arith, less, ap (λ n. (group_at groups n).0) same)
+    | inr other ↦ omega (arith, less, are.in_order 0 j (omega arith) small)
+  ];
+}
+
 -- what is said of groups holds of all but the first
 pub groups_behind : (g : ℕ × Places) (groups : Groups) → AreGroups (g ∷ groups) → AreGroups groups
 groups_behind g groups are = record {

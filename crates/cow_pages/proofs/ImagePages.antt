@@ -1,7 +1,7 @@
 -- The memory that an image begins with, as its pages are put in one after the other.
-use Rattle.std.proofs.Common.{◌≡◌, ℕ, ◌<◌, Bool, true, false, cond, ◌&&◌, T, List, [], ◌∷◌, Some, None, refl, sym, ap, ◌∙◌, arith}
+use Rattle.std.proofs.Common.{◌≡◌, ℕ, zero, suc, ◌/◌, ◌%◌, ◌<◌, Bool, true, false, cond, ◌&&◌, T, List, [], ◌∷◌, Some, None, refl, sym, ap, ◌∙◌, arith}
 use Rattle.std.proofs.Common.{inl, inr}
-use Rattle.std.specs.Prelude.{◌==◌, Option}
+use Rattle.std.specs.Prelude.{◌==◌, Option, slice_index, slice_index_or}
 use Rattle.std.specs.FinMap.{FinMap, find, get, insert, entries, get-entries, get-insert, get-empty}
 use Rattle.std.specs.FinMap.Entries.{below_all, is_sorted}
 use Rattle.std.specs.Option.{option_map, option_or}
@@ -12,8 +12,11 @@ use Rattle.std.specs.declared.cmp.Ordering.TheVariants.{Less, Equal, Greater}
 use Rattle.std.proofs.lemmas.Bool.{cases_eq}
 use Rattle.std.proofs.lemmas.Cmp.{nat_cmp_total, ranked}
 use Rattle.elf_load.specs.declared.page.Page.{Page}
-use Rattle.cow_pages.specs.SymbolicMemory.{SymbolicPage, SymbolicMemory, as_symbolic}
-use Rattle.cow_pages.specs.Groups.{AreGroups, memory_in}
+use Rattle.elf_load.specs.Images.{Image}
+use Rattle.rv_spec.specs.Memory.{byte_in, byte_of, flags_of}
+use Rattle.cow_pages.specs.declared.byte.Byte.TheVariants.{Number}
+use Rattle.cow_pages.specs.SymbolicMemory.{SymbolicPage, SymbolicMemory, as_symbolic, number_bytes, page_byte, memory_byte, memory_flags}
+use Rattle.cow_pages.specs.Groups.{memory_in}
 use Rattle.cow_pages.proofs.GroupLookups.{find_first, find_past, test_of_same, test_of_other}
 
 less_from_test : (o : Ordering) → T (is_lt o) → o ≡ Less
@@ -37,10 +40,7 @@ nothing_more : (o : Option SymbolicPage) → option_or o None ≡ o
 nothing_more None = refl
 nothing_more (Some page) = refl
 
-pub no_groups : AreGroups []
-no_groups = record { in_order = λ i j lt within. absurd (omega (arith, within)); full = λ i within. absurd (omega (arith, within)); whole = λ i place within. absurd (omega (arith, within)) }
-
-none_in_no_groups : (q : ℕ) → get (memory_in []) q ≡ None
+pub none_in_no_groups : (q : ℕ) → get (memory_in []) q ≡ None
 unfolding memory_in
 none_in_no_groups q = get-empty nat_cmp q
 
@@ -72,3 +72,27 @@ module _ (memory : SymbolicMemory) (number : ℕ) (page : Page) (rest : List (�
         ap (λ o. option_or (option_map as_symbolic o) (get memory q)) (find_past q (number, page) rest other)
         ∙ sym (ap (option_or (option_map as_symbolic (find nat_cmp q rest))) (get_after_insert q ∙ ap (λ b. cond b (Some (as_symbolic page)) (get memory q)) (test_of_other q number other)))
   ]
+
+-- The bytes and flags of a memory whose pages are those of an image.
+at_numbers : (numbers : List ℕ) (i : ℕ) → slice_index_or (number_bytes numbers) i (Number 0) ≡ Number (slice_index numbers i)
+at_numbers [] i = refl
+at_numbers (n ∷ numbers) zero = refl
+at_numbers (n ∷ numbers) (suc i) = at_numbers numbers i
+
+byte_as : (page : Option Page) (i : ℕ) → page_byte (option_map as_symbolic page) i ≡ Number (byte_in page i)
+byte_as None i = refl
+byte_as (Some page) i = at_numbers page.bytes i
+
+flags_as : (page : Option Page)
+    → option_map (λ (p : SymbolicPage). p.flags) (option_map as_symbolic page) ≡ option_map (λ (p : Page). p.flags) page
+flags_as None = refl
+flags_as (Some page) = refl
+
+module _ (image : Image) (memory : SymbolicMemory) (pages : (q : ℕ) → get memory q ≡ option_map as_symbolic (get image.pages q)) where
+  pub image_bytes : (address : ℕ) → memory_byte memory address ≡ Number (byte_of image address)
+  unfolding byte_of
+  image_bytes address =
+      ap (λ o. page_byte o (address % 256)) (pages (address / 256)) ∙ byte_as (get image.pages (address / 256)) (address % 256)
+
+  pub image_flags : (q : ℕ) → memory_flags memory q ≡ flags_of image q
+  image_flags q = ap (λ o. option_map (λ (p : SymbolicPage). p.flags) o) (pages q) ∙ flags_as (get image.pages q)

@@ -7,3 +7,4 @@ pub mod GroupChanges
 pub mod SharedChanges
 pub mod ImagePages
 pub mod ByteWrites
+pub mod Overlays

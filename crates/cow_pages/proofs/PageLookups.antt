@@ -17,7 +17,7 @@ or_none : (o : Option SymbolicPage) → option_or o None ≡ o
 or_none None = refl
 or_none (Some page) = refl
 
-find_either : (q : ℕ) (xs ys : List (ℕ × SymbolicPage))
+pub find_either : (q : ℕ) (xs ys : List (ℕ × SymbolicPage))
     → find nat_cmp q (xs ++ ys) ≡ option_or (find nat_cmp q xs) (find nat_cmp q ys)
 find_either q [] ys = refl
 find_either q (x ∷ xs) ys =

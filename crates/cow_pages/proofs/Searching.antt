@@ -1,5 +1,5 @@
 -- What a binary search for a group's number finds.
-use Rattle.std.proofs.Common.{◌≡◌, ℕ, ◌<◌, ◌≤◌, List, [], ◌∷◌, length, get_or, Ok, Err, sym, ap, ◌∙◌, arith}
+use Rattle.std.proofs.Common.{◌≡◌, ℕ, ◌<◌, ◌≤◌, List, [], ◌∷◌, length, get_or, Ok, Err, sym, ap, subst, ◌∙◌, arith}
 use Rattle.std.specs.Arc.{arc_value}
 use Rattle.std.specs.Prelude.{Result, IfOk, IfErr}
 use Rattle.std.specs.List.Sorted.{IsBinarySearchResult, IsNonDecreasingBy, IsSearchInRange}
@@ -8,7 +8,7 @@ use Rattle.std.proofs.lemmas.Bool.Decides.{nat_tests}
 use Rattle.std.proofs.lemmas.Cmp.{ranked}
 use Rattle.std.proofs.lemmas.List.{length-map, get_or-map}
 use Rattle.std.proofs.lemmas.List.Sorted.{IsNonDecreasingBy-from_default}
-use Rattle.cow_pages.specs.Groups.{Places, group_at, shared_groups, AreGroups, IsGroupAt, IsGapFor, GroupRef, shared_group}
+use Rattle.cow_pages.specs.Groups.{Places, Groups, group_at, shared_groups, AreGroups, IsGroupAt, IsGapFor, GroupRef, shared_group}
 
 -- how many there are
 pub length-shared_groups : (groups : List GroupRef) → length (shared_groups groups) ≡ length groups
@@ -60,15 +60,17 @@ gap_found : (groups : List GroupRef) (k i : ℕ) → AreGroups (shared_groups gr
 gap_found [] k i are within parted = record { in_range = within; below = λ j lt. absurd (omega (arith, within)); above = λ j le small. absurd (omega (arith, small)) }
 gap_found (g ∷ groups) k i are within parted = gap_there (g ∷ groups) g are k i within parted
 
--- what the search says in either case
-pub search_found : (groups : List GroupRef) (k : ℕ) (r : Result ℕ ℕ) → AreGroups (shared_groups groups)
-    → IsSearchInRange r (length groups) → IsBinarySearchResult (λ g. nat_cmp g.0 k) groups r
-    → IfOk r (IsGroupAt (shared_groups groups) k)
-search_found groups k (Ok i) are within answer = group_found groups k i are within answer
-search_found groups k (Err i) are within answer = tt
+-- what the search says in either case, of groups that are these
+pub search_found : (groups : List GroupRef) (now : Groups) (k : ℕ) (r : Result ℕ ℕ) → shared_groups groups ≡ now
+    → AreGroups now → IsSearchInRange r (length groups) → IsBinarySearchResult (λ g. nat_cmp g.0 k) groups r
+    → IfOk r (IsGroupAt now k)
+search_found groups now k (Ok i) view are within answer =
+    subst (λ (gs : Groups). IsGroupAt gs k i) view (group_found groups k i (subst AreGroups (sym view) are) within answer)
+search_found groups now k (Err i) view are within answer = tt
 
-pub search_gap : (groups : List GroupRef) (k : ℕ) (r : Result ℕ ℕ) → AreGroups (shared_groups groups)
-    → IsSearchInRange r (length groups) → IsBinarySearchResult (λ g. nat_cmp g.0 k) groups r
-    → IfErr r (IsGapFor (shared_groups groups) k)
-search_gap groups k (Ok i) are within answer = tt
-search_gap groups k (Err i) are within answer = gap_found groups k i are within answer
+pub search_gap : (groups : List GroupRef) (now : Groups) (k : ℕ) (r : Result ℕ ℕ) → shared_groups groups ≡ now
+    → AreGroups now → IsSearchInRange r (length groups) → IsBinarySearchResult (λ g. nat_cmp g.0 k) groups r
+    → IfErr r (IsGapFor now k)
+search_gap groups now k (Ok i) view are within answer = tt
+search_gap groups now k (Err i) view are within answer =
+    subst (λ (gs : Groups). IsGapFor gs k i) view (gap_found groups k i (subst AreGroups (sym view) are) within answer)

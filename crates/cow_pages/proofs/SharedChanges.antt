@@ -1,6 +1,6 @@
 -- Groups behind counted references, as they are changed.
 use Rattle.std.proofs.Common.{◌≡◌, ℕ, ◌+◌, ◌/◌, ◌%◌, ◌<◌, List, [], ◌∷◌, ◌++◌, length, get_or, take, drop, set, Some, None, Ok, Err, length-set, refl, sym, ap, subst, ◌∙◌, arith}
-use Rattle.std.specs.Prelude.{Option, Result, IfSome, OnOk, OnErr, insert}
+use Rattle.std.specs.Prelude.{Option, Result, Bool, IfOk, IfSome, OnOk, OnErr, insert, is_some}
 use Rattle.std.specs.Arc.{arc_value}
 use Rattle.std.specs.FinMap as finite
 use Rattle.std.specs.declared.alloc.AllocError.{AllocError}
@@ -9,7 +9,7 @@ use Rattle.std.specs.declared.sync.Arc.{Arc}
 use Rattle.std.proofs.lemmas.List.{map-append, map-set, take-map, drop-map, take_more}
 use Rattle.cow_pages.specs.SymbolicMemory.{SymbolicPage, HasAllBytes, with_byte_at, with_page}
 use Rattle.cow_pages.specs.declared.byte.Byte.{Byte}
-use Rattle.cow_pages.specs.Groups.{Places, page_at_place, group_at, shared_groups, AreGroups, IsGroupAt, IsGapFor, page_in, memory_in, GroupRef, shared_group}
+use Rattle.cow_pages.specs.Groups.{Places, Groups, page_at_place, group_at, shared_groups, AreGroups, IsGroupAt, IsGapFor, page_in, memory_in, GroupRef, shared_group}
 use Rattle.cow_pages.proofs.SharedPlaces.{set_there}
 use Rattle.cow_pages.proofs.Searching.{length-shared_groups, at-shared_groups}
 use Rattle.cow_pages.proofs.PageLookups.{get_in_groups}
@@ -48,7 +48,7 @@ module _ (groups : List GroupRef) (k i : ℕ) (g : Arc Places Global) (are : Are
   new_group_at = rw shared_groups-insert (group_put_in (shared_groups groups) k i are gap (arc_value g))
 
 -- A page stays whole, and mapped, when a byte is written to it.
-whole_with : (o : Option SymbolicPage) (offset : ℕ) (byte : Byte) → IfSome o HasAllBytes
+pub whole_with : (o : Option SymbolicPage) (offset : ℕ) (byte : Byte) → IfSome o HasAllBytes
     → IfSome (with_byte_at o offset byte) HasAllBytes
 whole_with None offset byte whole = tt
 whole_with (Some page) offset byte whole = length-set page.bytes offset byte ∙ whole
@@ -84,7 +84,7 @@ module _ (groups : List GroupRef) (number i : ℕ) (g : GroupRef) (new : Arc Pla
       ∙ ap (set (shared_groups groups) i) (sym group_there)
       ∙ set_there (shared_groups groups) i (0, [])
 
-  pub are_groups_then : (r : Result (Unit {0}) AllocError) (page : Option SymbolicPage)
+  pub are_groups_then : {A : Type 0} (r : Result A AllocError) (page : Option SymbolicPage)
       → IfSome page HasAllBytes → OnOk r (arc_value new ≡ set (arc_value g.1) (number % 64) page)
       → OnErr r (arc_value new ≡ arc_value g.1) → AreGroups (shared_groups (set groups i (g.0, new)))
   are_groups_then (Ok done) page whole is same = subst AreGroups (sym (changed_to page is)) (are_groups-changed (shared_groups groups) number i are at page whole)
@@ -107,12 +107,18 @@ module _ (groups : List GroupRef) (number i : ℕ) (g : GroupRef) (new : Arc Pla
   page_whole : IfSome (page_at_place (arc_value g.1) (number % 64)) HasAllBytes
   page_whole = subst (λ (e : ℕ × Places). IfSome (page_at_place e.1 (number % 64)) HasAllBytes) group_there (are.whole i (number % 64) at.in_range)
 
+  pub told_there : (r : Result Bool AllocError)
+      → IfOk r (λ told. told ≡ is_some (page_at_place (arc_value g.1) (number % 64)))
+      → IfOk r (λ told. told ≡ is_some (finite.get (memory_in (shared_groups groups)) number))
+  told_there (Ok told) is = is ∙ ap is_some (page_here ∙ sym (get_in_groups (shared_groups groups) number are))
+  told_there (Err refused) is = tt
+
   -- A byte is written to the page there.
   module _ (offset : ℕ) (byte : Byte) where
     abbrev page_after : Option SymbolicPage
     page_after = with_byte_at (page_at_place (arc_value g.1) (number % 64)) offset byte
 
-    pub are_groups_written : (r : Result (Unit {0}) AllocError)
+    pub are_groups_written : {A : Type 0} (r : Result A AllocError)
         → OnOk r (arc_value new ≡ set (arc_value g.1) (number % 64) page_after)
         → OnErr r (arc_value new ≡ arc_value g.1) → AreGroups (shared_groups (set groups i (g.0, new)))
     are_groups_written r = are_groups_then r page_after (whole_with _ offset byte page_whole)
@@ -123,9 +129,8 @@ module _ (groups : List GroupRef) (number i : ℕ) (g : GroupRef) (new : Arc Pla
         memory_then page_after (whole_with _ offset byte page_whole) (λ none. sym page_here ∙ none_before _ offset byte none) is
         ∙ ap (λ o. with_page (memory_in (shared_groups groups)) number (with_byte_at o offset byte)) (page_here ∙ sym (get_in_groups (shared_groups groups) number are))
 
--- where the page isn't mapped nothing changes
-pub memory_without : (groups : List GroupRef) (number i offset : ℕ) (byte : Byte)
-    → AreGroups (shared_groups groups) → IsGapFor (shared_groups groups) (number / 64) i
-    → memory_in (shared_groups groups) ≡ with_page (memory_in (shared_groups groups)) number (with_byte_at (finite.get (memory_in (shared_groups groups)) number) offset byte)
+-- where the page isn't there nothing changes
+pub memory_without : (groups : Groups) (number i offset : ℕ) (byte : Byte) → AreGroups groups → IsGapFor groups (number / 64) i
+    → memory_in groups ≡ with_page (memory_in groups) number (with_byte_at (finite.get (memory_in groups) number) offset byte)
 memory_without groups number i offset byte are gap =
-    sym (ap (λ o. with_page (memory_in (shared_groups groups)) number (with_byte_at o offset byte)) (get_in_groups (shared_groups groups) number are ∙ sym (page_missing groups number i gap)))
+    ap (λ o. with_page (memory_in groups) number (with_byte_at o offset byte)) (page_missing groups number i are gap)

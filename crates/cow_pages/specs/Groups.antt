@@ -93,6 +93,6 @@ pages_in (g ∷ groups) = numbered_from (64 * g.0) g.1 ++ pages_in groups
 unfoldable pub memory_in : Groups → SymbolicMemory
 memory_in groups = from_entries (pages_in groups)
 
--- the memory that stands in groups behind counted references
-abbrev pub shared_memory : List GroupRef → SymbolicMemory
-shared_memory groups = memory_in (shared_groups groups)
+-- the memory of groups with others over them: of a number that has a page in both it has the page of the others
+unfoldable pub memory_over : Groups → Groups → SymbolicMemory
+memory_over base own = from_entries (pages_in own ++ pages_in base)

@@ -1,6 +1,6 @@
 //! Groups of pages whose numbers follow one another.
 
-ghost use Rattle.std.specs.Prelude.{◌≡◌, ◌<◌, ℕ, length, slice_set, Some, None, IfOk, OnOk, OnErr};
+ghost use Rattle.std.specs.Prelude.{◌≡◌, ◌<◌, ℕ, length, slice_set, is_some, Some, None, IfOk, OnOk, OnErr};
 ghost use Rattle.std.specs.Arc.{arc_value};
 ghost use Rattle.std.specs.Option.{option_copied};
 ghost use Rattle.cow_pages.specs.SymbolicMemory.{with_byte_at};
@@ -46,15 +46,19 @@ fn share_page(page: &Option<Arc<Page>>) -> Result<Option<Arc<Page>>, NoMemory>
     }
 }
 
-/// Puts a byte to this offset of a page, if there is one. Where others share the page, a copy of
-/// its own gets it.
-fn write_page(page: &mut Option<Arc<Page>>, offset: u8, byte: Byte) -> Result<(), NoMemory>
+/// Puts a byte to this offset of a page, if there is one, and says whether there is. Where others
+/// share the page, a copy of its own gets it.
+fn write_page(page: &mut Option<Arc<Page>>, offset: u8, byte: Byte) -> Result<bool, NoMemory>
+    ensures there { IfOk result (λ there. there ≡ is_some (shared_page page.old)) }
     ensures ok { OnOk result (shared_page page.new ≡ with_byte_at (shared_page page.old) offset byte) }
     ensures err { OnErr result (shared_page page.new ≡ shared_page page.old) }
 {
     match page {
-        Some(page) => Arc::make_mut(page)?.set(offset, byte),
-        None => Ok(()),
+        Some(page) => {
+            Arc::make_mut(page)?.set(offset, byte)?;
+            Ok(true)
+        }
+        None => Ok(false),
     }
 }
 
@@ -90,9 +94,10 @@ impl Group {
         self.pages[place] = Some(page);
     }
 
-    /// Puts a byte to this offset of the page at a place, if there is one.
-    pub(crate) fn write(&mut self, place: usize, offset: u8, byte: Byte) -> Result<(), NoMemory>
+    /// Puts a byte to this offset of the page at a place, if there is one, and says whether there is.
+    pub(crate) fn write(&mut self, place: usize, offset: u8, byte: Byte) -> Result<bool, NoMemory>
         requires { place < 64 }
+        ensures there { IfOk result (λ there. there ≡ is_some (page_at_place self.old place)) }
         ensures ok { OnOk result (self.new ≡ with_byte_in self.old place offset byte) }
         ensures err { OnErr result (self.new ≡ self.old) }
     {

@@ -163,6 +163,15 @@ impl Page {
     {
         self.content.set(offset as usize, byte)
     }
+
+    /// A copy of its own with another byte at this offset.
+    pub(crate) fn with_byte(&self, offset: u8, byte: Byte) -> Result<Page, NoMemory>
+        ensures { IfOk result (λ copy. copy ≡ page_with self.now offset byte) }
+    {
+        let mut copy = self.clone()?;
+        copy.set(offset, byte)?;
+        Ok(copy)
+    }
 }
 
 impl Clone for Page {

@@ -7,8 +7,7 @@ ghost use Rattle.rv_spec.specs.Memory.{byte_of, flags_of};
 ghost use Rattle.cow_pages.specs.SymbolicMemory.{HasAllBytes, as_symbolic, memory_byte, memory_flags, memory_with};
 
 use crate::byte::Byte;
-use crate::group::{GROUP_SIZE, Group};
-use crate::groups::{add_page, page_of, search_near, share, write};
+use crate::groups::GroupList;
 use crate::page::{PAGE_SIZE, Page};
 use elf_load::Image;
 use std::alloc::{AllocError as NoMemory, Global};
@@ -21,28 +20,30 @@ use std::sync::Arc;
 /// Copies share their pages until one of them writes there.
 #[derive(Debug, Drop)]
 pub struct Pages {
-    /// The groups of pages with their numbers, which rise.
-    groups: Vec<(u32, Arc<Group>)>,
-    /// The place of the group that is looked at first.
-    recent: usize,
+    /// The pages of the image, as they were before any was written. All copies share them.
+    base: Arc<GroupList>,
+    /// The pages that were written.
+    own: GroupList,
+    /// Where among the pages of the image is looked first.
+    recent_base: usize,
+    /// Where among those that were written is looked first.
+    recent_own: usize,
 }
 
 impl Model for Pages {
     ghost use Rattle.cow_pages.specs.SymbolicMemory as memory;
-    ghost use Rattle.cow_pages.specs.Groups.{AreGroups, shared_groups, shared_memory};
+    ghost use Rattle.std.specs.Arc.{arc_value};
+    ghost use Rattle.cow_pages.specs.Groups.{memory_over};
 
     ghost Value = { memory.SymbolicMemory };
 
     ghost coded = { memory.memory_code };
 
-    ghost view = { λ p. shared_memory p.groups.items };
-
-    ghost invariant = { λ p. AreGroups (shared_groups p.groups.items) };
+    ghost view = { λ p. memory_over (arc_value p.base) p.own };
 }
 
 impl Pages {
     /// The memory that an image begins with.
-    #[tactic(auto, unfolding(rv_spec::specs::Memory::byte_of))]
     pub fn new(alloc: Global, image: &Image) -> Result<Pages, NoMemory>
         ensures pages { IfOk result (λ pages. (number : ℕ) →
             map.get pages number ≡ option_map as_symbolic (map.get image.now.pages number)) }
@@ -51,12 +52,19 @@ impl Pages {
         ensures flags { IfOk result (λ pages. (number : ℕ) →
             memory_flags pages number ≡ flags_of image.now number) }
     {
-        let mut groups = Vec::new(alloc);
+        let mut groups = GroupList::new(alloc);
         for (number, page) in image.pages() {
             let page = Page::of_numbers(alloc, page.flags, &page.bytes)?;
-            add_page(&mut groups, *number, page)?;
+            groups.add_page(*number, page)?;
         }
-        Ok(Pages { groups, recent: 0 })
+        let base = Arc::new(alloc, groups)?;
+        let own = GroupList::new(alloc);
+        Ok(Pages {
+            base,
+            own,
+            recent_base: 0,
+            recent_own: 0,
+        })
     }
 
     /// The page of this number, if it is mapped.
@@ -65,16 +73,18 @@ impl Pages {
         ensures mapped { is_some result ≡ is_some (memory_flags self.now number) }
         ensures whole { IfSome (map.get self.now number) HasAllBytes }
     {
-        page_of(&self.groups, self.recent, number)
+        match self.own.page(self.recent_own, number) {
+            Some(page) => Some(page),
+            None => self.base.page(self.recent_base, number),
+        }
     }
 
     /// Looks for pages near this one first from now on.
     pub fn turn_to(&mut self, number: u32)
         ensures { self.new ≡ self.old }
     {
-        if let Ok(place) = search_near(&self.groups, self.recent, number / GROUP_SIZE) {
-            self.recent = place;
-        }
+        self.recent_base = self.base.place_near(self.recent_base, number);
+        self.recent_own = self.own.place_near(self.recent_own, number);
     }
 
     /// What may be done on the page of this number, if it is mapped.
@@ -105,7 +115,7 @@ impl Pages {
             memory_flags self.new number ≡ memory_flags self.old number) }
         ensures err { OnErr result (self.new ≡ self.old) }
     {
-        write(&mut self.groups, address, byte)
+        self.own.write_over(&self.base, address, byte)
     }
 
     /// The same memory, on the same pages. What is written to one of the two isn't seen in the other.
@@ -113,8 +123,10 @@ impl Pages {
         ensures { IfOk result (λ copy. copy ≡ self.now) }
     {
         Ok(Pages {
-            groups: share(*self.groups.allocator(), &self.groups)?,
-            recent: self.recent,
+            base: Arc::try_clone(&self.base)?,
+            own: self.own.share()?,
+            recent_base: self.recent_base,
+            recent_own: self.recent_own,
         })
     }
 }

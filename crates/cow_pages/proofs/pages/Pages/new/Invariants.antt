@@ -4,13 +4,12 @@ use Rattle.std.specs.FinMap.Entries.{is_sorted}
 use Rattle.std.specs.Option.{option_map, option_or}
 use Rattle.std.specs.Ordering.{nat_cmp}
 use Rattle.cow_pages.specs.SymbolicMemory.{as_symbolic}
-use Rattle.cow_pages.specs.Groups.{AreGroups, memory_in, shared_groups}
+use Rattle.cow_pages.specs.Groups.{memory_in}
 use Rattle.cow_pages.proofs.pages.Pages.new.Given as goal
 
 -- the pages so far are there, and those that are left come behind them
 abbrev pub invariant-loop-number : goal.invariant-loop-number
 invariant-loop-number l = record {
-  groups : AreGroups (shared_groups l.groups.items);
   sorted : T (is_sorted nat_cmp l.number-iterator);
-  pages : (q : ℕ) → option_map as_symbolic (get l.image.pages q) ≡ option_or (option_map as_symbolic (find nat_cmp q l.number-iterator)) (get (memory_in (shared_groups l.groups.items)) q);
+  pages : (q : ℕ) → option_map as_symbolic (get l.image.pages q) ≡ option_or (option_map as_symbolic (find nat_cmp q l.number-iterator)) (get (memory_in l.groups) q);
 }
