@@ -1,7 +1,7 @@
 //! The core of a fork tree: its nodes and events, both of which only grow.
 
 ghost use Rattle.std.specs.Prelude.{◌≡◌, ◌≢◌, ◌<◌, ◌≤◌, ◌↔◌, Some, Err, IsTrue, IsFalse, All, length, option_map, OnOk, OnErr, IfOk, IfSome};
-ghost use Rattle.tree_core.specs.Stories.{status, content, origin};
+ghost use Rattle.tree_core.specs.Stories.{status, content, origin, left_by, born_as, content_by};
 ghost use Rattle.tree_core.specs.Covers.{Partition};
 ghost use Rattle.tree_core.specs.Replays.{IsFit, Replays, is_allowed, noted, after, opening};
 ghost use Rattle.tree_core.specs.Cores.{LacksRoom, IsLast, held_count};
@@ -180,24 +180,48 @@ impl<R: Cover> Core<R> {
     }
 }
 
+// How the deed of an event leaves its node.
+fn left_by<R>(event: &Noted<R>) -> Status
+    ensures { result ≡ left_by event.now.by event.now.deed }
+{
+    match event.deed {
+        Deed::Claim => Status::Held(event.by),
+        Deed::Split(_) => Status::Parted,
+        Deed::Finish(_) | Deed::Cut(_) => Status::Leaf,
+        Deed::Release => Status::Free,
+    }
+}
+
+// How a node stands at its birth.
+fn born_as<R>(node: &Node<R>) -> Status
+    ensures { result ≡ born_as (Some node.now) }
+{
+    if node.is_leaf {
+        Status::Leaf
+    } else {
+        Status::Free
+    }
+}
+
 // How the node stands, by the place of the last event that names it.
 fn status_at<R>(nodes: &[Node<R>], events: &[Noted<R>], last: Option<usize>, node: usize) -> Status
     requires there { node < length nodes.now }
     requires last { IsLast (record { nodes = nodes.now; events = events.now }) node last }
     ensures { result ≡ status (record { nodes = nodes.now; events = events.now }) node }
 {
-    let Some(place) = last else {
-        return if nodes[node].is_leaf {
-            Status::Leaf
-        } else {
-            Status::Free
-        };
-    };
-    match events[place].deed {
-        Deed::Claim => Status::Held(events[place].by),
-        Deed::Split(_) => Status::Parted,
-        Deed::Finish(_) | Deed::Cut(_) => Status::Leaf,
-        Deed::Release => Status::Free,
+    match last {
+        Some(place) => left_by(&events[place]),
+        None => born_as(&nodes[node]),
+    }
+}
+
+// What a deed leaves in a node that was born with this content.
+fn content_by<'a, R>(birth: &'a R, deed: &'a Deed<R, usize>) -> &'a R
+    ensures { content_by (Some birth.now) deed.now ≡ Some result.now }
+{
+    match deed {
+        Deed::Finish(leaf) | Deed::Cut(leaf) => leaf,
+        _ => birth,
     }
 }
 
@@ -212,11 +236,9 @@ fn content_at<'a, R>(
     requires last { IsLast (record { nodes = nodes.now; events = events.now }) node last }
     ensures { content (record { nodes = nodes.now; events = events.now }) node ≡ Some result.now }
 {
-    let Some(place) = last else {
-        return &nodes[node].content;
-    };
-    match &events[place].deed {
-        Deed::Finish(leaf) | Deed::Cut(leaf) => leaf,
-        _ => &nodes[node].content,
+    let birth = &nodes[node].content;
+    match last {
+        Some(place) => content_by(birth, &events[place].deed),
+        None => birth,
     }
 }
