@@ -1,7 +1,7 @@
 use Rattle.std.proofs.Common.{◌≡◌, ◌∙◌, sym, Some, None}
 use Rattle.cnf_form.specs.Valuations.{valuation}
 use Rattle.cdcl_core.proofs.Learning.{is_found_at}
-use Rattle.cdcl_core.proofs.solver.search.Goals as goal
+use Rattle.cdcl_core.proofs.solver.Solver.work.Goals as goal
 
 pub returns-in_default-clause-found : goal.returns-in_default-clause-found
 returns-in_default-clause-found c =
