@@ -12,6 +12,3 @@ mod shifts;
 mod values;
 
 pub use query::{bytes_of, clauses};
-
-#[cfg(test)]
-mod tests;

@@ -14,6 +14,3 @@ pub use nodes::{BinaryOp, Comparison, Node, Widths};
 pub use query::Query;
 pub use table::Table;
 pub use words::Word;
-
-#[cfg(test)]
-mod tests;

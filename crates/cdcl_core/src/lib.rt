@@ -32,6 +32,3 @@ mod solver;
 mod trail;
 
 pub use solver::{Answer, search};
-
-#[cfg(test)]
-mod tests;

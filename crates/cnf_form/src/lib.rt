@@ -13,6 +13,3 @@ pub use formula::Cnf;
 pub use literal::Lit;
 pub use log::{Log, LogStep};
 pub use valuation::Val;
-
-#[cfg(test)]
-mod tests;

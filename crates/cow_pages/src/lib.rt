@@ -10,6 +10,3 @@ mod pages;
 pub use byte::Byte;
 pub use page::Page;
 pub use pages::Pages;
-
-#[cfg(test)]
-mod tests;

@@ -4,7 +4,5 @@
 
 mod chunk;
 mod list;
-#[cfg(test)]
-mod tests;
 
 pub use list::CowVec;

@@ -25,6 +25,3 @@ pub use page::Page;
 pub use refused::Refused;
 pub use region::{Region, Regions};
 pub use unfit::Unfit;
-
-#[cfg(test)]
-mod tests;

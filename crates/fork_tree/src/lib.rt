@@ -4,8 +4,6 @@
 mod content;
 mod draining;
 pub mod laws;
-#[cfg(test)]
-mod tests;
 mod tree;
 mod work;
 

@@ -9,6 +9,3 @@ mod scanning;
 
 pub use pool::{PLACES, Pool};
 pub use scanning::scan;
-
-#[cfg(test)]
-mod tests;

@@ -12,8 +12,6 @@ mod finish;
 mod forked;
 mod leaf;
 mod pin;
-#[cfg(test)]
-mod tests;
 mod values;
 mod worker;
 

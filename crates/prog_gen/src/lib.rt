@@ -6,6 +6,3 @@ pub mod laws;
 mod words;
 
 pub use generated::{Generated, generate};
-
-#[cfg(test)]
-mod tests;

@@ -11,6 +11,3 @@ mod marks;
 pub use checker::Checker;
 pub use checking::{check, ends_empty};
 pub use freshness::fresh;
-
-#[cfg(test)]
-mod tests;

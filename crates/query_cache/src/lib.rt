@@ -12,6 +12,3 @@ mod solved;
 pub use cache::{Cache, MOST_KEPT};
 pub use satisfiability::Satisfiability;
 pub use solved::Solved;
-
-#[cfg(test)]
-mod tests;

@@ -15,6 +15,3 @@ mod one_byte;
 pub use deciding::decide;
 pub use decision::Decision;
 pub use occurrence::{Occurrence, occurring};
-
-#[cfg(test)]
-mod tests;

@@ -16,6 +16,3 @@ pub use asked::Asked;
 pub use asking::{ask, ask_part};
 pub use part::part_of;
 pub use shared::{Counts, Shared};
-
-#[cfg(test)]
-mod tests;

@@ -11,6 +11,3 @@ mod picking;
 
 pub use finding::cone;
 pub use picking::{Picked, pick, pick_terms};
-
-#[cfg(test)]
-mod tests;

@@ -17,6 +17,3 @@ mod slicing;
 
 pub use merging::merge;
 pub use slicing::slice;
-
-#[cfg(test)]
-mod tests;

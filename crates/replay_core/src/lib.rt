@@ -8,6 +8,3 @@ mod replays;
 
 pub use difference::write_difference;
 pub use replays::{Replayed, replay};
-
-#[cfg(test)]
-mod tests;

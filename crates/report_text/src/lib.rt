@@ -15,8 +15,6 @@ mod reported;
 mod sample_test;
 mod spent;
 mod summary;
-#[cfg(test)]
-mod tests;
 
 pub use event_lines::write_events;
 pub use file_names::{events_name, leaf_name, report_name, spent_name, test_name};

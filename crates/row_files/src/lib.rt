@@ -7,6 +7,3 @@ mod file;
 pub mod programs;
 
 pub use file::row_file;
-
-#[cfg(test)]
-mod tests;

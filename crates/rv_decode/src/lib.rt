@@ -7,8 +7,6 @@ mod fields;
 mod instr;
 mod ops;
 mod register;
-#[cfg(test)]
-mod tests;
 
 pub use decoder::decode;
 pub use ends::{End, PathStep, Trap};

@@ -30,6 +30,3 @@ pub use machine::Machine;
 pub use memory::word;
 pub use run::Ran;
 pub use step::Step;
-
-#[cfg(test)]
-mod tests;

@@ -19,8 +19,6 @@ mod take_counts;
 mod take_heading;
 mod take_terms;
 mod term;
-#[cfg(test)]
-mod tests;
 
 pub use leaf::LeafText;
 pub use leaf_reader::{SmtRefused, read_leaf};

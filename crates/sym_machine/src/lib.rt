@@ -19,8 +19,6 @@ mod halt;
 mod needs;
 mod outcome;
 mod stepping;
-#[cfg(test)]
-mod tests;
 mod transfer;
 
 pub use outcome::RunEnd;

@@ -29,8 +29,6 @@ mod moves;
 mod operations;
 mod program;
 mod state;
-#[cfg(test)]
-mod tests;
 mod value;
 mod values;
 

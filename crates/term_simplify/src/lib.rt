@@ -18,8 +18,3 @@ mod plan;
 mod remainders;
 
 pub use builder::Builder;
-
-#[cfg(test)]
-mod operation_rows;
-#[cfg(test)]
-mod tests;

@@ -3,8 +3,6 @@
 
 mod entry;
 mod table;
-#[cfg(test)]
-mod tests;
 mod values;
 
 pub use table::Terms;

@@ -11,8 +11,6 @@ mod refused;
 mod said;
 mod test;
 mod test_error;
-#[cfg(test)]
-mod tests;
 mod writing;
 
 pub use parts::{end_text, region_list};

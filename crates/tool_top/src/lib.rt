@@ -11,6 +11,3 @@ mod run;
 mod verdict;
 
 pub use run::run_tool;
-
-#[cfg(test)]
-mod tests;

@@ -11,6 +11,3 @@ mod words;
 pub use job::{Job, WordsError};
 pub use limit::{CONFLICTS, Limit, NUMBERS, STEPS, TARGETS, WORKERS};
 pub use words::read_words;
-
-#[cfg(test)]
-mod tests;

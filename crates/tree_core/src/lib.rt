@@ -11,8 +11,6 @@ mod event;
 pub mod laws;
 mod node;
 mod refusal;
-#[cfg(test)]
-mod tests;
 mod tree;
 
 pub use budgets::Budgets;

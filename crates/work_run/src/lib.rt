@@ -5,8 +5,6 @@ mod lent;
 mod round;
 mod run;
 mod stopped;
-#[cfg(test)]
-mod tests;
 mod turn;
 mod turn_tree;
 mod worker;

@@ -1,0 +1,105 @@
+//! A run over four input bytes that is asked more than once.
+
+ghost use Rattle.std.specs.Prelude.{◌≡◌, true, IsTrue, IfOk};
+ghost use Rattle.bv_dag.specs.Queries.{holds};
+ghost use Rattle.sym_state.specs.Symbolic.{condition_of};
+
+use elf_load::{Region, Regions, fit, load};
+use query_front::{Asked, Counts, Shared, ask};
+use query_pick::pick;
+use row_files::row_file;
+use rv_decode::Test;
+use std::alloc::{AllocError as NoMemory, Global};
+use std::process::Abort;
+use std::sync::Wait;
+use std::test::Fail;
+use sym_state::{Program, State, Value, listed};
+use tool_io::Bytes;
+
+/// Where the four bytes stand.
+const PLACES: Region = Region {
+    start: 0x11000,
+    count: 4,
+};
+
+/// Where the third of them does.
+const THIRD: u32 = 0x11002;
+
+/// Where the last of them does.
+const FOURTH: u32 = 0x11003;
+
+// The run of all assignments of a program of one ECALL.
+fn first(rt: &impl Abort, alloc: Global) -> Result<State, Fail> {
+    let file = row_file(alloc, &[0x0000_0073])?;
+    let image = load(alloc, file.as_slice())?;
+    let regions = Regions::from_vec(Vec::from_slice(alloc, &[PLACES])?);
+    assert!(rt; fit(&image, &regions).is_ok());
+    Ok(State::first(alloc, &Program::new(image, regions))?)
+}
+
+// The term that the last two bytes, the third lowest, pass a test against a number.
+fn passes(state: &mut State, test: Test, number: u32) -> Result<usize, NoMemory> {
+    let (low, high) = (state.byte(THIRD), state.byte(FOURTH));
+    let value = state.from_half(false, low, high)?;
+    state.tested(test, value, Value::Number(number))
+}
+
+// Whether the sample of a run meets its condition.
+fn is_sampled(alloc: Global, state: &State) -> Result<bool, NoMemory>
+    ensures { IfOk result (λ yes. IsTrue yes → holds (condition_of state.now) state.now.sample ≡ true) }
+{
+    let condition = listed(alloc, state.condition())?;
+    let query = pick(alloc, state.terms(), &condition)?;
+    query.holds(alloc, state.sample().as_slice())
+}
+
+// The bytes on which the run goes on where its last two bytes pass a test, if there are any.
+fn asked(
+    rt: &(impl Abort + Wait),
+    alloc: Global,
+    shared: &Shared,
+    state: &State,
+    test: Test,
+    number: u32,
+) -> Result<Option<Bytes>, Fail> {
+    let mut state = state.share()?;
+    let new = passes(&mut state, test, number)?;
+    assert!(rt; new < state.terms().len() && state.terms().width_of(new) == 1);
+    assert!(rt; is_sampled(alloc, &state)?);
+    match ask(rt, alloc, shared, &state, new, 100)? {
+        Asked::Sat(bytes) => Ok(Some(bytes)),
+        Asked::Unsat => Ok(None),
+        Asked::Spent(_, _) => Err(Fail::new("the budget was spent")),
+    }
+}
+
+/// Each question, and whether some bytes answer it: always 0, 0, 5 and 0. The first and the last are decided, the second was
+/// asked before, and the third is met by what the first found.
+const QUESTIONS: [(Test, u32, bool); 4] = [
+    (Test::Beq, 5, true),
+    (Test::Beq, 5, true),
+    (Test::Bne, 0, true),
+    (Test::Bgeu, 65536, false),
+];
+
+#[test]
+fn what_was_found_serves_again(rt: HostRuntime) -> Result<(), Fail> {
+    let alloc = rt.alloc();
+    let shared = Shared::new(alloc)?;
+    let state = first(&rt, alloc)?;
+    for (test, number, is_met) in QUESTIONS {
+        let found = asked(&rt, alloc, &shared, &state, test, number)?;
+        assert_eq!(rt; found.is_some(), is_met);
+        if let Some(bytes) = found {
+            assert_eq!(rt; bytes.as_slice(), [0, 0, 5, 0].as_slice());
+        }
+    }
+    let counts = Counts {
+        cached: 1,
+        sampled: 1,
+        decided: 2,
+        spent: 0,
+    };
+    assert_eq!(rt; shared.counts(), counts);
+    Ok(())
+}

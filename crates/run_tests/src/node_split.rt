@@ -1,0 +1,116 @@
+//! What comes of the run of all assignments of some programs.
+
+use elf_load::{Region, Regions, fit, load};
+use fork_tree::{Content, Parts, Work};
+use node_split::Worker;
+use row_files::programs::{CALLED, DIVIDED, FORKED, STRAIGHT};
+use row_files::row_file;
+use std::alloc::Global;
+use std::process::Abort;
+use std::sync::Wait;
+use std::test::Fail;
+use sym_state::{LeafPart, Program, State};
+use tree_core::{Budgets, Choice, Kid};
+
+/// The input byte of all of them.
+const INPUT: Region = Region {
+    start: 0x11000,
+    count: 1,
+};
+
+// It loads from an address to which it adds the low bit of twice its input byte, and exits: LUI x5, 0x11; LBU x7, 0(x5);
+// ADD x8, x7, x7; ANDI x8, x8, 1; ADD x5, x5, x8; LBU x6, 0(x5); ADDI x17, x0, 93; ECALL.
+const ALIKE: [u32; 8] = [
+    0x0001_12B7,
+    0x0002_C383,
+    0x0073_8433,
+    0x0014_7413,
+    0x0082_82B3,
+    0x0002_C303,
+    0x05D0_0893,
+    0x0000_0073,
+];
+
+// The low bit of its input byte is the number of an environment call: LUI x5, 0x11; LBU x7, 0(x5); ANDI x17, x7, 1; ECALL.
+const PARITY: [u32; 4] = [0x0001_12B7, 0x0002_C383, 0x0013_F893, 0x0000_0073];
+
+/// What comes of a run: a leaf after so many steps, or kids of these choices.
+#[derive(Clone, Copy, Debug)]
+enum Comes {
+    Finished(u32),
+    CutSteps(u32),
+    Kids(&'static [Choice]),
+}
+
+/// Each row: a program, how many steps a run may make, how many values of a term become sides, and what comes of it. No byte divides -7
+/// into 1.
+const ROWS: [(&[u32], u32, u32, Comes); 7] = [
+    (&STRAIGHT, 10, 4, Comes::Finished(3)),
+    (&STRAIGHT, 2, 4, Comes::CutSteps(2)),
+    (&FORKED, 10, 4, Comes::Kids(&[Choice::No, Choice::Yes])),
+    (&DIVIDED, 10, 4, Comes::Finished(8)),
+    (&ALIKE, 10, 1, Comes::Finished(8)),
+    (
+        &PARITY,
+        10,
+        2,
+        Comes::Kids(&[Choice::Value(0), Choice::Value(1)]),
+    ),
+    (
+        &CALLED,
+        10,
+        2,
+        Comes::Kids(&[Choice::Value(0), Choice::Value(1), Choice::Rest]),
+    ),
+];
+
+// What comes of the run of all assignments of the program of these words.
+fn worked(
+    rt: &(impl Abort + Wait),
+    alloc: Global,
+    words: &[u32],
+    steps: u32,
+    targets: u32,
+) -> Result<Parts<State, LeafPart>, Fail> {
+    assert!(rt; words.len() < 1000);
+    assert!(rt; 1 <= steps && steps <= 1_000_000 && 1 <= targets);
+    let file = row_file(alloc, words)?;
+    let image = load(alloc, file.as_slice())?;
+    let regions = Regions::from_vec(Vec::from_slice(alloc, &[INPUT])?);
+    assert!(rt; fit(&image, &regions).is_ok());
+    let budgets = Budgets {
+        steps,
+        targets,
+        conflicts: 0,
+    };
+    let worker = Worker::new(alloc, Program::new(image, regions), budgets)?;
+    let state = State::first(alloc, worker.program())?;
+    Ok(worker.work(rt, alloc, &state)?)
+}
+
+// Whether kids have these choices, and only what is left beside values is a leaf.
+fn have(kids: &[Kid<Content<State, LeafPart>>], choices: &[Choice]) -> bool {
+    kids.len() == choices.len()
+        && kids.iter().zip(choices).all(|(kid, choice)| {
+            kid.choice == *choice && kid.is_leaf == (*choice == Choice::Rest)
+        })
+}
+
+// Whether this is what comes of a run.
+fn are(parts: &Parts<State, LeafPart>, comes: Comes) -> bool {
+    match (parts, comes) {
+        (Parts::Finished(leaf), Comes::Finished(steps)) => leaf.steps() == steps,
+        (Parts::CutSteps(leaf), Comes::CutSteps(steps)) => leaf.steps() == steps,
+        (Parts::Kids(kids), Comes::Kids(choices)) => have(kids, choices),
+        _ => false,
+    }
+}
+
+#[test]
+fn runs_go_on_until_they_fork_or_end(rt: HostRuntime) -> Result<(), Fail> {
+    for (at, &(words, steps, targets, comes)) in ROWS.iter().enumerate() {
+        let parts = worked(&rt, rt.alloc(), words, steps, targets)?;
+        assert!(rt; are(&parts, comes), "row {at}");
+    }
+    Ok(())
+}

@@ -1,0 +1,72 @@
+//! Where the run of all assignments of some programs stops first.
+
+use elf_load::{Region, Regions, fit, load};
+use row_files::programs::{ADDED, CALLED, COUNTED, DIVIDED, FORKED, STORED, STRAIGHT};
+use row_files::row_file;
+use rv_decode::Trap;
+use std::alloc::Global;
+use std::process::Abort;
+use std::test::Fail;
+use sym_machine::{RunEnd, Stop, advance};
+use sym_state::{Program, State};
+
+/// The input byte of all of them.
+const INPUT: Region = Region {
+    start: 0x11000,
+    count: 1,
+};
+
+// A program of these words.
+fn program_of(rt: &impl Abort, alloc: Global, words: &[u32]) -> Result<Program, Fail> {
+    assert!(rt; words.len() < 1000);
+    let file = row_file(alloc, words)?;
+    let image = load(alloc, file.as_slice())?;
+    let regions = Regions::from_vec(Vec::from_slice(alloc, &[INPUT])?);
+    assert!(rt; fit(&image, &regions).is_ok());
+    Ok(Program::new(image, regions))
+}
+
+// A stop of the run of all assignments in words, and how many steps were made.
+fn stops(
+    rt: &impl Abort,
+    alloc: Global,
+    words: &[u32],
+    most: u32,
+) -> Result<(&'static str, u32), Fail> {
+    let program = program_of(rt, alloc, words)?;
+    let mut state = State::first(alloc, &program)?;
+    assert!(rt; state.steps() <= most && most <= 1_000_000);
+    let stop = match advance(&mut state, most)? {
+        Stop::Branch { .. } => "branch",
+        Stop::Pin { place: 1, .. } => "pin",
+        Stop::Pin { .. } => "another pin",
+        Stop::Ended(RunEnd::Exits) => "exit",
+        Stop::Ended(RunEnd::Traps(Trap::Illegal)) => "illegal",
+        Stop::Ended(RunEnd::Traps(_)) => "trap",
+        Stop::Steps => "steps",
+    };
+    Ok((stop, state.steps()))
+}
+
+/// Each row: a program, how many steps it may make, where it stops, and after how many. A branch on the input, its quotient or a
+/// sum that is an address is not carried out.
+const ROWS: [(&[u32], u32, &str, u32); 10] = [
+    (&STRAIGHT, 10, "exit", 3),
+    (&STRAIGHT, 2, "steps", 2),
+    (&FORKED, 10, "branch", 3),
+    (&COUNTED, 10, "branch", 2),
+    (&CALLED, 10, "pin", 2),
+    (&DIVIDED, 10, "branch", 5),
+    (&ADDED, 10, "pin", 3),
+    (&STORED, 10, "branch", 3),
+    (&[], 10, "trap", 1),
+    (&[0x0000_0013], 10, "illegal", 2),
+];
+
+#[test]
+fn a_run_stops_where_it_has_to_know(rt: HostRuntime) -> Result<(), Fail> {
+    for (words, most, stop, steps) in ROWS {
+        assert_eq!(rt; stops(&rt, rt.alloc(), words, most)?, (stop, steps));
+    }
+    Ok(())
+}

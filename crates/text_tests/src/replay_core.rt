@@ -1,0 +1,81 @@
+//! Tests that are as their run, and tests that differ from it in one thing.
+
+ghost use Rattle.std.specs.Prelude.{◌≡◌, IfOk, length};
+ghost use Rattle.rv_spec.specs.Memory.{count_of};
+
+use elf_load::{Image, Region, Regions, load};
+use replay_core::{Replayed, replay, write_difference};
+use row_files::{programs, row_file};
+use rv_decode::{End, PathStep};
+use std::alloc::Global;
+use std::process::Abort;
+use std::test::Fail;
+use test_files::Test;
+use tool_io::Bytes;
+
+// The input byte, and what a test says: the steps, the path, the exit status, the output.
+type Said = (u8, u32, PathStep, u8, &'static [u8]);
+
+// Of the program that exits with 1 where its input byte is 'A', and else with 0.
+const SAME: [Said; 2] = [
+    (0x41, 7, PathStep::Taken, 1, &[]),
+    (0, 6, PathStep::NotTaken, 0, &[]),
+];
+
+const OTHER: [Said; 4] = [
+    (0x41, 8, PathStep::Taken, 1, &[]),
+    (0x41, 7, PathStep::NotTaken, 1, &[]),
+    (0x41, 7, PathStep::Taken, 0, &[]),
+    (0x41, 7, PathStep::Taken, 1, &[0x41]),
+];
+
+const LINES: &[u8] = b"differs\nend exit 1\nsteps 7\npath T.\noutput .\n";
+
+fn forked(alloc: Global) -> Result<Image, Fail> {
+    let file = row_file(alloc, &programs::FORKED)?;
+    let image = load(alloc, file.as_slice()).ok().ok_or("the file loads")?;
+    Ok(image)
+}
+
+fn test(alloc: Global, said: &Said) -> Result<Test, Fail>
+    ensures { IfOk result (λ test. length test.input ≡ count_of test.regions) }
+{
+    let (input, steps, path, status, output) = *said;
+    let region = Region {
+        start: 0x11000,
+        count: 1,
+    };
+    Ok(Test {
+        leaf: 0,
+        regions: Regions::from_vec(Vec::from_slice(alloc, &[region])?),
+        input: Bytes::from_slice(alloc, &[input])?,
+        steps,
+        path: Vec::from_slice(alloc, &[path])?,
+        end: Some(End::Exit(status)),
+        output: Bytes::from_slice(alloc, output)?,
+    })
+}
+
+// The test is run, where its region fits.
+fn run(rt: &impl Abort, alloc: Global, said: &Said) -> Result<Replayed, Fail> {
+    let image = forked(alloc)?;
+    let test = test(alloc, said)?;
+    assert!(rt; elf_load::fit(&image, &test.regions).is_ok());
+    Ok(replay(alloc, &image, &test)?)
+}
+
+#[test]
+fn a_test_is_the_same_where_all_is(rt: HostRuntime) -> Result<(), Fail> {
+    let alloc = rt.alloc();
+    for said in &SAME {
+        assert!(rt; matches!(run(&rt, alloc, said)?, Replayed::Same));
+    }
+    for said in &OTHER {
+        let Replayed::Differs(ran) = run(&rt, alloc, said)? else {
+            return Err("it differs".into());
+        };
+        let lines = write_difference(alloc, &ran)?;
+        assert!(rt; lines.as_slice() == LINES);
+    }
+    Ok(())
+}

@@ -1,0 +1,174 @@
+//! A worker of rungs, which climbs to a top, and the trees that it makes.
+
+ghost use Rattle.std.specs.Prelude.{◌≡◌, ℕ, ◌+◌, ◌-◌, ◌^◌, ◌<◌, ◌≤◌, ◌==◌, ◌++◌, ◌∷◌, [], IfOk, IsTrue, None, Some, if◌then◌else◌, true, false, length, nat_le, replicate};
+ghost use Rattle.rv_spec.specs.Decisions.{Side};
+ghost use Rattle.tree_core.specs.declared.cause.Cause.TheVariants.{Conflicts};
+ghost use Rattle.tree_core.specs.declared.choice.Choice.TheVariants.{No, Yes};
+ghost use Rattle.fork_spec.specs.Walks.{is_one_cut_at_most};
+ghost use Rattle.fork_spec.specs.Written.{side_of_kid};
+ghost use Rattle.fork_tree.specs.Contents.{cut_in, place_in};
+ghost use Rattle.fork_tree.specs.Nodes.{StateIs};
+ghost use Rattle.fork_tree.specs.Works.{IsPart};
+
+use fork_tree::{Claim, Content, Parts, Placed, Tree, Work, drain};
+use std::alloc::{AllocError as NoMemory, Global};
+use std::sync::{Arc, Wait};
+use std::test::Fail;
+use tree_core::{Cause, Choice, Kid, Status};
+
+/// The assignments of just so many numbers, or of so many or more. Runs take the branch once for each number.
+#[derive(Clone, Copy, Debug, PartialEq, Eq)]
+struct Rung {
+    from: u32,
+    just: bool,
+}
+
+impl Placed for Rung {
+    ghost place = { λ r. record { choices = replicate r.from Yes ++ (if r.just then No ∷ [] else []); covers = λ input. if r.just then length input == r.from else nat_le r.from (length input) } };
+}
+
+/// A rung that is done.
+#[derive(Clone, Copy, Debug, PartialEq, Eq)]
+struct End {
+    rung: Rung,
+    cut: Option<Cause>,
+}
+
+impl Placed for End {
+    ghost place = { λ e. record { choices = replicate e.rung.from Yes ++ (if e.rung.just then No ∷ [] else []); covers = λ input. if e.rung.just then length input == e.rung.from else nat_le e.rung.from (length input) } };
+}
+
+/// Parts rungs below the top, and cuts the one that reaches it. The first side of the second rung is cut at once.
+#[derive(Clone, Copy)]
+struct Climber {
+    top: u32,
+}
+
+impl Work for Climber {
+    type State = Rung;
+
+    type Leaf = End;
+
+    ghost rules = { λ w. record {
+      left = λ r. if r.just then 0 else w.top + 1 - r.from;
+      targets = 2;
+      decides = λ input. replicate (length input) (Side true) ++ Side false ∷ [];
+      IsWell = λ r. r.from ≤ w.top;
+      IsRight = λ sides e. e.cut ≡ Some Conflicts → sides ≡ No ∷ Yes ∷ [];
+      cut = λ e. e.cut;
+    } };
+
+    fn work(
+        &self,
+        _rt: &impl Wait,
+        alloc: Global,
+        state: &Rung,
+    ) -> Result<Parts<Rung, End>, NoMemory> {
+        let rung = *state;
+        if rung.just {
+            return Ok(Parts::Finished(End { rung, cut: None }));
+        }
+        if rung.from == self.top {
+            let cut = Some(Cause::Steps);
+            return Ok(Parts::CutSteps(End { rung, cut }));
+        }
+        let first = first_side(alloc, rung.from)?;
+        let second = second_side(alloc, rung.from)?;
+        let mut kids = Vec::with_capacity(alloc, 2)?;
+        kids.push_reserved(first);
+        kids.push_reserved(second);
+        Ok(Parts::Kids(kids))
+    }
+}
+
+// The side of those that end on this rung. On the second rung it is a leaf at once.
+fn first_side(alloc: Global, from: u32) -> Result<Kid<Content<Rung, End>>, NoMemory>
+    ensures choice { IfOk result (λ kid. kid.choice ≡ No) }
+    ensures place { IfOk result (λ kid. place_in ⟦<Rung as Placed>⟧.place ⟦<End as Placed>⟧.place kid.content ≡ ⟦<Rung as Placed>⟧.place (record { from = from; just = true })) }
+    ensures cut { IfOk result (λ kid. IsTrue (is_one_cut_at_most (side_of_kid (cut_in (λ e. e.cut)) kid).cut None)) }
+    ensures part { IfOk result (λ kid. (top limit : ℕ) → from ≤ top → 0 < limit → IsPart (⟦<Climber as Work>⟧.rules (record { top = top })) limit (No ∷ Yes ∷ []) kid kid.content) }
+{
+    let rung = Rung { from, just: true };
+    if from == 1 {
+        let cut = Some(Cause::Conflicts);
+        return Ok(Kid {
+            choice: Choice::No,
+            content: Content::Shut(End { rung, cut }),
+            is_leaf: true,
+        });
+    }
+    Ok(Kid {
+        choice: Choice::No,
+        content: Content::Open(Arc::new(alloc, rung)?),
+        is_leaf: false,
+    })
+}
+
+// The side of those that climb on.
+fn second_side(alloc: Global, from: u32) -> Result<Kid<Content<Rung, End>>, NoMemory>
+    requires { from + 1 < 2 ^ 32 }
+    ensures choice { IfOk result (λ kid. kid.choice ≡ Yes) }
+    ensures open { IfOk result (λ kid. kid.is_leaf ≡ false) }
+    ensures state { IfOk result (λ kid. StateIs (Some kid.content) (record { from = from + 1; just = false })) }
+{
+    let rung = Rung {
+        from: from + 1,
+        just: false,
+    };
+    Ok(Kid {
+        choice: Choice::Yes,
+        content: Content::Open(Arc::new(alloc, rung)?),
+        is_leaf: false,
+    })
+}
+
+const GROUND: Rung = Rung {
+    from: 0,
+    just: false,
+};
+
+#[test]
+fn drains(rt: HostRuntime) -> Result<(), Fail> {
+    let mut tree = Tree::new(rt.alloc(), Climber { top: 3 }, GROUND)?;
+    assert!(rt; !tree.quiet());
+    drain(&rt, rt.alloc(), &mut tree, 0)?;
+    assert!(rt; tree.quiet());
+    // Three splits make six nodes. They, two finishes and a cut end six claims.
+    assert_eq!(rt; tree.len(), 7);
+    assert_eq!(rt; tree.nodes().len(), 7);
+    assert_eq!(rt; tree.events().len(), 12);
+    assert_eq!(rt; tree.worker().top, 3);
+    // The first side of the second rung is node 3, the rung at the top node 6.
+    for (node, want) in [
+        (1, None),
+        (3, Some(Cause::Conflicts)),
+        (6, Some(Cause::Steps)),
+    ] {
+        assert!(rt; node < tree.len() && tree.status(node) == Status::Leaf);
+        assert_eq!(rt; tree.leaf(node).cut, want);
+    }
+    Ok(())
+}
+
+#[test]
+fn two_workers_take_turns(rt: HostRuntime) -> Result<(), Fail> {
+    let mut tree = Tree::new(rt.alloc(), Climber { top: 3 }, GROUND)?;
+    tree.reserve(0)?;
+    let Claim::Claimed(node, state) = tree.claim(0)? else {
+        panic!(rt; "no node is free");
+    };
+    assert_eq!(rt; *state, GROUND);
+    tree.reserve(0)?;
+    assert!(rt; matches!(tree.claim(1)?, Claim::Nothing));
+    assert!(rt; !tree.quiet());
+    tree.release(0, node);
+    assert_eq!(rt; tree.status(node), Status::Free);
+    // Where memory was refused, the next try goes on from what was entered.
+    if drain(&rt, rt.alloc(), &mut tree, 1).is_err() {
+        drain(&rt, rt.alloc(), &mut tree, 1)?;
+    }
+    assert_eq!(rt; tree.len(), 7);
+    tree.reserve(0)?;
+    assert!(rt; matches!(tree.claim(0)?, Claim::Quiet));
+    Ok(())
+}
