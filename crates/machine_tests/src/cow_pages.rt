@@ -59,14 +59,8 @@ fn memory_is_the_images(rt: HostRuntime) -> Result<(), Fail> {
     Ok(())
 }
 
-#[test]
-fn a_write_is_seen_in_one_copy(rt: HostRuntime) -> Result<(), Fail> {
-    let mut pages = pages(rt.alloc())?;
-    let first = pages.share()?;
-    write(&rt, &mut pages, DATA + 255, Byte::Number(7))?;
-    let second = pages.share()?;
-    write(&rt, &mut pages, DATA, Byte::Term(5))?;
-    write(&rt, &mut pages, DATA + 255, Byte::Term(6))?;
+// What two copies and the memory that was written after them hold.
+fn check_copies(rt: &impl Abort, first: &Pages, second: &Pages, pages: &Pages) {
     for (address, bytes) in [
         (DATA, [Byte::Number(0), Byte::Number(0), Byte::Term(5)]),
         (DATA + 1, [Byte::Number(0); 3]),
@@ -77,12 +71,15 @@ fn a_write_is_seen_in_one_copy(rt: HostRuntime) -> Result<(), Fail> {
         (DATA + 256, [Byte::Number(0); 3]),
     ] {
         let seen = [
-            read(&rt, &first, address),
-            read(&rt, &second, address),
-            read(&rt, &pages, address),
+            read(rt, first, address),
+            read(rt, second, address),
+            read(rt, pages, address),
         ];
         assert_eq!(rt; seen, bytes, "at {address:x}");
     }
+}
+
+fn check_page(rt: &impl Abort, pages: &Pages) -> Result<(), Fail> {
     let page = pages.page(DATA / 256).ok_or("no page")?;
     assert_eq!(rt;
         (page.flags(), page.byte(0), page.byte(1)),
@@ -91,17 +88,42 @@ fn a_write_is_seen_in_one_copy(rt: HostRuntime) -> Result<(), Fail> {
     Ok(())
 }
 
+fn write_terms(rt: &impl Abort, pages: &mut Pages) -> Result<(), NoMemory> {
+    write(rt, pages, DATA, Byte::Term(5))?;
+    write(rt, pages, DATA + 255, Byte::Term(6))
+}
+
+#[test]
+fn a_write_is_seen_in_one_copy(rt: HostRuntime) -> Result<(), Fail> {
+    let mut pages = pages(rt.alloc())?;
+    let first = pages.share()?;
+    write(&rt, &mut pages, DATA + 255, Byte::Number(7))?;
+    let second = pages.share()?;
+    write_terms(&rt, &mut pages)?;
+    check_copies(&rt, &first, &second, &pages);
+    check_page(&rt, &pages)
+}
+
+// A write to one of two copies, and what both hold then.
+fn write_to_one(rt: &impl Abort, pages: &mut Pages, address: u32, byte: Byte) -> Result<(), Fail> {
+    let before = read(rt, pages, address);
+    let copy = pages.share()?;
+    write(rt, pages, address, byte)?;
+    assert_eq!(rt; read(rt, pages, address), byte);
+    assert_eq!(rt; read(rt, &copy, address), before);
+    Ok(())
+}
+
 #[test]
 fn copies_keep_what_they_had(rt: HostRuntime) -> Result<(), Fail> {
     let mut pages = pages(rt.alloc())?;
     for round in 0..1000 {
-        let address = DATA + round % 512;
-        let before = read(&rt, &pages, address);
-        let copy = pages.share()?;
-        let byte = Byte::Term(round as usize + 1);
-        write(&rt, &mut pages, address, byte)?;
-        assert_eq!(rt; read(&rt, &pages, address), byte);
-        assert_eq!(rt; read(&rt, &copy, address), before);
+        write_to_one(
+            &rt,
+            &mut pages,
+            DATA + round % 512,
+            Byte::Term(round as usize + 1),
+        )?;
     }
     assert_eq!(rt; read(&rt, &pages, DATA), Byte::Term(513));
     assert_eq!(rt; read(&rt, &pages, DATA + 511), Byte::Term(512));
