@@ -1,3 +1,4 @@
+pub mod ByteLists
 pub mod Walking
 pub mod Changing
 pub mod Lines

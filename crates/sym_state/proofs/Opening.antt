@@ -2,11 +2,13 @@
 use Rattle.std.proofs.Common.{◌≡◌, ℕ, zero, suc, ◌+◌, ◌<◌, ◌≤◌, ◌^◌, ◌&&◌, Bool, true, false, List, [], ◌∷◌, length, map, refl, sym, ap, subst, ◌∙◌, arith}
 use Rattle.std.specs.Prelude.{◌==◌, All, Err, IfOk, None, Ok, Result, Option, Some, if◌then◌else◌, nat_lt, replicate, slice_index_or, sum_by}
 use Rattle.std.proofs.Math.Path.{fun_ext}
+use Rattle.std.proofs.lemmas.Bool.{and_parts}
 use Rattle.std.proofs.lemmas.Bool.Decides.{nat_tests}
 use Rattle.std.proofs.lemmas.List.{length-replicate}
 use Rattle.std.proofs.lemmas.List.Elements.{All-head, All-map, All-nil, All-replicate, All-set, All-tail}
-use Rattle.std.proofs.lemmas.List.Sums.{AllPass-from_list_all, list_all-from_AllPass, sum_by-cons}
+use Rattle.std.proofs.lemmas.List.Sums.{sum_by-cons}
 use Rattle.bv_dag.specs.Graphs.{Graph, width_of}
+use Rattle.bv_dag.specs.Queries.{holds}
 use Rattle.cow_pages.specs.SymbolicMemory.{SymbolicMemory, memory_byte, memory_flags}
 use Rattle.cow_pages.specs.declared.byte.Byte.TheVariants.{Number as ByteNumber}
 use Rattle.elf_load.specs.Fits.{unfit, unfit_empty, unfit_overlap, unfit_too_long, unfit_too_many, unfit_unmapped}
@@ -14,6 +16,7 @@ use Rattle.elf_load.specs.Images.{Image}
 use Rattle.elf_load.specs.declared.region.Region.{Region}
 use Rattle.elf_load.specs.declared.unfit.Unfit.TheVariants.{TooMany, Empty, TooLong, Unmapped, Overlap}
 use Rattle.fork_spec.specs.Leaves.{IsSmallChoice, IsSmallStep, are_bytes}
+use Rattle.fork_spec.proofs.ByteLists.{are_bytes-each, are_bytes-of}
 use Rattle.rv_machine.proofs.Placing.{fitting_mapped}
 use Rattle.rv_machine.specs.Pages.{AreMapped}
 use Rattle.rv_spec.specs.Decisions.{decisions_from}
@@ -26,7 +29,7 @@ use Rattle.sym_state.specs.Programs.{Program}
 use Rattle.sym_state.specs.Runs.{IsFirst, IsOpen}
 use Rattle.sym_state.specs.Unfolded.{first_unfolded, inputs_placed, unfolded}
 use Rattle.sym_state.specs.Unfolding.{unfolded_run}
-use Rattle.sym_state.specs.Symbolic.{IsFormed, IsTrulyKnown, Symbolic, concrete, known_at, nothing_known, stands_for}
+use Rattle.sym_state.specs.Symbolic.{IsFormed, IsTrulyKnown, Symbolic, concrete, condition_of, known_at, nothing_known, stands_for}
 use Rattle.sym_state.specs.Values.{IsByte, IsWide, byte_worth, worth_of}
 use Rattle.sym_state.specs.declared.decided.Decided.{Decided}
 use Rattle.sym_state.specs.declared.value.Value.TheVariants.{Number}
@@ -93,16 +96,10 @@ first_formed entry memory terms small has = record {
   sample_bytes = All-replicate (λ b. b < 256) terms.inputs 0 (omega arith);
 }
 
-both_true : (a b : Bool) → (a && b) ≡ true → (a ≡ true) × (b ≡ true)
-both_true true b h = (refl, h)
-both_true false b h = cc
-
--- it stands for lists of bytes
-bytes_of : (s : Symbolic) (input : List ℕ) → stands_for s input ≡ true → All (λ b. b < 256) input
-bytes_of s input stands k d within =
-    let small : nat_lt (slice_index_or input k d) 256 ≡ true =
-    AllPass-from_list_all (λ b. nat_lt b 256) input (both_true (are_bytes input) _ stands).0 k d within in
-    grind (arith, nat_tests, small)
+-- a run stands for lists of bytes
+pub stands-bytes : (s : Symbolic) (input : List ℕ) → stands_for s input ≡ true → All (λ b. b < 256) input
+stands-bytes s input stands =
+    are_bytes-each input (and_parts (are_bytes input) (holds (condition_of s) input) stands).0
 
 -- nothing is known at any place
 none_at : (known : List (Option Decided)) (place : ℕ) → All (λ k. k ≡ None) known → slice_index_or known place None ≡ None
@@ -118,8 +115,7 @@ known_nowhere entry memory terms place =
 zeros_stand : (entry : ℕ) (memory : SymbolicMemory) (terms : Graph) → stands_for (first_run entry memory terms) (replicate terms.inputs 0) ≡ true
 zeros_stand entry memory terms =
     let zeros : List ℕ = replicate terms.inputs 0 in
-    let bytes : are_bytes zeros ≡ true =
-    list_all-from_AllPass (λ b. nat_lt b 256) zeros (All-replicate (λ b. nat_lt b 256 ≡ true) terms.inputs 0 refl) in
+    let bytes : are_bytes zeros ≡ true = are_bytes-of zeros (All-replicate (λ b. b < 256) terms.inputs 0 (omega arith)) in
     let each : (length zeros == terms.inputs) ≡ true = let long : length zeros ≡ terms.inputs = length-replicate terms.inputs 0 in grind (arith, nat_tests, long) in
     ap (λ t. t && ((length zeros == terms.inputs) && true)) bytes ∙ ap (λ t. t && true) each
 
@@ -170,7 +166,7 @@ module _ (p : Program) (start terms : Graph) (image memory : SymbolicMemory)
     };
     few_outputs = omega arith;
     sound = λ input stands.
-        ap (λ s. record { state = s; end = None; steps = 0 }) (sym (state_is input (bytes_of (first_run p.image.entry memory terms) input stands)));
+        ap (λ s. record { state = s; end = None; steps = 0 }) (sym (state_is input (stands-bytes (first_run p.image.entry memory terms) input stands)));
     alike = record { made = []; alike = λ input stands. refl };
     terms = λ input stands. terms_are;
   }
