@@ -12,7 +12,8 @@ use Rattle.std.proofs.lemmas.Str.Parse.{digits_value-take-le}
 use Rattle.hex.specs.Hex.{decode_sized}
 use Rattle.hex.specs.declared.error.FromHexError.{FromHexError}
 use Rattle.hex.proofs.HexLemmas.{decode_sized-ok}
-use Rattle.smt_text.specs.Pieces.{address_of, behind, eight, has_leading_zero, has_upper_case, is_plain, named, number_of_bytes, plain_number}
+use Rattle.smt_text.specs.Digits.{has_leading_zero, has_upper_case, hex_number, number_of_bytes}
+use Rattle.smt_text.specs.Pieces.{behind, eight, is_plain, named, plain_number}
 
 -- ---- words
 
@@ -118,7 +119,7 @@ whole_number (d ∷ digits) i some leads past small =
 -- ---- eight digits
 
 pub short_eight : (text : List ℕ) → length text < 8 → eight text ≡ None
-unfolding eight address_of
+unfolding eight hex_number
 short_eight text short = go (has_upper_case (take 8 text)) (decode_sized (take 8 text) 4) refl
   where
     go : (b : Bool) (r : Result (List ℕ) FromHexError) → decode_sized (take 8 text) 4 ≡ r →

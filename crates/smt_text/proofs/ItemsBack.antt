@@ -1,15 +1,10 @@
 -- Lists of choices and paths, and the numbers of eight digits in them: what was written is read back,
 -- and what was read was written so.
-use Rattle.std.proofs.Common.{◌≡◌, ℕ, zero, suc, ◌<◌, ◌/◌, ◌%◌, ◌^◌, Bool, true, false, ◌||◌, List, [], ◌∷◌, ◌++◌, length, get_or, slice_index, None, Some, Ok, refl, arith, append_assoc}
+use Rattle.std.proofs.Common.{◌≡◌, ℕ, zero, suc, ◌<◌, ◌^◌, List, [], ◌∷◌, ◌++◌, length, None, Some, refl, arith, append_assoc}
 use Rattle.std.specs.Prelude.{All}
-use Rattle.std.specs.Char.{is_ascii_uppercase}
-use Rattle.std.specs.Int.{byte_at, bytes_high_first, to_be_bytes, w32}
-use Rattle.std.specs.List.{flat_map, list_any}
+use Rattle.std.specs.List.{flat_map}
 use Rattle.std.proofs.lemmas.List.{drop_at, length-append, take_at}
 use Rattle.std.proofs.lemmas.List.Elements.{All-head, All-tail}
-use Rattle.std.proofs.lemmas.Nat.{from_be_bytes-to_be_bytes_4}
-use Rattle.hex.specs.Hex.{IsBytes, decode_sized, encode_lower, encode_with, lower_digits}
-use Rattle.hex.proofs.HexLemmas.{decode_sized-encode_lower, length-encode_with}
 use Rattle.rv_decode.specs.declared.ends.PathStep.{PathStep}
 use Rattle.rv_decode.specs.declared.ends.PathStep.TheVariants.{Taken, NotTaken, Target}
 use Rattle.tree_core.specs.declared.choice.Choice.{Choice}
@@ -17,50 +12,16 @@ use Rattle.tree_core.specs.declared.choice.Choice.TheVariants.{No, Yes, Value, R
 use Rattle.fork_spec.specs.Leaves.{IsSmallChoice, IsSmallStep}
 use Rattle.smt_text.specs.LineReading.{choice, step}
 use Rattle.smt_text.specs.Names.{choice_text, eight_digits, step_text}
-use Rattle.smt_text.specs.Pieces.{Reader, address_of, behind, eight, items, list_end, named}
+use Rattle.smt_text.specs.Pieces.{Reader, behind, eight, items, list_end, named}
+use Rattle.smt_text.proofs.DigitsBack.{hex_back, length_eight}
 use Rattle.smt_text.proofs.Words.{behind_word}
 
 -- ---- eight digits
 
-none_at : (p : ℕ → Bool) → p 0 ≡ false → (xs : List ℕ) (k : ℕ) → list_any p xs ≡ false → p (get_or xs k 0) ≡ false
-none_at p at_zero [] k none = at_zero
-none_at p at_zero (x ∷ xs) zero none = first (p x) (list_any p xs) none
-  where
-    first : (a b : Bool) → (a || b) ≡ false → a ≡ false
-    first false b is = refl
-    first true b is = is
-none_at p at_zero (x ∷ xs) (suc k) none = none_at p at_zero xs k (later (p x) (list_any p xs) none)
-  where
-    later : (a b : Bool) → (a || b) ≡ false → b ≡ false
-    later false b is = is
-    later true b is = cc
-
-lower_digit : (k : ℕ) → is_ascii_uppercase (slice_index lower_digits k) ≡ false
-lower_digit k = none_at is_ascii_uppercase refl lower_digits k refl
-
-no_upper_case : (bytes : List ℕ) → list_any is_ascii_uppercase (encode_lower bytes) ≡ false
-unfolding encode_with
-no_upper_case [] = refl
-no_upper_case (b ∷ bytes) = rw (lower_digit (b / 16), lower_digit (b % 16)) (no_upper_case bytes)
-
-byte_fits : (k n : ℕ) → byte_at k n < 256
-byte_fits zero n = omega arith
-byte_fits (suc k) n = omega arith
-
-high_first_bytes : (k n : ℕ) → IsBytes (bytes_high_first k n)
-high_first_bytes zero n i = omega arith
-high_first_bytes (suc k) n zero = byte_fits k n
-high_first_bytes (suc k) n (suc i) = high_first_bytes k n i
-
-length_eight : (n : ℕ) → length (eight_digits n) ≡ 8
-length_eight n = length-encode_with lower_digits (to_be_bytes w32 n)
-
 pub eight_back : (n : ℕ) (rest : List ℕ) → n < 2 ^ 32 → eight (eight_digits n ++ rest) ≡ Some (n, rest)
-unfolding eight address_of
+unfolding eight
 eight_back n rest small =
-    let bytes : decode_sized (eight_digits n) 4 ≡ Ok (to_be_bytes w32 n) =
-    decode_sized-encode_lower (to_be_bytes w32 n) 4 refl (high_first_bytes 4 n) in
-    rw (take_at (eight_digits n) rest 8 (length_eight n), drop_at (eight_digits n) rest 8 (length_eight n), no_upper_case (to_be_bytes w32 n), bytes, from_be_bytes-to_be_bytes_4 n small) refl
+    rw (take_at (eight_digits n) rest 8 (length_eight n), drop_at (eight_digits n) rest 8 (length_eight n), hex_back n small) refl
 
 -- ---- one item
 

@@ -19,7 +19,8 @@ use Rattle.tree_core.specs.declared.choice.Choice.TheVariants.{Value}
 use Rattle.fork_spec.specs.Leaves.{IsSmallChoice, IsSmallStep}
 use Rattle.smt_text.specs.LineReading.{branches, choice, plain_choices, step}
 use Rattle.smt_text.specs.Names.{choice_text, eight_digits, step_text}
-use Rattle.smt_text.specs.Pieces.{Reader, address_of, behind, eight, has_upper_case, items, list_end, made, named, number_of_bytes}
+use Rattle.smt_text.specs.Digits.{has_upper_case, hex_number, number_of_bytes}
+use Rattle.smt_text.specs.Pieces.{Reader, behind, eight, items, list_end, made, named}
 use Rattle.smt_text.proofs.Options.{map_from, or_from, then_from}
 use Rattle.smt_text.proofs.Words.{from_behind, from_named}
 
@@ -124,9 +125,9 @@ pairs_lower i (a ∷ b ∷ digits) bytes plain h =
 bytes_small : (bytes : List ℕ) → IsBytes bytes → from_be_bytes w32 bytes < 2 ^ 32
 bytes_small bytes h = omega (arith, h 0, h 1, h 2, h 3)
 
-from_address : (digits : List ℕ) (n : ℕ) → address_of digits ≡ Some n → (digits ≡ eight_digits n) × (n < 2 ^ 32)
-unfolding address_of
-from_address digits n h = go (has_upper_case digits) (decode_sized digits 4) refl refl h
+from_hex : (digits : List ℕ) (n : ℕ) → hex_number digits ≡ Some n → (digits ≡ eight_digits n) × (n < 2 ^ 32)
+unfolding hex_number
+from_hex digits n h = go (has_upper_case digits) (decode_sized digits 4) refl refl h
   where
     go : (b : Bool) (r : Result (List ℕ) FromHexError) → has_upper_case digits ≡ b → decode_sized digits 4 ≡ r →
         (if b then None else number_of_bytes r) ≡ Some n → (digits ≡ eight_digits n) × (n < 2 ^ 32)
@@ -147,8 +148,8 @@ pub from_eight : (text : List ℕ) (n : ℕ) (rest : List ℕ) → eight text �
     (text ≡ eight_digits n ++ rest) × (n < 2 ^ 32)
 unfolding eight
 from_eight text n rest h =
-    let a = map_from (λ (m : ℕ). (m, drop 8 text)) (address_of (take 8 text)) (n, rest) h in
-    let digits = from_address (take 8 text) a.0 a.1 in
+    let a = map_from (λ (m : ℕ). (m, drop 8 text)) (hex_number (take 8 text)) (n, rest) h in
+    let digits = from_hex (take 8 text) a.0 a.1 in
     let same : a.0 ≡ n = ap (λ (p : ℕ × List ℕ). p.0) a.2 in (
       sym (take-append-drop 8 text) ∙ ap (λ t. t ++ drop 8 text) digits.0
           ∙ ap (λ (p : ℕ × List ℕ). eight_digits p.0 ++ p.1) a.2,

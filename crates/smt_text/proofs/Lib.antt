@@ -3,6 +3,7 @@ pub mod TextParts
 pub mod Fitting
 pub mod Reading
 pub mod Options
+pub mod DigitsBack
 pub mod Words
 pub mod ItemsBack
 pub mod TermsBack

@@ -1,5 +1,5 @@
 -- Words and numbers: what was written is read back, and what was read was written so.
-use Rattle.std.proofs.Common.{◌≡◌, ◌∙◌, inl, inr, ℕ, zero, suc, ◌+◌, ◌<◌, ◌^◌, Bool, true, false, not, ◌==◌, cond, nat_lt, List, [], ◌∷◌, ◌++◌, length, take, drop, get_or, None, Some, option_map, refl, sym, ap, arith, decimal}
+use Rattle.std.proofs.Common.{◌≡◌, ◌∙◌, inl, inr, ℕ, ◌+◌, ◌<◌, ◌^◌, Bool, true, false, not, ◌==◌, cond, nat_lt, List, [], ◌∷◌, ◌++◌, length, take, drop, get_or, None, Some, option_map, refl, sym, ap, arith, decimal}
 use Rattle.std.specs.Prelude.{if◌then◌else◌}
 use Rattle.std.specs.Char.{digit_value, is_ascii_digit}
 use Rattle.std.specs.Int.{IsInRange}
@@ -7,12 +7,14 @@ use Rattle.std.specs.Str.Parse.{AllDigits, digits_value}
 use Rattle.std.proofs.Math.Numerals.{one-add}
 use Rattle.std.proofs.lemmas.Bool.{and_parts, eq-eqb, eqb-true}
 use Rattle.std.proofs.lemmas.Bool.Decides.{nat_tests}
-use Rattle.std.proofs.lemmas.Fmt.{decimal-digits_value, decimal_digit, decimal_is_IsNumeral, first_decimal}
+use Rattle.std.proofs.lemmas.Fmt.{decimal-digits_value, decimal_is_IsNumeral}
 use Rattle.std.proofs.lemmas.List.{drop_at, take-append-drop, take_at}
 use Rattle.std.proofs.lemmas.Option.{same_Some}
 use Rattle.std.proofs.lemmas.Str.{digit_value_digit}
 use Rattle.std.proofs.lemmas.Str.Parse.{digit_from_value, numerals_by_value, tells_digits}
-use Rattle.smt_text.specs.Pieces.{Reader, before, behind, digit_count, has_leading_zero, is_plain, made, named, number, one, plain_number, three, two}
+use Rattle.smt_text.specs.Digits.{has_leading_zero}
+use Rattle.smt_text.specs.Pieces.{Reader, before, behind, digit_count, is_plain, made, named, number, one, plain_number, three, two}
+use Rattle.smt_text.proofs.DigitsBack.{no_leading_zero}
 use Rattle.smt_text.proofs.Options.{map_from, or_from, then_from}
 
 -- ---- words
@@ -109,15 +111,6 @@ is_plain_number : (digits : List ℕ) → 0 < length digits → has_leading_zero
     digits_value 10 digits < 2 ^ 64 → is_plain digits ≡ true
 is_plain_number [] some lead small = absurd (omega (arith, some))
 is_plain_number (d ∷ digits) some lead small = rw lead (lt_true _ _ small)
-
-leads_not : (digits : List ℕ) → 48 < get_or digits 0 0 → has_leading_zero digits ≡ false
-leads_not [] first = refl
-leads_not (a ∷ []) first = refl
-leads_not (a ∷ b ∷ rest) first = grind (arith, nat_tests, first)
-
-no_leading_zero : (n : ℕ) → n < 2 ^ 64 → has_leading_zero (decimal n) ≡ false
-no_leading_zero zero small = rw (decimal_digit 0 (omega arith)) refl
-no_leading_zero (suc n) small = leads_not (decimal (suc n)) (first_decimal (suc n) (omega arith) small)
 
 pub plain_decimal : (n : ℕ) → n < 2 ^ 64 → plain_number (decimal n) ≡ Some n
 unfolding plain_number

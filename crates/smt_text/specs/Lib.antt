@@ -4,6 +4,7 @@ pub mod Lines
 pub mod LeafLines
 pub mod NodeFits
 pub mod Grammar
+pub mod Digits
 pub mod Pieces
 pub mod LineReading
 pub mod Phases

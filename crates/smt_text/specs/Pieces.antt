@@ -1,12 +1,10 @@
 -- What a text begins with, piece by piece. A reader gives what it read and what stands behind it.
-use Rattle.std.specs.Prelude.{ℕ, zero, suc, ◌^◌, Bool, false, not, ◌&&◌, ◌==◌, nat_lt, if◌then◌else◌, List, [], ◌∷◌, take, drop, Option, None, Some, Result, Ok, Err, codes, option_map, option_and_then}
+use Rattle.std.specs.Prelude.{ℕ, zero, suc, ◌^◌, Bool, false, not, ◌&&◌, ◌==◌, nat_lt, if◌then◌else◌, List, [], ◌∷◌, take, drop, Option, None, Some, codes, option_map, option_and_then}
 use Rattle.std.specs.Option.{option_or}
-use Rattle.std.specs.Char.{is_ascii_digit, is_ascii_uppercase}
-use Rattle.std.specs.Int.{from_be_bytes, w32}
-use Rattle.std.specs.List.{list_any, prefix_len}
+use Rattle.std.specs.Char.{is_ascii_digit}
+use Rattle.std.specs.List.{prefix_len}
 use Rattle.std.specs.Str.Parse.{digits_value}
-use Rattle.hex.specs.Hex.{decode_sized}
-use Rattle.hex.specs.declared.error.FromHexError.{FromHexError}
+use Rattle.smt_text.specs.Digits.{has_leading_zero, hex_number}
 
 abbrev pub Reader : Type 0 → Type 0
 Reader X = List ℕ → Option (X × List ℕ)
@@ -35,11 +33,6 @@ before read word text =
     option_and_then (λ (x, rest). option_map (λ more. (x, more)) (behind word rest)) (read text)
 
 -- ---- numbers
-
--- a zero (48) stands before other digits
-abbrev pub has_leading_zero : List ℕ → Bool
-has_leading_zero (first ∷ second ∷ rest) = first == 48
-has_leading_zero _ = false
 
 -- decimal digits with no leading zero, of a number below 2 ^ 64
 abbrev pub is_plain : List ℕ → Bool
@@ -74,22 +67,9 @@ unfoldable pub three : (word other third : List ℕ) → Reader (ℕ × ℕ × �
 three word other third text =
     option_and_then (λ (a, rest). made (λ (b, c). (a, b, c)) (two other third rest)) (one word text)
 
--- the number that four bytes are, the highest first
-abbrev pub number_of_bytes : Result (List ℕ) FromHexError → Option ℕ
-number_of_bytes (Ok bytes) = Some (from_be_bytes w32 bytes)
-number_of_bytes (Err why) = None
-
-abbrev pub has_upper_case : List ℕ → Bool
-has_upper_case text = list_any is_ascii_uppercase text
-
--- the number that eight hexadecimal digits with no upper-case letter say
-unfoldable pub address_of : (digits : List ℕ) → Option ℕ
-address_of digits =
-    if has_upper_case digits then None else number_of_bytes (decode_sized digits 4)
-
 -- the number that the first eight bytes say
 unfoldable pub eight : Reader ℕ
-eight text = option_map (λ n. (n, drop 8 text)) (address_of (take 8 text))
+eight text = option_map (λ n. (n, drop 8 text)) (hex_number (take 8 text))
 
 -- ---- lists
 

@@ -5,7 +5,7 @@ ghost use Rattle.std.specs.Prelude.{◌≡◌, map, option_map};
 ghost use Rattle.std.specs.Str.Parse.{AllDigits};
 ghost use Rattle.smt_text.specs.Pieces as spec;
 
-use hex::FromHex;
+use crate::digits::{has_leading_zero, hex_number};
 
 /// What stands behind a word.
 pub fn behind<'a>(text: &'a [u8], word: &str) -> Option<&'a [u8]>
@@ -32,13 +32,6 @@ fn digit_count(text: &[u8]) -> usize
     ensures { result ≡ spec.digit_count text.now }
 {
     text.iter().take_while(|byte| byte.is_ascii_digit()).count()
-}
-
-/// Whether a zero stands before other digits.
-fn has_leading_zero(digits: &[u8]) -> bool
-    ensures { result ≡ spec.has_leading_zero digits.now }
-{
-    1 < digits.len() && digits[0] == b'0'
 }
 
 /// The number that the digits say, if no zero leads and it fits.
@@ -101,26 +94,6 @@ pub fn three<'a>(
     Some(((a, b, c), rest))
 }
 
-fn has_upper_case(text: &[u8]) -> bool
-    ensures { result ≡ spec.has_upper_case text.now }
-{
-    text.iter().any(|byte| byte.is_ascii_uppercase())
-}
-
-/// The number that eight hexadecimal digits say, none of them in upper case.
-#[tactic(auto, unfolding(crate::specs::Pieces::address_of))]
-fn address(digits: &[u8]) -> Option<u32>
-    ensures { result ≡ spec.address_of digits.now }
-{
-    if has_upper_case(digits) {
-        return None;
-    }
-    match <[u8; 4] as FromHex>::from_hex(digits) {
-        Ok(bytes) => Some(u32::from_be_bytes(bytes)),
-        Err(_) => None,
-    }
-}
-
 /// The number that the first eight bytes say in hexadecimal digits.
 #[tactic(auto, unfolding(crate::specs::Pieces::eight))]
 pub fn eight(text: &[u8]) -> Option<(u32, &[u8])>
@@ -130,5 +103,5 @@ pub fn eight(text: &[u8]) -> Option<(u32, &[u8])>
         return None;
     }
     let (digits, rest) = text.split_at(8);
-    Some((address(digits)?, rest))
+    Some((hex_number(digits)?, rest))
 }

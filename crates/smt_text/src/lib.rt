@@ -2,6 +2,7 @@
 #![tactic(auto)]
 
 mod cursor;
+mod digits;
 mod ending;
 mod head;
 pub mod laws;
@@ -20,6 +21,7 @@ mod take_heading;
 mod take_terms;
 mod term;
 
+pub use digits::{has_leading_zero, hex_number};
 pub use leaf::LeafText;
 pub use leaf_reader::{SmtRefused, read_leaf};
 pub use names::{cause_name, end_name, kind_name, write_choice, write_choices, write_path};

@@ -11,16 +11,18 @@ use Rattle.rv_decode.specs.declared.ends.Trap.TheVariants.{Illegal, FetchMisalig
 use Rattle.serde_json.specs.Data.{string}
 use Rattle.serde_json.specs.View.{items_of}
 use Rattle.smt_text.specs.Names.{eight_digits, path_text, step_text}
-use Rattle.test_files.specs.Forms.{address_of, count_of, end_of, exit_with, path_of, put_first, region_of, region_with}
+use Rattle.smt_text.specs.Digits.{hex_number}
+use Rattle.test_files.specs.Forms.{end_of, exit_with, path_of, put_first, region_of, region_with, short_number}
 use Rattle.test_files.specs.Reading.{regions_of}
 use Rattle.test_files.specs.Tests.{end_text, region_text}
 use Rattle.test_files.specs.Writable.{HasStatus, HasTarget}
-use Rattle.test_files.proofs.NumbersBack.{address_back, count_back, length_eight}
+use Rattle.smt_text.proofs.DigitsBack.{hex_back, length_eight}
+use Rattle.test_files.proofs.ShortNumbers.{short_back}
 use Rattle.test_files.proofs.PathForms.{branch_at}
 
 -- ---- regions
 
-region_parts : (digits rest : List ℕ) → length digits ≡ 8 → region_of (digits ++ 58 ∷ rest) ≡ region_with (address_of digits) (count_of rest)
+region_parts : (digits rest : List ℕ) → length digits ≡ 8 → region_of (digits ++ 58 ∷ rest) ≡ region_with (hex_number digits) (short_number rest)
 unfolding region_of
 region_parts [] rest is = absurd (omega (arith, is))
 region_parts (a ∷ []) rest is = absurd (omega (arith, is))
@@ -37,7 +39,7 @@ pub region_back : (region : Region) → region.start < 2 ^ 32 → region.count �
 region_back region start count =
     ap region_of (append_assoc (eight_digits region.start) (58 ∷ []) (decimal region.count))
     ∙ region_parts (eight_digits region.start) (decimal region.count) (length_eight region.start)
-    ∙ ap₂ region_with (address_back region.start start) (count_back region.count count)
+    ∙ ap₂ region_with (hex_back region.start start) (short_back region.count count)
 
 pub regions_back : (regions : List Region) → All (λ (region : Region). region.start < 2 ^ 32) regions → All (λ (region : Region). region.count ≤ 9999) regions
     → regions_of (items_of (map (λ region. string (region_text region)) regions)) ≡ Some regions
@@ -48,10 +50,10 @@ regions_back (region ∷ regions) starts counts =
 
 -- ---- ends
 
-exit_back : (status : ℕ) → status < 256 → exit_with (count_of (decimal status)) ≡ Some (Exit status)
+exit_back : (status : ℕ) → status < 256 → exit_with (short_number (decimal status)) ≡ Some (Exit status)
 exit_back status small =
     let below : nat_lt status 256 ≡ true = grind (arith, nat_tests) in
-    ap exit_with (count_back status (omega arith)) ∙ rw below refl
+    ap exit_with (short_back status (omega arith)) ∙ rw below refl
 
 pub end_back : (end : Option End) → HasStatus end → end_of (end_text end) ≡ Some end
 unfolding end_of
@@ -69,7 +71,7 @@ end_back (Some (Trapped Call)) status = refl
 
 -- ---- paths
 
-target_parts : (digits rest : List ℕ) → length digits ≡ 8 → path_of (64 ∷ (digits ++ rest)) ≡ put_first (option_map Target (address_of digits)) (path_of rest)
+target_parts : (digits rest : List ℕ) → length digits ≡ 8 → path_of (64 ∷ (digits ++ rest)) ≡ put_first (option_map Target (hex_number digits)) (path_of rest)
 unfolding path_of
 target_parts [] rest is = absurd (omega (arith, is))
 target_parts (a ∷ []) rest is = absurd (omega (arith, is))
@@ -92,4 +94,4 @@ path_back (step ∷ path) targets = go step (targets 0 step (omega arith)) (path
     go NotTaken target later = branch_at (78 ∷ path_text path) (omega arith) (λ is. omega (arith, is)) ∙ ap (put_first (Some NotTaken)) later
     go (Target t) target later =
         target_parts (eight_digits t) (path_text path) (length_eight t)
-        ∙ ap₂ (λ a o. put_first (option_map Target a) o) (address_back t target) later
+        ∙ ap₂ (λ a o. put_first (option_map Target a) o) (hex_back t target) later

@@ -1,9 +1,8 @@
 pub mod TestTexts
-pub mod Counts
+pub mod ShortNumbers
 pub mod RegionForms
 pub mod PathForms
 pub mod Jsons
-pub mod NumbersBack
 pub mod FormsBack
 pub mod LineEnds
 pub mod JsonBack

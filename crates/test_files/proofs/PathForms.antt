@@ -4,7 +4,8 @@ use Rattle.std.proofs.lemmas.Bool.Decides.{nat_tests}
 use Rattle.rv_decode.specs.declared.ends.PathStep.{PathStep}
 use Rattle.rv_decode.specs.declared.ends.PathStep.TheVariants.{Target}
 use Rattle.test_files.proofs.RegionForms.{to_end}
-use Rattle.test_files.specs.Forms.{address_of, branch_of, path_of, put_first}
+use Rattle.smt_text.specs.Digits.{hex_number}
+use Rattle.test_files.specs.Forms.{branch_of, path_of, put_first}
 
 is_other : (letter : ℕ) → letter ≢ 64 → (letter == 64) ≡ false
 is_other letter other = grind (arith, nat_tests, other)
@@ -44,7 +45,7 @@ short_at [] some short = absurd (omega (arith, some))
 short_at (letter ∷ rest) some short = short_first letter rest (omega (arith, short))
 
 -- an @ takes eight digits
-pub target_at : (text : List ℕ) → 9 ≤ length text → get_or text 0 0 ≡ 64 → path_of text ≡ put_first (option_map Target (address_of (take 8 (drop 1 text)))) (path_of (drop 9 text))
+pub target_at : (text : List ℕ) → 9 ≤ length text → get_or text 0 0 ≡ 64 → path_of text ≡ put_first (option_map Target (hex_number (take 8 (drop 1 text)))) (path_of (drop 9 text))
 unfolding path_of
 target_at [] enough is = absurd (omega (arith, enough))
 target_at (letter ∷ []) enough is = absurd (omega (arith, enough))
@@ -62,8 +63,8 @@ pub with_branch : (text : List ℕ) (step : Option PathStep) → path_of text �
     → path_of text ≡ put_first step (path_of (drop 1 text))
 with_branch text step is letter = is ∙ ap (λ s. put_first s (path_of (drop 1 text))) letter
 
-pub with_address : (text : List ℕ) (target : Option ℕ) → path_of text ≡ put_first (option_map Target (address_of (take 8 (drop 1 text)))) (path_of (drop 9 text))
-    → address_of (take 8 (drop 1 text)) ≡ target → path_of text ≡ put_first (option_map Target target) (path_of (drop 9 text))
+pub with_address : (text : List ℕ) (target : Option ℕ) → path_of text ≡ put_first (option_map Target (hex_number (take 8 (drop 1 text)))) (path_of (drop 9 text))
+    → hex_number (take 8 (drop 1 text)) ≡ target → path_of text ≡ put_first (option_map Target target) (path_of (drop 9 text))
 with_address text target is digits = is ∙ ap (λ t. put_first (option_map Target t) (path_of (drop 9 text))) digits
 
 -- ---- the entries one after another

@@ -2,18 +2,19 @@
 use Rattle.std.proofs.Common.{ℕ, ◌≢◌, List, ◌≡◌, ◌<◌, ◌-◌, true, false, ◌==◌, length, length-drop, take, take_all, drop, get_or, Option, None, refl, arith}
 use Rattle.std.proofs.lemmas.Bool.Decides.{nat_tests}
 use Rattle.std.proofs.lemmas.List.{get_or_past}
-use Rattle.test_files.specs.Forms.{address_of, count_of, region_of, region_with}
+use Rattle.smt_text.specs.Digits.{hex_number}
+use Rattle.test_files.specs.Forms.{region_of, region_with, short_number}
 
 -- a slice to the end
 pub to_end : (text : List ℕ) (k : ℕ) → take (length text - k) (drop k text) ≡ drop k text
 to_end text k = take_all (length text - k) (drop k text) (omega (arith, length-drop k text))
 
-pub region_there : (text : List ℕ) (start count : Option ℕ) → (get_or text 8 0 == 58) ≡ true → address_of (take 8 text) ≡ start
-    → count_of (drop 9 text) ≡ count → region_with start count ≡ region_of text
+pub region_there : (text : List ℕ) (start count : Option ℕ) → (get_or text 8 0 == 58) ≡ true → hex_number (take 8 text) ≡ start
+    → short_number (drop 9 text) ≡ count → region_with start count ≡ region_of text
 unfolding region_of
 region_there text start count colon at_start at_count = rw (colon, at_start, at_count) refl
 
-pub no_start : (text : List ℕ) → (get_or text 8 0 == 58) ≡ true → address_of (take 8 text) ≡ None → region_of text ≡ None
+pub no_start : (text : List ℕ) → (get_or text 8 0 == 58) ≡ true → hex_number (take 8 text) ≡ None → region_of text ≡ None
 unfolding region_of
 no_start text colon none = rw (colon, none) refl
 

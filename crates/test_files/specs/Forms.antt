@@ -1,12 +1,9 @@
 -- What the texts in a test say, which are written as `Tests` has it.
-use Rattle.std.specs.Prelude.{ℕ, Bool, false, not, ◌&&◌, ◌==◌, nat_lt, nat_le, if◌then◌else◌, List, [], ◌∷◌, length, take, drop, slice_index, Option, None, Some, codes, Result, Ok, Err, option_map}
-use Rattle.std.specs.Char.{is_ascii_uppercase, is_digit}
-use Rattle.std.specs.Int.{from_be_bytes, w32}
-use Rattle.std.specs.List.{find, list_all, list_any}
+use Rattle.std.specs.Prelude.{ℕ, Bool, not, ◌&&◌, ◌==◌, nat_lt, nat_le, if◌then◌else◌, List, [], ◌∷◌, length, take, drop, slice_index, Option, None, Some, codes, option_map}
+use Rattle.std.specs.Char.{is_digit}
+use Rattle.std.specs.List.{find, list_all}
 use Rattle.std.specs.Str.{bytes_eq}
 use Rattle.std.specs.Str.Parse.{digits_value}
-use Rattle.hex.specs.Hex.{decode_sized}
-use Rattle.hex.specs.declared.error.FromHexError.{FromHexError}
 use Rattle.elf_load.specs.declared.region.Region.{Region}
 use Rattle.rv_decode.specs.Ends.{trap_name}
 use Rattle.rv_decode.specs.declared.ends.End.{End}
@@ -15,6 +12,7 @@ use Rattle.rv_decode.specs.declared.ends.PathStep.{PathStep}
 use Rattle.rv_decode.specs.declared.ends.PathStep.TheVariants.{Taken, NotTaken, Target}
 use Rattle.rv_decode.specs.declared.ends.Trap.{Trap}
 use Rattle.rv_decode.specs.declared.ends.Trap.TheVariants.{Illegal, FetchMisaligned, FetchAccess, LoadMisaligned, LoadAccess, StoreMisaligned, StoreAccess, Break, Call}
+use Rattle.smt_text.specs.Digits.{has_leading_zero, hex_number}
 
 -- where both are there, the first before the others
 abbrev pub put_first : {A : Type 0} → Option A → Option (List A) → Option (List A)
@@ -23,27 +21,13 @@ put_first _ _ = None
 
 -- ---- numbers
 
--- the number that four bytes are, the highest first
-abbrev pub number_of_bytes : Result (List ℕ) FromHexError → Option ℕ
-number_of_bytes (Ok bytes) = Some (from_be_bytes w32 bytes)
-number_of_bytes (Err why) = None
-
--- the number of eight lower-case hexadecimal digits
-unfoldable pub address_of : List ℕ → Option ℕ
-address_of digits = if list_any is_ascii_uppercase digits then None else number_of_bytes (decode_sized digits 4)
-
--- a zero (48) stands before other digits
-abbrev pub has_leading_zero : List ℕ → Bool
-has_leading_zero (first ∷ second ∷ rest) = first == 48
-has_leading_zero _ = false
-
 -- one to four decimal digits with no leading zero
-abbrev pub is_count : List ℕ → Bool
-is_count digits = nat_le 1 (length digits) && nat_le (length digits) 4 && not (has_leading_zero digits) && list_all (λ digit. is_digit digit 10) digits
+abbrev pub is_short : List ℕ → Bool
+is_short digits = nat_le 1 (length digits) && nat_le (length digits) 4 && not (has_leading_zero digits) && list_all (λ digit. is_digit digit 10) digits
 
 -- the number of one to four decimal digits with no leading zero
-unfoldable pub count_of : List ℕ → Option ℕ
-count_of digits = if is_count digits then Some (digits_value 10 digits) else None
+unfoldable pub short_number : List ℕ → Option ℕ
+short_number digits = if is_short digits then Some (digits_value 10 digits) else None
 
 -- ---- regions
 
@@ -52,9 +36,9 @@ abbrev pub region_with : Option ℕ → Option ℕ → Option Region
 region_with (Some start) (Some count) = Some (record { start = start; count = count })
 region_with _ _ = None
 
--- an address, a colon (58), and how many bytes
+-- an address in hexadecimal digits, a colon (58), and how many bytes
 unfoldable pub region_of : List ℕ → Option Region
-region_of text = if slice_index text 8 == 58 then region_with (address_of (take 8 text)) (count_of (drop 9 text)) else None
+region_of text = if slice_index text 8 == 58 then region_with (hex_number (take 8 text)) (short_number (drop 9 text)) else None
 
 -- ---- ends
 
@@ -79,7 +63,7 @@ begins_with front text = bytes_eq (take (length front) text) front
 unfoldable pub end_of : List ℕ → Option (Option End)
 end_of text =
     if bytes_eq text (codes "running") then Some None else
-    if begins_with (codes "exit ") text then option_map Some (exit_with (count_of (drop 5 text))) else
+    if begins_with (codes "exit ") text then option_map Some (exit_with (short_number (drop 5 text))) else
     if begins_with (codes "trap ") text then option_map (λ trap. Some (Trapped trap)) (trap_named (drop 5 text)) else
     None
 
@@ -94,6 +78,6 @@ unfoldable pub path_of : List ℕ → Option (List PathStep)
 path_of [] = Some []
 path_of (letter ∷ a ∷ b ∷ c ∷ d ∷ e ∷ f ∷ g ∷ h ∷ rest) =
     if letter == 64
-    then put_first (option_map Target (address_of (a ∷ b ∷ c ∷ d ∷ e ∷ f ∷ g ∷ h ∷ []))) (path_of rest)
+    then put_first (option_map Target (hex_number (a ∷ b ∷ c ∷ d ∷ e ∷ f ∷ g ∷ h ∷ []))) (path_of rest)
     else put_first (branch_of letter) (path_of (a ∷ b ∷ c ∷ d ∷ e ∷ f ∷ g ∷ h ∷ rest))
 path_of (letter ∷ rest) = put_first (branch_of letter) (path_of rest)

@@ -1,17 +1,16 @@
 //! What the texts in a test say.
 
 ghost use Rattle.std.specs.Prelude.{◌≡◌};
-ghost use Rattle.std.specs.Char.{is_ascii_uppercase};
-ghost use Rattle.std.specs.List.{find, list_any};
+ghost use Rattle.std.specs.List.{find};
 ghost use Rattle.std.specs.Str.{bytes_eq};
 ghost use Rattle.rv_decode.specs.Ends.{trap_name};
-ghost use Rattle.test_files.specs.Forms.{address_of, count_of, end_of, exit_with, has_leading_zero as leading_zero, region_of, trap_named};
+ghost use Rattle.test_files.specs.Forms.{end_of, exit_with, region_of, short_number, trap_named};
 
 use elf_load::Region;
-use hex::FromHex;
 use rv_decode::{End, Trap};
+use smt_text::{has_leading_zero, hex_number};
 
-/// The most digits of a count.
+/// The most digits of a short number.
 const MOST_DIGITS: usize = 4;
 
 /// The traps.
@@ -27,36 +26,9 @@ const TRAPS: [Trap; 9] = [
     Trap::Call,
 ];
 
-fn has_upper_case(text: &[u8]) -> bool
-    ensures { result ≡ list_any is_ascii_uppercase text.now }
-{
-    text.iter().any(|byte| byte.is_ascii_uppercase())
-}
-
-/// Reads an address: eight lower-case hexadecimal digits.
-#[tactic(auto, unfolding(crate::specs::Forms::address_of))]
-pub(crate) fn read_address(digits: &[u8]) -> Option<u32>
-    ensures { result ≡ address_of digits.now }
-{
-    if has_upper_case(digits) {
-        return None;
-    }
-    match <[u8; 4] as FromHex>::from_hex(digits) {
-        Ok(bytes) => Some(u32::from_be_bytes(bytes)),
-        Err(_) => None,
-    }
-}
-
-/// Whether a zero stands before other digits.
-fn has_leading_zero(digits: &[u8]) -> bool
-    ensures { result ≡ leading_zero digits.now }
-{
-    1 < digits.len() && digits[0] == b'0'
-}
-
 /// Reads one to four decimal digits with no leading zero.
-pub(crate) fn read_count(digits: &[u8]) -> Option<u32>
-    ensures { result ≡ count_of digits.now }
+pub(crate) fn read_short_number(digits: &[u8]) -> Option<u32>
+    ensures { result ≡ short_number digits.now }
 {
     if digits.is_empty() || MOST_DIGITS < digits.len() || has_leading_zero(digits) {
         return None;
@@ -75,8 +47,8 @@ pub(crate) fn read_region(text: &[u8]) -> Option<Region>
     if text.len() < 9 || text[8] != b':' {
         return None;
     }
-    let start = read_address(&text[..8])?;
-    let count = read_count(&text[9..])?;
+    let start = hex_number(&text[..8])?;
+    let count = read_short_number(&text[9..])?;
     Some(Region { start, count })
 }
 
@@ -99,9 +71,9 @@ fn trap_of(name: &[u8]) -> Option<Trap>
 
 /// Reads the status of an exit: a number below 256.
 fn read_exit(digits: &[u8]) -> Option<End>
-    ensures { result ≡ exit_with (count_of digits.now) }
+    ensures { result ≡ exit_with (short_number digits.now) }
 {
-    let status = u8::try_from(read_count(digits)?).ok()?;
+    let status = u8::try_from(read_short_number(digits)?).ok()?;
     Some(End::Exit(status))
 }
 

@@ -3,8 +3,8 @@
 ghost use Rattle.std.specs.Prelude.{◌≡◌, ◌<◌, ◌≤◌, IfOk, IfSome, MatchOption, None, Some, drop, length, option_map};
 ghost use Rattle.test_files.specs.Forms.{branch_of, path_of, put_first};
 
-use crate::forms::read_address;
 use rv_decode::PathStep;
+use smt_text::hex_number;
 use std::alloc::{AllocError as NoMemory, Global};
 
 /// What a branch does: T or N.
@@ -30,7 +30,7 @@ fn read_step(text: &[u8]) -> Option<(PathStep, usize)>
     if text[0] != b'@' || text.len() < 9 {
         return Some((read_branch(text[0])?, 1));
     }
-    let target = read_address(&text[1..9])?;
+    let target = hex_number(&text[1..9])?;
     Some((PathStep::Target(target), 9))
 }
 

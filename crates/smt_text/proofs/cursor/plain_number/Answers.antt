@@ -1,7 +1,7 @@
 use Rattle.std.proofs.Common.{rules, arith, ◌≡◌, ◌∙◌, sym, ap, ◌+◌, ◌*◌, ◌<◌, ◌^◌, length, get_or, take, Some, false}
 use Rattle.std.specs.Str.Parse.{digits_value}
 use Rattle.std.proofs.lemmas.Int.Digits.{digits_value_more}
-use Rattle.smt_text.specs.Pieces.{has_leading_zero}
+use Rattle.smt_text.specs.Digits.{has_leading_zero}
 use Rattle.std.proofs.lemmas.Str.{digit_value_digit}
 use Rattle.std.proofs.lemmas.Str.Parse.{digit_at}
 use Rattle.smt_text.proofs.CursorSteps.{no_digits, overflows, whole_number, zero_leads}

@@ -1,5 +1,6 @@
 use Rattle.std.proofs.Common.{rules, arith, ◌≡◌, ◌≤◌, None, Some, drop, get_or, length, take}
-use Rattle.test_files.specs.Forms.{address_of, branch_of, path_of, put_first}
+use Rattle.smt_text.specs.Digits.{hex_number}
+use Rattle.test_files.specs.Forms.{branch_of, path_of, put_first}
 use Rattle.test_files.proofs.PathForms.{branch_at, short_at, target_at, with_address, with_branch}
 use Rattle.test_files.proofs.path_form.read_step.Goals.{then-text-ne64-via-then-text-ne64, then-text-ne64-via-else-text-ne64+then-text-lt9}
 use Rattle.test_files.proofs.path_form.read_step.Goals as goal
@@ -32,7 +33,7 @@ returns-in_err-target-clause-cases c =
     let text = c.args.text.now in
     let enough : 9 ≤ length text = search (rules, arith) in
     let first : get_or text 0 0 ≡ 64 = search rules in
-    let digits : address_of (take 8 (drop 1 text)) ≡ None = search rules in
+    let digits : hex_number (take 8 (drop 1 text)) ≡ None = search rules in
     let none : path_of text ≡ None = with_address text None (target_at text enough first) digits in
     search (rules, none)
 
@@ -41,5 +42,5 @@ returns-clause-cases c =
     let text = c.args.text.now in
     let enough : 9 ≤ length text = search (rules, arith) in
     let first : get_or text 0 0 ≡ 64 = search rules in
-    let digits : address_of (take 8 (drop 1 text)) ≡ Some c.in_ok-target.target = search rules in
+    let digits : hex_number (take 8 (drop 1 text)) ≡ Some c.in_ok-target.target = search rules in
     with_address text (Some c.in_ok-target.target) (target_at text enough first) digits

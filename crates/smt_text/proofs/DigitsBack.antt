@@ -1,37 +1,28 @@
--- Numbers that were written are read back.
-use Rattle.std.proofs.Common.{ℕ, zero, suc, Bool, true, false, ◌||◌, List, [], ◌∷◌, ◌≡◌, ◌<◌, ◌≤◌, ◌^◌, ◌/◌, ◌%◌, length, get_or, slice_index, Some, Ok, refl, ap, decimal, arith}
+-- Digits that were written: no zero leads, and eight hexadecimal ones are read back.
+use Rattle.std.proofs.Common.{◌≡◌, ℕ, zero, suc, ◌<◌, ◌/◌, ◌%◌, ◌^◌, Bool, true, false, ◌||◌, List, [], ◌∷◌, length, get_or, slice_index, Some, Ok, refl, ap, decimal, arith}
 use Rattle.std.specs.Char.{is_ascii_uppercase}
 use Rattle.std.specs.Int.{byte_at, bytes_high_first, to_be_bytes, w32}
 use Rattle.std.specs.List.{list_any}
 use Rattle.std.proofs.lemmas.Bool.Decides.{nat_tests}
-use Rattle.std.proofs.lemmas.Fmt.{decimal_digit, decimal_is_IsNumeral, first_decimal, length-decimal-le}
+use Rattle.std.proofs.lemmas.Fmt.{decimal_digit, first_decimal}
 use Rattle.std.proofs.lemmas.Nat.{from_be_bytes-to_be_bytes_4}
 use Rattle.hex.specs.Hex.{IsBytes, decode_sized, encode_lower, encode_with, lower_digits}
 use Rattle.hex.proofs.HexLemmas.{decode_sized-encode_lower, length-encode_with}
+use Rattle.smt_text.specs.Digits.{has_leading_zero, hex_number}
 use Rattle.smt_text.specs.Names.{eight_digits}
-use Rattle.test_files.specs.Forms.{address_of, count_of, has_leading_zero}
-use Rattle.test_files.proofs.Counts.{all_digits, at_least, at_most}
 
--- ---- counts
+-- ---- no zero leads
 
 leads_not : (digits : List ℕ) → 48 < get_or digits 0 0 → has_leading_zero digits ≡ false
 leads_not [] first = refl
 leads_not (a ∷ []) first = refl
 leads_not (a ∷ b ∷ rest) first = grind (arith, nat_tests, first)
 
-no_leading_zero : (n : ℕ) → n < 2 ^ 64 → has_leading_zero (decimal n) ≡ false
+pub no_leading_zero : (n : ℕ) → n < 2 ^ 64 → has_leading_zero (decimal n) ≡ false
 no_leading_zero zero small = rw (decimal_digit 0 (omega arith)) refl
 no_leading_zero (suc n) small = leads_not (decimal (suc n)) (first_decimal (suc n) (omega arith) small)
 
-pub count_back : (n : ℕ) → n ≤ 9999 → count_of (decimal n) ≡ Some n
-unfolding count_of
-count_back n most =
-    let small : n < 2 ^ 64 = omega arith in
-    let digits = decimal_is_IsNumeral n small in
-    let short : length (decimal n) ≤ 4 = length-decimal-le 4 n (omega arith) (omega arith) small in
-    rw (at_least (decimal n) digits.0.0, at_most (decimal n) short, no_leading_zero n small, all_digits (decimal n) digits.0.1, digits.1) refl
-
--- ---- addresses
+-- ---- eight hexadecimal digits
 
 none_at : (p : ℕ → Bool) → p 0 ≡ false → (xs : List ℕ) (k : ℕ) → list_any p xs ≡ false → p (get_or xs k 0) ≡ false
 none_at p at_zero [] k none = at_zero
@@ -66,9 +57,10 @@ high_first_bytes (suc k) n (suc i) = high_first_bytes k n i
 pub length_eight : (n : ℕ) → length (eight_digits n) ≡ 8
 length_eight n = length-encode_with lower_digits (to_be_bytes w32 n)
 
-pub address_back : (n : ℕ) → n < 2 ^ 32 → address_of (eight_digits n) ≡ Some n
-unfolding address_of
-address_back n small =
+pub hex_back : (n : ℕ) → n < 2 ^ 32 → hex_number (eight_digits n) ≡ Some n
+unfolding hex_number
+hex_back n small =
     let plain = no_upper_case (to_be_bytes w32 n) in
-    let bytes : decode_sized (eight_digits n) 4 ≡ Ok (to_be_bytes w32 n) = decode_sized-encode_lower (to_be_bytes w32 n) 4 refl (high_first_bytes 4 n) in
+    let bytes : decode_sized (eight_digits n) 4 ≡ Ok (to_be_bytes w32 n) =
+    decode_sized-encode_lower (to_be_bytes w32 n) 4 refl (high_first_bytes 4 n) in
     rw (plain, bytes) (ap Some (from_be_bytes-to_be_bytes_4 n small))

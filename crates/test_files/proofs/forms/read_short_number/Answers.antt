@@ -1,10 +1,10 @@
 use Rattle.std.proofs.Common.{rules, arith, ◌<◌, ◌≤◌, ◌≡◌, false, get_or, length}
 use Rattle.std.specs.Char.{digit_value}
 use Rattle.std.proofs.lemmas.Int.Digits.{digits_more, digits_value_more}
-use Rattle.test_files.specs.Forms.{has_leading_zero}
-use Rattle.test_files.proofs.Counts.{count_absent, count_there, nothing, room, too_long, zero_first}
-use Rattle.test_files.proofs.forms.read_count.Goals.{then-is_empty-via-then-is_empty, then-is_empty-via-else-is_empty+then-digits-gt-MOST_DIGITS, then-is_empty-via-else-is_empty+else-digits-gt-MOST_DIGITS+then-has_leading_zero}
-use Rattle.test_files.proofs.forms.read_count.Goals as goal
+use Rattle.smt_text.specs.Digits.{has_leading_zero}
+use Rattle.test_files.proofs.ShortNumbers.{short_absent, short_there, nothing, room, too_long, zero_first}
+use Rattle.test_files.proofs.forms.read_short_number.Goals.{then-is_empty-via-then-is_empty, then-is_empty-via-else-is_empty+then-digits-gt-MOST_DIGITS, then-is_empty-via-else-is_empty+else-digits-gt-MOST_DIGITS+then-has_leading_zero}
+use Rattle.test_files.proofs.forms.read_short_number.Goals as goal
 
 pub returns-then-is_empty : goal.returns-then-is_empty
 returns-then-is_empty c =
@@ -26,7 +26,7 @@ returns-in_err-value c =
     let short : length c.args.digits.now ≤ 4 = search (rules, arith) in
     let plain : has_leading_zero c.args.digits.now ≡ false = search rules in
     let no : digit_value (get_or c.args.digits.now c.loop-digit.digit-index 0) < 10 → ⊥ = search (rules, c.in_err-value.ensures.value) in
-    search (rules, count_absent c.args.digits.now c.loop-digit.digit-index (search rules) (omega (arith, no)) some short plain)
+    search (rules, short_absent c.args.digits.now c.loop-digit.digit-index (search rules) (omega (arith, no)) some short plain)
 
 pub overflow_add-value : goal.overflow_add-value
 overflow_add-value c =
@@ -46,4 +46,4 @@ returns c =
     let some : 1 ≤ length c.args.digits.now = search (rules, arith) in
     let short : length c.args.digits.now ≤ 4 = search (rules, arith) in
     let plain : has_leading_zero c.args.digits.now ≡ false = search rules in
-    search (rules, count_there c.args.digits.now c.loop-digit.digit-index some short plain)
+    search (rules, short_there c.args.digits.now c.loop-digit.digit-index some short plain)

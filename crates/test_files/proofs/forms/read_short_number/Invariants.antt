@@ -1,6 +1,6 @@
 use Rattle.std.proofs.Common.{◌≡◌, take}
 use Rattle.std.specs.Str.Parse.{AllDigits, digits_value}
-use Rattle.test_files.proofs.forms.read_count.Given as goal
+use Rattle.test_files.proofs.forms.read_short_number.Given as goal
 
 abbrev pub invariant-loop-digit : goal.invariant-loop-digit
 invariant-loop-digit l = AllDigits 10 (take l.digit-index l.digits)
