@@ -22,12 +22,13 @@ use Rattle.sym_state.specs.declared.value.Bit.{Bit}
 use Rattle.sym_state.specs.declared.value.Value.{Value}
 use Rattle.sym_state.specs.declared.value.Value.TheVariants.{Number}
 use Rattle.sym_state.proofs.Grown.{concrete-grown, unfolded-grown}
+use Rattle.sym_state.proofs.Opening.{stands-bytes}
 use Rattle.sym_machine.specs.Steps.{AreAlike, Carries, Comes}
 use Rattle.sym_machine.specs.Stops.{DecidesBy, StandsAt}
 use Rattle.sym_machine.specs.declared.outcome.Step.{Step}
 use Rattle.sym_machine.specs.declared.outcome.Step.TheVariants.{Running}
 use Rattle.sym_machine.proofs.Unfolds.{expression-x, unfolded-onward, written}
-use Rattle.sym_machine.proofs.Standing.{Comes-by, Comes-made, IsGrown-trans, Keeps-moved, Keeps-onward, bytes_of, still_stands, stood, to_register-is, x-worth}
+use Rattle.sym_machine.proofs.Standing.{Comes-by, Comes-made, IsGrown-trans, Keeps-moved, Keeps-onward, still_stands, stood, to_register-is, x-worth}
 
 -- ---- A register is written.
 pub comes_set : (s : Symbolic) (rd : ℕ) (v : Value) (of : State → ℕ)
@@ -53,7 +54,7 @@ computes s t op rd rs1 second v of made same =
     ap (λ c. arithmetic.combined op (x c rs1) (of c)) here
     ∙ ap (λ n. arithmetic.combined op n (of (concrete s input))) (x-worth s input rs1)
     ∙ ap (arithmetic.combined op (worth_of s.terms input (value_at s.registers rs1))) (same input before)
-    ∙ sym (made.gives.worth input (bytes_of s input before))))
+    ∙ sym (made.gives.worth input (stands-bytes s input before))))
 
 pub computes_terms : (s t u : Symbolic) (op : RegisterOp) (rd rs1 : ℕ) (second v first : Value) → IsGrown s t
     → first ≡ value_at s.registers rs1
@@ -74,7 +75,7 @@ module _ (s t : Symbolic) (test : Test) (rs1 rs2 offset : ℕ) (bit : Bit)
   passes_is input stands =
       ap (λ n. arithmetic.passes test n (x (concrete s input) rs2)) (x-worth s input rs1)
       ∙ ap (arithmetic.passes test (worth_of s.terms input (value_at s.registers rs1))) (x-worth s input rs2)
-      ∙ sym (made.gives.worth input (bytes_of s input stands))
+      ∙ sym (made.gives.worth input (stands-bytes s input stands))
 
   pub side_next : StandsAt t 1 (λ input. Side (bit_worth t.terms input bit))
   side_next = record {
@@ -117,8 +118,8 @@ module _ (s t u : Symbolic) (rd rs1 offset : ℕ) (sum target : Value)
   target_is : (input : List ℕ) → stands_for s input ≡ true → even (sum32 (x (concrete s input) rs1) offset) ≡ worth_of u.terms input target
   target_is input stands =
       ap (λ n. even (sum32 n offset)) (x-worth s input rs1)
-      ∙ ap even (sym (made.gives.worth input (bytes_of s input stands)))
-      ∙ sym (cleared.gives.worth input (bytes_of s input stands))
+      ∙ ap even (sym (made.gives.worth input (stands-bytes s input stands)))
+      ∙ sym (cleared.gives.worth input (stands-bytes s input stands))
 
   pub target_next : StandsAt u 1 (λ input. Needs (worth_of u.terms input target))
   target_next = record {

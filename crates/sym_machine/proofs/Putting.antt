@@ -18,10 +18,11 @@ use Rattle.sym_state.specs.Values.{IsWide, byte_worth, worth_of}
 use Rattle.sym_state.specs.declared.value.Value.{Value}
 use Rattle.sym_state.proofs.Growing.{Continues-trans, IsWide-grown, worth-grown}
 use Rattle.sym_state.proofs.Grown.{concrete-grown, stands-with_terms}
+use Rattle.sym_state.proofs.Opening.{stands-bytes}
 use Rattle.sym_machine.specs.Steps.{Comes, Keeps, Puts}
 use Rattle.sym_machine.specs.declared.outcome.Step.{Step}
 use Rattle.sym_machine.specs.declared.outcome.Step.TheVariants.{Running}
-use Rattle.sym_machine.proofs.Standing.{bytes_of, x-worth}
+use Rattle.sym_machine.proofs.Standing.{x-worth}
 
 -- a state with these bytes from an address on
 abbrev with_put : State → ℕ → List ℕ → State
@@ -71,7 +72,7 @@ module _ (old mid new : Symbolic) (address : ℕ) (byte : Byte) (number : List �
     is = λ input standing.
         concrete-put input
         ∙ ap (λ n. with_put (concrete mid input) address (n ∷ []))
-        (made.gives.worth input (bytes_of old input standing))
+        (made.gives.worth input (stands-bytes old input standing))
         ∙ ap (λ c. with_put c address (number input ∷ []))
         (concrete-grown old mid input made.grown);
   }

@@ -1,12 +1,8 @@
 -- What a symbolic run stands for stays where terms are added, and what instructions keep.
-use Rattle.std.proofs.Common.{◌≡◌, ℕ, ◌<◌, ◌&&◌, Bool, true, false, List, [], ◌∷◌, ◌++◌, length, map, refl, sym, ap, subst, ◌∙◌, arith}
-use Rattle.std.specs.Prelude.{◌==◌, All, Option, None, Some, if◌then◌else◌, nat_lt, slice_get, slice_set}
+use Rattle.std.proofs.Common.{◌≡◌, ℕ, true, false, List, [], ◌∷◌, ◌++◌, length, map, refl, sym, ap, subst, ◌∙◌, arith}
+use Rattle.std.specs.Prelude.{◌==◌, Option, None, Some, if◌then◌else◌, slice_get, slice_set}
 use Rattle.std.proofs.Math.ListN as lists
-use Rattle.std.proofs.lemmas.Bool.Decides.{nat_tests}
 use Rattle.std.proofs.lemmas.List.{map-set}
-use Rattle.std.proofs.lemmas.List.Elements.{All-cons, All-nil}
-use Rattle.bv_dag.specs.Queries.{holds}
-use Rattle.fork_spec.specs.Leaves.{are_bytes}
 use Rattle.rv_spec.specs.Decisions.{Decision, Number as Needs, instr_decisions, step_decisions}
 use Rattle.rv_decode.specs.declared.instr.Instr.{Instr}
 use Rattle.rv_spec.specs.Arithmetic.{sum32}
@@ -14,39 +10,20 @@ use Rattle.rv_spec.specs.Machine.{State, Outcome, to_register, written, x}
 use Rattle.rv_spec.specs.Machine as machine
 use Rattle.sym_state.specs.Moves.{IsGrown, MakesValue, with_terms}
 use Rattle.sym_state.specs.Runs.{IsReady}
-use Rattle.sym_state.specs.Symbolic.{Symbolic, IsTrulyKnown, concrete, condition_of, known_at, set_value, stands_for, value_at}
+use Rattle.sym_state.specs.Symbolic.{Symbolic, IsTrulyKnown, concrete, known_at, set_value, stands_for, value_at}
 use Rattle.sym_state.specs.Values.{worth_of}
 use Rattle.sym_state.specs.declared.decided.Decided.{Decided}
 use Rattle.sym_state.specs.declared.value.Value.{Value}
 use Rattle.sym_state.specs.declared.value.Value.TheVariants.{Number}
 use Rattle.sym_state.proofs.Growing.{Continues-trans}
 use Rattle.sym_state.proofs.Grown.{Continues-refl, concrete-grown, stands-grown}
+use Rattle.sym_state.proofs.Opening.{stands-bytes}
 use Rattle.sym_machine.specs.Steps.{AreAlike, Comes, Keeps}
 use Rattle.sym_machine.specs.Stops.{DecidesBy, StandsAt, Stops, StopsAt}
 use Rattle.sym_machine.specs.declared.halt.Halt.{Halt}
 use Rattle.sym_machine.specs.declared.halt.Halt.TheVariants.{Side as SideHalt, Number as NumberHalt, NoMemory}
 use Rattle.sym_machine.specs.declared.outcome.Step.{Step}
 use Rattle.sym_machine.specs.declared.outcome.Step.TheVariants.{Running}
-
--- ---- Assignments.
-both_true : (a b : Bool) → (a && b) ≡ true → (a ≡ true) × (b ≡ true)
-both_true true b h = (refl, h)
-both_true false b h = cc
-
-below_of : (n m : ℕ) → nat_lt n m ≡ true → n < m
-below_of n m is = grind (arith, nat_tests)
-
-are_bytes-all : (input : List ℕ) → are_bytes input ≡ true → All (λ b. b < 256) input
-are_bytes-all [] is = All-nil (λ b. b < 256)
-are_bytes-all (b ∷ bs) is =
-    let parts = both_true (nat_lt b 256) (are_bytes bs) is in
-    All-cons (λ n. n < 256) b bs (below_of b 256 parts.0) (are_bytes-all bs parts.1)
-
--- an assignment that a run stands for is a list of bytes
-pub bytes_of : (s : Symbolic) (input : List ℕ) → stands_for s input ≡ true
-    → All (λ b. b < 256) input
-bytes_of s input stands =
-    are_bytes-all input (both_true (are_bytes input) (holds (condition_of s) input) stands).0
 
 -- ---- More terms change nothing that a run stands for.
 -- an assignment that a run stands for after terms were made it stood for before
@@ -281,6 +258,6 @@ comes_to_register old mid new step rd v number makes made running there does =
           ∙ ap (λ (c : State). to_register c rd (number input))
           (sym (concrete-grown old mid input made.grown))
           ∙ ap (to_register (concrete mid input) rd)
-          (sym (made.gives.worth input (bytes_of old input standing)))
+          (sym (made.gives.worth input (stands-bytes old input standing)))
           ∙ to_register-is mid rd v input;
     }))

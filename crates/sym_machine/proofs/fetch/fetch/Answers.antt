@@ -1,6 +1,7 @@
 use Rattle.std.proofs.Common.{◌∙◌, sym}
+use Rattle.sym_state.proofs.Opening.{stands-bytes}
 use Rattle.sym_machine.proofs.Fetches.{code_word, fetch_misaligned, fetch_refused, word_first}
-use Rattle.sym_machine.proofs.Standing.{bytes_of, ready-grown, still_stands}
+use Rattle.sym_machine.proofs.Standing.{ready-grown, still_stands}
 use Rattle.sym_machine.proofs.fetch.fetch.Goals as goal
 
 pub returns-then-pc-ne0-clause-ok : goal.returns-then-pc-ne0-clause-ok
@@ -21,7 +22,7 @@ number_at-requires-clause-stands c =
     let made = rw (c.code.ensures.same, pc) at c.in_ok-value-in-Bytes.ensures.ok in
     word_first c.args.state.now c.word.new.state c.in_ok-value-in-Bytes.value made.grown
     (rw pc at c.if-pc-ne0.false) (rw (c.in-Bytes.is, pc) at c.code.ensures.code)
-    (λ input stands. made.gives.worth input (bytes_of c.args.state.now input stands))
+    (λ input stands. made.gives.worth input (stands-bytes c.args.state.now input stands))
 
 pub returns-in-Word-clause-ok : goal.returns-in-Word-clause-ok
 returns-in-Word-clause-ok c =
@@ -41,6 +42,6 @@ returns-in_ok-number_at-in-Bytes-clause-ok c =
       aligned = rw pc at c.if-pc-ne0.false;
       can = rw (c.in-Bytes.is, pc) at c.code.ensures.code;
       is = λ input stands.
-          sym (made.gives.worth input (bytes_of old input stands))
+          sym (made.gives.worth input (stands-bytes old input stands))
           ∙ c.in_ok-number_at-in-Bytes.ensures.ok input (still_stands old c.word.new.state input made.grown stands);
     }

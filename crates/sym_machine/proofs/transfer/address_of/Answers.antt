@@ -7,9 +7,10 @@ use Rattle.sym_state.specs.Moves.{IsGrown, MakesValue}
 use Rattle.sym_state.specs.Symbolic.{Symbolic, concrete, stands_for, value_at}
 use Rattle.sym_state.specs.Values.{worth_of}
 use Rattle.sym_state.specs.declared.value.Value.{Value}
+use Rattle.sym_state.proofs.Opening.{stands-bytes}
 use Rattle.sym_machine.specs.Stops.{StandsAt, Stops, StopsAt}
 use Rattle.sym_machine.specs.declared.halt.Halt.{Halt}
-use Rattle.sym_machine.proofs.Standing.{StandsAt-by, StandsAt-grown, Stops-at, bytes_of, ready-grown, still_stands, stood, x-worth}
+use Rattle.sym_machine.proofs.Standing.{StandsAt-by, StandsAt-grown, Stops-at, ready-grown, still_stands, stood, x-worth}
 use Rattle.sym_machine.proofs.transfer.address_of.Goals as goal
 
 -- the sum is the address on each assignment
@@ -20,7 +21,7 @@ sum_is : (old new : Symbolic) (rs1 offset : ℕ) (base sum : Value)
     → sum32 (x (concrete old input) rs1) offset ≡ worth_of new.terms input sum
 sum_is old new rs1 offset base sum is made input standing =
     ap (λ n. sum32 n offset) (x-worth old input rs1 ∙ ap (worth_of old.terms input) (sym is))
-    ∙ sym (made.gives.worth input (bytes_of old input standing))
+    ∙ sym (made.gives.worth input (stands-bytes old input standing))
 
 sum_stands : (old new : Symbolic) (rs1 offset : ℕ) (base sum : Value)
     → base ≡ value_at old.registers rs1
