@@ -1,11 +1,13 @@
 -- The sides of a branch, and questions about them.
 use Rattle.std.proofs.Common.{◌≡◌, ℕ, ◌<◌, Bool, true, false, ◌&&◌, List, [], ◌∷◌, ◌++◌, length, refl, sym, ap, subst, ◌∙◌}
 use Rattle.std.specs.Prelude.{All, IfOk, None, Some, Result, Ok, Err, ◌==◌, not}
+use Rattle.std.proofs.lemmas.Bool.{and_parts}
 use Rattle.bv_dag.specs.Graphs.{Graph, number_of, width_of}
 use Rattle.bv_dag.specs.Queries.{IsUnsatisfiable, holds}
 use Rattle.bit_blast.specs.Budgets.{IsSpent}
 use Rattle.fork_spec.specs.Evidence.{Learnt}
 use Rattle.fork_spec.specs.Leaves.{IsSmallChoice, are_bytes}
+use Rattle.fork_spec.proofs.ByteLists.{are_bytes-each, are_bytes-of}
 use Rattle.query_front.specs.Asks.{with_term}
 use Rattle.rv_spec.specs.Arithmetic.{one_where}
 use Rattle.rv_spec.specs.Decisions.{Side as OnSide}
@@ -14,6 +16,7 @@ use Rattle.sym_state.specs.Moves.{MakesTerm}
 use Rattle.sym_state.specs.Symbolic.{Symbolic, IsFormed, condition_of, stands_for}
 use Rattle.sym_state.specs.declared.decided.Decided.TheVariants.{Side}
 use Rattle.sym_state.proofs.Grown.{Continues-refl, holds-grown}
+use Rattle.sym_state.proofs.Opening.{stands-bytes}
 use Rattle.term_trees.specs.Growth.{Continues}
 use Rattle.term_trees.specs.TreeSlices.{IsPartFor}
 use Rattle.tree_core.specs.declared.budgets.Budgets.{Budgets}
@@ -24,7 +27,7 @@ use Rattle.node_split.specs.Narrowing.{IsNarrowed, IsNarrower, IsSettled, is_sid
 use Rattle.node_split.specs.Rules.{Piece}
 use Rattle.node_split.specs.Splits.{IsBranchSide, IsRunOn, IsSide, IsTested, choice_of}
 use Rattle.node_split.specs.declared.branch.Tested.{Tested}
-use Rattle.node_split.proofs.Bytes.{all_true, both_true, bytes_of, bytes_true, not_false, not_true, one_is}
+use Rattle.node_split.proofs.Bytes.{all_true, not_false, not_true, one_is}
 use Rattle.node_split.proofs.Increasing.{equals}
 use Rattle.node_split.proofs.Sharing.{side_in}
 use Rattle.node_split.proofs.Sides.{decision_there, holds-last, narrower, side_run, stands-narrowed}
@@ -84,17 +87,17 @@ module _ (s : Symbolic) (g : Graph) (test : ℕ) (formed : IsFormed s) (grown : 
   pub answered : (input : List ℕ) → All (λ b. b < 256) input → holds (with_term (record { graph = g; asserted = s.condition }) test) input ≡ true
       → (stands_for s input ≡ true) × ((number_of g test input == 1) ≡ true)
   answered input bytes is =
-      let parts = both_true (holds (record { graph = g; asserted = s.condition }) input) (number_of g test input == 1) (sym (holds-last g s.condition test input) ∙ is) in
-      (all_true _ _ (bytes_true input bytes) (sym (holds-grown s.terms g s.condition input grown formed.bits) ∙ parts.0), parts.1)
+      let parts = and_parts (holds (record { graph = g; asserted = s.condition }) input) (number_of g test input == 1) (sym (holds-last g s.condition test input) ∙ is) in
+      (all_true _ _ (are_bytes-of input bytes) (sym (holds-grown s.terms g s.condition input grown formed.bits) ∙ parts.0), parts.1)
 
   -- where there is none, the term is 1 on no assignment of the run
   pub unanswered : IsUnsatisfiable (with_term (record { graph = g; asserted = s.condition }) test) → (input : List ℕ) → stands_for s input ≡ true
       → (number_of g test input == 1) ≡ false
   unanswered none input stands =
-      let parts = both_true (are_bytes input) (holds (condition_of s) input) stands in
+      let parts = and_parts (are_bytes input) (holds (condition_of s) input) stands in
       let met : holds (record { graph = g; asserted = s.condition }) input ≡ true = holds-grown s.terms g s.condition input grown formed.bits ∙ parts.1 in
       second (holds (record { graph = g; asserted = s.condition }) input) (number_of g test input == 1)
-      (sym (holds-last g s.condition test input) ∙ none input (bytes_of input parts.0)) met
+      (sym (holds-last g s.condition test input) ∙ none input (are_bytes-each input parts.0)) met
     where
       second : (a b : Bool) → (a && b) ≡ false → a ≡ true → b ≡ false
       second true b h is = h
@@ -103,7 +106,7 @@ module _ (s : Symbolic) (g : Graph) (test : ℕ) (formed : IsFormed s) (grown : 
 -- an assignment of the run has a byte for each input
 pub assigned_each : (s : Symbolic) (input : List ℕ) → stands_for s input ≡ true → length input ≡ s.terms.inputs
 assigned_each s input stands =
-    equals (length input) s.terms.inputs (both_true (length input == s.terms.inputs) _ (both_true (are_bytes input) (holds (condition_of s) input) stands).1).0
+    equals (length input) s.terms.inputs (and_parts (length input == s.terms.inputs) _ (and_parts (are_bytes input) (holds (condition_of s) input) stands).1).0
 
 -- ---- A branch is settled where the other side has no assignment.
 other_is : (side : Bool) (n : ℕ) → is_side (not side) n ≡ false → (n == 1) ≡ side
@@ -151,7 +154,7 @@ module _ (s : Symbolic) (term : ℕ) (side : Bool) (t : Tested) (is : IsTested s
   pub tested_sampled : stands_for s s.sample ≡ true → holds (condition_of t.run) t.run.sample ≡ true
   tested_sampled stands =
       subst (λ (r : Symbolic). holds (condition_of r) r.sample ≡ true) (sym is.same)
-      (holds-grown s.terms t.run.terms s.condition s.sample is.continues is.formed.bits ∙ (both_true (are_bytes s.sample) (holds (condition_of s) s.sample) stands).1)
+      (holds-grown s.terms t.run.terms s.condition s.sample is.continues is.formed.bits ∙ (and_parts (are_bytes s.sample) (holds (condition_of s) s.sample) stands).1)
 
   asked_of : (P : List ℕ → Type 0) → P t.run.condition → P s.condition
   asked_of P = subst P conditions
@@ -165,13 +168,13 @@ module _ (s : Symbolic) (term : ℕ) (side : Bool) (t : Tested) (is : IsTested s
       (parts.0, sym (is.tells input bytes) ∙ parts.1)
 
   pub answered_each : (input : List ℕ) → holds (with_term (condition_of t.run) t.test) input ≡ true → length input ≡ t.run.terms.inputs
-  answered_each input met = equals (length input) t.run.terms.inputs (both_true (length input == t.run.terms.inputs) _ met).0
+  answered_each input met = equals (length input) t.run.terms.inputs (and_parts (length input == t.run.terms.inputs) _ met).0
 
   -- where there is none, no assignment is
   pub side_unanswered : IsUnsatisfiable (with_term (condition_of t.run) t.test) → (input : List ℕ) → stands_for s input ≡ true
       → is_side side (number_of s.terms term input) ≡ false
   side_unanswered none input stands =
-      let bytes = bytes_of input (both_true (are_bytes input) (holds (condition_of s) input) stands).0 in
+      let bytes = stands-bytes s input stands in
       sym (is.tells input bytes)
       ∙ unanswered s t.run.terms t.test is.formed is.continues (asked_of (λ ids. IsUnsatisfiable (with_term (record { graph = t.run.terms; asserted = ids }) t.test)) none) input stands
 

@@ -1,15 +1,8 @@
 -- Inputs of bytes, and tests of both kinds.
-use Rattle.std.proofs.Common.{◌≡◌, ℕ, ◌<◌, Bool, true, false, ◌&&◌, List, [], ◌∷◌, length, refl, ap, ◌∙◌, arith}
-use Rattle.std.specs.Prelude.{All, ◌==◌, nat_lt, not}
-use Rattle.std.proofs.lemmas.Bool.Decides.{nat_tests}
-use Rattle.std.proofs.lemmas.List.Elements.{All-nil, All-cons, All-head, All-tail}
-use Rattle.fork_spec.specs.Leaves.{are_bytes}
+use Rattle.std.proofs.Common.{◌≡◌, ℕ, ◌<◌, Bool, true, false, ◌&&◌, List, [], ◌∷◌, length, refl, ap, arith}
+use Rattle.std.specs.Prelude.{All, ◌==◌, not}
 use Rattle.rv_spec.specs.Arithmetic.{one_where}
 use Rattle.node_split.specs.Narrowing.{is_side}
-
-pub both_true : (a b : Bool) → (a && b) ≡ true → (a ≡ true) × (b ≡ true)
-both_true true b h = (refl, h)
-both_true false b h = cc
 
 pub all_true : (a b : Bool) → a ≡ true → b ≡ true → (a && b) ≡ true
 all_true a b h k = cc (h, k)
@@ -45,26 +38,6 @@ by_bytes false h one test is = refl
 pub one_is : (b : Bool) → (one_where b == 1) ≡ b
 one_is true = refl
 one_is false = refl
-
-below_true : (n m : ℕ) → n < m → nat_lt n m ≡ true
-below_true n m less = grind (arith, nat_tests)
-
-below_of : (n m : ℕ) → nat_lt n m ≡ true → n < m
-below_of n m is = grind (arith, nat_tests)
-
-pub bytes_true : (input : List ℕ) → All (λ b. b < 256) input → are_bytes input ≡ true
-bytes_true [] all = refl
-bytes_true (b ∷ bs) all =
-    ap (λ t. t && are_bytes bs) (below_true b 256 (All-head (λ n. n < 256) b bs all)) ∙ bytes_true bs (All-tail (λ n. n < 256) b bs all)
-
-pub bytes_of : (input : List ℕ) → are_bytes input ≡ true → All (λ b. b < 256) input
-bytes_of [] is = All-nil (λ b. b < 256)
-bytes_of (b ∷ bs) is =
-    let parts = both_true (nat_lt b 256) (are_bytes bs) is in
-    All-cons (λ n. n < 256) b bs (below_of b 256 parts.0) (bytes_of bs parts.1)
-
-pub one_byte : (byte : ℕ) → byte < 256 → are_bytes (byte ∷ []) ≡ true
-one_byte byte small = bytes_true (byte ∷ []) (All-cons (λ b. b < 256) byte [] small (All-nil (λ b. b < 256)))
 
 -- an input of one byte
 pub record IsByte (input : List ℕ) : Type 0 where

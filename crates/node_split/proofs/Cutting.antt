@@ -5,6 +5,7 @@ use Rattle.std.specs.List.{list_all}
 use Rattle.std.proofs.lemmas.List.{length-append, length-map}
 use Rattle.std.proofs.lemmas.List.Elements.{All-nil, All-cons}
 use Rattle.std.proofs.lemmas.List.Folds.{list_all-append}
+use Rattle.std.proofs.lemmas.Bool.{and_parts}
 use Rattle.bv_dag.specs.Graphs.{Graph, number_of, width_of}
 use Rattle.bv_dag.specs.Queries.{holds}
 use Rattle.bv_dag.proofs.TermLaws.{there}
@@ -20,6 +21,7 @@ use Rattle.fork_spec.specs.Leaves.{IsFull, are_bytes}
 use Rattle.fork_spec.specs.Parts.{Evidence, IsRight, OnConflicts, OnTargets, Part, Shows}
 use Rattle.fork_spec.specs.Runs.{AreWithin}
 use Rattle.fork_spec.specs.declared.end.LeafEnd.TheVariants.{Cut}
+use Rattle.fork_spec.proofs.ByteLists.{are_bytes-each}
 use Rattle.sym_state.specs.Moves.{IsGrown}
 use Rattle.sym_state.specs.Programs.{Program}
 use Rattle.sym_state.specs.Runs.{DecidedAlike, IsOpen}
@@ -37,7 +39,7 @@ use Rattle.node_split.specs.Narrowing.{IsNarrowed}
 use Rattle.node_split.specs.Splits.{IsSideIn, leaf_side}
 use Rattle.node_split.specs.Values.{AreValues, HasValue, IsWithout}
 use Rattle.node_split.specs.declared.leaf.LeafTerms.{LeafTerms}
-use Rattle.node_split.proofs.Bytes.{and-assoc, both_true, by_bytes, bytes_of}
+use Rattle.node_split.proofs.Bytes.{and-assoc, by_bytes}
 use Rattle.node_split.proofs.Copying.{copies-front, holds-copied}
 use Rattle.node_split.proofs.Increasing.{equals}
 use Rattle.node_split.proofs.Leaving.{alike-left, full-left, full_as, holds-left, runs-left, sample-left, still_runs}
@@ -63,7 +65,7 @@ module _ (p : Program) (budgets : Budgets) (sides : List Choice) (s : Symbolic) 
   q = chosen (narrowed_to s g condition sample) choice
 
   stood_before : (input : List ℕ) → stands_for q input ≡ true → stands_for s input ≡ true
-  stood_before input stood = (both_true (stands_for s input) (test input) (sym (covers input) ∙ stood)).0
+  stood_before input stood = (and_parts (stands_for s input) (test input) (sym (covers input) ∙ stood)).0
 
   still : (input : List ℕ) → All (λ b. b < 256) input → stands_for q input ≡ true
       → IsRunOf (run p.image p.regions input s.steps) s.steps s.path None (map (byte_worth g input) s.output)
@@ -181,7 +183,7 @@ without-stands s term values new formed is input =
     ap (λ (r : Symbolic). stands_for r input) is.same
     ∙ ap (λ b. are_bytes input && b) (holds-append new.terms s.condition is.ids input)
     ∙ by_bytes (are_bytes input) (holds (record { graph = new.terms; asserted = s.condition }) input) (list_all (λ id. number_of new.terms id input == 1) is.ids)
-    (has_none s term values input) (λ bytes. is.tells input (bytes_of input bytes))
+    (has_none s term values input) (λ bytes. is.tells input (are_bytes-each input bytes))
     ∙ ap (λ b. (are_bytes input && b) && has_none s term values input) (holds-grown s.terms new.terms s.condition input is.continues formed.bits)
 
 pub without_narrowed : (s : Symbolic) (term : ℕ) (values : List ℕ) (new : Symbolic) → IsFormed s → IsWithout s term values new
@@ -238,19 +240,19 @@ module _ (p : Program) (budgets : Budgets) (s u new : Symbolic) (term copy : ℕ
 
   assigned : (input : List ℕ) → stands_for s input ≡ true → IsAssignment p.regions input
   assigned input stands =
-      let parts = both_true (are_bytes input) (holds (condition_of s) input) stands in
-      (equals (length input) s.terms.inputs (both_true (length input == s.terms.inputs) _ parts.1).0 ∙ was.inputs, bytes_of input parts.0)
+      let parts = and_parts (are_bytes input) (holds (condition_of s) input) stands in
+      (equals (length input) s.terms.inputs (and_parts (length input == s.terms.inputs) _ parts.1).0 ∙ was.inputs, are_bytes-each input parts.0)
 
   reached-left : (f : Found) → HasValue s term f → IsReached p.regions (left_as leaf t (Cut Targets)) budgets.targets copy f
   reached-left f (stands, at, below) = record {
     assignment = assigned f.input stands;
-    holds_others = others-left f.input ∙ (both_true (are_bytes f.input) (holds (condition_of s) f.input) stands).1;
+    holds_others = others-left f.input ∙ (and_parts (are_bytes f.input) (holds (condition_of s) f.input) stands).1;
     has_value = term-left f.input ∙ at;
   }
 
   rest-sample : IsFormed leaf → IsSample p.regions (left_as leaf t (Cut Targets)) u.sample
   rest-sample whole = sample-left leaf t has p.regions (Cut Targets) whole
-      (assigned u.sample (both_true (stands_for s u.sample) _ (sym (without-stands s term (values_of found) u formed is u.sample) ∙ sampled)).0) sampled
+      (assigned u.sample (and_parts (stands_for s u.sample) _ (sym (without-stands s term (values_of found) u formed is u.sample) ∙ sampled)).0) sampled
 
   spends-left : IsFormed leaf → SpendsTargets p.regions budgets.targets (map Value (values_of found) ++ Rest ∷ []) (left_as leaf t (Cut Targets)) (record { term = copy; found = found })
   spends-left whole = record {

@@ -3,6 +3,7 @@ use Rattle.std.proofs.Common.{◌≡◌, ℕ, ◌*◌, ◌/◌, ◌^◌, ◌%◌
 use Rattle.std.specs.Prelude.{All, IfOk, IsTrue, Option, None, Some, Result, Ok, Err}
 use Rattle.std.proofs.lemmas.List.{length-map, map-append}
 use Rattle.std.proofs.lemmas.List.Elements.{All-append, All-nil, All-cons, All-head, All-push, All-tail}
+use Rattle.std.proofs.lemmas.Bool.{and_parts}
 use Rattle.bv_dag.specs.BitVectors.{BitVector}
 use Rattle.bv_dag.specs.Graphs.{Graph, number_of, width_of}
 use Rattle.bv_dag.specs.Queries.{holds}
@@ -27,6 +28,7 @@ use Rattle.fork_spec.specs.Parts.{Part}
 use Rattle.fork_spec.specs.Runs.{end_on}
 use Rattle.fork_spec.specs.declared.end.LeafEnd.{LeafEnd}
 use Rattle.fork_spec.specs.declared.end.LeafEnd.TheVariants.{Exits as LeafExits, Traps as LeafTraps, Cut}
+use Rattle.fork_spec.proofs.ByteLists.{are_bytes-of}
 use Rattle.fork_tree.specs.Works.{EndsAs}
 use Rattle.sym_machine.specs.Advancing.{IsEnded}
 use Rattle.sym_machine.specs.declared.outcome.RunEnd.TheVariants.{Exits, Traps}
@@ -44,7 +46,7 @@ use Rattle.node_split.specs.Copies.{AreCopies}
 use Rattle.node_split.specs.Leaving.{AreTermsOf, HasTerms, IsPicked, IsWritable, left_as}
 use Rattle.node_split.specs.Rules.{leaf_place, rules_of}
 use Rattle.node_split.specs.declared.leaf.LeafTerms.{LeafTerms}
-use Rattle.node_split.proofs.Bytes.{all_true, both_true, bytes_true}
+use Rattle.node_split.proofs.Bytes.{all_true}
 use Rattle.node_split.proofs.Copying.{all-copied, copies-back, copies-front, holds-copied}
 
 -- ---- Copies of terms that were there before others were added.
@@ -114,7 +116,7 @@ module _ (s : Symbolic) (t : LeafTerms) (has : HasTerms s t) where
 
   stands : (regions : List Region) (input : List ℕ) → IsAssignment regions input → holds t.condition input ≡ true
       → stands_for s input ≡ true
-  stands regions input assigned covered = all_true _ _ (bytes_true input assigned.1) (sym (holds-left input) ∙ covered)
+  stands regions input assigned covered = all_true _ _ (are_bytes-of input assigned.1) (sym (holds-left input) ∙ covered)
 
   as_many : length t.outputs.items ≡ length s.output
   as_many =
@@ -152,7 +154,7 @@ module _ (s : Symbolic) (t : LeafTerms) (has : HasTerms s t) where
   pub sample-left : (regions : List Region) (end : LeafEnd) → IsFormed s → IsAssignment regions s.sample → stands_for s s.sample ≡ true
       → IsSample regions (left_as s t end) s.sample
   sample-left regions end formed assigned sampled =
-      (assigned, holds-left s.sample ∙ (both_true (are_bytes s.sample) _ sampled).1)
+      (assigned, holds-left s.sample ∙ (and_parts (are_bytes s.sample) _ sampled).1)
 
   assigned : (p : Program) (count : ℕ) → IsFormed s → s.terms.inputs ≡ count → length s.sample ≡ count
   assigned p count formed inputs = formed.each_input ∙ inputs

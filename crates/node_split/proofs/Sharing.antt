@@ -2,6 +2,7 @@
 use Rattle.std.proofs.Common.{◌≡◌, ◌≢◌, ℕ, ◌+◌, ◌<◌, Bool, true, false, ◌&&◌, cond, List, [], ◌∷◌, ◌++◌, refl, sym, ap, ◌∙◌, subst, arith}
 use Rattle.std.specs.Prelude.{IsTrue, Option, None, if◌then◌else◌, count_by}
 use Rattle.std.proofs.lemmas.List.Sums.{sum_by-cons}
+use Rattle.std.proofs.lemmas.Bool.{and_parts}
 use Rattle.rv_spec.specs.Decisions.{Decision}
 use Rattle.tree_core.specs.Covers.{one_if}
 use Rattle.tree_core.specs.declared.budgets.Budgets.{Budgets}
@@ -22,7 +23,6 @@ use Rattle.sym_state.specs.Symbolic.{Symbolic, stands_for}
 use Rattle.node_split.specs.Rules.{Piece, content_place, rules_of}
 use Rattle.node_split.specs.Splits.{HoldsRun, IsSide, IsSideIn}
 use Rattle.node_split.proofs.Apart.{AreTwoSides, IsOnFork}
-use Rattle.node_split.proofs.Bytes.{both_true}
 
 held : (c : Content Symbolic Part) (run : Symbolic) → HoldsRun c run
     → content_place c ≡ run_place run
@@ -50,16 +50,16 @@ pub side_on_fork : (s : Symbolic) (choice : Choice) (test : List ℕ → Bool)
     → IsOnFork s decision kid
 side_on_fork s choice test decision kid side on = record {
   choices = side-choices s choice test kid side;
-  stands = λ input covered. (both_true (stands_for s input) (test input) (sym (side-covers s choice test kid side input) ∙ covered)).0;
+  stands = λ input covered. (and_parts (stands_for s input) (test input) (sym (side-covers s choice test kid side input) ∙ covered)).0;
   on_side = λ input covered. subst (λ c. IsOnSide c (decision input)) (sym side.on.choice)
-      (on input (both_true (stands_for s input) (test input) (sym (side-covers s choice test kid side input) ∙ covered)).1);
+      (on input (and_parts (stands_for s input) (test input) (sym (side-covers s choice test kid side input) ∙ covered)).1);
 }
 
 -- its test holds on what it stands for
 pub side_passes : (s : Symbolic) (choice : Choice) (test : List ℕ → Bool)
     (kid : Piece) → IsSide s choice test kid → (input : List ℕ)
     → IsTrue ((content_place kid.content).covers input) → test input ≡ true
-side_passes s choice test kid side input covered = (both_true (stands_for s input) (test input) (sym (side-covers s choice test kid side input) ∙ covered)).1
+side_passes s choice test kid side input covered = (and_parts (stands_for s input) (test input) (sym (side-covers s choice test kid side input) ∙ covered)).1
 
 -- two of them
 pub two_runs : (s : Symbolic) (decision : List ℕ → Decision) (c d : Choice)
@@ -114,7 +114,7 @@ side_in p budgets sides s choice test kid was few side = record {
 module _ (p : Program) (budgets : Budgets) (sides : List Choice) (s : Symbolic) (choice : Choice) (cut : Option Cause) (test : List ℕ → Bool) (kid : Piece)
     (side : IsSideIn p budgets sides s choice cut test kid) where
   pub passed_in : (input : List ℕ) → IsTrue ((content_place kid.content).covers input) → (stands_for s input ≡ true) × (test input ≡ true)
-  passed_in input covered = both_true (stands_for s input) (test input) (sym (side.covers input) ∙ covered)
+  passed_in input covered = and_parts (stands_for s input) (test input) (sym (side.covers input) ∙ covered)
 
   pub placed_in : (content_place kid.content).choices ≡ s.choices ++ kid.choice ∷ []
   placed_in = side.placed ∙ ap (λ c. s.choices ++ c ∷ []) (sym side.same)

@@ -2,13 +2,14 @@
 use Rattle.std.proofs.Common.{◌≡◌, ℕ, zero, suc, ◌<◌, inl, inr, Bool, true, ◌&&◌, cond, List, [], ◌∷◌, ◌++◌, get_or, set, length, refl, sym, ap, subst, ◌∙◌, arith}
 use Rattle.std.specs.Prelude.{All, Option, None, Some, ◌==◌, is_none, slice_get, slice_set}
 use Rattle.std.specs.List.{list_all}
-use Rattle.std.proofs.lemmas.Bool.{cases_eq}
+use Rattle.std.proofs.lemmas.Bool.{and_parts, cases_eq}
 use Rattle.std.proofs.lemmas.List.{get_or-set_same, get_or-set_other, length-set}
 use Rattle.std.proofs.lemmas.List.Folds.{list_all-append}
 use Rattle.std.proofs.lemmas.List.Sums.{sum_by-set}
 use Rattle.bv_dag.specs.Graphs.{Graph, number_of}
 use Rattle.bv_dag.specs.Queries.{holds}
 use Rattle.fork_spec.specs.Leaves.{are_bytes}
+use Rattle.fork_spec.proofs.ByteLists.{are_bytes-each}
 use Rattle.rv_spec.specs.Decisions.{Decision, decisions, step_decisions}
 use Rattle.rv_spec.specs.Machine.{State}
 use Rattle.rv_spec.specs.Runs.{Run, run}
@@ -24,7 +25,7 @@ use Rattle.term_trees.specs.Growth.{Continues}
 use Rattle.tree_core.specs.declared.choice.Choice.{Choice}
 use Rattle.sym_state.proofs.Grown.{concrete-with_terms, stands-with_terms, unfolded-with_terms}
 use Rattle.node_split.specs.Narrowing.{IsNarrower, IsSettled}
-use Rattle.node_split.proofs.Bytes.{all_true, and_last, both_true, by_bytes, bytes_of}
+use Rattle.node_split.proofs.Bytes.{all_true, and_last, by_bytes}
 
 -- the decision at its place
 get-seam : (front back : List Decision) (d : Decision) (place : ℕ) → length front ≡ place
@@ -132,7 +133,7 @@ pub stands-narrowed : (s : Symbolic) (g : Graph) (place : ℕ) (d : Decided) (ch
     → (input : List ℕ) → stands_for (side_run s g place d choice term sample) input ≡ (stands_for s input && test input)
 stands-narrowed s g place d choice term sample test formed grown tells input =
     ap (λ b. are_bytes input && b) (holds-last g s.condition term input)
-    ∙ by_bytes (are_bytes input) (holds (record { graph = g; asserted = s.condition }) input) (number_of g term input == 1) (test input) (λ bytes. tells input (bytes_of input bytes))
+    ∙ by_bytes (are_bytes input) (holds (record { graph = g; asserted = s.condition }) input) (number_of g term input == 1) (test input) (λ bytes. tells input (are_bytes-each input bytes))
     ∙ ap (λ b. b && test input) (stands-with_terms s g input formed grown)
 
 pub narrower : (s : Symbolic) (g : Graph) (place bits x : ℕ) (d : Decided) (choice : Choice) (term : ℕ)
@@ -147,7 +148,7 @@ narrower s g place bits x d choice term sample test decision formed grown at tel
     let covers : (input : List ℕ) → stands_for u input ≡ (stands_for s input && test input)
     = stands-narrowed s g place d choice term sample test formed grown tells in
     let parts : (input : List ℕ) → stands_for u input ≡ true → (stands_for s input ≡ true) × (test input ≡ true)
-    = λ input on. both_true (stands_for s input) (test input) (sym (covers input) ∙ on) in
+    = λ input on. and_parts (stands_for s input) (test input) (sym (covers input) ∙ on) in
     let within : IsWithin s u = record { some = λ input on. (parts input on).0; same = λ input on. concrete-with_terms s g input formed grown; terms = unfolded-with_terms s g formed grown } in
     let new : IsTrulyKnown u place (Some d) = λ input on.
     ap (λ (c : State). slice_get (step_decisions c) place) (within.same input on)
