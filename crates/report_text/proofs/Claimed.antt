@@ -1,7 +1,6 @@
 -- The entries of a tree that is done are a report.
-use Rattle.std.proofs.Common.{◌≡◌, ◌≢◌, ℕ, zero, suc, ◌+◌, ◌<◌, ◌≤◌, ◌&&◌, ◌||◌, Bool, true, false, cond, inl, inr, ◌⊎◌, IsTrue, List, [], ◌∷◌, ◌++◌, Option, Some, None, if◌then◌else◌, length, map, nat_lt, option_map, refl, sym, ap, subst, ◌∙◌, arith}
+use Rattle.std.proofs.Common.{◌≡◌, ◌≢◌, ℕ, zero, suc, ◌+◌, ◌<◌, ◌≤◌, ◌&&◌, ◌||◌, Bool, true, false, cond, inl, inr, ◌⊎◌, IsTrue, List, [], ◌∷◌, ◌++◌, Option, Some, None, if◌then◌else◌, length, map, option_map, refl, sym, ap, subst, ◌∙◌, arith}
 use Rattle.std.specs.Prelude.{All, count_by, slice_get}
-use Rattle.std.specs.List.{list_all}
 use Rattle.std.proofs.lemmas.Bool.{cases_lt}
 use Rattle.std.proofs.lemmas.Bool.Decides.{nat_tests}
 use Rattle.std.proofs.lemmas.List.{length-map}
@@ -28,7 +27,7 @@ use Rattle.tree_core.specs.declared.node.Status.TheVariants.{Free, Held, Parted,
 use Rattle.tree_core.proofs.Counting.{count_at, count_by-map}
 use Rattle.fork_spec.specs.Evidence.{SpendsConflicts, SpendsTargets, values_of}
 use Rattle.fork_spec.specs.Histories.{cause_of, IsHistory, IsOwnSplit, IsSideOf, LeafNode, is_leaf_status, standing_of}
-use Rattle.fork_spec.specs.Leaves.{IsFull, Leaf, are_bytes, covers}
+use Rattle.fork_spec.specs.Leaves.{IsFull, Leaf, covers}
 use Rattle.fork_spec.specs.Partings.{ArePlacesApart, DecidesAlike, PartAt, Place, place_of}
 use Rattle.fork_spec.specs.Parts.{Evidence, IsRight, OnConflicts, OnTargets, Part, Shows}
 use Rattle.fork_spec.specs.Ranks.{AreRanked}
@@ -37,6 +36,7 @@ use Rattle.fork_spec.specs.Walks.{Line, Standing, is_settled}
 use Rattle.fork_spec.specs.Written.{LeadsTo, StandsAs, cut_where, lines_of}
 use Rattle.fork_spec.specs.declared.end.LeafEnd.{LeafEnd}
 use Rattle.fork_spec.specs.declared.end.LeafEnd.TheVariants.{Exits, Traps, Cut}
+use Rattle.fork_spec.proofs.ByteLists.{are_bytes-of}
 use Rattle.fork_spec.proofs.Quiet.{leaves-walked, quiet-walked}
 use Rattle.fork_tree.specs.Contents.{cut_in, place_in}
 use Rattle.fork_tree.specs.Drains.{IsDrained}
@@ -135,18 +135,6 @@ below_true p (suc n) = λ i. below_true p n i + one_if (same (p n) i)
     same : (b : Bool) → (b && true) ≡ b
     same true = refl
     same false = refl
-
--- bytes are bytes
-all_bytes : (input : List ℕ) → All (λ b. b < 256) input → are_bytes input ≡ true
-all_bytes [] all = refl
-all_bytes (b ∷ bs) all = both (nat_lt b 256) (list_all (λ x. nat_lt x 256) bs) (low b (All-head (λ x. x < 256) b bs all)) (all_bytes bs (All-tail (λ x. x < 256) b bs all))
-  where
-    both : (x y : Bool) → x ≡ true → y ≡ true → (x && y) ≡ true
-    both true y hx hy = hy
-    both false y hx hy = hx
-
-    low : (n : ℕ) → n < 256 → nat_lt n 256 ≡ true
-    low n lt = grind (arith, nat_tests)
 
 -- What stands beside a leaf that is shown.
 run_beside : (image : Image) (regions : List Region) (leaf : Leaf) (rank most : ℕ) (input : List ℕ) (test : Test) → IsAssignment regions input × IsTrue (covers leaf input) → test ≡ test_of regions rank leaf input
@@ -292,7 +280,7 @@ module _ {S L : Type 0} (part_of : L → Part) (rules : Rules S L) (state_place 
     where
       same : (rank : ℕ) (e : Entry) → slice_get entries rank ≡ Some e → covers e.leaf input ≡ covered covers_at (content s e.node) input
       same rank e found = let entry : IsEntry part_of regions s rank e = are.each rank e found in
-          ap (λ b. b && covers e.leaf input) (sym (all_bytes input assignment.1))
+          ap (λ b. b && covers e.leaf input) (sym (are_bytes-of input assignment.1))
           ∙ sym (ap (λ (p : Place). p.covers input) (place_of_entry rank e entry))
           ∙ ap (λ c. covered covers_at c input) (sym entry.at.held)
 
@@ -357,7 +345,7 @@ module _ {S L : Type 0} (part_of : L → Part) (rules : Rules S L) (state_place 
           (ap is_live one.at.is_leaf) (ap is_live two.at.is_leaf) one.at.held two.at.held))
 
       covered_place : (l : Leaf) (input : List ℕ) → IsAssignment regions input → IsTrue (covers l input) → IsTrue ((place_of l).covers input)
-      covered_place l input assignment is = ap (λ x. x && covers l input) (all_bytes input assignment.1) ∙ is
+      covered_place l input assignment is = ap (λ x. x && covers l input) (are_bytes-of input assignment.1) ∙ is
 
   history : (workers : ℕ) → All (λ (x : Event (Content S L) ℕ). x.by < workers) s.events → HasHistory budgets workers lines entries
   history workers all = subst (λ t. IsHistory workers t lines (leaf_nodes_of entries)) asks.targets (record {

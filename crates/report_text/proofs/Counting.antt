@@ -3,16 +3,13 @@ use Rattle.std.proofs.lemmas.List.{length-append, length-map, length-take-le, ma
 use Rattle.std.proofs.lemmas.List.Elements.{filter-append}
 use Rattle.std.proofs.lemmas.List.Sums.{sum_by-append}
 use Rattle.std.proofs.lemmas.List.Filters.{length-filter_both}
+use Rattle.tree_core.specs.Covers.{one_if}
 use Rattle.fork_spec.specs.Histories.{LeafNode}
 use Rattle.fork_spec.specs.Leaves.{Leaf}
 use Rattle.fork_spec.specs.declared.end.LeafEnd.{LeafEnd}
 use Rattle.report_text.specs.declared.summary.Summary.{Summary}
 use Rattle.report_text.specs.Reports.{leaves_in}
 use Rattle.report_text.specs.Summaries.{HasRoom, count, has_ended, is_finished, is_tested}
-
-abbrev one_if : Bool → ℕ
-one_if true = 1
-one_if false = 0
 
 -- the summary of leaves and one more
 abbrev pub one_more : Summary → LeafEnd → (steps : ℕ) → Summary
