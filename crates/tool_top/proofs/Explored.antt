@@ -1,8 +1,7 @@
 -- A tree that was worked until nothing was left gives the report of its program.
 use Rattle.std.proofs.Common.{◌≡◌, ℕ, ◌<◌, ◌&&◌, ◌++◌, IsTrue, true, refl, sym, ap, subst, ◌∙◌, arith}
-use Rattle.std.specs.Prelude.{List, All, Bool, Option, Some, ◌==◌, length, nat_lt}
+use Rattle.std.specs.Prelude.{List, All, Bool, Option, Some, ◌==◌, length}
 use Rattle.std.proofs.lemmas.Bool.Decides.{nat_tests}
-use Rattle.std.proofs.lemmas.List.Sums.{list_all-from_AllPass}
 use Rattle.elf_load.specs.declared.region.Region.{Region}
 use Rattle.rv_spec.specs.Memory.{IsAssignment}
 use Rattle.tree_core.specs.Covers.{covered, root_content}
@@ -13,6 +12,7 @@ use Rattle.fork_spec.specs.Histories.{cause_of}
 use Rattle.fork_spec.specs.Leaves.{are_bytes}
 use Rattle.fork_spec.specs.Parts.{Part}
 use Rattle.fork_spec.specs.Written.{lines_of}
+use Rattle.fork_spec.proofs.ByteLists.{are_bytes-of}
 use Rattle.fork_tree.specs.Calls.{IsOpening}
 use Rattle.fork_tree.specs.Contents.{cut_in, place_in}
 use Rattle.fork_tree.specs.Drains.{IsDrained}
@@ -37,8 +37,7 @@ covers_at c = (place_in run_place leaf_place c).covers
 -- a run before its first step stands for every assignment
 stands_for_all : (p : Program) (s : Symbolic) → IsFirst p s → (input : List ℕ) → IsAssignment p.regions input → stands_for s input ≡ true
 stands_for_all p s first input (long, small) =
-    let bytes : are_bytes input ≡ true =
-    list_all-from_AllPass (λ b. nat_lt b 256) input (λ k d within. let less = small k d within in grind (arith, nat_tests, less)) in
+    let bytes : are_bytes input ≡ true = are_bytes-of input small in
     let each : length input ≡ s.terms.inputs = long ∙ sym first.inputs in
     let count : (length input == s.terms.inputs) ≡ true = grind (arith, nat_tests, each) in
     rw first.condition (ap (λ t. t && ((length input == s.terms.inputs) && true)) bytes ∙ ap (λ t. t && true) count)
