@@ -3,10 +3,10 @@ use Rattle.std.proofs.Common.{◌≡◌, ℕ, Bool, true, ◌&&◌, ◌||◌, if
 use Rattle.std.proofs.lemmas.Bool.{and_parts}
 use Rattle.cnf_form.specs.Literals.{Literal, same_truth}
 use Rattle.cnf_form.specs.Valuations.{literal_value}
+use Rattle.cnf_form.proofs.Meaning.{truths}
 use Rattle.bit_blast.specs.Formulas.{Formula}
 use Rattle.bit_blast.specs.Gates.{and_gate, or_gate, xor_gate, mux_gate, xor3_gate, majority_gate}
 use Rattle.bit_blast.specs.Meaning.{differ, sum_bit, carry_bit}
-use Rattle.bit_blast.proofs.Truths.{truths}
 use Rattle.bit_blast.proofs.GateMeaning.{and_means, or_means, xor_means, mux_means, xor3_means, majority_means}
 use Rattle.bit_blast.proofs.EarlierClauses.{Holds}
 

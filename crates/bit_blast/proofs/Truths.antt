@@ -1,5 +1,5 @@
 -- Truth values, and what constants and negations are worth.
-use Rattle.std.proofs.Common.{◌≡◌, ℕ, Bool, true, false, not, ◌&&◌, ◌||◌, refl, ap, sym}
+use Rattle.std.proofs.Common.{◌≡◌, ℕ, Bool, true, false, not, ◌&&◌, ◌||◌, refl, ap}
 use Rattle.cnf_form.specs.Literals.{Literal, negation, same_truth}
 use Rattle.cnf_form.specs.Valuations.{literal_value}
 use Rattle.bit_blast.specs.Formulas.{constant}
@@ -29,11 +29,6 @@ twice false false = refl
 pub same_itself : (b : Bool) → same_truth b b ≡ true
 same_itself true = refl
 same_itself false = refl
-
-pub truths : (a b : Bool) → same_truth a b ≡ true → a ≡ b
-truths true b h = sym h
-truths false true h = cc
-truths false false h = refl
 
 same_not : (a b : Bool) → same_truth a (not b) ≡ not (same_truth a b)
 same_not true b = refl

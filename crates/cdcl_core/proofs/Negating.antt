@@ -7,6 +7,7 @@ use Rattle.cnf_form.specs.Clauses.{are_increasing, insert_literal, with_literal,
 use Rattle.cnf_form.specs.Propagation.{unassigned, assign, has_value, is_false, falsify, is_falsified, numbered, hint_is_falsified, reaches_conflict, follows}
 use Rattle.cnf_form.specs.Refutations.{is_new}
 use Rattle.cnf_form.proofs.Inserting.{mapped, all_above, above_later, increasing-insert}
+use Rattle.cnf_form.proofs.Meaning.{truths}
 use Rattle.cdcl_core.specs.declared.trail.Entry.{Entry}
 use Rattle.cdcl_core.specs.Trails.{assigned, values_of, IsTrail, decisions, reasons}
 use Rattle.cdcl_core.proofs.Values.{Extends, assign-same, assign-other, all_false_kept}
@@ -190,11 +191,6 @@ unfolding falsify
 negation_is_false es s is = subst (λ (a : ℕ → Option Bool). list_all (is_false a) s ≡ true) is.denies (false_itself s unassigned is.order)
 
 -- a subset of what is false is false
-truths : (a b : Bool) → same_truth a b ≡ true → a ≡ b
-truths true b h = sym h
-truths false true h = cc
-truths false false h = refl
-
 same_false : (a : ℕ → Option Bool) (l k : Literal) → same_literal l k ≡ true → is_false a k ≡ true → is_false a l ≡ true
 same_false a l k same fails =
     let parts : ((l.variable == k.variable) ≡ true) × (same_truth l.positive k.positive ≡ true) = and_parts _ _ same in

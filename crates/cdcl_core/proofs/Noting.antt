@@ -1,11 +1,12 @@
 -- Notes of places: none is lost, and each literal of a clause has its own.
-use Rattle.std.proofs.Common.{◌≡◌, ℕ, zero, suc, ◌<◌, ◌==◌, Bool, true, false, List, [], ◌∷◌, ◌++◌, length, get_or, map, Some, None, slice_get, set, refl, ap, sym, ◌∙◌, subst, arith, inl, inr}
+use Rattle.std.proofs.Common.{◌≡◌, ℕ, zero, suc, ◌<◌, ◌==◌, true, false, List, [], ◌∷◌, ◌++◌, length, get_or, map, Some, None, slice_get, set, refl, ap, sym, ◌∙◌, subst, arith, inl, inr}
 use Rattle.std.specs.List.{list_any}
 use Rattle.std.proofs.lemmas.Bool.{and_parts, or_cases, or_left, or_right, eq-eqb, eqb-true, cases_eq, false≢true}
 use Rattle.std.proofs.lemmas.List.{get_or-set_same, get_or-set_other, map-set, get_or-map, length-map}
 use Rattle.std.proofs.Math.Seq.{map-set_same}
 use Rattle.std.proofs.lemmas.List.Folds.{list_any-append}
 use Rattle.cnf_form.specs.Literals.{Literal, same_truth, same_literal}
+use Rattle.cnf_form.proofs.Meaning.{truths}
 use Rattle.cdcl_core.specs.Places.{index_of, is_among, places_of, AreKept, AreNoted}
 
 pub kept_same : (lists : List (List ℕ)) → AreKept lists lists
@@ -53,17 +54,11 @@ pub same_view : {X : Type 0} (xs : List X) (f : X → List ℕ) (i : ℕ) (x y :
 same_view xs f i x y at is = map-set_same f xs i y x (is ∙ ap f at)
 
 -- each literal of a clause
-one_truth : (p q : Bool) → same_truth p q ≡ true → p ≡ q
-one_truth true true h = refl
-one_truth true false h = absurd (false≢true h)
-one_truth false true h = absurd (false≢true h)
-one_truth false false h = refl
-
 one_literal : (l m : Literal) → same_literal l m ≡ true → index_of m ≡ index_of l
 one_literal l m h =
     let parts : ((l.variable == m.variable) ≡ true) × (same_truth l.positive m.positive ≡ true) = and_parts _ _ h in
     let variable : l.variable ≡ m.variable = eqb-true l.variable m.variable parts.0 in
-    let positive : l.positive ≡ m.positive = one_truth l.positive m.positive parts.1 in
+    let positive : l.positive ≡ m.positive = truths l.positive m.positive parts.1 in
     rw (variable, positive) refl
 
 pub each_noted : (lists : List (List ℕ)) (k : ℕ) (c : List Literal) (l : Literal) → ((i : ℕ) (d : Literal) → i < length c → is_among (places_of lists (get_or c i d)) k ≡ true) → list_any (same_literal l) c ≡ true → is_among (places_of lists l) k ≡ true

@@ -24,7 +24,8 @@ or_twice true b = refl
 or_twice false true = refl
 or_twice false false = refl
 
-truths : (a b : Bool) → same_truth a b ≡ true → a ≡ b
+-- two truths that are the same
+pub truths : (a b : Bool) → same_truth a b ≡ true → a ≡ b
 truths true b h = sym h
 truths false true h = cc
 truths false false h = refl

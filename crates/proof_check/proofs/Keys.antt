@@ -4,6 +4,7 @@ use Rattle.std.specs.List.{list_any, list_all}
 use Rattle.std.proofs.lemmas.Bool.{and_parts, or_cases, or_left, or_right, eqb-true, false≢true}
 use Rattle.cnf_form.specs.Literals.{Literal, same_truth, same_literal}
 use Rattle.cnf_form.specs.Clauses.{is_subset}
+use Rattle.cnf_form.proofs.Meaning.{truths}
 use Rattle.proof_check.specs.Filing.{literal_key, clause_key}
 
 -- the key of a clause is that of the literal at its end
@@ -32,17 +33,11 @@ key_of_none [] h = refl
 key_of_none (m ∷ ms) h = absurd (some_there m ms (length (m ∷ ms) - 1) (omega arith) h)
 
 -- one literal, one key
-one_truth : (p q : Bool) → same_truth p q ≡ true → p ≡ q
-one_truth true true h = refl
-one_truth true false h = absurd (false≢true h)
-one_truth false true h = absurd (false≢true h)
-one_truth false false h = refl
-
 pub one_key : (l m : Literal) → same_literal l m ≡ true → literal_key m ≡ literal_key l
 one_key l m h =
     let parts : ((l.variable == m.variable) ≡ true) × (same_truth l.positive m.positive ≡ true) = and_parts _ _ h in
     let variable : l.variable ≡ m.variable = eqb-true l.variable m.variable parts.0 in
-    let positive : l.positive ≡ m.positive = one_truth l.positive m.positive parts.1 in
+    let positive : l.positive ≡ m.positive = truths l.positive m.positive parts.1 in
     rw (variable, positive) refl
 
 -- what holds of the key of a literal holds of that of one of the clause's literals
