@@ -12,8 +12,8 @@ use Rattle.std.specs.declared.cmp.Ordering.TheVariants.{Less, Equal, Greater}
 use Rattle.std.proofs.lemmas.Bool.{cases_eq}
 use Rattle.std.proofs.lemmas.Cmp.{nat_cmp_total, ranked}
 use Rattle.elf_load.specs.declared.page.Page.{Page}
-use Rattle.elf_load.specs.Images.{Image}
-use Rattle.rv_spec.specs.Memory.{byte_in, byte_of, flags_of}
+use Rattle.elf_load.specs.Images.{Image, byte_in}
+use Rattle.rv_spec.specs.Memory.{byte_of, flags_of}
 use Rattle.cow_pages.specs.declared.byte.Byte.TheVariants.{Number}
 use Rattle.cow_pages.specs.SymbolicMemory.{SymbolicPage, SymbolicMemory, as_symbolic, number_bytes, page_byte, memory_byte, memory_flags}
 use Rattle.cow_pages.specs.Groups.{memory_in}

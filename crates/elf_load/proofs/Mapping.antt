@@ -4,8 +4,8 @@ use Rattle.std.specs.Ordering.{nat_cmp, is_eq}
 use Rattle.std.proofs.lemmas.Bool.{and_left, and_right, and_from, lt-leb, le-leb, le-ltb, cases_lt, eq-eqb, ne_eqb}
 use Rattle.std.proofs.lemmas.Bool.Decides.{nat_tests}
 use Rattle.elf_load.specs.Areas.{first_page, last_page, touches, is_touched, IsPlaced}
-use Rattle.elf_load.specs.Images.{page_flags, gives_byte, byte_at}
-use Rattle.elf_load.specs.Pages.{flags_in, byte_in, IsPage}
+use Rattle.elf_load.specs.Images.{byte_at, byte_in, gives_byte, page_flags}
+use Rattle.elf_load.specs.Pages.{flags_in, IsPage}
 use Rattle.elf_load.specs.declared.header.ProgramHeader.{ProgramHeader}
 use Rattle.elf_load.specs.declared.page.Page.{Page}
 

@@ -19,6 +19,11 @@ pub record Image : Type 0 where
 abbrev pub stack : ProgramHeader
 stack = record { kind = 1; offset = 0; address = 0x7FFF0000; file_size = 0; memory_size = 0x10000; flags = 6 }
 
+-- a byte of a page, 0 where there is no page
+abbrev pub byte_in : Option Page → ℕ → ℕ
+byte_in None i = 0
+byte_in (Some p) i = slice_index p.bytes i
+
 -- what takes memory: the segments, and the stack
 unfoldable pub areas : List ℕ → List ProgramHeader
 areas bytes = segments bytes ++ stack ∷ []

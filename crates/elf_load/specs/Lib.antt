@@ -5,3 +5,4 @@ pub mod Images
 pub mod Names
 pub mod Pages
 pub mod Refusals
+pub mod Regions

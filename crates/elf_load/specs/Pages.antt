@@ -1,21 +1,17 @@
 -- What stands at a page's number, while areas are put into memory one after the other.
-use Rattle.std.specs.Prelude.{◌≡◌, ℕ, ◌+◌, ◌*◌, ◌<◌, List, length, slice_index, Option, Some, None, IfSome, is_some}
+use Rattle.std.specs.Prelude.{◌≡◌, ℕ, ◌+◌, ◌*◌, ◌<◌, List, length, Option, Some, None, IfSome, is_some}
 use Rattle.std.specs.BTreeMap.{BTreeMap, get}
 use Rattle.std.specs.FinMap.{FinMap, from_entries}
 use Rattle.std.specs.Ordering.{nat_cmp}
 use Rattle.elf_load.specs.Areas.{is_touched}
-use Rattle.elf_load.specs.Images.{page_flags, byte_at}
+use Rattle.elf_load.specs.Images.{page_flags, byte_at, byte_in}
 use Rattle.elf_load.specs.declared.header.ProgramHeader.{ProgramHeader}
 use Rattle.elf_load.specs.declared.page.Page.{Page}
 
--- the flags and the bytes, 0 where there is no page
+-- the flags, 0 where there is no page
 abbrev pub flags_in : Option Page → ℕ
 flags_in None = 0
 flags_in (Some p) = p.flags
-
-abbrev pub byte_in : Option Page → ℕ → ℕ
-byte_in None i = 0
-byte_in (Some p) i = slice_index p.bytes i
 
 -- what these areas have at a page's number
 pub record IsPage (bytes : List ℕ) (areas : List ProgramHeader) (number : ℕ) (found : Option Page) : Type 0 where

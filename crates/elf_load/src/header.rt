@@ -1,7 +1,7 @@
 //! The headers of an ELF32 file (Tool Interface Standard, ELF).
 
 ghost use Rattle.std.specs.Prelude.{◌≡◌, ◌≤◌, ◌+◌, length};
-ghost use Rattle.elf_load.specs.Fields.{half_at, word_at, header_of, program_header_at};
+ghost use Rattle.elf_load.specs.Fields.{half_field, word_field, header_of, program_header_at};
 
 use byteorder::{ByteOrder, LittleEndian};
 
@@ -44,18 +44,18 @@ pub struct ProgramHeader {
     pub flags: u32,
 }
 
-#[tactic(auto, unfolding(crate::specs::Fields::half_at))]
+#[tactic(auto, unfolding(crate::specs::Fields::half_field))]
 fn half(bytes: &[u8], at: usize) -> u16
     requires { at + 2 ≤ length bytes.now }
-    ensures { result ≡ half_at bytes.now at }
+    ensures { result ≡ half_field bytes.now at }
 {
     LittleEndian::read_u16(&bytes[at..])
 }
 
-#[tactic(auto, unfolding(crate::specs::Fields::word_at))]
+#[tactic(auto, unfolding(crate::specs::Fields::word_field))]
 fn word(bytes: &[u8], at: usize) -> u32
     requires { at + 4 ≤ length bytes.now }
-    ensures { result ≡ word_at bytes.now at }
+    ensures { result ≡ word_field bytes.now at }
 {
     LittleEndian::read_u32(&bytes[at..])
 }

@@ -5,7 +5,8 @@ ghost use Rattle.std.specs.BTreeMap as tree;
 ghost use Rattle.std.specs.List.{All};
 ghost use Rattle.std.specs.Ordering.{nat_cmp};
 ghost use Rattle.elf_load.specs.Areas.{IsPlaced};
-ghost use Rattle.elf_load.specs.Pages.{flags_in, byte_in, HoldsAreas};
+ghost use Rattle.elf_load.specs.Images.{byte_in};
+ghost use Rattle.elf_load.specs.Pages.{flags_in, HoldsAreas};
 ghost use Rattle.elf_load.specs.declared.header.ProgramHeader.{ProgramHeader};
 
 use crate::header::ProgramHeader;

@@ -106,8 +106,8 @@ record LastCopied {A : Type 0} (f : ℕ → A) (a : A) (zs : List ℕ) : Type 0 
   pub is : zs ≡ front ++ last ∷ []
   pub same : f last ≡ a
 
-put_first : {A : Type 0} {f : ℕ → A} {a : A} {zs : List ℕ} (z : ℕ) → LastCopied f a zs → LastCopied f a (z ∷ zs)
-put_first z rest = record { front = z ∷ rest.front; last = rest.last; is = ap (λ ws. z ∷ ws) rest.is; same = rest.same }
+last-kept : {A : Type 0} {f : ℕ → A} {a : A} {zs : List ℕ} (z : ℕ) → LastCopied f a zs → LastCopied f a (z ∷ zs)
+last-kept z rest = record { front = z ∷ rest.front; last = rest.last; is = ap (λ ws. z ∷ ws) rest.is; same = rest.same }
 
 last-copied : {A : Type 0} (f g : ℕ → A) (xs zs : List ℕ) (x : ℕ) → map f zs ≡ map g (xs ++ x ∷ []) → LastCopied f (g x) zs
 last-copied f g [] [] x is = absurd (let long = ap length is in omega (arith, long))
@@ -116,7 +116,7 @@ last-copied {A} f g [] (z ∷ []) x is = let same : f z ≡ g x = cc is in recor
 last-copied f g [] (z ∷ w ∷ zs) x is = absurd (let long = ap length is in omega (arith, long))
 last-copied {A} f g (y ∷ ys) (z ∷ zs) x is =
     let more : map f zs ≡ map g (ys ++ x ∷ []) = cc is in
-    put_first z (last-copied f g ys zs x more)
+    last-kept z (last-copied f g ys zs x more)
 
 pub conflicts_shown : (conflicts : ℕ) (s : Symbolic) (t : LeafTerms) (learnt : Learnt) → HasTerms s t
     → IsLearntFor conflicts (condition_of s) learnt → SpendsConflicts conflicts (left_as s t (Cut Conflicts)) learnt

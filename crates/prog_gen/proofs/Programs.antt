@@ -9,7 +9,7 @@ use Rattle.std.proofs.lemmas.List.Sums.{sum_by-cons}
 use Rattle.std.specs.FinMap.{contains_key}
 use Rattle.std.proofs.lemmas.List.Elements.{All-cons, All-nil}
 use Rattle.elf_load.specs.Areas.{end_of, is_touched, touched_pages}
-use Rattle.elf_load.specs.Fields.{headers, segments, half_at, word_at}
+use Rattle.elf_load.specs.Fields.{headers, segments, half_field, word_field}
 use Rattle.elf_load.specs.Fits.{is_mapped, unfit}
 use Rattle.elf_load.specs.Images.{Image, Loads, areas, stack}
 use Rattle.elf_load.specs.Refusals.{header_refusal, program_refusal, refusal, refused_address_range, refused_overlap, segment_refusal}
@@ -53,51 +53,51 @@ module _ (words : ℕ) (some : 1 ≤ words) (most : words ≤ 128) (apart : over
   segments_fine few in_range alone = none_is_first (both words) in_range alone (ap (nat_lt 16384) counted ∙ few) refl
 
 fine_1 : IsFine (generated_file 1) 15
-unfolding header_refusal program_refusal segments headers half_at word_at generated_file program_words elf_header words_bytes
+unfolding header_refusal program_refusal segments headers half_field word_field generated_file program_words elf_header words_bytes
 fine_1 = record { header = refl; program = refl; parts = refl; few = segments_fine 15 (omega arith) (omega arith) refl refl refl refl; input_page = refl }
 
 fine_2 : IsFine (generated_file 2) 20
-unfolding header_refusal program_refusal segments headers half_at word_at generated_file program_words elf_header words_bytes
+unfolding header_refusal program_refusal segments headers half_field word_field generated_file program_words elf_header words_bytes
 fine_2 = record { header = refl; program = refl; parts = refl; few = segments_fine 20 (omega arith) (omega arith) refl refl refl refl; input_page = refl }
 
 fine_3 : IsFine (generated_file 3) 25
-unfolding header_refusal program_refusal segments headers half_at word_at generated_file program_words elf_header words_bytes
+unfolding header_refusal program_refusal segments headers half_field word_field generated_file program_words elf_header words_bytes
 fine_3 = record { header = refl; program = refl; parts = refl; few = segments_fine 25 (omega arith) (omega arith) refl refl refl refl; input_page = refl }
 
 fine_4 : IsFine (generated_file 4) 30
-unfolding header_refusal program_refusal segments headers half_at word_at generated_file program_words elf_header words_bytes
+unfolding header_refusal program_refusal segments headers half_field word_field generated_file program_words elf_header words_bytes
 fine_4 = record { header = refl; program = refl; parts = refl; few = segments_fine 30 (omega arith) (omega arith) refl refl refl refl; input_page = refl }
 
 fine_5 : IsFine (generated_file 5) 35
-unfolding header_refusal program_refusal segments headers half_at word_at generated_file program_words elf_header words_bytes
+unfolding header_refusal program_refusal segments headers half_field word_field generated_file program_words elf_header words_bytes
 fine_5 = record { header = refl; program = refl; parts = refl; few = segments_fine 35 (omega arith) (omega arith) refl refl refl refl; input_page = refl }
 
 fine_6 : IsFine (generated_file 6) 40
-unfolding header_refusal program_refusal segments headers half_at word_at generated_file program_words elf_header words_bytes
+unfolding header_refusal program_refusal segments headers half_field word_field generated_file program_words elf_header words_bytes
 fine_6 = record { header = refl; program = refl; parts = refl; few = segments_fine 40 (omega arith) (omega arith) refl refl refl refl; input_page = refl }
 
 fine_7 : IsFine (generated_file 7) 45
-unfolding header_refusal program_refusal segments headers half_at word_at generated_file program_words elf_header words_bytes
+unfolding header_refusal program_refusal segments headers half_field word_field generated_file program_words elf_header words_bytes
 fine_7 = record { header = refl; program = refl; parts = refl; few = segments_fine 45 (omega arith) (omega arith) refl refl refl refl; input_page = refl }
 
 fine_8 : IsFine (generated_file 8) 50
-unfolding header_refusal program_refusal segments headers half_at word_at generated_file program_words elf_header words_bytes
+unfolding header_refusal program_refusal segments headers half_field word_field generated_file program_words elf_header words_bytes
 fine_8 = record { header = refl; program = refl; parts = refl; few = segments_fine 50 (omega arith) (omega arith) refl refl refl refl; input_page = refl }
 
 fine_9 : IsFine (generated_file 9) 55
-unfolding header_refusal program_refusal segments headers half_at word_at generated_file program_words elf_header words_bytes
+unfolding header_refusal program_refusal segments headers half_field word_field generated_file program_words elf_header words_bytes
 fine_9 = record { header = refl; program = refl; parts = refl; few = segments_fine 55 (omega arith) (omega arith) refl refl refl refl; input_page = refl }
 
 fine_10 : IsFine (generated_file 10) 60
-unfolding header_refusal program_refusal segments headers half_at word_at generated_file program_words elf_header words_bytes
+unfolding header_refusal program_refusal segments headers half_field word_field generated_file program_words elf_header words_bytes
 fine_10 = record { header = refl; program = refl; parts = refl; few = segments_fine 60 (omega arith) (omega arith) refl refl refl refl; input_page = refl }
 
 fine_11 : IsFine (generated_file 11) 65
-unfolding header_refusal program_refusal segments headers half_at word_at generated_file program_words elf_header words_bytes
+unfolding header_refusal program_refusal segments headers half_field word_field generated_file program_words elf_header words_bytes
 fine_11 = record { header = refl; program = refl; parts = refl; few = segments_fine 65 (omega arith) (omega arith) refl refl refl refl; input_page = refl }
 
 fine_12 : IsFine (generated_file 12) 70
-unfolding header_refusal program_refusal segments headers half_at word_at generated_file program_words elf_header words_bytes
+unfolding header_refusal program_refusal segments headers half_field word_field generated_file program_words elf_header words_bytes
 fine_12 = record { header = refl; program = refl; parts = refl; few = segments_fine 70 (omega arith) (omega arith) refl refl refl refl; input_page = refl }
 
 abbrev FineAt : ℕ → Type 0

@@ -10,7 +10,8 @@ use Rattle.rv_decode.specs.Instructions.{instr}
 use Rattle.rv_decode.specs.declared.ends.Trap.TheVariants.{Illegal, FetchAccess, FetchMisaligned}
 use Rattle.rv_decode.specs.declared.instr.Instr.{Instr}
 use Rattle.rv_spec.specs.Machine.{fetch}
-use Rattle.rv_spec.specs.Memory.{byte_of, byte_in, can_execute, word_at}
+use Rattle.elf_load.specs.Images.{byte_in}
+use Rattle.rv_spec.specs.Memory.{byte_of, can_execute, word_at}
 use Rattle.rv_machine.specs.Pages.{Pages, byte_on, flags_on}
 
 byte_on_page : (pages : Pages) (pc i : ℕ) (p : Page) → get pages (pc / 256) ≡ Some p → pc % 4 ≡ 0 → i < 4 → byte_on pages (pc + i) ≡ slice_index p.bytes (pc % 256 + i)

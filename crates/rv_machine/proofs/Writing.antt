@@ -8,7 +8,8 @@ use Rattle.std.proofs.Math.Path.{fun_ext}
 use Rattle.std.proofs.lemmas.Bool.Decides.{nat_tests}
 use Rattle.std.proofs.lemmas.Cmp.{nat_cmp_total}
 use Rattle.elf_load.specs.declared.page.Page.{Page}
-use Rattle.rv_spec.specs.Memory.{byte_of, byte_in, with_bytes}
+use Rattle.elf_load.specs.Images.{byte_in}
+use Rattle.rv_spec.specs.Memory.{byte_of, with_bytes}
 use Rattle.rv_machine.specs.Pages.{Pages, AreInOrder, IsPlaceOf, byte_on, flags_on, past_the_end}
 use Rattle.rv_machine.proofs.Finding.{find-set, find_present, order-set}
 

@@ -1,5 +1,5 @@
 pub mod Pages
-pub mod Standings
+pub mod HartStates
 pub mod Steps
 pub mod Progress
 pub mod Ends

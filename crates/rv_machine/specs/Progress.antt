@@ -2,13 +2,13 @@
 use Rattle.std.specs.Prelude.{◌≡◌, Option, Some, None}
 use Rattle.rv_decode.specs.declared.ends.End.{End}
 use Rattle.rv_spec.specs.Runs.{Run}
-use Rattle.rv_machine.specs.Standings.{Standing, state_of}
+use Rattle.rv_machine.specs.HartStates.{HartState, state_of}
 use Rattle.rv_machine.specs.declared.step.Step.{Step}
 use Rattle.rv_machine.specs.declared.step.Step.TheVariants.{Running, Ended}
 
 -- where a machine stands, and how its run has ended, if it has
 pub record Progress : Type 0 where
-  pub standing : Standing
+  pub standing : HartState
   pub end : Option End
 
 -- the machine is where the run is, and has ended as the run has. A machine counts no steps

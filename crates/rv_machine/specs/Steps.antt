@@ -6,12 +6,12 @@ use Rattle.rv_decode.specs.declared.instr.Instr.TheVariants.{Lui, Auipc, Jal, Ja
 use Rattle.rv_spec.specs.Machine.{State, Outcome, fetch, x}
 use Rattle.rv_spec.specs.Machine as machine
 use Rattle.rv_machine.specs.Pages.{byte_on, flags_on}
-use Rattle.rv_machine.specs.Standings.{Standing, state_of}
+use Rattle.rv_machine.specs.HartStates.{HartState, state_of}
 use Rattle.rv_machine.specs.declared.step.Step.{Step}
 use Rattle.rv_machine.specs.declared.step.Step.TheVariants.{Running, Ended}
 
 -- the outcome of an instruction after which a machine stands so
-abbrev pub outcome_of : Standing → Step → Outcome
+abbrev pub outcome_of : HartState → Step → Outcome
 outcome_of h Running = machine.Running (state_of h)
 outcome_of h (Ended end) = machine.Ended end (state_of h)
 
@@ -37,5 +37,5 @@ RecordsFetched s (Ok instruction) = Records s instruction
 RecordsFetched s (Err trap) = ⊥
 
 -- and it comes next
-abbrev pub RecordsNext : Standing → Type 0
+abbrev pub RecordsNext : HartState → Type 0
 RecordsNext h = RecordsFetched (state_of h) (fetch (flags_on h.pages) (byte_on h.pages) h.pc)

@@ -6,7 +6,7 @@ ghost use Rattle.rv_spec.specs.Machine as machine;
 ghost use Rattle.rv_spec.specs.Machine.{addresses, x};
 ghost use Rattle.rv_spec.specs.Memory.{is_mapped};
 ghost use Rattle.rv_machine.specs.Pages.{flags_on};
-ghost use Rattle.rv_machine.specs.Standings.{state_of};
+ghost use Rattle.rv_machine.specs.HartStates.{state_of};
 ghost use Rattle.rv_machine.specs.Steps.{outcome_of};
 
 use crate::hart::Hart;

@@ -5,7 +5,7 @@ ghost use Rattle.rv_decode.specs.Instructions.{ShiftsBelow32};
 ghost use Rattle.rv_decode.specs.declared.ends.PathStep.TheVariants.{Target};
 ghost use Rattle.rv_decode.specs.declared.instr.Instr.TheVariants.{Jalr};
 ghost use Rattle.rv_spec.specs.Machine as machine;
-ghost use Rattle.rv_machine.specs.Standings.{state_of};
+ghost use Rattle.rv_machine.specs.HartStates.{state_of};
 ghost use Rattle.rv_machine.specs.Steps.{Records, outcome_of};
 
 use crate::arithmetic::{combined, passes, shifted, with_immediate};

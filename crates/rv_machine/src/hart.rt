@@ -33,9 +33,9 @@ pub struct Hart {
 impl Model for Hart {
     ghost use Rattle.std.specs.Coded.{codes};
     ghost use Rattle.rv_machine.specs.Pages.{pages_code};
-    ghost use Rattle.rv_machine.specs.Standings.{Standing};
+    ghost use Rattle.rv_machine.specs.HartStates.{HartState};
 
-    ghost Value = { Standing };
+    ghost Value = { HartState };
 
     ghost coded = { Prim.hlevel (codes, pages_code) };
 

@@ -7,7 +7,7 @@ ghost use Rattle.rv_spec.specs.Memory.{count_of};
 ghost use Rattle.rv_spec.specs.Runs.{Run, continued, run};
 ghost use Rattle.rv_machine.specs.Progress.{IsAt, answer_of};
 ghost use Rattle.rv_machine.specs.Ends.{IsRanOf};
-ghost use Rattle.rv_machine.specs.Standings.{state_of};
+ghost use Rattle.rv_machine.specs.HartStates.{state_of};
 ghost use Rattle.rv_machine.specs.Steps.{RecordsNext, outcome_of};
 
 use crate::execute::execute;

@@ -5,7 +5,7 @@ ghost use Rattle.rv_decode.specs.declared.ops.StoreWidth.TheVariants.{Sb, Sh, Sw
 ghost use Rattle.rv_spec.specs.Machine as machine;
 ghost use Rattle.rv_spec.specs.Memory.{can_write, half_at, with_bytes, word_at};
 ghost use Rattle.rv_machine.specs.Pages.{byte_on, flags_on};
-ghost use Rattle.rv_machine.specs.Standings.{state_of};
+ghost use Rattle.rv_machine.specs.HartStates.{state_of};
 ghost use Rattle.rv_machine.specs.Steps.{outcome_of};
 
 use crate::arithmetic::{extended_byte, extended_half};

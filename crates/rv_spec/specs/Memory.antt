@@ -2,17 +2,12 @@
 use Rattle.std.specs.Prelude.{◌≡◌, ℕ, ◌+◌, ◌-◌, ◌*◌, ◌/◌, ◌%◌, ◌^◌, ◌==◌, ◌<◌, ◌&&◌, Bool, false, nat_lt, nat_le, if◌then◌else◌, List, [], ◌∷◌, All, length, drop, slice_index, Option, Some, None, is_some}
 use Rattle.std.specs.FinMap.{get}
 use Rattle.std.specs.Option.{option_map}
-use Rattle.elf_load.specs.Images.{Image}
-use Rattle.elf_load.specs.declared.page.Page.{Page}
+use Rattle.elf_load.specs.Images.{Image, byte_in}
 use Rattle.elf_load.specs.declared.region.Region.{Region}
 
 -- the flags of a page of the image, if it is mapped: 1 it can be executed, 2 written, 4 read
 abbrev pub flags_of : Image → ℕ → Option ℕ
 flags_of image page = option_map (λ p. p.flags) (get image.pages page)
-
-abbrev pub byte_in : Option Page → ℕ → ℕ
-byte_in None i = 0
-byte_in (Some p) i = slice_index p.bytes i
 
 -- the byte of the image at an address, 0 where no page is mapped
 unfoldable pub byte_of : Image → ℕ → ℕ

@@ -5,9 +5,9 @@ use Rattle.std.proofs.lemmas.Map.Entries.{All-lookup}
 use Rattle.std.specs.FinMap.{entries, get, get-entries}
 use Rattle.std.specs.Ordering.{is_eq, nat_cmp}
 use Rattle.std.specs.Prelude.{All, IfSome, None, Option, Some, slice_index}
-use Rattle.elf_load.specs.Images.{Image}
+use Rattle.elf_load.specs.Images.{Image, byte_in}
 use Rattle.elf_load.specs.declared.page.Page.{Page}
-use Rattle.rv_spec.specs.Memory.{byte_in, byte_of}
+use Rattle.rv_spec.specs.Memory.{byte_of}
 
 -- the page of an entry has bytes
 abbrev pub IsOfBytes : ℕ × Page → Type 0

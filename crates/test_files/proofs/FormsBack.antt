@@ -12,7 +12,8 @@ use Rattle.serde_json.specs.Data.{string}
 use Rattle.serde_json.specs.View.{items_of}
 use Rattle.smt_text.specs.Names.{eight_digits, path_text, step_text}
 use Rattle.smt_text.specs.Digits.{hex_number}
-use Rattle.test_files.specs.Forms.{end_of, exit_with, path_of, put_first, region_of, region_with, short_number}
+use Rattle.elf_load.specs.Regions.{put_first, region_with}
+use Rattle.test_files.specs.Forms.{end_of, exit_with, path_of, region_of, short_number}
 use Rattle.test_files.specs.Reading.{regions_of}
 use Rattle.test_files.specs.Tests.{end_text, region_text}
 use Rattle.test_files.specs.Writable.{HasStatus, HasTarget}

@@ -5,7 +5,8 @@ use Rattle.rv_decode.specs.declared.ends.PathStep.{PathStep}
 use Rattle.rv_decode.specs.declared.ends.PathStep.TheVariants.{Target}
 use Rattle.test_files.proofs.RegionForms.{to_end}
 use Rattle.smt_text.specs.Digits.{hex_number}
-use Rattle.test_files.specs.Forms.{branch_of, path_of, put_first}
+use Rattle.elf_load.specs.Regions.{put_first}
+use Rattle.test_files.specs.Forms.{branch_of, path_of}
 
 is_other : (letter : ℕ) → letter ≢ 64 → (letter == 64) ≡ false
 is_other letter other = grind (arith, nat_tests, other)

@@ -3,7 +3,8 @@ use Rattle.std.proofs.Common.{ℕ, ◌≢◌, List, ◌≡◌, ◌<◌, ◌-◌,
 use Rattle.std.proofs.lemmas.Bool.Decides.{nat_tests}
 use Rattle.std.proofs.lemmas.List.{get_or_past}
 use Rattle.smt_text.specs.Digits.{hex_number}
-use Rattle.test_files.specs.Forms.{region_of, region_with, short_number}
+use Rattle.elf_load.specs.Regions.{region_with}
+use Rattle.test_files.specs.Forms.{region_of, short_number}
 
 -- a slice to the end
 pub to_end : (text : List ℕ) (k : ℕ) → take (length text - k) (drop k text) ≡ drop k text

@@ -4,6 +4,7 @@ use Rattle.std.specs.Char.{is_digit}
 use Rattle.std.specs.List.{find, list_all}
 use Rattle.std.specs.Str.{bytes_eq}
 use Rattle.std.specs.Str.Parse.{digits_value}
+use Rattle.elf_load.specs.Regions.{put_first, region_with}
 use Rattle.elf_load.specs.declared.region.Region.{Region}
 use Rattle.rv_decode.specs.Ends.{trap_name}
 use Rattle.rv_decode.specs.declared.ends.End.{End}
@@ -13,11 +14,6 @@ use Rattle.rv_decode.specs.declared.ends.PathStep.TheVariants.{Taken, NotTaken, 
 use Rattle.rv_decode.specs.declared.ends.Trap.{Trap}
 use Rattle.rv_decode.specs.declared.ends.Trap.TheVariants.{Illegal, FetchMisaligned, FetchAccess, LoadMisaligned, LoadAccess, StoreMisaligned, StoreAccess, Break, Call}
 use Rattle.smt_text.specs.Digits.{has_leading_zero, hex_number}
-
--- where both are there, the first before the others
-abbrev pub put_first : {A : Type 0} → Option A → Option (List A) → Option (List A)
-put_first (Some first) (Some others) = Some (first ∷ others)
-put_first _ _ = None
 
 -- ---- numbers
 
@@ -30,11 +26,6 @@ unfoldable pub short_number : List ℕ → Option ℕ
 short_number digits = if is_short digits then Some (digits_value 10 digits) else None
 
 -- ---- regions
-
--- where both numbers are there, the region of this start and this count
-abbrev pub region_with : Option ℕ → Option ℕ → Option Region
-region_with (Some start) (Some count) = Some (record { start = start; count = count })
-region_with _ _ = None
 
 -- an address in hexadecimal digits, a colon (58), and how many bytes
 unfoldable pub region_of : List ℕ → Option Region

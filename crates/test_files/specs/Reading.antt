@@ -10,7 +10,8 @@ use Rattle.serde_json.specs.Read.{read}
 use Rattle.elf_load.specs.declared.region.Region.{Region}
 use Rattle.rv_decode.specs.declared.ends.End.{End}
 use Rattle.rv_decode.specs.declared.ends.PathStep.{PathStep}
-use Rattle.test_files.specs.Forms.{end_of, path_of, put_first, region_of}
+use Rattle.elf_load.specs.Regions.{put_first}
+use Rattle.test_files.specs.Forms.{end_of, path_of, region_of}
 use Rattle.test_files.specs.Tests.{Test}
 use Rattle.test_files.specs.declared.refused.TestRefused.{TestRefused}
 use Rattle.test_files.specs.declared.refused.TestRefused.TheVariants.{NotJson, Missing, Kind, Hex, Length, TooBig}

@@ -1,7 +1,8 @@
 //! Paths, as tests write them.
 
 ghost use Rattle.std.specs.Prelude.{◌≡◌, ◌<◌, ◌≤◌, IfOk, IfSome, MatchOption, None, Some, drop, length, option_map};
-ghost use Rattle.test_files.specs.Forms.{branch_of, path_of, put_first};
+ghost use Rattle.elf_load.specs.Regions.{put_first};
+ghost use Rattle.test_files.specs.Forms.{branch_of, path_of};
 
 use rv_decode::PathStep;
 use smt_text::hex_number;

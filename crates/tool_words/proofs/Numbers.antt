@@ -6,7 +6,8 @@ use Rattle.std.specs.Str.Parse.{AllDigits, digits_value}
 use Rattle.std.proofs.Math.Nat.{pow-le-pow_left, pow-le-pow_right, mul-le-mul_left}
 use Rattle.std.proofs.lemmas.Int.Digits.{digits_value-lt}
 use Rattle.std.proofs.lemmas.List.Folds.{list_all_at}
-use Rattle.tool_words.specs.Region.{has_colon, number_of, region_of, region_with}
+use Rattle.elf_load.specs.Regions.{region_with}
+use Rattle.tool_words.specs.Region.{has_colon, number_of, region_of}
 
 -- there is room for one digit more
 pub room : (base : ℕ) (digits : List ℕ) (i : ℕ) → base ≤ 16 → AllDigits base (take i digits)

@@ -3,7 +3,8 @@ use Rattle.std.proofs.Common.{ℕ, zero, suc, List, [], ◌∷◌, ◌++◌, ◌
 use Rattle.std.proofs.Math.ListN.{drop_of_length-le}
 use Rattle.std.specs.Borrow.{Bor}
 use Rattle.elf_load.specs.declared.region.Region.{Region}
-use Rattle.tool_words.specs.Region.{put_first, region_of, regions_of}
+use Rattle.elf_load.specs.Regions.{put_first}
+use Rattle.tool_words.specs.Region.{region_of, regions_of}
 
 -- what the words name
 abbrev pub named : List (Bor (List ℕ)) → Option (List Region)

@@ -3,6 +3,7 @@ use Rattle.std.specs.Prelude.{ℕ, Bool, List, [], ◌∷◌, ◌&&◌, ◌==◌
 use Rattle.std.specs.Char.{is_digit}
 use Rattle.std.specs.List.{list_all}
 use Rattle.std.specs.Str.Parse.{digits_value}
+use Rattle.elf_load.specs.Regions.{put_first, region_with}
 use Rattle.elf_load.specs.declared.region.Region.{Region}
 
 -- the number that digits write in a base up to 36, with letters of either case, the first digit the
@@ -10,11 +11,6 @@ use Rattle.elf_load.specs.declared.region.Region.{Region}
 unfoldable pub number_of : ℕ → List ℕ → Option ℕ
 number_of base digits =
     if list_all (λ digit. is_digit digit base) digits then Some (digits_value base digits) else None
-
--- where both are there, the region of this start and this count
-abbrev pub region_with : Option ℕ → Option ℕ → Option Region
-region_with (Some start) (Some count) = Some (record { start = start; count = count })
-region_with _ _ = None
 
 -- the colon (58) stands after eight digits and before one to four
 abbrev pub has_colon : List ℕ → Bool
@@ -25,11 +21,6 @@ unfoldable pub region_of : List ℕ → Option Region
 region_of word =
     if has_colon word then region_with (number_of 16 (take 8 word)) (number_of 10 (drop 9 word))
     else None
-
--- a region before others
-abbrev pub put_first : Option Region → Option (List Region) → Option (List Region)
-put_first (Some region) (Some regions) = Some (region ∷ regions)
-put_first _ _ = None
 
 -- the region of each word, where each names one
 unfoldable pub regions_of : List (List ℕ) → Option (List Region)

@@ -1,5 +1,5 @@
 use Rattle.std.proofs.Common.{sym, rules}
-use Rattle.rv_machine.specs.Standings.{state_of}
+use Rattle.rv_machine.specs.HartStates.{state_of}
 use Rattle.rv_machine.proofs.Stepping.{next_executes, next_traps}
 use Rattle.rv_machine.proofs.machine.advance.Goals as goal
 

@@ -1,6 +1,7 @@
 use Rattle.std.proofs.Common.{rules, arith, ◌≡◌, ◌≤◌, None, Some, drop, get_or, length, take}
 use Rattle.smt_text.specs.Digits.{hex_number}
-use Rattle.test_files.specs.Forms.{branch_of, path_of, put_first}
+use Rattle.elf_load.specs.Regions.{put_first}
+use Rattle.test_files.specs.Forms.{branch_of, path_of}
 use Rattle.test_files.proofs.PathForms.{branch_at, short_at, target_at, with_address, with_branch}
 use Rattle.test_files.proofs.path_form.read_step.Goals.{then-text-ne64-via-then-text-ne64, then-text-ne64-via-else-text-ne64+then-text-lt9}
 use Rattle.test_files.proofs.path_form.read_step.Goals as goal

@@ -1,10 +1,10 @@
--- Where a machine stands, and the state of the definitions that it is in then.
+-- The state of a hart, and the state of the definitions that it is in then.
 use Rattle.std.specs.Prelude.{ℕ, List}
 use Rattle.rv_decode.specs.declared.ends.PathStep.{PathStep}
 use Rattle.rv_spec.specs.Machine.{State}
 use Rattle.rv_machine.specs.Pages.{Pages, byte_on, flags_on}
 
-pub record Standing : Type 0 where
+pub record HartState : Type 0 where
   pub pc : ℕ
   -- x0 to x31
   pub registers : List ℕ
@@ -15,7 +15,7 @@ pub record Standing : Type 0 where
   pub path : List PathStep
 
 -- the state of the definitions, whose memory is a function of addresses
-abbrev pub state_of : Standing → State
+abbrev pub state_of : HartState → State
 state_of h = record {
   pc = h.pc;
   registers = h.registers;
