@@ -4,7 +4,7 @@ use Rattle.std.specs.Prelude.{slice_index, slice_get}
 use Rattle.std.proofs.lemmas.List.{map-append, get_or-set_same}
 use Rattle.cnf_form.specs.Literals.{Literal}
 use Rattle.bv_dag.specs.BitVectors.{BitVector}
-use Rattle.bv_dag.specs.Nodes.{node_value, node_width, Fits, word_at, width}
+use Rattle.bv_dag.specs.Nodes.{node_value, node_width, Fits, vector_at, width}
 use Rattle.bv_dag.specs.declared.nodes.Node.{Node}
 use Rattle.bv_dag.specs.declared.nodes.Node.TheVariants.{Num, Input, Not, Neg, Binary, Compare, Ite, Extract, Extend, Concat}
 use Rattle.bv_dag.proofs.Values.{width-node_value}
@@ -35,7 +35,7 @@ input_pushed v all c i (Some row) is bytes within kept =
     pushed v c row _ (byte_row v all i row (bytes.each i row is) (kept.each i row is))
 
 pub node_pushed : (v : ℕ → Bool) (all : Inputs) (c : Circuit) (n : Node) → v 1 ≡ true → AreBytes c.inputs → AreKept (with_node c n).inputs all → Fits (length c.inputs) (map width (words_of v c.rows)) n → Holds v (with_node c n).formula
-    → words_of v (with_node c n).rows ≡ words_of v c.rows ++ node_value (bytes_in v all) (word_at (words_of v c.rows)) n ∷ []
+    → words_of v (with_node c n).rows ≡ words_of v c.rows ++ node_value (bytes_in v all) (vector_at (words_of v c.rows)) n ∷ []
 unfolding with_node
 node_pushed v all c (Num w m) truth bytes kept fits h = pushed v c _ _ (num_means v w m truth fits)
 node_pushed v all c (Input i) truth bytes kept fits h = input_pushed v all c i (input_at c.inputs i) refl bytes fits kept
@@ -54,11 +54,11 @@ FitFrom inputs before nodes = (id : ℕ) (n : Node) → slice_get nodes id ≡ S
 
 -- the values of nodes, from some values on
 abbrev pub values_from : List ℕ → List BitVector → List Node → List BitVector
-values_from input before nodes = fold (λ b n. b ++ node_value input (word_at b) n ∷ []) before nodes
+values_from input before nodes = fold (λ b n. b ++ node_value input (vector_at b) n ∷ []) before nodes
 
-wider : (input : List ℕ) (words more : List BitVector) (n : Node) → more ≡ words ++ node_value input (word_at words) n ∷ [] → map width words ++ node_width (map width words) n ∷ [] ≡ map width more
+wider : (input : List ℕ) (words more : List BitVector) (n : Node) → more ≡ words ++ node_value input (vector_at words) n ∷ [] → map width words ++ node_width (map width words) n ∷ [] ≡ map width more
 wider input words more n is =
-    sym (ap (map width) is ∙ map-append width words (node_value input (word_at words) n ∷ []) ∙ ap (λ k. map width words ++ k ∷ []) (width-node_value input words n))
+    sym (ap (map width) is ∙ map-append width words (node_value input (vector_at words) n ∷ []) ∙ ap (λ k. map width words ++ k ∷ []) (width-node_value input words n))
 
 pub fits_later : (c : Circuit) (n : Node) (nodes : List Node) (before : List ℕ) → FitFrom (length c.inputs) before (n ∷ nodes) → FitFrom (length (with_node c n).inputs) (before ++ node_width before n ∷ []) nodes
 fits_later c n nodes before fits = subst (λ (m : ℕ). FitFrom m (before ++ node_width before n ∷ []) nodes) (sym (node_count c n)) (λ id k is. fits (suc id) k is)
@@ -69,7 +69,7 @@ rows_mean v all [] c truth bytes fits ends h = refl
 rows_mean v all (n ∷ nodes) c truth bytes fits ends h =
     let here : Fits (length c.inputs) (map width (words_of v c.rows)) n = fits 0 n refl in
     let kept : AreKept (with_node c n).inputs all = subst (λ (k : Inputs). AreKept (with_node c n).inputs k) ends (nodes_kept nodes (with_node c n)) in
-    let one : words_of v (with_node c n).rows ≡ words_of v c.rows ++ node_value (bytes_in v all) (word_at (words_of v c.rows)) n ∷ []
+    let one : words_of v (with_node c n).rows ≡ words_of v c.rows ++ node_value (bytes_in v all) (vector_at (words_of v c.rows)) n ∷ []
     = node_pushed v all c n truth bytes kept here (nodes_before v nodes (with_node c n) h) in
     let next : FitFrom (length (with_node c n).inputs) (map width (words_of v (with_node c n).rows)) nodes
     = subst (λ (ws : List ℕ). FitFrom (length (with_node c n).inputs) ws nodes) (wider (bytes_in v all) (words_of v c.rows) (words_of v (with_node c n).rows) n one) (fits_later c n nodes (map width (words_of v c.rows)) fits) in

@@ -6,7 +6,7 @@ use Rattle.std.proofs.lemmas.List.{get_or-set_same}
 use Rattle.cnf_form.specs.Literals.{Literal}
 use Rattle.cnf_form.specs.Valuations.{satisfies}
 use Rattle.bv_dag.specs.BitVectors.{BitVector}
-use Rattle.bv_dag.specs.Nodes.{Fits, node_value, node_width, values, word_at}
+use Rattle.bv_dag.specs.Nodes.{Fits, node_value, node_width, values, vector_at}
 use Rattle.bv_dag.specs.Graphs.{IsDag}
 use Rattle.bv_dag.specs.Queries.{Condition, AreBits, holds}
 use Rattle.bv_dag.specs.declared.nodes.Node.{Node}
@@ -45,8 +45,8 @@ module _ (v : ℕ → Bool) (input : List ℕ) (all : Inputs) (agree : (i : ℕ)
   nodes_same [] c before words fits ends = refl
   nodes_same (n ∷ nodes) c before words fits ends =
       let kept : AreKept (with_node c n).inputs all = subst (λ (k : Inputs). AreKept (with_node c n).inputs k) ends (nodes_kept nodes (with_node c n)) in
-      let one = node_same c n before (word_at words) (fits 0 n refl) kept in
-      nodes_same nodes (with_node c n) (before ++ node_width before n ∷ []) (words ++ node_value (bytes_in v all) (word_at words) n ∷ []) (fits_later c n nodes before fits) ends
+      let one = node_same c n before (vector_at words) (fits 0 n refl) kept in
+      nodes_same nodes (with_node c n) (before ++ node_width before n ∷ []) (words ++ node_value (bytes_in v all) (vector_at words) n ∷ []) (fits_later c n nodes before fits) ends
       ∙ ap (λ (w : BitVector). values_from input (words ++ w ∷ []) nodes) one
 
 circuit_bytes : (q : Condition) → AreBytes (circuit_of q).inputs

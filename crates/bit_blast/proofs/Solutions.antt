@@ -6,7 +6,7 @@ use Rattle.std.proofs.lemmas.List.{length-map, length-replicate}
 use Rattle.cnf_form.specs.Literals.{Literal}
 use Rattle.cnf_form.specs.Valuations.{literal_value, satisfies}
 use Rattle.bv_dag.specs.BitVectors.{BitVector}
-use Rattle.bv_dag.specs.Nodes.{map_in_turn, values, widths_of, word_at, width}
+use Rattle.bv_dag.specs.Nodes.{map_in_turn, values, widths_of, vector_at, width}
 use Rattle.bv_dag.specs.Graphs.{Graph, IsDag, number_of, width_of}
 use Rattle.bv_dag.specs.Queries.{Condition, AreBits, holds}
 use Rattle.bv_dag.specs.declared.nodes.Node.{Node}
@@ -53,7 +53,7 @@ asserted_bit v graph input rows id words one =
     let width_is : length (row_at rows id) ≡ 1
     = row_width v rows id ∙ ap (λ (ws : List BitVector). get_or (map width ws) id 0) words ∙ ap (λ (ws : List ℕ). get_or ws id 0) (map-width-values input graph.nodes) ∙ one in
     let same : number_of_row v (row_at rows id) ≡ number_of graph id input
-    = ap (λ (s : BitVector). s.number) (row_word v rows id) ∙ ap (λ (ws : List BitVector). (word_at ws id).number) words in
+    = ap (λ (s : BitVector). s.number) (row_word v rows id) ∙ ap (λ (ws : List BitVector). (vector_at ws id).number) words in
     one_bit_number v (row_at rows id) width_is ∙ ap (λ m. m == 1) same
 
 pub asserted_means : (v : ℕ → Bool) (graph : Graph) (input : List ℕ) (rows : List (List Literal)) (ids : List ℕ) (f : Formula) → words_of v rows ≡ values input graph.nodes → AreBits graph ids

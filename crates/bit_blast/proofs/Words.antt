@@ -3,8 +3,8 @@ use Rattle.std.proofs.Common.{◌≡◌, ℕ, zero, suc, ◌==◌, Bool, true, f
 use Rattle.cnf_form.specs.Literals.{Literal}
 use Rattle.cnf_form.specs.Valuations.{literal_value}
 use Rattle.bv_dag.specs.BitVectors.{BitVector, bit}
-use Rattle.bv_dag.specs.Nodes.{word_at, width}
-use Rattle.bv_dag.proofs.Values.{width-word_at}
+use Rattle.bv_dag.specs.Nodes.{vector_at, width}
+use Rattle.bv_dag.proofs.Values.{width-vector_at}
 use Rattle.bit_blast.specs.Bytes.{bit_of, number_of_row}
 use Rattle.bit_blast.specs.Circuits.{row_at, lowest_of}
 use Rattle.bit_blast.specs.Meaning.{word_of}
@@ -36,10 +36,10 @@ no_row : (v : ℕ → Bool) → word_of v [] ≡ record { width = 0; number = 0 
 unfolding number_of_row
 no_row v = refl
 
-pub row_word : (v : ℕ → Bool) (rows : List (List Literal)) (id : ℕ) → word_of v (row_at rows id) ≡ word_at (words_of v rows) id
+pub row_word : (v : ℕ → Bool) (rows : List (List Literal)) (id : ℕ) → word_of v (row_at rows id) ≡ vector_at (words_of v rows) id
 row_word v [] id = no_row v
 row_word v (r ∷ rows) zero = refl
 row_word v (r ∷ rows) (suc id) = row_word v rows id
 
 pub row_width : (v : ℕ → Bool) (rows : List (List Literal)) (id : ℕ) → length (row_at rows id) ≡ get_or (map width (words_of v rows)) id 0
-row_width v rows id = ap (λ (s : BitVector). s.width) (row_word v rows id) ∙ width-word_at (words_of v rows) id
+row_width v rows id = ap (λ (s : BitVector). s.width) (row_word v rows id) ∙ width-vector_at (words_of v rows) id

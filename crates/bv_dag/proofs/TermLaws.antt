@@ -4,12 +4,12 @@ use Rattle.std.proofs.lemmas.List.{get_or_append_left}
 use Rattle.std.proofs.Math.Seq.{get_or-append_seam}
 use Rattle.bv_dag.specs.BitVectors.{BitVector}
 use Rattle.bv_dag.specs.Graphs.{Graph, IsDag, with_node, val, number_of, width_of}
-use Rattle.bv_dag.specs.Nodes.{Fits, node_value, node_width, values, widths_of, word_at}
+use Rattle.bv_dag.specs.Nodes.{Fits, node_value, node_width, values, widths_of, vector_at}
 use Rattle.bv_dag.specs.declared.nodes.Node.{Node}
 use Rattle.bv_dag.proofs.Fitting as fitting
 use Rattle.bv_dag.proofs.InTurn.{map_in_turn-push}
 use Rattle.bv_dag.proofs.Meaning as meaning
-use Rattle.bv_dag.proofs.Values.{width-word_at, map-width-values}
+use Rattle.bv_dag.proofs.Values.{width-vector_at, map-width-values}
 
 -- no nodes are a graph
 pub IsDag-none : (inputs : ℕ) → IsDag (record { inputs = inputs; nodes = [] })
@@ -40,13 +40,13 @@ width_of-new g n =
 pub val-new : (g : Graph) (n : Node) (input : List ℕ) → val (with_node g n) (length g.nodes) input ≡ node_value input (λ k. val g k input) n
 unfolding values
 val-new g n input =
-    ap (λ (vs : List BitVector). word_at vs (length g.nodes)) (map_in_turn-push (λ before m. node_value input (word_at before) m) g.nodes n)
-    ∙ ap (λ k. word_at (values input g.nodes ++ node_value input (λ j. val g j input) n ∷ []) k) (sym (fitting.length-values input g.nodes))
+    ap (λ (vs : List BitVector). vector_at vs (length g.nodes)) (map_in_turn-push (λ before m. node_value input (vector_at before) m) g.nodes n)
+    ∙ ap (λ k. vector_at (values input g.nodes ++ node_value input (λ j. val g j input) n ∷ []) k) (sym (fitting.length-values input g.nodes))
     ∙ get_or-append_seam (values input g.nodes) (node_value input (λ j. val g j input) n) [] _
 
 -- a value is as wide as its node
 pub width-val : (g : Graph) (id : ℕ) (input : List ℕ) → (val g id input).width ≡ width_of g id
-width-val g id input = width-word_at (values input g.nodes) id ∙ ap (λ (ws : List ℕ). get_or ws id 0) (map-width-values input g.nodes)
+width-val g id input = width-vector_at (values input g.nodes) id ∙ ap (λ (ws : List ℕ). get_or ws id 0) (map-width-values input g.nodes)
 
 -- what has a width is there
 pub there : (g : Graph) (id w : ℕ) → width_of g id ≡ w → 0 < w → id < length g.nodes

@@ -1,7 +1,7 @@
 -- Graphs of terms: nodes in a row, each of which fits behind those before it, so that every term has a width and a value.
 use Rattle.std.specs.Prelude.{◌≡◌, ℕ, List, [], ◌∷◌, ◌++◌, take, Some, slice_get}
 use Rattle.bv_dag.specs.BitVectors.{BitVector}
-use Rattle.bv_dag.specs.Nodes.{Fits, values, widths_of, width_in, word_at}
+use Rattle.bv_dag.specs.Nodes.{Fits, values, widths_of, width_in, vector_at}
 use Rattle.bv_dag.specs.declared.nodes.Node.{Node}
 
 -- what a `Dag` stands for
@@ -23,7 +23,7 @@ with_node graph n = record { inputs = graph.inputs; nodes = graph.nodes ++ n ∷
 
 -- what the node at a place is worth
 abbrev pub val : Graph → ℕ → List ℕ → BitVector
-val graph id input = word_at (values input graph.nodes) id
+val graph id input = vector_at (values input graph.nodes) id
 
 -- the number that the node at a place is worth
 abbrev pub number_of : Graph → ℕ → List ℕ → ℕ

@@ -2,7 +2,7 @@ use Rattle.std.proofs.Common.{◌≡◌, ◌∙◌, ℕ, List, get_or, sym, subs
 use Rattle.std.specs.List.{All}
 use Rattle.bv_dag.specs.BitVectors.{BitVector}
 use Rattle.bv_dag.specs.Graphs.{Graph}
-use Rattle.bv_dag.specs.Nodes.{values, word_at}
+use Rattle.bv_dag.specs.Nodes.{values, vector_at}
 use Rattle.bv_dag.proofs.TermLaws.{width-val}
 use Rattle.fork_spec.specs.Leaves.{AreBytes, IsByteStatus}
 use Rattle.fork_spec.specs.declared.end.LeafEnd.{LeafEnd}
@@ -24,7 +24,7 @@ byte_end graph input end words same e e' h =
 -- the words of terms of eight bits are bytes
 pub byte_words : (graph : Graph) (input : List ℕ) (ids : List ℕ) (words : List BitVector) (same : List ℕ) →
     words ≡ values input graph.nodes → same ≡ ids → AreBytes graph ids →
-    All (λ id. (word_at words id).width ≡ 8) same
+    All (λ id. (vector_at words id).width ≡ 8) same
 byte_words graph input ids words same e e' h =
-    subst (λ (ws : List BitVector). All (λ id. (word_at ws id).width ≡ 8) same) (sym e)
-    (subst (λ (ks : List ℕ). All (λ id. (word_at (values input graph.nodes) id).width ≡ 8) ks) (sym e') (λ k d below. width-val graph (get_or ids k d) input ∙ h k d below))
+    subst (λ (ws : List BitVector). All (λ id. (vector_at ws id).width ≡ 8) same) (sym e)
+    (subst (λ (ks : List ℕ). All (λ id. (vector_at (values input graph.nodes) id).width ≡ 8) ks) (sym e') (λ k d below. width-val graph (get_or ids k d) input ∙ h k d below))

@@ -1,7 +1,7 @@
 //! The test that a sample of a leaf makes.
 
 ghost use Rattle.std.specs.Prelude.{◌≡◌, All, IfOk, length, map};
-ghost use Rattle.bv_dag.specs.Nodes.{word_at};
+ghost use Rattle.bv_dag.specs.Nodes.{vector_at};
 ghost use Rattle.report_text.specs.Files.{test_of};
 ghost use Rattle.report_text.specs.Samples.{IsByteEnd, end_in};
 
@@ -16,8 +16,8 @@ use tool_io::Bytes;
 
 /// The byte that a term of eight bits is worth.
 fn byte_at(words: &[Word], id: usize) -> u8
-    requires { (word_at words.now id).width ≡ 8 }
-    ensures { result ≡ (word_at words.now id).number }
+    requires { (vector_at words.now id).width ≡ 8 }
+    ensures { result ≡ (vector_at words.now id).number }
 {
     words[id].number() as u8
 }
@@ -36,8 +36,8 @@ fn end_among(words: &[Word], end: LeafEnd) -> Option<End>
 
 /// The bytes that these terms are worth.
 fn bytes_at(alloc: Global, words: &[Word], ids: &[usize]) -> Result<Vec<u8>, NoMemory>
-    requires { All (λ id. (word_at words.now id).width ≡ 8) ids.now }
-    ensures { IfOk result (λ bytes. bytes.items ≡ map (λ id. (word_at words.now id).number) ids.now) }
+    requires { All (λ id. (vector_at words.now id).width ≡ 8) ids.now }
+    ensures { IfOk result (λ bytes. bytes.items ≡ map (λ id. (vector_at words.now id).number) ids.now) }
 {
     let mut bytes = Vec::with_capacity(alloc, ids.len())?;
     for id in ids {

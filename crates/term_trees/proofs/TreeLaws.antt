@@ -7,7 +7,7 @@ use Rattle.std.proofs.Math.ListN as lists
 use Rattle.std.proofs.Math.Seq.{get_or-append_seam}
 use Rattle.std.specs.List.{slice_get}
 use Rattle.bv_dag.specs.BitVectors.{BitVector, bvnot, bvneg, extract}
-use Rattle.bv_dag.specs.Nodes.{Fits, node_value, node_width, extend, values, widths_of, word_at, map_in_turn}
+use Rattle.bv_dag.specs.Nodes.{Fits, node_value, node_width, extend, values, widths_of, vector_at, map_in_turn}
 use Rattle.bv_dag.specs.Graphs.{Graph, IsDag, val, width_of, with_node}
 use Rattle.bv_dag.specs.declared.nodes.Node.{Node}
 use Rattle.bv_dag.specs.declared.nodes.Node.TheVariants.{Num, Input, Not, Neg, Binary, Compare, Ite, Extract, Extend, Concat}
@@ -97,10 +97,10 @@ map-width-trees nodes =
 pub width-tree_of : (g : Graph) (id : ℕ) → tree_width (tree_of g id) ≡ width_of g id
 width-tree_of g id = width-tree_at (trees g.nodes) id ∙ ap (λ (ws : List ℕ). get_or ws id 0) (map-width-trees g.nodes)
 
-value-tree_at : (input : List ℕ) (ts : List Tree) (k : ℕ) → tree_value input (tree_at ts k) ≡ word_at (map (tree_value input) ts) k
+value-tree_at : (input : List ℕ) (ts : List Tree) (k : ℕ) → tree_value input (tree_at ts k) ≡ vector_at (map (tree_value input) ts) k
 value-tree_at input ts k = sym (lists.get_or-map (tree_value input) ts k (Constant 0 0))
 
-value-node_tree : (input : List ℕ) (ts : List Tree) (n : Node) → tree_value input (node_tree (tree_at ts) n) ≡ node_value input (word_at (map (tree_value input) ts)) n
+value-node_tree : (input : List ℕ) (ts : List Tree) (n : Node) → tree_value input (node_tree (tree_at ts) n) ≡ node_value input (vector_at (map (tree_value input) ts)) n
 value-node_tree input ts (Num w v) = refl
 value-node_tree input ts (Input i) = refl
 value-node_tree input ts (Not a) = ap bvnot (value-tree_at input ts a)
@@ -112,21 +112,21 @@ value-node_tree input ts (Extract high low a) = ap (extract high low) (value-tre
 value-node_tree input ts (Extend by signed a) = ap (extend signed by) (value-tree_at input ts a)
 value-node_tree input ts (Concat a b) = cc (value-tree_at input ts a, value-tree_at input ts b)
 
-one_more_value : (input : List ℕ) (ts : List Tree) (words : List BitVector) (n : Node) → map (tree_value input) ts ≡ words → map (tree_value input) (ts ++ node_tree (tree_at ts) n ∷ []) ≡ words ++ node_value input (word_at words) n ∷ []
+one_more_value : (input : List ℕ) (ts : List Tree) (words : List BitVector) (n : Node) → map (tree_value input) ts ≡ words → map (tree_value input) (ts ++ node_tree (tree_at ts) n ∷ []) ≡ words ++ node_value input (vector_at words) n ∷ []
 one_more_value input ts words n e =
     map-append (tree_value input) ts (node_tree (tree_at ts) n ∷ [])
     ∙ ap (λ k. map (tree_value input) ts ++ k ∷ []) (value-node_tree input ts n)
-    ∙ ap (λ vs. vs ++ node_value input (word_at vs) n ∷ []) e
+    ∙ ap (λ vs. vs ++ node_value input (vector_at vs) n ∷ []) e
 
 map-value-trees : (input : List ℕ) (nodes : List Node) → map (tree_value input) (trees nodes) ≡ values input nodes
 unfolding trees values map_in_turn
 map-value-trees input nodes =
-    fold_along (λ before n. before ++ node_tree (tree_at before) n ∷ []) (λ before n. before ++ node_value input (word_at before) n ∷ [])
+    fold_along (λ before n. before ++ node_tree (tree_at before) n ∷ []) (λ before n. before ++ node_value input (vector_at before) n ∷ [])
     (λ ts words. map (tree_value input) ts ≡ words) (λ ts words n e. one_more_value input ts words n e) [] [] nodes refl
 
 -- a tree is worth what its node is worth
 pub value-tree_of : (g : Graph) (id : ℕ) (input : List ℕ) → tree_value input (tree_of g id) ≡ val g id input
-value-tree_of g id input = value-tree_at input (trees g.nodes) id ∙ ap (λ (words : List BitVector). word_at words id) (map-value-trees input g.nodes)
+value-tree_of g id input = value-tree_at input (trees g.nodes) id ∙ ap (λ (words : List BitVector). vector_at words id) (map-value-trees input g.nodes)
 
 -- ---- what stands in front of a graph that has grown
 front_place : (old new : Graph) (id : ℕ) → Continues old new → id < length old.nodes → (length old.nodes ≤ length new.nodes)
