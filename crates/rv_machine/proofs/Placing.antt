@@ -1,10 +1,11 @@
 -- Regions whose addresses are mapped, since they fit the image.
-use Rattle.std.proofs.Common.{◌≡◌, ℕ, zero, suc, ◌+◌, ◌/◌, ◌^◌, ◌<◌, ◌&&◌, Bool, true, false, List, [], ◌∷◌, length, drop, get_or, refl, sym, subst, arith}
+use Rattle.std.proofs.Common.{◌≡◌, ℕ, zero, suc, ◌+◌, ◌/◌, ◌^◌, ◌<◌, Bool, true, false, List, [], ◌∷◌, length, drop, get_or, refl, sym, subst, arith}
 use Rattle.std.specs.Prelude.{◌||◌, not, nat_lt, if◌then◌else◌, is_some, Option, None, Some}
 use Rattle.std.specs.FinMap.{contains_key, get}
 use Rattle.std.specs.List.{list_any, range_with_len}
 use Rattle.std.specs.Option.{option_map}
 use Rattle.std.proofs.Math.Seq.{drop-cons}
+use Rattle.std.proofs.lemmas.Bool.{and_parts}
 use Rattle.std.proofs.lemmas.Bool.Decides.{nat_tests}
 use Rattle.elf_load.specs.Fits as fits
 use Rattle.elf_load.specs.Fits.{unfit, is_unmapped, unfit_empty, unfit_overlap, unfit_too_long, unfit_too_many, unfit_unmapped}
@@ -20,11 +21,6 @@ pub next_mapped : (before now : ℕ → Option ℕ) (rs : List Region) (i : ℕ)
 next_mapped before now rs i r same small all =
     subst (λ (flags : ℕ → Option ℕ). IsMapped flags (get_or rs i r)) (sym same) (subst (AreMapped before) (drop-cons rs i r small) all).0
 
-both : (a b : Bool) → (a && b) ≡ true → (a ≡ true) × (b ≡ true)
-both true true h = (refl, refl)
-both true false h = cc
-both false b h = cc
-
 neither : (a b : Bool) → (a || b) ≡ false → (a ≡ false) × (b ≡ false)
 neither true b h = cc
 neither false b h = (refl, h)
@@ -39,7 +35,7 @@ flags_found (Some p) h = refl
 
 one_mapped : (image : Image) (at : ℕ) → fits.is_mapped image at ≡ true → (at < 2 ^ 32) × (is_mapped (flags_of image) at ≡ true)
 one_mapped image at mapped =
-    let parts = both (nat_lt at 4294967296) (contains_key image.pages (at / 256)) mapped in
+    let parts = and_parts (nat_lt at 4294967296) (contains_key image.pages (at / 256)) mapped in
     let small : nat_lt at 4294967296 ≡ true = parts.0 in
     (grind (arith, nat_tests, small), flags_found (get image.pages (at / 256)) parts.1)
 

@@ -1,8 +1,9 @@
 -- What `clap` makes of a command line without options.
-use Rattle.std.proofs.Common.{ℕ, Bool, true, false, not, List, [], ◌∷◌, ◌++◌, ◌≡◌, ◌∙◌, ◌<◌, ◌≤◌, ◌==◌, ◌&&◌, length, rules, ◌^◌, sym, ap, ap₂, codes, refl, arith, Option, Some, None, append-nil, append_assoc, nat_lt, option_map}
+use Rattle.std.proofs.Common.{ℕ, Bool, true, false, not, List, [], ◌∷◌, ◌++◌, ◌≡◌, ◌∙◌, ◌<◌, ◌≤◌, ◌==◌, length, rules, ◌^◌, sym, ap, ap₂, codes, refl, arith, Option, Some, None, append-nil, append_assoc, nat_lt, option_map}
 use Rattle.std.specs.Prelude.{fold, is_some, slice_get, unwrap_or}
 use Rattle.std.specs.List.{list_all}
 use Rattle.std.specs.Str.{bytes_eq}
+use Rattle.std.proofs.lemmas.Bool.{and_parts}
 use Rattle.clap.specs.Lexer.{long_of, short_of, usize_max}
 use Rattle.clap.specs.Faults.{check_fault, defaults_fault, entered_fault, level_fault, settle_fault, step_fault, turn_fault, walk_fault}
 use Rattle.clap.specs.Kinds.{or_else, range_kinds, values_kinds}
@@ -21,13 +22,9 @@ use Rattle.tool_words.specs.Limits.{default_budgets, workers_limit}
 use Rattle.tool_words.specs.Region.{regions_of}
 use Rattle.tool_words.specs.Plain.{has_no_hyphen}
 
-and_true : (a b : Bool) → (a && b) ≡ true → (a ≡ true) × (b ≡ true)
-and_true true b is = (refl, is)
-and_true false b is = cc
-
 pub both_plain : (word : List ℕ) (words : List (List ℕ)) → list_all has_no_hyphen (word ∷ words) ≡ true
     → (has_no_hyphen word ≡ true) × (list_all has_no_hyphen words ≡ true)
-both_plain word words plain = and_true (has_no_hyphen word) (list_all has_no_hyphen words) plain
+both_plain word words plain = and_parts (has_no_hyphen word) (list_all has_no_hyphen words) plain
 
 pub pass_one : (s : Shape) (w next : Walk) (word : List ℕ) (rest : List (List ℕ)) → turn_fault s [] w word ≡ [] → walked s.rules [] w word ≡ next
     → walk_fault s [] next rest ≡ [] → walk_fault s [] w (word ∷ rest) ≡ []
