@@ -64,26 +64,24 @@ const ROWS: [(&[u32], u32, u32, Comes); 7] = [
     ),
 ];
 
-// What comes of the run of all assignments of the program of these words.
-fn worked(
-    rt: &(impl Abort + Wait),
-    alloc: Global,
-    words: &[u32],
-    steps: u32,
-    targets: u32,
-) -> Result<Parts<State, LeafPart>, Fail> {
+// The worker of the program of these words.
+fn made(rt: &impl Abort, alloc: Global, words: &[u32], budgets: Budgets) -> Result<Worker, Fail> {
     assert!(rt; words.len() < 1000);
-    assert!(rt; 1 <= steps && steps <= 1_000_000 && 1 <= targets);
+    assert!(rt; budgets.steps <= 1_000_000 && 1 <= budgets.targets);
     let file = row_file(alloc, words)?;
     let image = load(alloc, file.as_slice())?;
     let regions = Regions::from_vec(Vec::from_slice(alloc, &[INPUT])?);
     assert!(rt; fit(&image, &regions).is_ok());
-    let budgets = Budgets {
-        steps,
-        targets,
-        conflicts: 0,
-    };
-    let worker = Worker::new(alloc, Program::new(image, regions), budgets)?;
+    Ok(Worker::new(alloc, Program::new(image, regions), budgets)?)
+}
+
+// What comes of the run of all assignments.
+fn worked(
+    rt: &(impl Abort + Wait),
+    alloc: Global,
+    worker: &Worker,
+) -> Result<Parts<State, LeafPart>, Fail> {
+    assert!(rt; 1 <= worker.budgets().steps);
     let state = State::first(alloc, worker.program())?;
     Ok(worker.work(rt, alloc, &state)?)
 }
@@ -109,7 +107,13 @@ fn are(parts: &Parts<State, LeafPart>, comes: Comes) -> bool {
 #[test]
 fn runs_go_on_until_they_fork_or_end(rt: HostRuntime) -> Result<(), Fail> {
     for (at, &(words, steps, targets, comes)) in ROWS.iter().enumerate() {
-        let parts = worked(&rt, rt.alloc(), words, steps, targets)?;
+        let budgets = Budgets {
+            steps,
+            targets,
+            conflicts: 0,
+        };
+        let worker = made(&rt, rt.alloc(), words, budgets)?;
+        let parts = worked(&rt, rt.alloc(), &worker)?;
         assert!(rt; are(&parts, comes), "row {at}");
     }
     Ok(())

@@ -1,10 +1,12 @@
 //! Which texts are read, as what leaf, and at which line others are refused.
 
 use crate::smt_text::leaves::{CUT, EACH, FINISHED, LETTER, make_condition};
+use bv_dag::Query;
 use fork_spec::LeafEnd;
 use rv_decode::PathStep;
-use smt_text::{print_leaf, read_leaf};
+use smt_text::{LeafText, print_leaf, read_leaf};
 use std::alloc::{AllocError as NoMemory, Global};
+use std::process::Abort;
 use std::test::Fail;
 use tree_core::{Cause, Choice};
 
@@ -135,25 +137,28 @@ fn what_was_written_is_read_back(rt: HostRuntime) -> Result<(), Fail> {
     Ok(())
 }
 
+// What the text of a finished leaf says.
+fn check_finished(rt: &impl Abort, leaf: &LeafText, condition: &Query) {
+    assert_eq!(rt; leaf.choices.as_slice(), [Choice::Yes].as_slice());
+    assert_eq!(rt; leaf.path.as_slice(), [PathStep::Taken].as_slice());
+    assert_eq!(rt; leaf.steps, 7);
+    assert_eq!(rt; leaf.end, LeafEnd::Exits { status: 3 });
+    assert!(rt; leaf.condition == *condition);
+    assert!(rt; leaf.outputs.is_empty());
+}
+
 #[test]
 fn a_finished_leaf_is_read(rt: HostRuntime) -> Result<(), Fail> {
     let condition = make_condition(&rt, rt.alloc(), 1, &LETTER, &[2])?;
     match read_leaf(rt.alloc(), FINISHED.as_bytes())? {
-        Ok(leaf) => {
-            assert_eq!(rt; leaf.choices.as_slice(), [Choice::Yes].as_slice());
-            assert_eq!(rt; leaf.path.as_slice(), [PathStep::Taken].as_slice());
-            assert_eq!(rt; leaf.steps, 7);
-            assert_eq!(rt; leaf.end, LeafEnd::Exits { status: 3 });
-            assert!(rt; leaf.condition == condition);
-            assert!(rt; leaf.outputs.is_empty());
-        }
+        Ok(leaf) => check_finished(&rt, &leaf, &condition),
         Err(refused) => assert_eq!(rt; refused.line, 0),
     }
     Ok(())
 }
 
-#[test]
-fn a_cut_leaf_is_read(rt: HostRuntime) -> Result<(), Fail> {
+// What the text of a cut leaf says.
+fn check_cut(rt: &impl Abort, leaf: &LeafText, condition: &Query) {
     let choices = [
         Choice::No,
         Choice::Value(0x0001_0028),
@@ -165,16 +170,19 @@ fn a_cut_leaf_is_read(rt: HostRuntime) -> Result<(), Fail> {
         PathStep::NotTaken,
         PathStep::Target(0x0001_002c),
     ];
+    assert_eq!(rt; leaf.choices.as_slice(), choices.as_slice());
+    assert_eq!(rt; leaf.path.as_slice(), path.as_slice());
+    assert_eq!(rt; leaf.steps, 12);
+    assert_eq!(rt; leaf.end, LeafEnd::Cut(Cause::Targets));
+    assert!(rt; leaf.condition == *condition);
+    assert_eq!(rt; leaf.outputs.as_slice(), [18, 0].as_slice());
+}
+
+#[test]
+fn a_cut_leaf_is_read(rt: HostRuntime) -> Result<(), Fail> {
     let condition = make_condition(&rt, rt.alloc(), 2, &EACH, &[16, 17])?;
     match read_leaf(rt.alloc(), CUT.as_bytes())? {
-        Ok(leaf) => {
-            assert_eq!(rt; leaf.choices.as_slice(), choices.as_slice());
-            assert_eq!(rt; leaf.path.as_slice(), path.as_slice());
-            assert_eq!(rt; leaf.steps, 12);
-            assert_eq!(rt; leaf.end, LeafEnd::Cut(Cause::Targets));
-            assert!(rt; leaf.condition == condition);
-            assert_eq!(rt; leaf.outputs.as_slice(), [18, 0].as_slice());
-        }
+        Ok(leaf) => check_cut(&rt, &leaf, &condition),
         Err(refused) => assert_eq!(rt; refused.line, 0),
     }
     Ok(())
