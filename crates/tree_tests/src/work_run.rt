@@ -1,8 +1,8 @@
-//! A coin that is tossed once, and the trees that several workers make of it.
+//! A card that is drawn once, of three, and the trees that several workers make of it.
 
-ghost use Rattle.std.specs.Prelude.{◌≡◌, ◌∷◌, [], IfOk, None, Some, false, if◌then◌else◌, length, nat_le, nat_lt, true};
-ghost use Rattle.rv_spec.specs.Decisions.{Side};
-ghost use Rattle.tree_core.specs.declared.choice.Choice.TheVariants.{No, Yes};
+ghost use Rattle.std.specs.Prelude.{◌≡◌, ◌==◌, ◌∷◌, [], IfOk, None, Some, false, if◌then◌else◌, length, min, true};
+ghost use Rattle.rv_spec.specs.Decisions.{Number};
+ghost use Rattle.tree_core.specs.declared.choice.Choice.TheVariants.{Value};
 ghost use Rattle.fork_tree.specs.Nodes.{StateIs};
 
 use fork_tree::{Content, Parts, Placed, Tree, Work};
@@ -10,70 +10,72 @@ use std::alloc::{AllocError as NoMemory, Global};
 use std::sync::{Arc, Wait};
 use std::test::Fail;
 use tree_core::{Choice, Deed, Kid, Status};
-use work_gate::{Gate, Next, OpenGate, Point};
+use work_gate::{DropGate, Gate, Next, OpenGate, Point};
 use work_run::{Lent, explore};
 
-/// All assignments, or those with no number, or those with some.
+/// All assignments, or those of one card: those with so many numbers, where 2 is for two and more.
 #[derive(Clone, Copy, Debug, PartialEq, Eq)]
-struct Toss {
-    tossed: bool,
-    some: bool,
+struct Draw {
+    drawn: bool,
+    card: u32,
 }
 
-impl Placed for Toss {
-    ghost place = { λ t. record {
-      choices = if t.tossed then (if t.some then Yes ∷ [] else No ∷ []) else [];
-      covers = λ input. if t.tossed then (if t.some then nat_lt 0 (length input) else nat_le (length input) 0) else true;
+impl Placed for Draw {
+    ghost place = { λ d. record {
+      choices = if d.drawn then Value d.card ∷ [] else [];
+      covers = λ input. if d.drawn then min 2 (length input) == d.card else true;
     } };
 }
 
-/// Tosses the coin.
+/// Draws the card.
 #[derive(Clone, Copy)]
-struct Tosser;
+struct Dealer;
 
-impl Work for Tosser {
-    type State = Toss;
+impl Work for Dealer {
+    type State = Draw;
 
-    type Leaf = Toss;
+    type Leaf = Draw;
 
     ghost rules = { λ w. record {
-      left = λ t. if t.tossed then 0 else 1;
-      targets = 2;
-      decides = λ input. Side (nat_lt 0 (length input)) ∷ [];
-      IsWell = λ t. Unit {0};
-      IsRight = λ sides t. Unit {0};
-      cut = λ t. None;
+      left = λ d. if d.drawn then 0 else 1;
+      targets = 3;
+      decides = λ input. Number (min 2 (length input)) ∷ [];
+      IsWell = λ d. Unit {0};
+      IsRight = λ sides d. Unit {0};
+      cut = λ d. None;
     } };
 
     fn work(
         &self,
         _rt: &impl Wait,
         alloc: Global,
-        state: &Toss,
-    ) -> Result<Parts<Toss, Toss>, NoMemory> {
-        let toss = *state;
-        if toss.tossed {
-            return Ok(Parts::Finished(toss));
+        state: &Draw,
+    ) -> Result<Parts<Draw, Draw>, NoMemory> {
+        let draw = *state;
+        if draw.drawn {
+            return Ok(Parts::Finished(draw));
         }
-        let none = side(alloc, Choice::No, false)?;
-        let some = side(alloc, Choice::Yes, true)?;
-        let mut kids = Vec::with_capacity(alloc, 2)?;
+        let none = side(alloc, 0)?;
+        let one = side(alloc, 1)?;
+        let more = side(alloc, 2)?;
+        let mut kids = Vec::with_capacity(alloc, 3)?;
         kids.push_reserved(none);
-        kids.push_reserved(some);
+        kids.push_reserved(one);
+        kids.push_reserved(more);
         Ok(Parts::Kids(kids))
     }
 }
 
-// A side of the toss.
-fn side(alloc: Global, choice: Choice, some: bool) -> Result<Kid<Content<Toss, Toss>>, NoMemory>
-    ensures choice { IfOk result (λ kid. kid.choice ≡ choice) }
+// The side of one card.
+fn side(alloc: Global, card: u32) -> Result<Kid<Content<Draw, Draw>>, NoMemory>
+    ensures choice { IfOk result (λ kid. kid.choice ≡ Value card) }
     ensures open { IfOk result (λ kid. kid.is_leaf ≡ false) }
-    ensures state { IfOk result (λ kid. StateIs (Some kid.content) (record { tossed = true; some = some })) }
+    ensures state { IfOk result (λ kid. StateIs (Some kid.content) (record { drawn = true; card = card })) }
 {
-    let toss = Toss { tossed: true, some };
+    let draw = Draw { drawn: true, card };
     Ok(Kid {
-        choice,
-        content: Content::Open(Arc::new(alloc, toss)?),
+        choice: Choice::Value(card),
+        content: Content::Open(Arc::new(alloc, draw)?),
         is_leaf: false,
     })
 }
@@ -97,12 +99,12 @@ impl Gate for Leaving {
     }
 }
 
-const WHOLE: Toss = Toss {
-    tossed: false,
-    some: false,
+const WHOLE: Draw = Draw {
+    drawn: false,
+    card: 0,
 };
 
-fn releases(tree: &Tree<Lent<'_, Tosser>>) -> usize {
+fn releases(tree: &Tree<Lent<'_, Dealer>>) -> usize {
     let events = tree.events();
     events
         .iter()
@@ -110,40 +112,51 @@ fn releases(tree: &Tree<Lent<'_, Tosser>>) -> usize {
         .count()
 }
 
-// The leaves are those that one worker makes: one on each side.
-fn has_both_leaves(tree: &Tree<Lent<'_, Tosser>>) -> bool {
+// Whether this node is the leaf of this card.
+fn is_leaf_of(tree: &Tree<Lent<'_, Dealer>>, node: usize, card: u32) -> bool {
+    node < tree.len()
+        && tree.status(node) == Status::Leaf
+        && *tree.leaf(node) == Draw { drawn: true, card }
+}
+
+// The leaves are those that one worker makes: one for each card.
+fn has_each_leaf(tree: &Tree<Lent<'_, Dealer>>) -> bool {
     tree.quiet()
-        && tree.len() == 3
-        && tree.status(1) == Status::Leaf
-        && *tree.leaf(1)
-            == Toss {
-                tossed: true,
-                some: false,
-            }
-        && tree.status(2) == Status::Leaf
-        && *tree.leaf(2)
-            == Toss {
-                tossed: true,
-                some: true,
-            }
+        && tree.len() == 4
+        && is_leaf_of(tree, 1, 0)
+        && is_leaf_of(tree, 2, 1)
+        && is_leaf_of(tree, 3, 2)
 }
 
 #[test]
-fn four_workers_make_both_leaves(rt: HostRuntime) -> Result<(), Fail> {
-    let tree = explore(&rt, rt.alloc(), &Tosser, WHOLE, 4, &OpenGate)?;
-    assert!(rt; has_both_leaves(&tree));
+fn four_workers_make_each_leaf(rt: HostRuntime) -> Result<(), Fail> {
+    let tree = explore(&rt, rt.alloc(), &Dealer, WHOLE, 4, &OpenGate)?;
+    assert!(rt; has_each_leaf(&tree));
     // A claim and its end for each node.
-    assert_eq!(rt; tree.events().len(), 6);
+    assert_eq!(rt; tree.events().len(), 8);
+    assert_eq!(rt; releases(&tree), 0);
     Ok(())
 }
 
 #[test]
 fn what_workers_leave_is_worked(rt: HostRuntime) -> Result<(), Fail> {
-    let one = explore(&rt, rt.alloc(), &Tosser, WHOLE, 1, &Leaving)?;
-    assert!(rt; has_both_leaves(&one));
+    let one = explore(&rt, rt.alloc(), &Dealer, WHOLE, 1, &Leaving)?;
+    assert!(rt; has_each_leaf(&one));
     assert_eq!(rt; releases(&one), 1);
-    let all = explore(&rt, rt.alloc(), &Tosser, WHOLE, 4, &Leaving)?;
-    assert!(rt; has_both_leaves(&all));
+    let all = explore(&rt, rt.alloc(), &Dealer, WHOLE, 4, &Leaving)?;
+    assert!(rt; has_each_leaf(&all));
     assert_eq!(rt; releases(&all), 4);
+    Ok(())
+}
+
+#[test]
+fn a_worker_may_leave_behind_its_claim(rt: HostRuntime) -> Result<(), Fail> {
+    let gate = DropGate {
+        worker: 0,
+        point: Point::AfterClaim,
+    };
+    let tree = explore(&rt, rt.alloc(), &Dealer, WHOLE, 1, &gate)?;
+    assert!(rt; has_each_leaf(&tree));
+    assert_eq!(rt; releases(&tree), 1);
     Ok(())
 }
