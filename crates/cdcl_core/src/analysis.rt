@@ -5,6 +5,8 @@
 //!
 //! Whether the clause follows, and whether it is new, is tested where it is learnt: nothing rests on how it was found.
 
+ghost use Rattle.std.specs.Prelude.{◌≡◌, [], IfOk, length};
+
 use crate::trail::{Entry, Trail};
 use cnf_form::{Clause, Lit, LogStep};
 use std::alloc::{AllocError as NoMemory, Global};
@@ -38,7 +40,9 @@ fn last_decision(entries: &[Entry]) -> Option<usize> {
 
 impl Analysis {
     /// Nothing, of variables below `size`.
-    pub fn new(alloc: Global, size: usize) -> Result<Analysis, NoMemory> {
+    pub fn new(alloc: Global, size: usize) -> Result<Analysis, NoMemory>
+        ensures { IfOk result (λ analysis. length analysis.seen.items ≡ size) }
+    {
         Ok(Analysis {
             seen: vec![in alloc; false; size]?,
             met: Vec::new(alloc),
@@ -55,7 +59,13 @@ impl Analysis {
     }
 
     // Forgets what was met, for a conflict whose last decision is at this place.
-    fn clear(&mut self, last: usize) {
+    fn clear(&mut self, last: usize)
+        ensures met { self.new.met.items ≡ [] }
+        ensures literals { self.new.literals.items ≡ [] }
+        ensures hints { self.new.hints.items ≡ [] }
+        ensures pending { self.new.pending ≡ 0 }
+        ensures last { self.new.last ≡ last }
+    {
         for literal in &self.met {
             if let Some(seen) = self.seen.get_mut(literal.variable() as usize) {
                 *seen = false;

@@ -8,7 +8,7 @@
 //! What the order says is no more than a wish: whichever literal is chosen, the answers are as sure, and where the heap is
 //! empty the search looks for a literal itself.
 
-ghost use Rattle.std.specs.Prelude.{length, IfSome};
+ghost use Rattle.std.specs.Prelude.{Contains, IfSome, length};
 ghost use Rattle.cdcl_core.specs.Trails.{values_of};
 ghost use Rattle.cdcl_core.specs.Passes.{IsFree};
 
@@ -66,7 +66,8 @@ impl Order {
 
     /// Takes out variables until one has no value, and answers the literal to choose for that one.
     pub fn pick(&mut self, trail: &Trail) -> Option<Lit>
-        ensures { IfSome result (IsFree (values_of trail.now.entries) (length trail.now.marks)) }
+        ensures free { IfSome result (IsFree (values_of trail.now.entries) (length trail.now.marks)) }
+        ensures listed { IfSome result (Contains self.old.literals.items) }
     {
         while let Some(place) = self.heap.pop(&self.activities) {
             if let Some(literal) = self.literals.get(place) {

@@ -1,6 +1,8 @@
 //! Restarts: after some conflicts a search begins again with the clauses that it has learnt, and after half as many
 //! more the next time.
 
+ghost use Rattle.std.specs.Prelude.{◌≡◌, ◌↔◌, ◌≤◌, ◌+◌, IsTrue, true, false};
+
 const FIRST: u32 = 100;
 
 /// The conflicts since the last restart, and after how many the next comes.
@@ -19,7 +21,11 @@ impl Restarts {
     }
 
     /// Counts a conflict, and says whether to begin again.
-    pub fn is_due(&mut self) -> bool {
+    pub fn is_due(&mut self) -> bool
+        ensures due { IsTrue result ↔ self.old.limit ≤ self.old.since + 1 }
+        ensures again { result ≡ true → self.new.since ≡ 0 }
+        ensures counted { result ≡ false → self.new.since ≡ self.old.since + 1 }
+    {
         self.since = self.since.saturating_add(1);
         if self.since < self.limit {
             return false;
