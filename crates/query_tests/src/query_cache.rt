@@ -1,7 +1,7 @@
 //! Questions that are put and found again, and a full cache.
 
 use bv_dag::{Dag, Node, Query};
-use query_cache::{Cache, MOST_KEPT, Satisfiability, Solved};
+use query_cache::{Cache, Satisfiability, Solved};
 use std::alloc::{AllocError as NoMemory, Global};
 use std::process::Abort;
 use std::test::Fail;
@@ -65,9 +65,11 @@ fn an_answer_is_copied(rt: HostRuntime) -> Result<(), Fail> {
 fn a_full_cache_takes_no_new_question(rt: HostRuntime) -> Result<(), Fail> {
     let alloc = rt.alloc();
     let mut cache = Cache::new(alloc);
-    for value in 0..MOST_KEPT as u64 {
+    for value in 0..4096 {
         cache.put(met(&rt, alloc, about(&rt, alloc, value)?, 7)?)?;
     }
+    let last = about(&rt, alloc, 4095)?;
+    assert_eq!(rt; sample(&cache, &last), Some([7].as_slice()));
     let new = about(&rt, alloc, 4096)?;
     cache.put(met(&rt, alloc, new.clone()?, 7)?)?;
     assert!(rt; cache.get(&new).is_none());

@@ -1,6 +1,7 @@
-//! Questions with known answers, asked: each term of a condition after those before it, as a run comes to them; and a run
-//! that is asked twice.
+//! Questions with known answers, asked: each term of a condition after those before it, as a run comes to them; a run
+//! that is asked twice; and what the counts tell.
 
+mod counting;
 mod runs;
 mod table;
 mod terms;

@@ -3,6 +3,7 @@
 use elf_load::{Region, Regions, fit, load};
 use fork_tree::{Content, Parts, Work};
 use node_split::Worker;
+use query_front::Counts;
 use row_files::programs::{CALLED, DIVIDED, FORKED, STRAIGHT};
 use row_files::row_file;
 use std::alloc::Global;
@@ -116,5 +117,27 @@ fn runs_go_on_until_they_fork_or_end(rt: HostRuntime) -> Result<(), Fail> {
         let parts = worked(&rt, rt.alloc(), &worker)?;
         assert!(rt; are(&parts, comes), "row {at}");
     }
+    Ok(())
+}
+
+// A branch asks about the side on which the sample isn't.
+#[test]
+fn a_question_that_comes_again_is_counted_so(rt: HostRuntime) -> Result<(), Fail> {
+    let budgets = Budgets {
+        steps: 10,
+        targets: 4,
+        conflicts: 0,
+    };
+    let worker = made(&rt, rt.alloc(), &FORKED, budgets)?;
+    for _ in 0..3 {
+        drop(worked(&rt, rt.alloc(), &worker)?);
+    }
+    let counts = Counts {
+        cached: 2,
+        sampled: 0,
+        decided: 1,
+        spent: 0,
+    };
+    assert_eq!(rt; worker.counts(), counts);
     Ok(())
 }

@@ -150,6 +150,14 @@ fn drains(rt: HostRuntime) -> Result<(), Fail> {
     Ok(())
 }
 
+// A fork has a side for each of 64 values, and one for the rest.
+#[test]
+fn a_fork_into_65_sides_has_room(rt: HostRuntime) -> Result<(), Fail> {
+    let mut tree = Tree::new(rt.alloc(), Climber { top: 3 }, GROUND)?;
+    tree.reserve(65)?;
+    Ok(())
+}
+
 #[test]
 fn two_workers_take_turns(rt: HostRuntime) -> Result<(), Fail> {
     let mut tree = Tree::new(rt.alloc(), Climber { top: 3 }, GROUND)?;

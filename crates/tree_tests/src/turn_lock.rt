@@ -8,11 +8,24 @@ use crate::tally::{Note, Tally};
 use std::alloc::{AllocError as NoMemory, Global};
 use std::sync::Wait;
 use std::test::Fail;
-use std::thread::{Threads, join};
+use std::thread::{self, Threads, join};
 use turn_lock::{Pass, TurnLock};
 
-// Notes a number in a turn, and says whether there was memory for it.
-fn note_once<R: Wait>(rt: &R, lock: &TurnLock<Tally>, pass: &mut Pass<Tally>, value: u32) -> bool
+// Lets other threads go on so many times.
+fn yield_often(times: u32) {
+    for _ in 0..times {
+        thread::yield_now();
+    }
+}
+
+// Notes a number in a turn that is held while other threads go on so many times, and says whether there was memory for it.
+fn note_once<R: Wait>(
+    rt: &R,
+    lock: &TurnLock<Tally>,
+    pass: &mut Pass<Tally>,
+    value: u32,
+    held: u32,
+) -> bool
     requires lock { IsPassOf lock.now pass.old }
     requires turn { (known pass.old).has_turn ≡ false }
 
@@ -24,16 +37,18 @@ fn note_once<R: Wait>(rt: &R, lock: &TurnLock<Tally>, pass: &mut Pass<Tally>, va
     let by = pass.number();
     let mut tally = lock.take(rt, pass);
     let done = tally.note(Note { by, value }).is_ok();
+    yield_often(held);
     lock.give(pass, tally);
     done
 }
 
-// Notes the numbers below `times`, and says how many there was memory for.
+// Notes the numbers below `times`, each in a turn that is held so long, and says how many there was memory for.
 fn note_all<R: Wait>(
     rt: &R,
     lock: &TurnLock<Tally>,
     mut pass: Pass<Tally>,
     times: u32,
+    held: u32,
 ) -> (Pass<Tally>, u32)
     requires lock { IsPassOf lock.now pass }
     requires turn { (known pass).has_turn ≡ false }
@@ -45,7 +60,7 @@ fn note_all<R: Wait>(
 {
     let mut done = 0;
     for value in 0..times {
-        if note_once(rt, lock, &mut pass, value) {
+        if note_once(rt, lock, &mut pass, value, held) {
             done += 1;
         }
     }
@@ -71,12 +86,13 @@ fn end_two(lock: TurnLock<Tally>, mut first: Pass<Tally>, second: Pass<Tally>) -
 }
 
 // Two threads note the numbers below `times`, each with its own number. Each has as many notes as it says, and nobody else
-// has any.
+// has any. Each turn is held while other threads go on `held` times.
 fn note_by_two<R: Threads + Wait + Sync>(
     rt: &R,
     alloc: Global,
     title: u32,
     times: u32,
+    held: u32,
 ) -> Result<(Tally, u32, u32), NoMemory>
     ensures title { IfOk result (λ r. r.0.0 ≡ title) }
     ensures first { IfOk result (λ r. length (filter (λ e. e.by == 0) r.0.2) ≡ r.1) }
@@ -91,18 +107,18 @@ fn note_by_two<R: Threads + Wait + Sync>(
         move || -> (Pass<Tally>, u32)
             requires { IsPassOf shared.now first × ((known first).has_turn ≡ false) }
             ensures { IsPassOf shared.entry.now result.0 × ((known result.0).has_turn ≡ false) × IsSamePass (known first) (known result.0) × (length (known result.0).own ≡ length (known first).own + result.1) }
-        { note_all(rt, shared, first, times) },
+        { note_all(rt, shared, first, times, held) },
         move || -> (Pass<Tally>, u32)
             requires { IsPassOf shared.now second × ((known second).has_turn ≡ false) }
             ensures { IsPassOf shared.entry.now result.0 × ((known result.0).has_turn ≡ false) × IsSamePass (known second) (known result.0) × (length (known result.0).own ≡ length (known second).own + result.1) }
-        { note_all(rt, shared, second, times) },
+        { note_all(rt, shared, second, times, held) },
     );
     Ok((end_two(lock, first, second), a, b))
 }
 
 #[test]
 fn two_threads_note_in_turns(rt: HostRuntime) -> Result<(), Fail> {
-    let (tally, a, b) = note_by_two(&rt, rt.alloc(), 7, 100)?;
+    let (tally, a, b) = note_by_two(&rt, rt.alloc(), 7, 100, 0)?;
     let mut next = [0u32; 2];
     let mut in_order = true;
     for note in tally.notes() {
@@ -120,5 +136,12 @@ fn two_threads_note_in_turns(rt: HostRuntime) -> Result<(), Fail> {
         (tally.title(), a, b, tally.notes().len()),
         (7, 100, 100, 200)
     );
+    Ok(())
+}
+
+#[test]
+fn long_turns_are_waited_for(rt: HostRuntime) -> Result<(), Fail> {
+    let (tally, a, b) = note_by_two(&rt, rt.alloc(), 7, 3, 100_000)?;
+    assert_eq!(rt; (a, b, tally.notes().len()), (3, 3, 6));
     Ok(())
 }
