@@ -2,14 +2,14 @@
 #![tactic(auto)]
 
 #[cfg(test)]
-mod cow_pages;
+mod of_cow_pages;
 #[cfg(test)]
-mod elf_load;
+mod of_elf_load;
 #[cfg(test)]
-mod prog_gen;
+mod of_prog_gen;
 #[cfg(test)]
-mod row_files;
+mod of_row_files;
 #[cfg(test)]
-mod rv_decode;
+mod of_rv_decode;
 #[cfg(test)]
-mod rv_machine;
+mod of_rv_machine;

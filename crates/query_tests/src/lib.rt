@@ -2,12 +2,12 @@
 #![tactic(auto)]
 
 #[cfg(test)]
-mod model_pool;
+mod of_model_pool;
 #[cfg(test)]
-mod query_cache;
+mod of_query_cache;
 #[cfg(test)]
-mod query_decide;
+mod of_query_decide;
 #[cfg(test)]
-mod query_front;
+mod of_query_front;
 #[cfg(test)]
-mod query_slice;
+mod of_query_slice;

@@ -2,8 +2,8 @@
 #![tactic(auto)]
 
 #[cfg(test)]
-mod node_split;
+mod of_node_split;
 #[cfg(test)]
-mod sym_machine;
+mod of_sym_machine;
 #[cfg(test)]
-mod sym_state;
+mod of_sym_state;

@@ -2,12 +2,12 @@
 #![tactic(auto)]
 
 #[cfg(test)]
-mod bit_blast;
+mod of_bit_blast;
 #[cfg(test)]
-mod bv_dag;
+mod of_bv_dag;
 #[cfg(test)]
-mod cdcl_core;
+mod of_cdcl_core;
 #[cfg(test)]
-mod cnf_form;
+mod of_cnf_form;
 #[cfg(test)]
-mod proof_check;
+mod of_proof_check;

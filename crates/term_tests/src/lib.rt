@@ -2,12 +2,12 @@
 #![tactic(auto)]
 
 #[cfg(test)]
-mod cow_vec;
+mod of_cow_vec;
+#[cfg(test)]
+mod of_query_pick;
+#[cfg(test)]
+mod of_term_simplify;
+#[cfg(test)]
+mod of_term_table;
 #[cfg(test)]
 mod operation_rows;
-#[cfg(test)]
-mod query_pick;
-#[cfg(test)]
-mod term_simplify;
-#[cfg(test)]
-mod term_table;

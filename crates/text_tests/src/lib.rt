@@ -2,12 +2,12 @@
 #![tactic(auto)]
 
 #[cfg(test)]
-mod replay_core;
+mod of_replay_core;
 #[cfg(test)]
-mod report_text;
+mod of_report_text;
 #[cfg(test)]
-mod smt_text;
+mod of_smt_text;
 #[cfg(test)]
-mod test_files;
+mod of_test_files;
 #[cfg(test)]
-mod tool_words;
+mod of_tool_words;

@@ -2,12 +2,12 @@
 #![tactic(auto)]
 
 #[cfg(test)]
-mod fork_tree;
+mod of_fork_tree;
+#[cfg(test)]
+mod of_tree_core;
+#[cfg(test)]
+mod of_turn_lock;
+#[cfg(test)]
+mod of_work_run;
 #[cfg(test)]
 mod tally;
-#[cfg(test)]
-mod tree_core;
-#[cfg(test)]
-mod turn_lock;
-#[cfg(test)]
-mod work_run;
