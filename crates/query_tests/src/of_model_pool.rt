@@ -4,6 +4,7 @@ use bv_dag::{Comparison, Dag, Node, Query};
 use model_pool::Pool;
 use std::alloc::{AllocError as NoMemory, Global};
 use std::process::Abort;
+use std::sync::Wait;
 use std::test::Fail;
 use tool_io::Bytes;
 
@@ -28,19 +29,29 @@ fn is_byte(rt: &impl Abort, alloc: Global, value: u64) -> Result<Query, NoMemory
 // What workers share is `Send` and `Sync`.
 fn takes_shared<T: Send + Sync>(_value: &T) {}
 
+// Of two samples that are offered, the one that meets a question is found.
+fn check_pool(
+    rt: &(impl Abort + Wait),
+    alloc: Global,
+    pool: &Pool,
+    query: &Query,
+) -> Result<(), Fail> {
+    assert!(rt; pool.find(alloc, query)?.is_none());
+    pool.offer(rt, Bytes::from_slice(alloc, &[66])?)?;
+    assert!(rt; pool.find(alloc, query)?.is_none());
+    pool.offer(rt, Bytes::from_slice(alloc, &[65])?)?;
+    let Some(found) = pool.find(alloc, query)? else {
+        return Err(Fail::from("nothing is found"));
+    };
+    assert_eq!(rt; found.as_slice(), [65].as_slice());
+    Ok(())
+}
+
 #[test]
 fn a_sample_is_offered_and_found(rt: HostRuntime) -> Result<(), Fail> {
     let alloc = rt.alloc();
     let pool = Pool::new(alloc)?;
     takes_shared(&pool);
     let query = is_byte(&rt, alloc, 65)?;
-    assert!(rt; pool.find(alloc, &query)?.is_none());
-    pool.offer(&rt, Bytes::from_slice(alloc, &[66])?)?;
-    assert!(rt; pool.find(alloc, &query)?.is_none());
-    pool.offer(&rt, Bytes::from_slice(alloc, &[65])?)?;
-    let Some(found) = pool.find(alloc, &query)? else {
-        return Err(Fail::from("nothing is found"));
-    };
-    assert_eq!(rt; found.as_slice(), [65].as_slice());
-    Ok(())
+    check_pool(&rt, alloc, &pool, &query)
 }

@@ -61,20 +61,31 @@ fn an_answer_is_copied(rt: HostRuntime) -> Result<(), Fail> {
     Ok(())
 }
 
+// Puts an answer to each question about a number below 4096.
+fn fill(rt: &impl Abort, alloc: Global, cache: &mut Cache) -> Result<(), NoMemory> {
+    for value in 0..4096 {
+        cache.put(met(rt, alloc, about(rt, alloc, value)?, 7)?)?;
+    }
+    let last = about(rt, alloc, 4095)?;
+    assert_eq!(rt; sample(cache, &last), Some([7].as_slice()));
+    Ok(())
+}
+
+// A full cache takes another answer to a question that it has, and none to a new one.
+fn check_full(rt: &impl Abort, alloc: Global, cache: &mut Cache) -> Result<(), NoMemory> {
+    let new = about(rt, alloc, 4096)?;
+    cache.put(met(rt, alloc, new.clone()?, 7)?)?;
+    assert!(rt; cache.get(&new).is_none());
+    let first = about(rt, alloc, 0)?;
+    cache.put(met(rt, alloc, first.clone()?, 8)?)?;
+    assert_eq!(rt; sample(cache, &first), Some([8].as_slice()));
+    Ok(())
+}
+
 #[test]
 fn a_full_cache_takes_no_new_question(rt: HostRuntime) -> Result<(), Fail> {
-    let alloc = rt.alloc();
-    let mut cache = Cache::new(alloc);
-    for value in 0..4096 {
-        cache.put(met(&rt, alloc, about(&rt, alloc, value)?, 7)?)?;
-    }
-    let last = about(&rt, alloc, 4095)?;
-    assert_eq!(rt; sample(&cache, &last), Some([7].as_slice()));
-    let new = about(&rt, alloc, 4096)?;
-    cache.put(met(&rt, alloc, new.clone()?, 7)?)?;
-    assert!(rt; cache.get(&new).is_none());
-    let first = about(&rt, alloc, 0)?;
-    cache.put(met(&rt, alloc, first.clone()?, 8)?)?;
-    assert_eq!(rt; sample(&cache, &first), Some([8].as_slice()));
+    let mut cache = Cache::new(rt.alloc());
+    fill(&rt, rt.alloc(), &mut cache)?;
+    check_full(&rt, rt.alloc(), &mut cache)?;
     Ok(())
 }

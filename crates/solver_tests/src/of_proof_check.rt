@@ -104,22 +104,36 @@ fn supersets_are_not_fresh(rt: HostRuntime) -> Result<(), Fail> {
     Ok(())
 }
 
+// Whether a step of these literals and hints may come next.
+fn may_come(
+    rt: &impl Abort,
+    alloc: Global,
+    checker: &mut Checker,
+    literals: &[Lit],
+    hints: &[usize],
+) -> Result<bool, NoMemory> {
+    let next = step(rt, alloc, literals, hints)?;
+    checker.may_come_next(&next)
+}
+
+// What may come next to the formula, and to the two clauses that refute it.
+fn check_steps(rt: &impl Abort, alloc: Global, checker: &mut Checker) -> Result<(), NoMemory> {
+    assert!(rt; may_come(rt, alloc, checker, &[b()], &[1, 2])?);
+    assert!(rt; !may_come(rt, alloc, checker, &[b()], &[1])?);
+    assert!(rt; !may_come(rt, alloc, checker, &[a()], &[1])?);
+    checker.note(clause(rt, alloc, &[b()])?)?;
+    assert!(rt; !may_come(rt, alloc, checker, &[b()], &[1, 2])?);
+    assert!(rt; may_come(rt, alloc, checker, &[], &[4, 3])?);
+    checker.note(clause(rt, alloc, &[])?)?;
+    assert!(rt; !checker.is_new(&clause(rt, alloc, &[b()])?)?);
+    assert_eq!(rt; checker.clauses().len(), 5);
+    Ok(())
+}
+
 #[test]
 fn steps_that_may_come_next(rt: HostRuntime) -> Result<(), Fail> {
     let alloc = rt.alloc();
     let mut checker = Checker::new(alloc, &formula(&rt, alloc)?)?;
-    let good = step(&rt, alloc, &[b()], &[1, 2])?;
-    assert!(rt; checker.may_come_next(&good)?);
-    let unshown = step(&rt, alloc, &[b()], &[1])?;
-    assert!(rt; !checker.may_come_next(&unshown)?);
-    let known = step(&rt, alloc, &[a()], &[1])?;
-    assert!(rt; !checker.may_come_next(&known)?);
-    checker.note(good.clause().clone()?)?;
-    assert!(rt; !checker.may_come_next(&good)?);
-    let empty = step(&rt, alloc, &[], &[4, 3])?;
-    assert!(rt; checker.may_come_next(&empty)?);
-    checker.note(empty.clause().clone()?)?;
-    assert!(rt; !checker.is_new(good.clause())?);
-    assert_eq!(rt; checker.clauses().len(), 5);
+    check_steps(&rt, alloc, &mut checker)?;
     Ok(())
 }

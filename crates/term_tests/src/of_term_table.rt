@@ -3,7 +3,7 @@
 ghost use Rattle.std.specs.Prelude.{◌≡◌, ◌<◌, IfOk, OnOk, length};
 
 use bv_dag::{BinaryOp, Node};
-use std::alloc::AllocError as NoMemory;
+use std::alloc::{AllocError as NoMemory, Global};
 use std::process::Abort;
 use std::test::Fail;
 use term_table::Terms;
@@ -23,25 +23,41 @@ fn byte(value: u64) -> Node {
     Node::Num { width: 8, value }
 }
 
+// One of two tables of an input byte and a number goes on with their sum, the other with their difference.
+fn go_on(
+    rt: &impl Abort,
+    alloc: Global,
+    one: &mut Terms,
+    other: &mut Terms,
+) -> Result<(), NoMemory> {
+    let sum = push(rt, one, Node::Binary(BinaryOp::Add, 0, 1))?;
+    let difference = push(rt, other, Node::Binary(BinaryOp::Sub, 1, 0))?;
+    assert_eq!(rt; (sum, difference), (2, 2));
+    assert_eq!(rt; (one.inputs(), other.inputs()), (1, 1));
+    assert_eq!(rt; one.value_of(alloc, sum, &[254])?, 1);
+    assert_eq!(rt; other.value_of(alloc, difference, &[5])?, 254);
+    assert_eq!(rt; one.width_of(sum), 8);
+    assert_eq!(rt; one.node(sum), Node::Binary(BinaryOp::Add, 0, 1));
+    Ok(())
+}
+
+// One is cut, and the other has its three terms still.
+fn cut(rt: &impl Abort, one: &mut Terms, other: &Terms) {
+    assert_eq!(rt; one.len(), 3);
+    one.truncate(1);
+    assert!(rt; !one.fits(&Node::Not(1)));
+    assert_eq!(rt; other.len(), 3);
+}
+
 #[test]
 fn copies_go_on_differently(rt: HostRuntime) -> Result<(), Fail> {
     let mut one = Terms::new(rt.alloc(), 1);
     assert!(rt; one.is_empty());
-    let input = push(&rt, &mut one, Node::Input(0))?;
-    let number = push(&rt, &mut one, byte(3))?;
+    push(&rt, &mut one, Node::Input(0))?;
+    push(&rt, &mut one, byte(3))?;
     let mut other = one.share()?;
-    let sum = push(&rt, &mut one, Node::Binary(BinaryOp::Add, input, number))?;
-    let difference = push(&rt, &mut other, Node::Binary(BinaryOp::Sub, number, input))?;
-    assert_eq!(rt; (sum, difference), (2, 2));
-    assert_eq!(rt; one.inputs(), 1);
-    assert_eq!(rt; one.len(), 3);
-    assert_eq!(rt; one.value_of(rt.alloc(), sum, &[254])?, 1);
-    assert_eq!(rt; other.value_of(rt.alloc(), difference, &[5])?, 254);
-    assert_eq!(rt; one.width_of(sum), 8);
-    assert_eq!(rt; one.node(sum), Node::Binary(BinaryOp::Add, 0, 1));
-    one.truncate(1);
-    assert!(rt; !one.fits(&Node::Not(1)));
-    assert_eq!(rt; other.len(), 3);
+    go_on(&rt, rt.alloc(), &mut one, &mut other)?;
+    cut(&rt, &mut one, &other);
     takes_shared(&other);
     Ok(())
 }

@@ -53,7 +53,26 @@ fn is_sampled(alloc: Global, state: &State) -> Result<bool, NoMemory>
     query.holds(alloc, state.sample().as_slice())
 }
 
-// The bytes on which the run goes on where its last two bytes pass a test, if there are any.
+// The bytes on which a run goes on where its last two bytes pass a test, if there are any. Its table has the test then.
+fn ask_of(
+    rt: &(impl Abort + Wait),
+    alloc: Global,
+    shared: &Shared,
+    state: &mut State,
+    test: Test,
+    number: u32,
+) -> Result<Option<Bytes>, Fail> {
+    let new = passes(state, test, number)?;
+    assert!(rt; new < state.terms().len() && state.terms().width_of(new) == 1);
+    assert!(rt; is_sampled(alloc, state)?);
+    match ask(rt, alloc, shared, state, new, 100)? {
+        Asked::Sat(bytes) => Ok(Some(bytes)),
+        Asked::Unsat => Ok(None),
+        Asked::Spent(_, _) => Err(Fail::new("the budget was spent")),
+    }
+}
+
+// The same, of a share of the run.
 fn asked(
     rt: &(impl Abort + Wait),
     alloc: Global,
@@ -63,14 +82,7 @@ fn asked(
     number: u32,
 ) -> Result<Option<Bytes>, Fail> {
     let mut state = state.share()?;
-    let new = passes(&mut state, test, number)?;
-    assert!(rt; new < state.terms().len() && state.terms().width_of(new) == 1);
-    assert!(rt; is_sampled(alloc, &state)?);
-    match ask(rt, alloc, shared, &state, new, 100)? {
-        Asked::Sat(bytes) => Ok(Some(bytes)),
-        Asked::Unsat => Ok(None),
-        Asked::Spent(_, _) => Err(Fail::new("the budget was spent")),
-    }
+    ask_of(rt, alloc, shared, &mut state, test, number)
 }
 
 /// Each question, and whether some bytes answer it: always 0, 0, 5 and 0. The first and the last are decided, the second was
@@ -82,18 +94,28 @@ const QUESTIONS: [(Test, u32, bool); 4] = [
     (Test::Bgeu, 65536, false),
 ];
 
-#[test]
-fn what_was_found_serves_again(rt: HostRuntime) -> Result<(), Fail> {
-    let alloc = rt.alloc();
-    let shared = Shared::new(alloc)?;
-    let state = first(&rt, alloc)?;
+// What the questions find, asked of one run after the other.
+fn check_questions(
+    rt: &(impl Abort + Wait),
+    alloc: Global,
+    shared: &Shared,
+    state: &State,
+) -> Result<(), Fail> {
     for (test, number, is_met) in QUESTIONS {
-        let found = asked(&rt, alloc, &shared, &state, test, number)?;
+        let found = asked(rt, alloc, shared, state, test, number)?;
         assert_eq!(rt; found.is_some(), is_met);
         if let Some(bytes) = found {
             assert_eq!(rt; bytes.as_slice(), [0, 0, 5, 0].as_slice());
         }
     }
+    Ok(())
+}
+
+#[test]
+fn what_was_found_serves_again(rt: HostRuntime) -> Result<(), Fail> {
+    let shared = Shared::new(rt.alloc())?;
+    let state = first(&rt, rt.alloc())?;
+    check_questions(&rt, rt.alloc(), &shared, &state)?;
     let counts = Counts {
         cached: 1,
         sampled: 1,
