@@ -30,9 +30,9 @@ fn step(
 // (a)(-a b)(-b)
 fn formula(rt: &impl Abort, alloc: Global) -> Result<Cnf, NoMemory> {
     let mut formula = Cnf::new(alloc);
-    formula.push(clause(rt, alloc, &[a()])?)?;
-    formula.push(clause(rt, alloc, &[b(), a().negated()])?)?;
-    formula.push(clause(rt, alloc, &[b().negated()])?)?;
+    formula.push(&clause(rt, alloc, &[a()])?)?;
+    formula.push(&clause(rt, alloc, &[b(), a().negated()])?)?;
+    formula.push(&clause(rt, alloc, &[b().negated()])?)?;
     Ok(formula)
 }
 
@@ -114,11 +114,11 @@ fn steps_that_may_come_next(rt: HostRuntime) -> Result<(), Fail> {
     assert!(rt; !checker.may_come_next(&unshown)?);
     let known = step(&rt, alloc, &[a()], &[1])?;
     assert!(rt; !checker.may_come_next(&known)?);
-    checker.note(good.clause().clone()?)?;
+    checker.note(good.clause().literals())?;
     assert!(rt; !checker.may_come_next(&good)?);
     let empty = step(&rt, alloc, &[], &[4, 3])?;
     assert!(rt; checker.may_come_next(&empty)?);
-    checker.note(empty.clause().clone()?)?;
+    checker.note(empty.clause().literals())?;
     assert!(rt; !checker.is_new(good.clause())?);
     assert_eq!(rt; checker.clauses().len(), 5);
     Ok(())
