@@ -6,7 +6,7 @@
 //! Whether the clause follows, and whether it is new, is tested where it is learnt: nothing rests on how it was found.
 
 use crate::trail::{Entry, Trail};
-use cnf_form::{Clause, Lit, LogStep};
+use cnf_form::{Clause, Clauses, Lit, LogStep};
 use std::alloc::{AllocError as NoMemory, Global};
 
 /// What an analysis has met. It is kept from one conflict to the next, and cleared by what it met, so that a conflict pays for
@@ -27,7 +27,7 @@ pub struct Analysis {
     last: usize,
 }
 
-fn clause_of(clauses: &[Clause], number: usize) -> Option<&Clause> {
+fn clause_of(clauses: &Clauses, number: usize) -> Option<&[Lit]> {
     clauses.get(number.checked_sub(1)?)
 }
 
@@ -94,8 +94,8 @@ impl Analysis {
         Ok(())
     }
 
-    fn meet_clause(&mut self, clause: &Clause, trail: &Trail) -> Result<(), NoMemory> {
-        for literal in clause.literals() {
+    fn meet_clause(&mut self, clause: &[Lit], trail: &Trail) -> Result<(), NoMemory> {
+        for literal in clause {
             if !self.is_seen(*literal) {
                 self.meet(*literal, trail)?;
             }
@@ -104,12 +104,7 @@ impl Analysis {
     }
 
     // Puts the clause that forced a literal in its place.
-    fn replace(
-        &mut self,
-        trail: &Trail,
-        clauses: &[Clause],
-        reason: usize,
-    ) -> Result<(), NoMemory> {
+    fn replace(&mut self, trail: &Trail, clauses: &Clauses, reason: usize) -> Result<(), NoMemory> {
         self.hints.push(reason)?;
         self.pending = self.pending.saturating_sub(1);
         match clause_of(clauses, reason) {
@@ -119,7 +114,7 @@ impl Analysis {
     }
 
     // Goes backwards to the first point.
-    fn walk(&mut self, trail: &Trail, clauses: &[Clause]) -> Result<(), NoMemory> {
+    fn walk(&mut self, trail: &Trail, clauses: &Clauses) -> Result<(), NoMemory> {
         for entry in trail.entries().iter().rev() {
             if self.is_seen(entry.literal) {
                 match entry.reason {
@@ -138,7 +133,7 @@ impl Analysis {
     pub fn analyse(
         &mut self,
         trail: &Trail,
-        clauses: &[Clause],
+        clauses: &Clauses,
         conflict: usize,
     ) -> Result<bool, NoMemory> {
         let Some(last) = last_decision(trail.entries()) else {
