@@ -1,3 +1,4 @@
 pub mod Soundness
 pub mod Inserting
 pub mod Meaning
+pub mod Pieces

@@ -1,5 +1,6 @@
 pub mod Literals
 pub mod Clauses
+pub mod Pieces
 pub mod Valuations
 pub mod Propagation
 pub mod Refutations

@@ -2,6 +2,7 @@
 #![tactic(auto)]
 
 mod clause;
+mod clauses;
 mod formula;
 pub mod laws;
 mod literal;
@@ -9,6 +10,7 @@ mod log;
 mod valuation;
 
 pub use clause::Clause;
+pub use clauses::Clauses;
 pub use formula::Cnf;
 pub use literal::Lit;
 pub use log::{Log, LogStep};
