@@ -3,13 +3,14 @@
 ghost use Rattle.std.specs.Prelude.{◌≡◌, ◌++◌, ◌∷◌, [], OnOk, OnErr};
 
 use crate::clause::Clause;
+use crate::clauses::Clauses;
 use std::alloc::{AllocError as NoMemory, Global};
 use std::marker::Model;
 
 /// Clauses, numbered from 1 in their order.
-#[derive(Clone, Debug, Drop)]
+#[derive(Debug, Drop)]
 pub struct Cnf {
-    clauses: Vec<Clause>,
+    clauses: Clauses,
 }
 
 impl Model for Cnf {
@@ -18,7 +19,7 @@ impl Model for Cnf {
 
     ghost Value = { List (List Literal) };
 
-    ghost view = { λ f. f.clauses.items };
+    ghost view = { λ f. f.clauses };
 }
 
 impl Cnf {
@@ -27,22 +28,21 @@ impl Cnf {
         ensures { result ≡ [] }
     {
         Cnf {
-            clauses: Vec::new(alloc),
+            clauses: Clauses::new(alloc),
         }
     }
 
     /// Puts a clause behind the others.
-    pub fn push(&mut self, clause: Clause) -> Result<(), NoMemory>
-        ensures ok { OnOk result (self.new ≡ self.old ++ clause ∷ []) }
+    pub fn push(&mut self, clause: &Clause) -> Result<(), NoMemory>
+        ensures ok { OnOk result (self.new ≡ self.old ++ clause.now ∷ []) }
         ensures err { OnErr result (self.new ≡ self.old) }
     {
-        self.clauses.push(clause)?;
-        Ok(())
+        self.clauses.push(clause)
     }
 
-    pub fn clauses(&self) -> &[Clause]
+    pub fn clauses(&self) -> &Clauses
         ensures { result.now ≡ self.now }
     {
-        self.clauses.as_slice()
+        &self.clauses
     }
 }

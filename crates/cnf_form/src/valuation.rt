@@ -4,6 +4,7 @@ ghost use Rattle.std.specs.Prelude.{◌≡◌};
 ghost use Rattle.cnf_form.specs.Valuations.{literal_value, satisfies_clause, satisfies, valuation};
 
 use crate::clause::Clause;
+use crate::clauses::Clauses;
 use crate::formula::Cnf;
 use crate::literal::Lit;
 use std::marker::Model;
@@ -44,13 +45,15 @@ fn satisfies_clause(values: &[bool], literals: &[Lit]) -> bool
     literals.iter().any(|l| literal_value(values, *l))
 }
 
-#[tactic(auto, unfolding(crate::specs::Valuations::satisfies))]
-fn satisfies(values: &[bool], clauses: &[Clause]) -> bool
+fn satisfies(values: &[bool], clauses: &Clauses) -> bool
     ensures { result ≡ satisfies (valuation values.now) clauses.now }
 {
-    clauses
-        .iter()
-        .all(|c| satisfies_clause(values, c.literals()))
+    for place in 0..clauses.len() {
+        if !satisfies_clause(values, clauses.at(place)) {
+            return false;
+        }
+    }
+    true
 }
 
 impl Val {

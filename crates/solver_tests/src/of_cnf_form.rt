@@ -19,8 +19,8 @@ fn valuations_satisfy_each_clause(rt: HostRuntime) -> Result<(), Fail> {
     let alloc = rt.alloc();
     let (a, b) = (Lit::new(1, true), Lit::new(2, true));
     let mut formula = Cnf::new(alloc);
-    formula.push(Clause::from_literals(alloc, &[a, b])?.ok_or("a tautology")?)?;
-    formula.push(Clause::from_literals(alloc, &[b.negated()])?.ok_or("a tautology")?)?;
+    formula.push(&Clause::from_literals(alloc, &[a, b])?.ok_or("a tautology")?)?;
+    formula.push(&Clause::from_literals(alloc, &[b.negated()])?.ok_or("a tautology")?)?;
     for (first, second, want) in [
         (false, false, false),
         (true, false, true),
