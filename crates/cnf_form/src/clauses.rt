@@ -1,6 +1,6 @@
 //! Clauses one after the other: the literals of all stand in one list, and each clause goes up to its end.
 
-ghost use Rattle.std.specs.Prelude.{◌≡◌, ◌≤◌, ◌<◌, ◌++◌, ◌∷◌, [], true, length, slice_get, slice_index_or, slice_range, option_copied, Some, IfSome, IfOk, OnOk, OnErr};
+ghost use Rattle.std.specs.Prelude.{◌≡◌, ◌≤◌, ◌<◌, ◌++◌, ◌∷◌, [], true, length, take, slice_get, slice_index_or, slice_range, option_copied, Some, IfSome, IfOk, OnOk, OnErr};
 ghost use Rattle.cnf_form.specs.Clauses.{are_increasing};
 
 use crate::clause::Clause;
@@ -56,14 +56,16 @@ impl Clauses {
         }
     }
 
-    /// A copy of these clauses.
-    pub fn copied(&self, alloc: Global) -> Result<Clauses, NoMemory>
-        ensures { IfOk result (λ c. c ≡ self.now) }
+    /// Puts the clause of these literals, which are in the order of their variables, behind the others.
+    pub fn push_literals(&mut self, literals: &[Lit]) -> Result<(), NoMemory>
+        requires { are_increasing literals.now ≡ true }
+        ensures ok { OnOk result (self.new ≡ self.old ++ literals.now ∷ []) }
+        ensures err { OnErr result (self.new ≡ self.old) }
     {
-        Ok(Clauses {
-            literals: Vec::from_slice(alloc, &self.literals)?,
-            ends: Vec::from_slice(alloc, &self.ends)?,
-        })
+        self.ends.reserve(1)?;
+        self.literals.extend_from_slice(literals)?;
+        self.ends.push(self.literals.len()).unwrap();
+        Ok(())
     }
 
     /// Puts a clause behind the others.
@@ -71,10 +73,18 @@ impl Clauses {
         ensures ok { OnOk result (self.new ≡ self.old ++ clause.now ∷ []) }
         ensures err { OnErr result (self.new ≡ self.old) }
     {
-        self.ends.reserve(1)?;
-        self.literals.extend_from_slice(clause.literals())?;
-        self.ends.push(self.literals.len()).unwrap();
-        Ok(())
+        self.push_literals(clause.literals())
+    }
+
+    /// Keeps the first `len` clauses.
+    pub fn truncate(&mut self, len: usize)
+        ensures { self.new ≡ take len self.old }
+    {
+        if len < self.ends.len() {
+            let end = start_of(&self.ends, len);
+            self.literals.truncate(end);
+            self.ends.truncate(len);
+        }
     }
 
     pub fn len(&self) -> usize

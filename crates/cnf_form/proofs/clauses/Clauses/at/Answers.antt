@@ -20,8 +20,11 @@ part-requires-clause-rises c =
 pub part-requires-clause-within : goal.part-requires-clause-within
 part-requires-clause-within c =
     let within = rw (← c.self.view_is) at c.requires in
-    omega (arith, ap (λ (ls : List Literal). length ls) c.deref-2.ensures.value,
-    (clause_between c.self.inside.literals.items c.self.inside.ends.items c.deref.result.now c.args.place c.start_of-start.result c.index.result.now c.self.invariant c.deref.ensures.value within c.start_of-start.ensures c.index.ensures).1)
+    omega (
+      arith,
+      ap (λ (ls : List Literal). length ls) c.deref-2.ensures.value,
+      (clause_between c.self.inside.literals.items c.self.inside.ends.items c.deref.result.now c.args.place c.start_of-start.result c.index.result.now c.self.invariant c.deref.ensures.value within c.start_of-start.ensures c.index.ensures).1,
+    )
 
 pub returns-clause-value : goal.returns-clause-value
 returns-clause-value c =
