@@ -2,7 +2,8 @@
 //! literal of the other is. Then its last literal is one of the other's, and so only the clauses are looked at that end in
 //! one of those literals, each up to its first literal that isn't false.
 
-ghost use Rattle.std.specs.Prelude.{◌≡◌, ◌++◌, ◌∷◌, [], ◌&&◌, IfOk, OnOk, OnErr};
+ghost use Rattle.std.specs.Prelude.{◌≡◌, ◌++◌, ◌∷◌, [], ◌&&◌, true, IfOk, OnOk, OnErr};
+ghost use Rattle.cnf_form.specs.Clauses.{are_increasing};
 ghost use Rattle.cnf_form.specs.Propagation.{follows};
 ghost use Rattle.cnf_form.specs.Refutations.{is_new};
 
@@ -10,7 +11,7 @@ use crate::checking::{falsify, follows};
 use crate::filed::{FiledClauses, has_falsified_end};
 use crate::index::EMPTY;
 use crate::marks::Marks;
-use cnf_form::{Clause, Cnf, LogStep};
+use cnf_form::{Clause, Clauses, Cnf, Lit, LogStep};
 use std::alloc::{AllocError as NoMemory, Global};
 use std::marker::Model;
 
@@ -46,24 +47,26 @@ impl Checker {
         ensures { IfOk result (λ c. c ≡ formula.now) }
     {
         let mut checker = Checker::empty(alloc);
-        for clause in formula.clauses() {
-            checker.note(clause.clone()?)?;
+        let clauses = formula.clauses();
+        for place in 0..clauses.len() {
+            checker.note(clauses.at(place))?;
         }
         Ok(checker)
     }
 
-    pub fn clauses(&self) -> &[Clause]
+    pub fn clauses(&self) -> &Clauses
         ensures { result.now ≡ self.now }
     {
-        self.clauses.as_slice()
+        self.clauses.clauses()
     }
 
-    /// Puts a clause behind the others.
-    pub fn note(&mut self, clause: Clause) -> Result<(), NoMemory>
-        ensures ok { OnOk result (self.new ≡ self.old ++ clause ∷ []) }
+    /// Puts the clause of these literals, which are in the order of their variables, behind the others.
+    pub fn note(&mut self, literals: &[Lit]) -> Result<(), NoMemory>
+        requires { are_increasing literals.now ≡ true }
+        ensures ok { OnOk result (self.new ≡ self.old ++ literals.now ∷ []) }
         ensures err { OnErr result (self.new ≡ self.old) }
     {
-        self.clauses.push(clause)
+        self.clauses.push(literals)
     }
 
     /// Whether none of the clauses is a subset of this one.
@@ -84,7 +87,7 @@ impl Checker {
         ensures answer { IfOk result (λ yes. yes ≡ (follows self.old step.now.clause step.now.hints && is_new self.old step.now.clause)) }
         ensures same { self.new ≡ self.old }
     {
-        if !follows(&mut self.marks, self.clauses.as_slice(), &[], step)? {
+        if !follows(&mut self.marks, self.clauses.clauses(), &[], step)? {
             return Ok(false);
         }
         self.is_new(step.clause())

@@ -6,7 +6,7 @@ ghost use Rattle.cnf_form.specs.Refutations.{clauses_of, follows_all, ends_empty
 ghost use Rattle.proof_check.specs.Marking.{marked};
 
 use crate::marks::Marks;
-use cnf_form::{Clause, Cnf, Lit, Log, LogStep};
+use cnf_form::{Clauses, Cnf, Lit, Log, LogStep};
 use std::alloc::{AllocError as NoMemory, Global};
 
 fn is_true(marks: &Marks, literal: Lit) -> bool
@@ -55,7 +55,7 @@ fn unit_literal(marks: &Marks, clause: &[Lit]) -> Option<Lit>
 }
 
 // The clause of a number, from 1.
-fn numbered<'a>(formula: &'a [Clause], earlier: &'a [LogStep], number: usize) -> Option<&'a Clause>
+fn numbered<'a>(formula: &'a Clauses, earlier: &'a [LogStep], number: usize) -> Option<&'a [Lit]>
     ensures { option_copied result ≡ numbered (formula.now ++ clauses_of earlier.now) number }
 {
     if number == 0 {
@@ -63,30 +63,30 @@ fn numbered<'a>(formula: &'a [Clause], earlier: &'a [LogStep], number: usize) ->
     }
     let place = number - 1;
     if place < formula.len() {
-        return Some(&formula[place]);
+        return Some(formula.at(place));
     }
     let step = place - formula.len();
     if step < earlier.len() {
-        Some(earlier[step].clause())
+        Some(earlier[step].clause().literals())
     } else {
         None
     }
 }
 
-fn unit_of_hint(marks: &Marks, formula: &[Clause], earlier: &[LogStep], hint: usize) -> Option<Lit>
+fn unit_of_hint(marks: &Marks, formula: &Clauses, earlier: &[LogStep], hint: usize) -> Option<Lit>
     ensures { result ≡ unit_of_hint (marked marks.now) (numbered (formula.now ++ clauses_of earlier.now) hint) }
 {
     match numbered(formula, earlier, hint) {
-        Some(clause) => unit_literal(marks, clause.literals()),
+        Some(clause) => unit_literal(marks, clause),
         None => None,
     }
 }
 
-fn hint_is_falsified(marks: &Marks, formula: &[Clause], earlier: &[LogStep], hint: usize) -> bool
+fn hint_is_falsified(marks: &Marks, formula: &Clauses, earlier: &[LogStep], hint: usize) -> bool
     ensures { result ≡ hint_is_falsified (marked marks.now) (numbered (formula.now ++ clauses_of earlier.now) hint) }
 {
     match numbered(formula, earlier, hint) {
-        Some(clause) => is_falsified(marks, clause.literals()),
+        Some(clause) => is_falsified(marks, clause),
         None => false,
     }
 }
@@ -105,7 +105,7 @@ pub fn falsify(marks: &mut Marks, clause: &[Lit]) -> Result<(), NoMemory>
 /// Whether the step's clause follows by its hints from the formula and the earlier steps.
 pub fn follows(
     marks: &mut Marks,
-    formula: &[Clause],
+    formula: &Clauses,
     earlier: &[LogStep],
     step: &LogStep,
 ) -> Result<bool, NoMemory>

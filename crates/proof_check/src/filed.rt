@@ -1,6 +1,7 @@
 //! Clauses in their order, filed by their last literals.
 
-ghost use Rattle.std.specs.Prelude.{◌≡◌, ◌++◌, ◌∷◌, [], OnOk, OnErr, slice_get};
+ghost use Rattle.std.specs.Prelude.{◌≡◌, ◌++◌, ◌∷◌, [], true, OnOk, OnErr, slice_get};
+ghost use Rattle.cnf_form.specs.Clauses.{are_increasing};
 ghost use Rattle.cnf_form.specs.Propagation.{hint_is_falsified};
 ghost use Rattle.proof_check.specs.Marking.{marked};
 ghost use Rattle.proof_check.specs.Filing.{keys_of, has_falsified, has_falsified_end, AreFiled};
@@ -8,21 +9,21 @@ ghost use Rattle.proof_check.specs.Filing.{keys_of, has_falsified, has_falsified
 use crate::checking::is_falsified;
 use crate::index::{Index, clause_key, literal_key};
 use crate::marks::Marks;
-use cnf_form::{Clause, Lit};
+use cnf_form::{Clauses, Lit};
 use std::alloc::{AllocError as NoMemory, Global};
 use std::marker::Model;
 
-fn is_falsified_at(marks: &Marks, clauses: &[Clause], place: usize) -> bool
+fn is_falsified_at(marks: &Marks, clauses: &Clauses, place: usize) -> bool
     ensures { result ≡ hint_is_falsified (marked marks.now) (slice_get clauses.now place) }
 {
     match clauses.get(place) {
-        Some(clause) => is_falsified(marks, clause.literals()),
+        Some(clause) => is_falsified(marks, clause),
         None => false,
     }
 }
 
 // Whether one of the clauses of this key is false.
-fn has_falsified(marks: &Marks, clauses: &[Clause], index: &Index, key: usize) -> bool
+fn has_falsified(marks: &Marks, clauses: &Clauses, index: &Index, key: usize) -> bool
     requires { AreFiled (keys_of clauses.now) index.now }
     ensures { result ≡ has_falsified (marked marks.now) clauses.now key }
 {
@@ -40,7 +41,7 @@ fn has_falsified(marks: &Marks, clauses: &[Clause], index: &Index, key: usize) -
 /// Clauses that are found by their keys.
 #[derive(Debug, Drop)]
 pub struct FiledClauses {
-    clauses: Vec<Clause>,
+    clauses: Clauses,
     index: Index,
 }
 
@@ -51,9 +52,9 @@ impl Model for FiledClauses {
 
     ghost Value = { List (List Literal) };
 
-    ghost view = { λ c. c.clauses.items };
+    ghost view = { λ c. c.clauses };
 
-    ghost invariant = { λ c. AreFiled (keys_of c.clauses.items) c.index };
+    ghost invariant = { λ c. AreFiled (keys_of c.clauses) c.index };
 }
 
 impl FiledClauses {
@@ -62,26 +63,30 @@ impl FiledClauses {
         ensures { result ≡ [] }
     {
         FiledClauses {
-            clauses: Vec::new(alloc),
+            clauses: Clauses::new(alloc),
             index: Index::new(alloc),
         }
     }
 
-    pub fn as_slice(&self) -> &[Clause]
+    pub fn clauses(&self) -> &Clauses
         ensures { result.now ≡ self.now }
     {
-        self.clauses.as_slice()
+        &self.clauses
     }
 
-    /// Puts a clause behind the others.
-    pub fn push(&mut self, clause: Clause) -> Result<(), NoMemory>
-        ensures ok { OnOk result (self.new ≡ self.old ++ clause ∷ []) }
+    /// Puts the clause of these literals, which are in the order of their variables, behind the others.
+    pub fn push(&mut self, literals: &[Lit]) -> Result<(), NoMemory>
+        requires { are_increasing literals.now ≡ true }
+        ensures ok { OnOk result (self.new ≡ self.old ++ literals.now ∷ []) }
         ensures err { OnErr result (self.new ≡ self.old) }
     {
-        self.clauses.reserve(1)?;
-        self.index.push(clause_key(&clause))?;
-        self.clauses.push(clause).unwrap();
-        Ok(())
+        let count = self.clauses.len();
+        self.clauses.push_literals(literals)?;
+        let filed = self.index.push(clause_key(literals));
+        if filed.is_err() {
+            self.clauses.truncate(count);
+        }
+        filed
     }
 
     /// Whether one of the clauses of this key is false.

@@ -16,7 +16,7 @@ pub fn fresh(alloc: Global, formula: &Cnf, log: &Log) -> Result<bool, NoMemory>
         if !checker.is_new(step.clause())? {
             return Ok(false);
         }
-        checker.note(step.clause().clone()?)?;
+        checker.note(step.clause().literals())?;
     }
     Ok(true)
 }

@@ -3,7 +3,7 @@
 ghost use Rattle.std.specs.Prelude.{◌≡◌, ℕ, List, ◌<◌, ◌+◌, ◌-◌, ◌^◌, ◌++◌, ◌∷◌, [], OnOk, OnErr, replicate, vec_len, slice_index_or};
 ghost use Rattle.proof_check.specs.Filing.{literal_key, clause_key, AreFiled};
 
-use cnf_form::{Clause, Lit};
+use cnf_form::Lit;
 use std::alloc::{AllocError as NoMemory, Global};
 use std::marker::Model;
 
@@ -24,11 +24,11 @@ pub fn literal_key(literal: Lit) -> usize
 }
 
 /// The key of a clause: its last literal's.
-pub fn clause_key(clause: &Clause) -> usize
+pub fn clause_key(clause: &[Lit]) -> usize
     ensures key { result ≡ clause_key clause.now }
     ensures fits { result < 2 ^ 34 }
 {
-    match clause.literals().last() {
+    match clause.last() {
         Some(literal) => literal_key(*literal),
         None => EMPTY,
     }

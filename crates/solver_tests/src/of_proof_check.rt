@@ -30,9 +30,9 @@ fn step(
 // (a)(-a b)(-b)
 fn formula(rt: &impl Abort, alloc: Global) -> Result<Cnf, NoMemory> {
     let mut formula = Cnf::new(alloc);
-    formula.push(clause(rt, alloc, &[a()])?)?;
-    formula.push(clause(rt, alloc, &[b(), a().negated()])?)?;
-    formula.push(clause(rt, alloc, &[b().negated()])?)?;
+    formula.push(&clause(rt, alloc, &[a()])?)?;
+    formula.push(&clause(rt, alloc, &[b(), a().negated()])?)?;
+    formula.push(&clause(rt, alloc, &[b().negated()])?)?;
     Ok(formula)
 }
 
@@ -121,10 +121,10 @@ fn check_steps(rt: &impl Abort, alloc: Global, checker: &mut Checker) -> Result<
     assert!(rt; may_come(rt, alloc, checker, &[b()], &[1, 2])?);
     assert!(rt; !may_come(rt, alloc, checker, &[b()], &[1])?);
     assert!(rt; !may_come(rt, alloc, checker, &[a()], &[1])?);
-    checker.note(clause(rt, alloc, &[b()])?)?;
+    checker.note(&[b()])?;
     assert!(rt; !may_come(rt, alloc, checker, &[b()], &[1, 2])?);
     assert!(rt; may_come(rt, alloc, checker, &[], &[4, 3])?);
-    checker.note(clause(rt, alloc, &[])?)?;
+    checker.note(&[])?;
     assert!(rt; !checker.is_new(&clause(rt, alloc, &[b()])?)?);
     assert_eq!(rt; checker.clauses().len(), 5);
     Ok(())
