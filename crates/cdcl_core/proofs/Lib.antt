@@ -1,10 +1,12 @@
 pub mod Lists
+pub mod Reading
 pub mod Values
 pub mod Marks
 pub mod Leading
 pub mod Negating
 pub mod Lessons
 pub mod Scanning
+pub mod Spotting
 pub mod Forcing
 pub mod Pending
 pub mod Backjumping

@@ -1,4 +1,5 @@
 pub mod Trails
 pub mod Places
 pub mod Passes
+pub mod Spots
 pub mod Searches

@@ -8,7 +8,7 @@
 ghost use Rattle.std.specs.Prelude.{◌≡◌, [], IfOk, length};
 
 use crate::trail::{Entry, Trail};
-use cnf_form::{Clause, Lit, LogStep};
+use cnf_form::{Clause, Clauses, Lit, LogStep};
 use std::alloc::{AllocError as NoMemory, Global};
 
 /// What an analysis has met. It is kept from one conflict to the next, and cleared by what it met, so that a conflict pays for
@@ -29,7 +29,7 @@ pub struct Analysis {
     last: usize,
 }
 
-fn clause_of(clauses: &[Clause], number: usize) -> Option<&Clause> {
+fn clause_of(clauses: &Clauses, number: usize) -> Option<&[Lit]> {
     clauses.get(number.checked_sub(1)?)
 }
 
@@ -104,8 +104,8 @@ impl Analysis {
         Ok(())
     }
 
-    fn meet_clause(&mut self, clause: &Clause, trail: &Trail) -> Result<(), NoMemory> {
-        for literal in clause.literals() {
+    fn meet_clause(&mut self, clause: &[Lit], trail: &Trail) -> Result<(), NoMemory> {
+        for literal in clause {
             if !self.is_seen(*literal) {
                 self.meet(*literal, trail)?;
             }
@@ -114,12 +114,7 @@ impl Analysis {
     }
 
     // Puts the clause that forced a literal in its place.
-    fn replace(
-        &mut self,
-        trail: &Trail,
-        clauses: &[Clause],
-        reason: usize,
-    ) -> Result<(), NoMemory> {
+    fn replace(&mut self, trail: &Trail, clauses: &Clauses, reason: usize) -> Result<(), NoMemory> {
         self.hints.push(reason)?;
         self.pending = self.pending.saturating_sub(1);
         match clause_of(clauses, reason) {
@@ -129,7 +124,7 @@ impl Analysis {
     }
 
     // Goes backwards to the first point.
-    fn walk(&mut self, trail: &Trail, clauses: &[Clause]) -> Result<(), NoMemory> {
+    fn walk(&mut self, trail: &Trail, clauses: &Clauses) -> Result<(), NoMemory> {
         for entry in trail.entries().iter().rev() {
             if self.is_seen(entry.literal) {
                 match entry.reason {
@@ -148,7 +143,7 @@ impl Analysis {
     pub fn analyse(
         &mut self,
         trail: &Trail,
-        clauses: &[Clause],
+        clauses: &Clauses,
         conflict: usize,
     ) -> Result<bool, NoMemory> {
         let Some(last) = last_decision(trail.entries()) else {

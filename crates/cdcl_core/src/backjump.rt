@@ -6,7 +6,7 @@ ghost use Rattle.cdcl_core.specs.Trails.{values_of, IsTrail, AreCalmFirst, IsDec
 
 use crate::order::Order;
 use crate::trail::Trail;
-use cnf_form::Clause;
+use cnf_form::{Clause, Clauses};
 
 // The second of the numbers of the entries that gave the clause's variables their values, from the greatest down: two of its
 // literals had no value before that entry.
@@ -46,7 +46,7 @@ fn decision_from(trail: &Trail, start: usize) -> Option<usize>
 pub fn go_back(
     trail: &mut Trail,
     order: &mut Order,
-    clauses: &[Clause],
+    clauses: &Clauses,
     clause: &Clause,
     is_restart: bool,
 ) -> usize

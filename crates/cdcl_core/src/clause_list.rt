@@ -4,11 +4,12 @@
 ghost use Rattle.std.specs.Prelude.{◌≡◌, ℕ, ◌+◌, ◌*◌, ◌<◌, ◌++◌, ◌∷◌, ◌&&◌, [], List, Some, true, OnOk, OnErr, IfOk, slice_get, length};
 ghost use Rattle.std.specs.List.{list_any};
 ghost use Rattle.cnf_form.specs.Literals.{Literal, same_literal};
+ghost use Rattle.cnf_form.specs.Clauses.{are_increasing};
 ghost use Rattle.cnf_form.specs.Propagation.{follows};
 ghost use Rattle.cnf_form.specs.Refutations.{is_new};
 ghost use Rattle.cdcl_core.specs.Places.{index_of, is_among, places_of, AreKept};
 
-use cnf_form::{Clause, Lit, LogStep};
+use cnf_form::{Clauses, Lit, LogStep};
 use proof_check::Checker;
 use std::alloc::{AllocError as NoMemory, Global};
 use std::marker::Model;
@@ -63,11 +64,11 @@ impl Places {
     }
 
     // Notes the clause at this place.
-    fn add(&mut self, alloc: Global, clause: &Clause, place: usize) -> Result<(), NoMemory>
+    fn add(&mut self, alloc: Global, clause: &[Lit], place: usize) -> Result<(), NoMemory>
         ensures noted { OnOk result ((l : Literal) → list_any (same_literal l) clause.now ≡ true → is_among (places_of self.new l) place ≡ true) }
         ensures kept { AreKept self.old self.new }
     {
-        for literal in clause.literals() {
+        for literal in clause {
             self.put(alloc, *literal, place)?;
         }
         Ok(())
@@ -116,17 +117,18 @@ impl ClauseList {
         }
     }
 
-    /// Puts a clause behind the others.
-    pub fn push(&mut self, alloc: Global, clause: Clause) -> Result<(), NoMemory>
-        ensures ok { OnOk result (self.new ≡ self.old ++ clause ∷ []) }
+    /// Puts the clause of these literals, which are in the order of their variables, behind the others.
+    pub fn push(&mut self, alloc: Global, literals: &[Lit]) -> Result<(), NoMemory>
+        requires { are_increasing literals.now ≡ true }
+        ensures ok { OnOk result (self.new ≡ self.old ++ literals.now ∷ []) }
         ensures err { OnErr result (self.new ≡ self.old) }
     {
-        let place = self.as_slice().len();
-        self.places.add(alloc, &clause, place)?;
-        self.checker.note(clause)
+        let place = self.list().len();
+        self.places.add(alloc, literals, place)?;
+        self.checker.note(literals)
     }
 
-    pub fn as_slice(&self) -> &[Clause]
+    pub fn list(&self) -> &Clauses
         ensures { result.now ≡ self.now }
     {
         self.checker.clauses()
@@ -149,12 +151,12 @@ impl ClauseList {
 }
 
 /// The clauses of a formula.
-pub fn clause_list(alloc: Global, formula: &[Clause]) -> Result<ClauseList, NoMemory>
+pub fn clause_list(alloc: Global, formula: &Clauses) -> Result<ClauseList, NoMemory>
     ensures { IfOk result (λ list. list ≡ formula.now) }
 {
     let mut list = ClauseList::new(alloc);
-    for clause in formula {
-        list.push(alloc, clause.clone()?)?;
+    for place in 0..formula.len() {
+        list.push(alloc, formula.at(place))?;
     }
     Ok(list)
 }

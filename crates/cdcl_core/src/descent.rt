@@ -13,8 +13,9 @@ use crate::clause_list::ClauseList;
 use crate::following::{follow, settle};
 use crate::order::Order;
 use crate::propagation::{State, state_of};
+use crate::spots::{Spot, Spots};
 use crate::trail::{Entry, Trail};
-use cnf_form::{Clause, Lit};
+use cnf_form::{Clauses, Lit};
 use std::alloc::AllocError as NoMemory;
 
 /// Where unit propagation ends.
@@ -29,13 +30,14 @@ pub enum Settled {
 }
 
 // A literal without a value of a clause that isn't satisfied, where each clause is calm.
-fn open_literal(trail: &Trail, clauses: &[Clause]) -> Settled
+fn open_literal(trail: &Trail, clauses: &Clauses) -> Settled
     requires below { list_all (is_below (length trail.now.marks)) clauses.now ≡ true }
     requires calm { AreCalm (values_of trail.now.entries) clauses.now }
     ensures { IsSettled clauses.now (length trail.now.marks) (values_of trail.now.entries) result }
 {
+    let mut spot = Spot::new(0, 0);
     for i in 0..clauses.len() {
-        match state_of(trail, &clauses[i]) {
+        match state_of(trail, clauses.at(i), &mut spot) {
             State::Falsified => return Settled::AtConflict(i + 1),
             State::Forces(literal) => return Settled::AtChoice(literal),
             State::Open(literal) => return Settled::AtChoice(literal),
@@ -54,13 +56,18 @@ fn next_choice(trail: &Trail, clauses: &ClauseList, order: &mut Order) -> Settle
 {
     match order.pick(trail) {
         Some(literal) => Settled::AtChoice(literal),
-        None => open_literal(trail, clauses.as_slice()),
+        None => open_literal(trail, clauses.list()),
     }
 }
 
 // Chooses a literal, and makes those true that follow, until a clause is false, whose number is the answer, or none
 // forces a literal.
-fn choose(trail: &mut Trail, clauses: &ClauseList, literal: Lit) -> Result<Option<usize>, NoMemory>
+fn choose(
+    trail: &mut Trail,
+    clauses: &ClauseList,
+    spots: &mut Spots,
+    literal: Lit,
+) -> Result<Option<usize>, NoMemory>
     requires below { list_all (is_below (length trail.old.marks)) clauses.now ≡ true }
     requires trail { IsTrail clauses.now trail.old.entries }
     requires calm { AreCalm (values_of trail.old.entries) clauses.now }
@@ -76,13 +83,14 @@ fn choose(trail: &mut Trail, clauses: &ClauseList, literal: Lit) -> Result<Optio
         literal,
         reason: None,
     })?;
-    follow(trail, clauses, first)
+    follow(trail, clauses, spots, first)
 }
 
 // Chooses literals where each clause is calm, and so on, as `descend` does.
 fn descend_from(
     trail: &mut Trail,
     clauses: &ClauseList,
+    spots: &mut Spots,
     order: &mut Order,
 ) -> Result<Option<usize>, NoMemory>
     requires below { list_all (is_below (length trail.old.marks)) clauses.now ≡ true }
@@ -97,7 +105,7 @@ fn descend_from(
             Settled::AtConflict(number) => return Ok(Some(number)),
             Settled::AtEnd => return Ok(None),
             Settled::AtChoice(literal) => {
-                if let Some(number) = choose(trail, clauses, literal)? {
+                if let Some(number) = choose(trail, clauses, spots, literal)? {
                     return Ok(Some(number));
                 }
             }
@@ -110,6 +118,7 @@ fn descend_from(
 pub fn descend(
     trail: &mut Trail,
     clauses: &ClauseList,
+    spots: &mut Spots,
     order: &mut Order,
     calm: usize,
 ) -> Result<Option<usize>, NoMemory>
@@ -120,8 +129,8 @@ pub fn descend(
     ensures size { OnOk result (length trail.new.marks ≡ length trail.old.marks) }
     ensures descent { IfOk result (IsDescent clauses.now (values_of trail.new.entries)) }
 {
-    if let Some(number) = settle(trail, clauses, calm)? {
+    if let Some(number) = settle(trail, clauses, spots, calm)? {
         return Ok(Some(number));
     }
-    descend_from(trail, clauses, order)
+    descend_from(trail, clauses, spots, order)
 }

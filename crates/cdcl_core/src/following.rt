@@ -10,12 +10,18 @@ ghost use Rattle.cdcl_core.specs.Passes.{is_below, IsLiteralAt, ArePending, IsFo
 
 use crate::clause_list::ClauseList;
 use crate::propagation::{State, state_of};
+use crate::spots::Spots;
 use crate::trail::{Entry, Trail};
-use cnf_form::{Clause, Lit};
+use cnf_form::{Clauses, Lit};
 use std::alloc::AllocError as NoMemory;
 
 // Looks at the clause at this place: makes the literal true that it forces, or answers its number if it is false.
-fn look(trail: &mut Trail, clauses: &[Clause], place: usize) -> Result<Option<usize>, NoMemory>
+fn look(
+    trail: &mut Trail,
+    clauses: &Clauses,
+    spots: &mut Spots,
+    place: usize,
+) -> Result<Option<usize>, NoMemory>
     requires below { list_all (is_below (length trail.old.marks)) clauses.now ≡ true }
     requires trail { IsTrail clauses.now trail.old.entries }
     ensures followed { OnOk result (IsFollowed clauses.now trail.old trail.new) }
@@ -25,22 +31,35 @@ fn look(trail: &mut Trail, clauses: &[Clause], place: usize) -> Result<Option<us
     if place >= clauses.len() {
         return Ok(None);
     }
-    match state_of(trail, &clauses[place]) {
+    let clause = clauses.at(place);
+    let mut spot = spots.of(place);
+    if spot.shows_calm(trail, clause) {
+        return Ok(None);
+    }
+    match state_of(trail, clause, &mut spot) {
         State::Falsified => Ok(Some(place + 1)),
         State::Forces(literal) => {
+            spots.note(place, spot);
             let reason = Some(place + 1);
             trail.push(Entry { literal, reason })?;
             Ok(None)
         }
-        State::Open(_) => Ok(None),
-        State::Satisfied => Ok(None),
+        State::Open(_) => {
+            spots.note(place, spot);
+            Ok(None)
+        }
+        State::Satisfied => {
+            spots.note(place, spot);
+            Ok(None)
+        }
     }
 }
 
 // Looks at the clauses at these places.
 fn look_at(
     trail: &mut Trail,
-    clauses: &[Clause],
+    clauses: &Clauses,
+    spots: &mut Spots,
     places: &[usize],
 ) -> Result<Option<usize>, NoMemory>
     requires below { list_all (is_below (length trail.old.marks)) clauses.now ≡ true }
@@ -50,7 +69,7 @@ fn look_at(
     ensures looked { (first : ℕ) → first ≤ length trail.old.entries → ArePending clauses.now trail.old.entries first (is_among places.now) → IfOk result (λ o. o ≡ None → ArePending clauses.now trail.new.entries first (λ k. false)) }
 {
     for place in places {
-        if let Some(number) = look(trail, clauses, *place)? {
+        if let Some(number) = look(trail, clauses, spots, *place)? {
             return Ok(Some(number));
         }
     }
@@ -61,6 +80,7 @@ fn look_at(
 fn look_after(
     trail: &mut Trail,
     clauses: &ClauseList,
+    spots: &mut Spots,
     literal: Lit,
 ) -> Result<Option<usize>, NoMemory>
     requires below { list_all (is_below (length trail.old.marks)) clauses.now ≡ true }
@@ -69,7 +89,12 @@ fn look_after(
     ensures conflict { IfOk result (λ o. IfSome o (λ k. hint_is_falsified (values_of trail.new.entries) (numbered clauses.now k) ≡ true)) }
     ensures looked { (place : ℕ) → IsLiteralAt trail.old.entries place literal → ArePending clauses.now trail.old.entries place (λ k. false) → IfOk result (λ o. o ≡ None → ArePending clauses.now trail.new.entries (place + 1) (λ k. false)) }
 {
-    look_at(trail, clauses.as_slice(), clauses.places(literal.negated()))
+    look_at(
+        trail,
+        clauses.list(),
+        spots,
+        clauses.places(literal.negated()),
+    )
 }
 
 fn literal_at(trail: &Trail, place: usize) -> Option<Lit>
@@ -88,6 +113,7 @@ fn literal_at(trail: &Trail, place: usize) -> Option<Lit>
 pub fn follow(
     trail: &mut Trail,
     clauses: &ClauseList,
+    spots: &mut Spots,
     first: usize,
 ) -> Result<Option<usize>, NoMemory>
     requires below { list_all (is_below (length trail.old.marks)) clauses.now ≡ true }
@@ -98,7 +124,7 @@ pub fn follow(
 {
     let mut place = first;
     while let Some(literal) = literal_at(trail, place) {
-        let conflict = look_after(trail, clauses, literal)?;
+        let conflict = look_after(trail, clauses, spots, literal)?;
         if conflict.is_some() {
             return Ok(conflict);
         }
@@ -108,7 +134,12 @@ pub fn follow(
 }
 
 // Looks at the clauses from this place on.
-fn look_from(trail: &mut Trail, clauses: &[Clause], start: usize) -> Result<Option<usize>, NoMemory>
+fn look_from(
+    trail: &mut Trail,
+    clauses: &Clauses,
+    spots: &mut Spots,
+    start: usize,
+) -> Result<Option<usize>, NoMemory>
     requires below { list_all (is_below (length trail.old.marks)) clauses.now ≡ true }
     requires trail { IsTrail clauses.now trail.old.entries }
     ensures followed { OnOk result (IsFollowed clauses.now trail.old trail.new) }
@@ -116,7 +147,7 @@ fn look_from(trail: &mut Trail, clauses: &[Clause], start: usize) -> Result<Opti
     ensures looked { (first : ℕ) → first ≤ length trail.old.entries → ArePending clauses.now trail.old.entries first (nat_le start) → IfOk result (λ o. o ≡ None → ArePending clauses.now trail.new.entries first (λ k. false)) }
 {
     for place in start..clauses.len() {
-        if let Some(number) = look(trail, clauses, place)? {
+        if let Some(number) = look(trail, clauses, spots, place)? {
             return Ok(Some(number));
         }
     }
@@ -128,6 +159,7 @@ fn look_from(trail: &mut Trail, clauses: &[Clause], start: usize) -> Result<Opti
 pub fn settle(
     trail: &mut Trail,
     clauses: &ClauseList,
+    spots: &mut Spots,
     calm: usize,
 ) -> Result<Option<usize>, NoMemory>
     requires below { list_all (is_below (length trail.old.marks)) clauses.now ≡ true }
@@ -138,8 +170,8 @@ pub fn settle(
     ensures calm { IfOk result (λ o. o ≡ None → AreCalm (values_of trail.new.entries) clauses.now) }
 {
     let first = trail.entries().len();
-    if let Some(number) = look_from(trail, clauses.as_slice(), calm)? {
+    if let Some(number) = look_from(trail, clauses.list(), spots, calm)? {
         return Ok(Some(number));
     }
-    follow(trail, clauses, first)
+    follow(trail, clauses, spots, first)
 }

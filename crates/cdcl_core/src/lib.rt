@@ -6,6 +6,7 @@
 //! - `propagation`: what a clause is while some variables have values
 //! - `clause_list`: the clauses, with the places in which each literal stands
 //! - `following`: what follows from literals that have become true, by the clauses in which their negations stand
+//! - `spots`: where to look at a clause first
 //! - `trail`: the literals that are true, in their order, with the clauses that forced them
 //! - `lesson`: what is learnt: the clause that the analysis found, if it follows and is new, or the negated decisions
 //! - `analysis`: the first point through which all led to a conflict
@@ -29,6 +30,7 @@ mod order;
 mod propagation;
 mod restarts;
 mod solver;
+mod spots;
 mod trail;
 
 pub use solver::{Answer, search};

@@ -2,11 +2,13 @@
 //! one.
 
 ghost use Rattle.std.specs.Prelude.{◌≡◌, true, length};
+ghost use Rattle.cnf_form.specs.Clauses.{are_increasing};
 ghost use Rattle.cdcl_core.specs.Trails.{values_of};
 ghost use Rattle.cdcl_core.specs.Passes.{is_below, IsState};
 
+use crate::spots::Spot;
 use crate::trail::Trail;
-use cnf_form::{Clause, Lit};
+use cnf_form::Lit;
 
 /// What a clause is while some variables have values.
 #[derive(Clone, Copy, Debug)]
@@ -21,25 +23,35 @@ pub enum State {
     Satisfied,
 }
 
-/// What the clause is. It is read up to its first literal that is true, or its second without a value.
-pub fn state_of(trail: &Trail, clause: &Clause) -> State
-    requires { is_below (length trail.now.marks) clause.now ≡ true }
+/// What the clause is. It is read up to its first literal that is true, or its second without a value. The places of
+/// these, or that of the literal that it forces, are put into `spot`.
+pub fn state_of(trail: &Trail, clause: &[Lit], spot: &mut Spot) -> State
+    requires in_order { are_increasing clause.now ≡ true }
+    requires below { is_below (length trail.now.marks) clause.now ≡ true }
     ensures { IsState (values_of trail.now.entries) (length trail.now.marks) clause.now result }
 {
     let mut open = None;
-    for literal in clause.literals() {
-        if trail.is_true(*literal) {
+    let mut first = 0;
+    for place in 0..clause.len() {
+        let literal = clause[place];
+        if trail.is_true(literal) {
+            *spot = Spot::new(place, first);
             return State::Satisfied;
         }
-        if !trail.is_false(*literal) {
-            if let Some(first) = open {
-                return State::Open(first);
+        if !trail.is_false(literal) {
+            if let Some(earlier) = open {
+                *spot = Spot::new(first, place);
+                return State::Open(earlier);
             }
-            open = Some(*literal);
+            open = Some(literal);
+            first = place;
         }
     }
     match open {
-        Some(literal) => State::Forces(literal),
+        Some(literal) => {
+            *spot = Spot::new(first, first);
+            State::Forces(literal)
+        }
         None => State::Falsified,
     }
 }

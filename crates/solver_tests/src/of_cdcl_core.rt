@@ -33,7 +33,7 @@ fn clause(rt: &impl Abort, alloc: Global, numbers: &[i32]) -> Result<Clause, NoM
 fn formula(rt: &impl Abort, alloc: Global, clauses: &[&[i32]]) -> Result<Cnf, NoMemory> {
     let mut formula = Cnf::new(alloc);
     for numbers in clauses {
-        formula.push(clause(rt, alloc, numbers)?)?;
+        formula.push(&clause(rt, alloc, numbers)?)?;
     }
     Ok(formula)
 }
@@ -142,7 +142,7 @@ fn choices_that_do_not_matter_are_not_learnt(rt: HostRuntime) -> Result<(), Fail
         [15, 16],
         [17, 18],
     ] {
-        with_pairs.push(clause(&rt, alloc, &pair)?)?;
+        with_pairs.push(&clause(&rt, alloc, &pair)?)?;
     }
     assert_eq!(rt; answered(&rt, alloc, &with_pairs, 2)?, Kind::Refuted);
     Ok(())

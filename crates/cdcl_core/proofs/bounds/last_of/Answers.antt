@@ -1,4 +1,4 @@
-use Rattle.std.proofs.Common.{◌≤◌, ◌+◌, ◌<◌, arith}
+use Rattle.std.proofs.Common.{◌≤◌, ◌+◌, ◌<◌, refl, arith}
 use Rattle.cdcl_core.proofs.Bounding.{below_none, below_more, below_end}
 use Rattle.cdcl_core.proofs.bounds.last_of.Goals as goal
 
@@ -11,9 +11,9 @@ loop-literal-preserved c =
     let here : c.literal-item.result.variable < c.max-last.result + 1 = omega (arith, c.max-last.ensures, c.variable.ensures.value) in
     record {
       least = omega (arith, c.max-last.ensures, c.loop-literal.invariant.least);
-      below = below_more (c.loop-literal.last + 1) (c.max-last.result + 1) c.literals-literal-items.result.now c.loop-literal.literal-index c.literal-item.result c.loop-literal-test.true c.literal-item.is less here c.loop-literal.invariant.below;
+      below = below_more (c.loop-literal.last + 1) (c.max-last.result + 1) c.args.clause.now c.loop-literal.literal-index c.literal-item.result c.loop-literal-test.true c.literal-item.is less here c.loop-literal.invariant.below;
     }
 
 pub returns-clause-below : goal.returns-clause-below
 returns-clause-below c =
-    below_end (c.loop-literal.last + 1) c.args.clause.now c.literals-literal-items.result.now c.loop-literal.literal-index c.literals-literal-items.ensures.value c.loop-literal-test.false c.loop-literal.invariant.below
+    below_end (c.loop-literal.last + 1) c.args.clause.now c.args.clause.now c.loop-literal.literal-index refl c.loop-literal-test.false c.loop-literal.invariant.below

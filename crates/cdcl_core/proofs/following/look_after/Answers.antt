@@ -12,5 +12,5 @@ returns-clause-looked c =
     let within : place < length c.args.trail.now.entries = slice_get_within c.args.trail.now.entries place at.0 at.1 in
     let noted : (k : ℕ) (d : List Literal) → slice_get c.args.clauses.now k ≡ Some d → list_any (same_literal (negation c.args.literal)) d ≡ true → is_among c.places.result.now k ≡ true
     = λ k d got has. c.places.ensures k d got (ap (λ (l : Literal). list_any (same_literal l) d) c.negated.ensures ∙ has) in
-    let looked = rw c.as_slice.ensures at c.look_at.ensures.looked in
+    let looked = rw c.list.ensures at c.look_at.ensures.looked in
     looked (place + 1) (omega (arith, within)) (entry_looked c.args.clauses.now c.args.trail.now.entries place c.args.literal c.places.result.now at noted pending)

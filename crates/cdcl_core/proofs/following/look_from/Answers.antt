@@ -15,4 +15,4 @@ loop-place-preserved c =
 pub returns-clause-looked : goal.returns-clause-looked
 returns-clause-looked c =
     λ first late pending none.
-    from_end c.args.clauses.now c.loop-place.trail.entries first c.loop-place.place c.loop-place-test.false (c.loop-place.invariant.looked first late pending)
+    from_end c.args.clauses.now c.loop-place.trail.entries first c.loop-place.place (omega (arith, c.len-place-end.ensures, c.loop-place-test.false)) (c.loop-place.invariant.looked first late pending)
