@@ -82,7 +82,7 @@ impl Gates {
         ensures { OnOk result (self.new ≡ with_clause literals.now self.old) }
     {
         if let Some(clause) = Clause::from_literals(self.alloc, literals)? {
-            self.formula.push(clause)?;
+            self.formula.push(&clause)?;
         }
         Ok(())
     }

@@ -17,8 +17,9 @@ fn signed(literal: Lit) -> i64 {
 /// The greatest variable of a formula.
 pub fn count_variables(formula: &Cnf) -> u32 {
     let mut most = 0;
-    for clause in formula.clauses() {
-        if let Some(literal) = clause.literals().last() {
+    let clauses = formula.clauses();
+    for place in 0..clauses.len() {
+        if let Some(literal) = clauses.at(place).last() {
             most = most.max(literal.variable());
         }
     }
@@ -37,8 +38,8 @@ fn write_literals(out: &mut impl Write, literals: &[Lit]) -> io::Result<()> {
 pub fn write_formula(out: &mut impl Write, formula: &Cnf) -> io::Result<()> {
     let clauses = formula.clauses();
     writeln!(out, "p cnf {} {}", count_variables(formula), clauses.len())?;
-    for clause in clauses {
-        write_literals(out, clause.literals())?;
+    for place in 0..clauses.len() {
+        write_literals(out, clauses.at(place))?;
         writeln!(out)?;
     }
     Ok(())

@@ -4,7 +4,7 @@ ghost use Rattle.std.specs.Prelude.{◌≡◌, ◌<◌, IfOk, OnOk, length};
 
 use bit_blast::{bytes_of, clauses};
 use bv_dag::{BinaryOp, Comparison, Dag, Node, Query};
-use cnf_form::{Clause, Cnf, Lit, Val};
+use cnf_form::{Cnf, Lit, Val};
 use std::alloc::{AllocError as NoMemory, Global};
 use std::process::Abort;
 use std::test::Fail;
@@ -45,16 +45,22 @@ fn signed(literal: Lit) -> i64 {
     }
 }
 
+fn is(clause: &[Lit], want: &[i64]) -> bool {
+    clause.len() == want.len() && clause.iter().zip(want).all(|(l, k)| signed(*l) == *k)
+}
+
 fn are(formula: &Cnf, want: &[&[i64]]) -> bool {
-    formula.clauses().len() == want.len()
-        && formula.clauses().iter().zip(want).all(|(clause, literals)| {
-            clause.literals().len() == literals.len()
-                && clause
-                    .literals()
-                    .iter()
-                    .zip(*literals)
-                    .all(|(l, k)| signed(*l) == *k)
-        })
+    let clauses = formula.clauses();
+    if clauses.len() != want.len() {
+        return false;
+    }
+    for (place, literals) in want.iter().enumerate() {
+        match clauses.get(place) {
+            Some(clause) if is(clause, literals) => {}
+            _ => return false,
+        }
+    }
+    true
 }
 
 // Bits of the input byte, whose variables are 2 to 9.
@@ -240,9 +246,9 @@ fn two_bits_are_shifted(rt: HostRuntime) -> Result<(), Fail> {
 }
 
 // What is left of a clause under these values: its only literal without one, where no other is true.
-fn forced(values: &[Option<bool>], clause: &Clause) -> Option<Lit> {
+fn forced(values: &[Option<bool>], clause: &[Lit]) -> Option<Lit> {
     let mut open = None;
-    for literal in clause.literals() {
+    for literal in clause {
         match values.get(literal.variable() as usize) {
             Some(Some(value)) if *value != literal.is_positive() => {}
             Some(None) if open.is_none() => open = Some(*literal),
@@ -254,10 +260,11 @@ fn forced(values: &[Option<bool>], clause: &Clause) -> Option<Lit> {
 
 // A valuation of variables 1 to 2000, by so many rounds of unit propagation. What has no value then is false.
 fn propagated(alloc: Global, formula: &Cnf, rounds: usize) -> Result<Val, NoMemory> {
+    let clauses = formula.clauses();
     let mut values: Vec<Option<bool>> = vec![in alloc; None; 2000]?;
     for _round in 0..rounds {
-        for clause in formula.clauses() {
-            if let Some(literal) = forced(&values, clause) {
+        for place in 0..clauses.len() {
+            if let Some(literal) = forced(&values, clauses.at(place)) {
                 if let Some(slot) = values.get_mut(literal.variable() as usize) {
                     *slot = Some(literal.is_positive());
                 }
