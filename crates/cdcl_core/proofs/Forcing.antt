@@ -7,10 +7,11 @@ use Rattle.std.proofs.lemmas.List.{get_or_default}
 use Rattle.std.proofs.Math.ListN.{length-set}
 use Rattle.cnf_form.specs.Literals.{Literal}
 use Rattle.cnf_form.specs.Propagation.{unassigned, is_falsified, unit_literal, numbered, unit_of_hint, hint_is_falsified}
+use Rattle.cnf_form.specs.Variables.{is_below}
 use Rattle.cdcl_core.specs.declared.trail.Entry.{Entry}
 use Rattle.cdcl_core.specs.declared.propagation.State.TheVariants.{Forces}
 use Rattle.cdcl_core.specs.Trails.{Assignment, with_entry, values_of, IsTrail, AreCalm, free_count}
-use Rattle.cdcl_core.specs.Passes.{is_below, IsState, IsFollowed}
+use Rattle.cdcl_core.specs.Passes.{IsState, IsFollowed}
 use Rattle.cdcl_core.proofs.Values.{trail_more}
 use Rattle.cdcl_core.proofs.Scanning.{all_at}
 

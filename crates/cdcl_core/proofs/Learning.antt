@@ -7,9 +7,10 @@ use Rattle.cnf_form.specs.Literals.{Literal}
 use Rattle.cnf_form.specs.Propagation.{unassigned, is_true, follows}
 use Rattle.cnf_form.specs.Refutations.{has_no_empty, Step, clauses_of, follows_all, is_new, is_fresh, is_empty_clause, ends_empty, refutes}
 use Rattle.cnf_form.specs.Valuations.{literal_value, satisfies_clause, satisfies}
+use Rattle.cnf_form.specs.Variables.{is_below}
 use Rattle.proof_check.proofs.Chains.{at_more}
 use Rattle.cdcl_core.specs.Trails.{Assignment, values_of, IsTrail, AreCalmFirst}
-use Rattle.cdcl_core.specs.Passes.{is_below, has_true}
+use Rattle.cdcl_core.specs.Passes.{has_true}
 use Rattle.cdcl_core.specs.Searches.{IsSearch, IsLesson, IsDescent}
 use Rattle.cdcl_core.proofs.Values.{no_trail}
 

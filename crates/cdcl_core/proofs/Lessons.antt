@@ -5,9 +5,9 @@ use Rattle.cnf_form.specs.Literals.{Literal, negation}
 use Rattle.cnf_form.specs.Clauses.{clause_of}
 use Rattle.cnf_form.specs.Propagation.{has_value, is_false, numbered, hint_is_falsified, follows}
 use Rattle.cnf_form.specs.Refutations.{is_empty_clause}
+use Rattle.cnf_form.specs.Variables.{is_below}
 use Rattle.cdcl_core.specs.declared.trail.Entry.{Entry}
 use Rattle.cdcl_core.specs.Trails.{values_of, IsTrail, decisions, reasons, if_decided, if_forced}
-use Rattle.cdcl_core.specs.Passes.{is_below}
 use Rattle.cdcl_core.specs.Searches.{IsLesson}
 use Rattle.cdcl_core.proofs.Negating.{IsNegation, is_negation, is_some_clause, negation_follows, negation_is_new, negation_false_now}
 

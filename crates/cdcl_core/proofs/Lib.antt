@@ -10,6 +10,5 @@ pub mod Spotting
 pub mod Forcing
 pub mod Pending
 pub mod Backjumping
-pub mod Bounding
 pub mod Noting
 pub mod Learning

@@ -9,8 +9,9 @@ use Rattle.cnf_form.specs.Literals.{Literal, same_truth}
 use Rattle.cnf_form.specs.Clauses.{are_increasing}
 use Rattle.cnf_form.specs.Propagation.{assign, has_value, is_true, is_false, is_falsified, open_literals, only_literal, unit_literal}
 use Rattle.cnf_form.proofs.Inserting.{all_above}
+use Rattle.cnf_form.specs.Variables.{is_below}
 use Rattle.cdcl_core.specs.Trails.{IsCalm}
-use Rattle.cdcl_core.specs.Passes.{is_below, IsFree, has_true}
+use Rattle.cdcl_core.specs.Passes.{IsFree, has_true}
 use Rattle.cdcl_core.proofs.Values.{assign-other}
 
 -- a literal without a value, of another variable than x

@@ -1,5 +1,5 @@
 -- What clauses are under a partial assignment, and what looking at them comes to.
-use Rattle.std.specs.Prelude.{◌≡◌, ℕ, ◌+◌, ◌<◌, ◌≤◌, ◌⊎◌, nat_lt, length, Bool, true, List, Option, Some, None, slice_get}
+use Rattle.std.specs.Prelude.{◌≡◌, ℕ, ◌+◌, ◌<◌, ◌≤◌, ◌⊎◌, length, Bool, true, List, Option, Some, None, slice_get}
 use Rattle.std.specs.List.{list_any, list_all}
 use Rattle.cnf_form.specs.Literals.{Literal, negation, same_literal}
 use Rattle.cnf_form.specs.Propagation.{is_true, is_falsified, unit_literal, numbered, hint_is_falsified}
@@ -9,10 +9,6 @@ use Rattle.cdcl_core.specs.declared.propagation.State.TheVariants.{Falsified, Fo
 use Rattle.cdcl_core.specs.declared.descent.Settled.{Settled}
 use Rattle.cdcl_core.specs.declared.descent.Settled.TheVariants.{AtConflict, AtChoice, AtEnd}
 use Rattle.cdcl_core.specs.Trails.{Assignment, values_of, IsTrail, IsCalm, AreCalm, free_count}
-
--- whether each variable of the clause is below n
-unfoldable pub is_below : ℕ → List Literal → Bool
-is_below n c = list_all (λ l. nat_lt l.variable n) c
 
 -- a literal of a variable below n that has no value
 abbrev pub IsFree : (ℕ → Option Bool) → ℕ → Literal → Type 0

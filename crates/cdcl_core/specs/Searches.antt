@@ -4,10 +4,11 @@ use Rattle.std.specs.List.{list_all}
 use Rattle.cnf_form.specs.Literals.{Literal}
 use Rattle.cnf_form.specs.Propagation.{numbered, hint_is_falsified, follows}
 use Rattle.cnf_form.specs.Refutations.{Step, clauses_of, follows_all, has_no_empty, is_new, is_fresh, is_empty_clause}
+use Rattle.cnf_form.specs.Variables.{is_below}
 use Rattle.cdcl_core.specs.declared.solver.Answer.{Answer}
 use Rattle.cdcl_core.specs.declared.solver.Answer.TheVariants.{Found, Refuted, Spent}
 use Rattle.cdcl_core.specs.Trails.{Assignment, values_of, IsTrail, AreCalmFirst}
-use Rattle.cdcl_core.specs.Passes.{is_below, has_true}
+use Rattle.cdcl_core.specs.Passes.{has_true}
 
 -- what holds of a valuation that was found
 abbrev pub IfFound : Answer → (List Bool → Type 0) → Type 0

@@ -5,8 +5,9 @@
 ghost use Rattle.std.specs.Prelude.{◌≡◌, ◌<◌, true, length, IfOk, IfSome, OnOk, None};
 ghost use Rattle.std.specs.List.{list_all};
 ghost use Rattle.cnf_form.specs.Propagation.{numbered, hint_is_falsified};
+ghost use Rattle.cnf_form.specs.Variables.{is_below};
 ghost use Rattle.cdcl_core.specs.Trails.{values_of, IsTrail, AreCalm, AreCalmFirst, free_count};
-ghost use Rattle.cdcl_core.specs.Passes.{is_below, IsFree, IsSettled};
+ghost use Rattle.cdcl_core.specs.Passes.{IsFree, IsSettled};
 ghost use Rattle.cdcl_core.specs.Searches.{IsDescent};
 
 use crate::clause_list::ClauseList;

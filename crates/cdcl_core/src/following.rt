@@ -4,9 +4,10 @@
 ghost use Rattle.std.specs.Prelude.{◌≡◌, ℕ, ◌≤◌, ◌<◌, ◌+◌, ◌^◌, ◌||◌, ◌==◌, nat_le, Bool, false, true, length, IfOk, IfSome, OnOk, None};
 ghost use Rattle.std.specs.List.{list_all};
 ghost use Rattle.cnf_form.specs.Propagation.{numbered, hint_is_falsified};
+ghost use Rattle.cnf_form.specs.Variables.{is_below};
 ghost use Rattle.cdcl_core.specs.Places.{is_among};
 ghost use Rattle.cdcl_core.specs.Trails.{values_of, IsTrail, AreCalm, AreCalmFirst};
-ghost use Rattle.cdcl_core.specs.Passes.{is_below, IsLiteralAt, ArePending, IsFollowed};
+ghost use Rattle.cdcl_core.specs.Passes.{IsLiteralAt, ArePending, IsFollowed};
 
 use crate::clause_list::ClauseList;
 use crate::propagation::{State, state_of};

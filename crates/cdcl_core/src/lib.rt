@@ -12,7 +12,6 @@
 //! - `analysis`: the first point through which all led to a conflict
 //! - `backjump`: how far to go back, so that each clause but the learnt one is calm there
 //! - `heap`, `order`, `restarts`: what to choose, when to begin again. No answer rests on them
-//! - `bounds`: the greatest variable of a formula
 //!
 //! Literals that were false before any decision are kept in a clause that is learnt, so that its hints need not force
 //! them again.
@@ -20,7 +19,6 @@
 
 mod analysis;
 mod backjump;
-mod bounds;
 mod clause_list;
 mod descent;
 mod following;

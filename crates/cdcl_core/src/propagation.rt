@@ -3,8 +3,9 @@
 
 ghost use Rattle.std.specs.Prelude.{◌≡◌, true, length};
 ghost use Rattle.cnf_form.specs.Clauses.{are_increasing};
+ghost use Rattle.cnf_form.specs.Variables.{is_below};
 ghost use Rattle.cdcl_core.specs.Trails.{values_of};
-ghost use Rattle.cdcl_core.specs.Passes.{is_below, IsState};
+ghost use Rattle.cdcl_core.specs.Passes.{IsState};
 
 use crate::spots::Spot;
 use crate::trail::Trail;

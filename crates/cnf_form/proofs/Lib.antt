@@ -2,3 +2,4 @@ pub mod Soundness
 pub mod Inserting
 pub mod Meaning
 pub mod Pieces
+pub mod Variables

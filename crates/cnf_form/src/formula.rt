@@ -1,9 +1,13 @@
 //! Formulas: clauses that are all to be true.
 
-ghost use Rattle.std.specs.Prelude.{◌≡◌, ◌++◌, ◌∷◌, [], OnOk, OnErr};
+ghost use Rattle.std.specs.Prelude.{◌≡◌, ◌+◌, ◌++◌, ◌∷◌, [], true, OnOk, OnErr};
+ghost use Rattle.std.specs.List.{list_all};
+ghost use Rattle.cnf_form.specs.Clauses.{are_increasing};
+ghost use Rattle.cnf_form.specs.Variables.{greatest_in, greatest_variable, is_below};
 
 use crate::clause::Clause;
 use crate::clauses::Clauses;
+use crate::literal::Lit;
 use std::alloc::{AllocError as NoMemory, Global};
 use std::marker::Model;
 
@@ -11,15 +15,31 @@ use std::marker::Model;
 #[derive(Debug, Drop)]
 pub struct Cnf {
     clauses: Clauses,
+    /// The greatest variable, and 0 where there is none.
+    variables: u32,
 }
 
 impl Model for Cnf {
-    ghost use Rattle.std.specs.Prelude.{List};
+    ghost use Rattle.std.specs.Prelude.{◌≡◌, List};
     ghost use Rattle.cnf_form.specs.Literals.{Literal};
+    ghost use Rattle.cnf_form.specs.Variables.{greatest_variable};
 
     ghost Value = { List (List Literal) };
 
     ghost view = { λ f. f.clauses };
+
+    ghost invariant = { λ f. f.variables ≡ greatest_variable f.clauses };
+}
+
+// The greatest variable of a clause: that of its last literal.
+fn greatest_in(clause: &[Lit]) -> u32
+    requires { are_increasing clause.now ≡ true }
+    ensures { result ≡ greatest_in clause.now }
+{
+    match clause.last() {
+        Some(literal) => literal.variable(),
+        None => 0,
+    }
 }
 
 impl Cnf {
@@ -29,6 +49,7 @@ impl Cnf {
     {
         Cnf {
             clauses: Clauses::new(alloc),
+            variables: 0,
         }
     }
 
@@ -37,12 +58,22 @@ impl Cnf {
         ensures ok { OnOk result (self.new ≡ self.old ++ clause.now ∷ []) }
         ensures err { OnErr result (self.new ≡ self.old) }
     {
-        self.clauses.push(clause)
+        self.clauses.push(clause)?;
+        self.variables = self.variables.max(greatest_in(clause.literals()));
+        Ok(())
     }
 
     pub fn clauses(&self) -> &Clauses
         ensures { result.now ≡ self.now }
     {
         &self.clauses
+    }
+
+    /// The greatest variable that occurs, and 0 where none does.
+    pub fn variables(&self) -> u32
+        ensures greatest { result ≡ greatest_variable self.now }
+        ensures below { list_all (is_below (result + 1)) self.now ≡ true }
+    {
+        self.variables
     }
 }
