@@ -1,35 +1,19 @@
 //! The literals of terms, each from those of earlier ones.
 
-ghost use Rattle.std.specs.Prelude.{◌≡◌, ◌+◌, ◌∷◌, [], IfOk, OnOk, take, drop, replicate, None, slice_index_or, ◌≤◌, length, map};
+ghost use Rattle.std.specs.Prelude.{◌≡◌, ◌+◌, ◌∷◌, [], IfOk, OnOk, take, drop, replicate, None, slice_index_or};
 ghost use Rattle.bit_blast.specs.Circuits.{row_at, lowest_of, binary_row, compare_gate, extension_of, with_row, with_input, with_node, no_terms, with_asserted};
 ghost use Rattle.bit_blast.specs.Gates.{mux_gate};
 ghost use Rattle.bit_blast.specs.Rows.{each};
-ghost use Rattle.cnf_form.specs.Valuations.{valuation};
-ghost use Rattle.bit_blast.specs.Bytes.{byte_of, number_of_row};
 
+use crate::encoding::Encoding;
 use crate::gates::{Gate, Gates, constant};
+use crate::row::Row;
 use crate::rows::{copies, joined, negations, number_row, top_of};
 use crate::shifts::Direction;
-use crate::values::{low_eight, number_of};
 use bv_dag::{BinaryOp, Comparison, Node};
-use cnf_form::{Cnf, Lit, Val};
+use cnf_form::Lit;
 use std::alloc::{AllocError as NoMemory, Global};
 use std::marker::Model;
-
-/// The literals of one term, the lowest bit first.
-#[derive(Debug, Drop)]
-struct Row {
-    literals: Vec<Lit>,
-}
-
-impl Model for Row {
-    ghost use Rattle.std.specs.Prelude.{List};
-    ghost use Rattle.cnf_form.specs.Literals.{Literal};
-
-    ghost Value = { List Literal };
-
-    ghost view = { λ r. r.literals.items };
-}
 
 /// A formula, the literals of each input byte that has occurred, and those of each term so far.
 #[derive(Debug, Drop)]
@@ -132,16 +116,6 @@ fn assert_each(gates: &mut Gates, rows: &[Row], asserted: &[usize]) -> Result<()
         gates.clause(&[lowest_of(row_at(rows, *id))])?;
     }
     Ok(())
-}
-
-// What an input byte is, and 0 where it doesn't occur.
-fn byte_of(input: &Option<Row>, values: &Val) -> u8
-    ensures { result ≡ byte_of (valuation values.now) input.now }
-{
-    match input {
-        Some(row) => number_of(low_eight(&row.literals), values),
-        None => 0,
-    }
 }
 
 // No input byte has literals yet.
@@ -248,26 +222,17 @@ impl Circuit {
         }
     }
 
-    /// The formula, with a clause for each term that is asserted.
-    pub fn into_formula(self, asserted: &[usize]) -> Result<Cnf, NoMemory>
-        ensures { IfOk result (λ f. f ≡ (with_asserted self.rows asserted.now self.formula).clauses) }
+    /// The formula, with a clause for each term that is asserted, and the literals of each input byte that has occurred.
+    pub fn encoding(self, asserted: &[usize]) -> Result<Encoding, NoMemory>
+        ensures formula { IfOk result (λ e. e.formula ≡ (with_asserted self.rows asserted.now self.formula).clauses) }
+        ensures inputs { IfOk result (λ e. e.inputs ≡ self.inputs) }
     {
         let Circuit {
             mut gates,
-            inputs: _,
+            inputs,
             rows,
         } = self;
         assert_each(&mut gates, &rows, asserted)?;
-        Ok(gates.into_formula())
-    }
-
-    /// What each input byte is under a valuation.
-    pub fn bytes(&self, alloc: Global, values: &Val) -> Result<Vec<u8>, NoMemory>
-        ensures { IfOk result (λ b. b.items ≡ map (byte_of (valuation values.now)) self.now.inputs) }
-    {
-        self.inputs
-            .iter()
-            .map(|i| byte_of(i, values))
-            .collect(alloc)
+        Ok(Encoding::new(gates.into_formula(), inputs))
     }
 }

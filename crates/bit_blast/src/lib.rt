@@ -3,12 +3,15 @@
 
 mod adders;
 mod circuit;
+mod encoding;
 mod gates;
 pub mod laws;
 mod products;
 mod query;
+mod row;
 mod rows;
 mod shifts;
 mod values;
 
-pub use query::{bytes_of, clauses};
+pub use encoding::Encoding;
+pub use query::encode;

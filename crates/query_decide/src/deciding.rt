@@ -10,7 +10,7 @@ ghost use Rattle.query_decide.specs.Occurring.{IsAlone};
 use crate::decision::Decision;
 use crate::occurrence::{Occurrence, occurring};
 use crate::one_byte::try_byte;
-use bit_blast::{bytes_of, clauses};
+use bit_blast::encode;
 use bv_dag::Query;
 use cdcl_core::{Answer, search};
 use std::alloc::{AllocError as NoMemory, Global};
@@ -40,12 +40,9 @@ fn decide_by_clauses(alloc: Global, query: &Query, budget: u32) -> Result<Decisi
     requires wide { HasTwo (asserted_inputs query.now) }
     ensures { IfOk result (IsDecided query.now budget) }
 {
-    let formula = clauses(alloc, query)?;
-    match search(alloc, &formula, budget)? {
-        Answer::Found(values) => {
-            let input = bytes_of(alloc, query, &values)?;
-            Ok(Decision::Sat(Bytes::from_vec(input)))
-        }
+    let encoding = encode(alloc, query)?;
+    match search(alloc, encoding.formula(), budget)? {
+        Answer::Found(values) => Ok(Decision::Sat(encoding.bytes(alloc, &values)?)),
         Answer::Refuted(_) => Ok(Decision::Unsat),
         Answer::Spent(log) => Ok(Decision::Spent(log)),
     }

@@ -21,12 +21,12 @@ mod small;
 mod words;
 
 use crate::asking::{Ended, ask_in_turn};
-use crate::printing::{count_variables, write_formula, write_log};
+use crate::printing::{write_formula, write_log};
 use crate::questions::{QUESTIONS, Question};
 use crate::small::{byte_is, sum_is};
 use crate::words::{Job, read_job};
 use anyhow::{Result, bail};
-use bit_blast::{bytes_of, clauses};
+use bit_blast::encode;
 use bv_dag::Query;
 use cdcl_core::{Answer, search};
 use cnf_form::Log;
@@ -57,11 +57,12 @@ fn print_names(rt: &impl Print) -> Result<()> {
 // How many variables and clauses the question's formula has.
 fn print_counts<R: Print + AllocGlobal>(rt: &R, question: Question) -> Result<()> {
     let alloc = rt.alloc();
-    let formula = clauses(alloc, &question.query(alloc)?)?;
-    let variables = count_variables(&formula);
+    let encoding = encode(alloc, &question.query(alloc)?)?;
+    let formula = encoding.formula();
     println!(rt;
-        "{} {variables} {}",
+        "{} {} {}",
         question.name(),
+        formula.variables(),
         formula.clauses().len()
     )?;
     Ok(())
@@ -69,9 +70,9 @@ fn print_counts<R: Print + AllocGlobal>(rt: &R, question: Question) -> Result<()
 
 fn print_formula<R: Print + AllocGlobal>(rt: &R, question: Question) -> Result<()> {
     let alloc = rt.alloc();
-    let formula = clauses(alloc, &question.query(alloc)?)?;
+    let encoding = encode(alloc, &question.query(alloc)?)?;
     let mut out = BufWriter::new(alloc, io::writer(rt))?;
-    write_formula(&mut out, &formula)?;
+    write_formula(&mut out, encoding.formula())?;
     out.flush()?;
     Ok(())
 }
@@ -79,13 +80,13 @@ fn print_formula<R: Print + AllocGlobal>(rt: &R, question: Question) -> Result<(
 // How the search ended, with the bytes that it found.
 fn print_answer<R: Print + AllocGlobal>(rt: &R, budget: u32, question: Question) -> Result<()> {
     let alloc = rt.alloc();
-    let query = question.query(alloc)?;
-    let formula = clauses(alloc, &query)?;
+    let encoding = encode(alloc, &question.query(alloc)?)?;
     let name = question.name();
-    match search(alloc, &formula, budget)? {
+    match search(alloc, encoding.formula(), budget)? {
         Answer::Found(values) => {
-            let bytes = hex::encode(alloc, &bytes_of(alloc, &query, &values)?)?;
-            println!(rt; "{name} found {bytes}")?;
+            let bytes = encoding.bytes(alloc, &values)?;
+            let digits = hex::encode(alloc, bytes.as_slice())?;
+            println!(rt; "{name} found {digits}")?;
         }
         Answer::Refuted(_) => println!(rt; "{name} refuted")?,
         Answer::Spent(_) => println!(rt; "{name} spent")?,
@@ -106,8 +107,8 @@ fn print_answers<R: Print + AllocGlobal>(
 
 // The log of the search, or none where it found a valuation.
 fn log_of(alloc: Global, budget: u32, question: Question) -> Result<Option<Log>> {
-    let formula = clauses(alloc, &question.query(alloc)?)?;
-    match search(alloc, &formula, budget)? {
+    let encoding = encode(alloc, &question.query(alloc)?)?;
+    match search(alloc, encoding.formula(), budget)? {
         Answer::Found(_) => Ok(None),
         Answer::Refuted(log) => Ok(Some(log)),
         Answer::Spent(log) => Ok(Some(log)),

@@ -14,19 +14,6 @@ fn signed(literal: Lit) -> i64 {
     }
 }
 
-/// The greatest variable of a formula.
-pub fn count_variables(formula: &Cnf) -> u32 {
-    let mut most = 0;
-    let clauses = formula.clauses();
-    for place in 0..clauses.len() {
-        if let Some(literal) = clauses.at(place).last() {
-            most = most.max(literal.variable());
-        }
-    }
-    most
-}
-
-// The literals, each followed by a blank, and a 0.
 fn write_literals(out: &mut impl Write, literals: &[Lit]) -> io::Result<()> {
     for literal in literals {
         write!(out, "{} ", signed(*literal))?;
@@ -37,7 +24,7 @@ fn write_literals(out: &mut impl Write, literals: &[Lit]) -> io::Result<()> {
 /// Writes a formula in the DIMACS format.
 pub fn write_formula(out: &mut impl Write, formula: &Cnf) -> io::Result<()> {
     let clauses = formula.clauses();
-    writeln!(out, "p cnf {} {}", count_variables(formula), clauses.len())?;
+    writeln!(out, "p cnf {} {}", formula.variables(), clauses.len())?;
     for place in 0..clauses.len() {
         write_literals(out, clauses.at(place))?;
         writeln!(out)?;

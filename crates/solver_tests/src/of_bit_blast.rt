@@ -2,7 +2,7 @@
 
 ghost use Rattle.std.specs.Prelude.{◌≡◌, ◌<◌, IfOk, OnOk, length};
 
-use bit_blast::{bytes_of, clauses};
+use bit_blast::encode;
 use bv_dag::{BinaryOp, Comparison, Dag, Node, Query};
 use cnf_form::{Cnf, Lit, Val};
 use std::alloc::{AllocError as NoMemory, Global};
@@ -81,10 +81,11 @@ fn one_bit_is_one(rt: HostRuntime) -> Result<(), Fail> {
         Node::Compare(Comparison::Eq, 1, 2),
     ];
     let query = query_of(&rt, rt.alloc(), &nodes)?;
-    let formula = clauses(rt.alloc(), &query)?;
+    let encoding = encode(rt.alloc(), &query)?;
+    let formula = encoding.formula();
     assert!(rt;
         are(
-            &formula,
+            formula,
             &[
                 &[1],
                 &[1, 2, -10],
@@ -109,10 +110,11 @@ fn one_bit_is_doubled(rt: HostRuntime) -> Result<(), Fail> {
         Node::Binary(BinaryOp::Add, 1, 1),
     ];
     let query = query_of(&rt, rt.alloc(), &nodes)?;
-    let formula = clauses(rt.alloc(), &query)?;
+    let encoding = encode(rt.alloc(), &query)?;
+    let formula = encoding.formula();
     assert!(rt;
         are(
-            &formula,
+            formula,
             &[
                 &[1],
                 &[-1, 2, -10],
@@ -146,10 +148,11 @@ fn one_bit_chooses(rt: HostRuntime) -> Result<(), Fail> {
         },
     ];
     let query = query_of(&rt, rt.alloc(), &nodes)?;
-    let formula = clauses(rt.alloc(), &query)?;
+    let encoding = encode(rt.alloc(), &query)?;
+    let formula = encoding.formula();
     assert!(rt;
         are(
-            &formula,
+            formula,
             &[
                 &[1],
                 &[-2, -3, 10],
@@ -172,10 +175,11 @@ fn one_bit_is_below(rt: HostRuntime) -> Result<(), Fail> {
         Node::Compare(Comparison::Ult, 1, 2),
     ];
     let query = query_of(&rt, rt.alloc(), &nodes)?;
-    let formula = clauses(rt.alloc(), &query)?;
+    let encoding = encode(rt.alloc(), &query)?;
+    let formula = encoding.formula();
     assert!(rt;
         are(
-            &formula,
+            formula,
             &[
                 &[1],
                 &[1, 2, -3, -10],
@@ -213,10 +217,11 @@ fn two_bits_are_shifted(rt: HostRuntime) -> Result<(), Fail> {
         },
     ];
     let query = query_of(&rt, rt.alloc(), &nodes)?;
-    let formula = clauses(rt.alloc(), &query)?;
+    let encoding = encode(rt.alloc(), &query)?;
+    let formula = encoding.formula();
     assert!(rt;
         are(
-            &formula,
+            formula,
             &[
                 &[1],
                 &[1, -4, 10],
@@ -294,9 +299,10 @@ fn comes_to(
             Node::Compare(Comparison::Eq, 2, 3),
         ];
         let query = query_of(rt, alloc, &nodes)?;
-        let formula = clauses(alloc, &query)?;
-        let values = propagated(alloc, &formula, 1)?;
-        answers[i] = values.satisfies(&formula);
+        let encoding = encode(alloc, &query)?;
+        let formula = encoding.formula();
+        let values = propagated(alloc, formula, 1)?;
+        answers[i] = values.satisfies(formula);
     }
     Ok(answers == [true, false])
 }
@@ -341,10 +347,11 @@ fn other_terms_are_the_standards(rt: HostRuntime) -> Result<(), Fail> {
     ] {
         let nodes = [byte(left), byte(right), Node::Compare(op, 0, 1)];
         let query = query_of(&rt, rt.alloc(), &nodes)?;
-        let formula = clauses(rt.alloc(), &query)?;
-        let values = propagated(rt.alloc(), &formula, 1)?;
+        let encoding = encode(rt.alloc(), &query)?;
+        let formula = encoding.formula();
+        let values = propagated(rt.alloc(), formula, 1)?;
         assert_eq!(rt;
-            values.satisfies(&formula),
+            values.satisfies(formula),
             want,
             "{op:?} of {left} and {right}"
         );
@@ -360,10 +367,11 @@ fn a_valuation_means_its_bytes(rt: HostRuntime) -> Result<(), Fail> {
         Node::Compare(Comparison::Eq, 0, 1),
     ];
     let query = query_of(&rt, rt.alloc(), &nodes)?;
-    let formula = clauses(rt.alloc(), &query)?;
-    let values = propagated(rt.alloc(), &formula, 20)?;
-    assert!(rt; values.satisfies(&formula));
-    let bytes = bytes_of(rt.alloc(), &query, &values)?;
+    let encoding = encode(rt.alloc(), &query)?;
+    let formula = encoding.formula();
+    let values = propagated(rt.alloc(), formula, 20)?;
+    assert!(rt; values.satisfies(formula));
+    let bytes = encoding.bytes(rt.alloc(), &values)?;
     assert_eq!(rt; bytes.as_slice(), [0x41].as_slice());
     Ok(())
 }
