@@ -9,7 +9,7 @@ use Rattle.tree_core.specs.declared.choice.Choice.{Choice}
 use Rattle.tree_core.specs.declared.event.Event.{Event}
 use Rattle.tree_core.specs.declared.event.Deed.{Deed}
 use Rattle.tree_core.specs.declared.event.Deed.TheVariants.{Claim, Split, Finish, Cut, Release}
-use Rattle.tree_core.specs.declared.node.Node.{Node}
+use Rattle.tree_core.specs.Nodes.{Node}
 use Rattle.tree_core.specs.Stories.{Story, content, content_after, content_by, last_on, status}
 use Rattle.tree_core.proofs.Counting.{count_more}
 use Rattle.fork_spec.specs.Histories.{is_leaf, is_leaf_status}

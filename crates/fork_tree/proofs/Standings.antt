@@ -5,7 +5,7 @@ use Rattle.std.specs.Global.{Vec}
 use Rattle.std.proofs.lemmas.List.{length-map}
 use Rattle.tree_core.specs.declared.event.Event.{Event}
 use Rattle.tree_core.specs.declared.event.Kid.{Kid}
-use Rattle.tree_core.specs.declared.node.Node.{Node}
+use Rattle.tree_core.specs.Nodes.{Node}
 use Rattle.tree_core.specs.Stories.{Story, born_as, content, content_by, last_on, left_by, status}
 use Rattle.tree_core.specs.Replays.{births, deed_kept, is_allowed, kids_of, node_of, noted}
 use Rattle.tree_core.proofs.Standing.{content-noted, open_content, status-noted}

@@ -5,7 +5,7 @@ use Rattle.std.specs.Arc.{arc_value}
 use Rattle.tree_core.specs.Stories.{Story, status, content}
 use Rattle.tree_core.specs.Covers.{one_if, count_below, covered, root_content}
 use Rattle.tree_core.specs.declared.event.Event.{Event}
-use Rattle.tree_core.specs.declared.node.Node.{Node}
+use Rattle.tree_core.specs.Nodes.{Node}
 use Rattle.tree_core.specs.declared.node.Status.{Status}
 use Rattle.tree_core.specs.declared.node.Status.TheVariants.{Free, Leaf as IsLeaf}
 use Rattle.fork_spec.specs.Histories.{LeafNode, cause_of, is_leaf_status}

@@ -5,7 +5,7 @@ use Rattle.tree_core.specs.Covers.{one_if}
 use Rattle.tree_core.specs.Replays.{is_free}
 use Rattle.tree_core.specs.declared.choice.Choice.{Choice}
 use Rattle.tree_core.specs.declared.event.Kid.{Kid}
-use Rattle.tree_core.specs.declared.node.Node.{Node}
+use Rattle.tree_core.specs.Nodes.{Node}
 use Rattle.tree_core.specs.declared.node.Status.{Status}
 use Rattle.fork_spec.specs.Partings.{AreNodesApart, Place}
 use Rattle.fork_spec.specs.Written.{IsWalked}

@@ -3,7 +3,7 @@
 ghost use Rattle.std.specs.Prelude.{◌≡◌, ◌↔◌, ◌<◌, ◌≤◌, ◌+◌, ◌++◌, ◌^◌, IfOk, OnOk, OnErr, IsTrue, Some, None, All, [], length, vec_len, vec_capacity};
 ghost use Rattle.std.specs.Arc.{arc_value};
 ghost use Rattle.tree_core.specs.declared.cause.Cause.TheVariants.{Steps};
-ghost use Rattle.tree_core.specs.declared.node.Status.TheVariants.{Held, Leaf};
+ghost use Rattle.tree_core.specs.declared.node.Status.TheVariants.{Free, Held, Leaf};
 ghost use Rattle.tree_core.specs.Cores.{LacksRoom, held_count};
 ghost use Rattle.tree_core.specs.Covers.{Partition};
 ghost use Rattle.tree_core.specs.Replays.{IsFit, Replays, is_allowed, noted};
@@ -220,24 +220,25 @@ impl<W: Work> Tree<W> {
         ensures right { IsLeafRight (W.rules self.now.worker) self.now.story node result.now }
     {
         match self.core.content(node) {
-            Content::Shut(leaf) => leaf,
-            Content::Open(_) => unreachable!(),
+            Some(Content::Shut(leaf)) => leaf,
+            Some(Content::Open(_)) | None => unreachable!(),
         }
     }
 }
 
-// The state of a node that has one.
+// The state of a free node.
 fn state_of<S: Placed, L: Placed>(
     core: &Core<Content<S, L>>,
     node: usize,
 ) -> Result<Arc<S, Global>, NoMemory>
     requires there { node < length core.now.story.nodes }
+    requires free { status core.now.story node ≡ Free }
     requires open { HasState (λ _. Unit {0}) (content core.now.story node) }
     ensures { IfOk result (λ state. StateIs (content core.now.story node) (arc_value state)) }
 {
     match core.content(node) {
-        Content::Open(state) => Ok(Arc::try_clone(state)?),
-        Content::Shut(_) => unreachable!(),
+        Some(Content::Open(state)) => Ok(Arc::try_clone(state)?),
+        Some(Content::Shut(_)) | None => unreachable!(),
     }
 }
 

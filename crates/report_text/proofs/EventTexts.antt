@@ -3,7 +3,7 @@ use Rattle.std.proofs.Math.Seq.{drop-cons}
 use Rattle.std.proofs.lemmas.List.{append-nil, drop_all}
 use Rattle.tree_core.specs.declared.cause.Cause.{Cause}
 use Rattle.tree_core.specs.declared.event.Event.{Event}
-use Rattle.tree_core.specs.declared.node.Node.{Node}
+use Rattle.tree_core.specs.Nodes.{Node}
 use Rattle.fork_spec.specs.Walks.{Side}
 use Rattle.fork_spec.specs.Written.{born_by, lines_from, nodes_after, written}
 use Rattle.report_text.specs.Events.{actors_text, cut_text, deed_text, events_text, sides_text}

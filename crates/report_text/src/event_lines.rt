@@ -48,10 +48,9 @@ fn choice_of(origin: Option<Origin>) -> Choice
 fn cut_of<R: Marked>(node: &Node<R>) -> Option<Cause>
     ensures { result ≡ (if node.now.is_leaf then R.cut node.now.content else None) }
 {
-    if node.is_leaf {
-        node.content.cut()
-    } else {
-        None
+    match node.leaf() {
+        Some(leaf) => leaf.cut(),
+        None => None,
     }
 }
 
@@ -61,7 +60,7 @@ fn side_string<R: Marked>(alloc: Global, node: &Node<R>) -> Result<String, NoMem
 {
     let mark = mark_string(alloc, cut_of(node))?;
     let mut text = String::from_str(alloc, " ")?;
-    write_choice(alloc, &mut text, choice_of(node.origin))?;
+    write_choice(alloc, &mut text, choice_of(node.origin()))?;
     text.push_str(&mark)?;
     Ok(text)
 }

@@ -6,20 +6,20 @@ use Rattle.tree_core.specs.declared.event.Event.{Event}
 use Rattle.tree_core.specs.declared.event.Deed.{Deed}
 use Rattle.tree_core.specs.declared.event.Deed.TheVariants.{Claim, Split, Finish, Cut, Release}
 use Rattle.tree_core.specs.declared.event.Kid.{Kid}
-use Rattle.tree_core.specs.declared.node.Node.{Node}
+use Rattle.tree_core.specs.Nodes.{Node}
 use Rattle.tree_core.specs.declared.node.Status.{Status}
 use Rattle.tree_core.specs.declared.node.Status.TheVariants.{Free, Held, Leaf}
 use Rattle.tree_core.specs.Stories.{Story, status, status_by, born_as, left_by, last_on, IsClaimBy, LastIsClaim}
 use Rattle.tree_core.specs.Covers.{one_if, covered, standing_count}
-use Rattle.tree_core.specs.Replays.{noted_all, Replays, AreFit, IsFit, is_allowed, after, after_all, noted, opening, kids_of, births}
-use Rattle.tree_core.specs.Cores.{IsCore, takes, ends}
+use Rattle.tree_core.specs.Replays.{noted_all, Replays, AreFit, IsFit, is_allowed, after, after_all, noted, opening, deed_kept, kids_of, births}
+use Rattle.tree_core.specs.Cores.{IsCore, let_go, takes, ends, unworked_of}
 use Rattle.tree_core.proofs.Places.{get_before}
 use Rattle.tree_core.proofs.Keeping.{core-noted, core-opened, ends-held}
 
 module _ {R : Type 0} (covers : R → List ℕ → Bool) where
   -- a story that events made
   pub Made : Story R → Type 0
-  Made s = (latest : List (Option ℕ)) × (held : ℕ) × IsCore covers s latest held
+  Made s = (latest : List (Option ℕ)) × (contents : List (Option R)) × (held : ℕ) × IsCore covers s latest contents held
 
   made_after : (s : Story R) (e : Event R (Vec (Kid R))) → IsFit covers s e → Made s → Made (after s e)
   unfolding Made
@@ -29,10 +29,11 @@ module _ {R : Type 0} (covers : R → List ℕ → Bool) where
       balance a b h le = omega arith
 
       by_guard : (b : Bool) → is_allowed s e ≡ b → Made (cond b (noted s e) s)
-      by_guard true may = let held : ℕ = m.1 in let low : ends e.deed ≤ held = ends-held covers s m.0 held e m.2 fit.0 may in (
+      by_guard true may = let held : ℕ = m.2 in let low : ends e.deed ≤ held = ends-held covers s m.0 m.1 held e m.3 fit.0 may in (
         set (m.0 ++ map (λ _. None) (kids_of e.deed)) e.node (Some (length s.events)),
+        let_go (deed_kept e.deed) e.node (m.1 ++ map (λ (kid : Kid R). unworked_of kid.is_leaf kid.content) (kids_of e.deed)),
         held + takes e.deed - ends e.deed,
-        core-noted covers s m.0 held (held + takes e.deed - ends e.deed) e m.2 fit may (balance (ends e.deed) (takes e.deed) held low),
+        core-noted covers s m.0 m.1 held (held + takes e.deed - ends e.deed) e m.3 fit may (balance (ends e.deed) (takes e.deed) held low),
       )
       by_guard false may = m
 
@@ -40,9 +41,9 @@ module _ {R : Type 0} (covers : R → List ℕ → Bool) where
   made_after_all s [] fit m = m
   made_after_all s (e ∷ es) fit m = made_after_all (after s e) es fit.1 (made_after s e fit.0 m)
 
-  pub core_of : (root : R) (es : List (Event R (Vec (Kid R)))) → AreFit covers (opening root false) es → (latest : List (Option ℕ)) × (held : ℕ) × IsCore covers (after_all (opening root false) es) latest held
+  pub core_of : (root : R) (es : List (Event R (Vec (Kid R)))) → AreFit covers (opening root false) es → (latest : List (Option ℕ)) × (contents : List (Option R)) × (held : ℕ) × IsCore covers (after_all (opening root false) es) latest contents held
   unfolding Made
-  core_of root es fit = made_after_all (opening root false) es fit (None ∷ [], 0, core-opened covers root false)
+  core_of root es fit = made_after_all (opening root false) es fit (None ∷ [], Some root ∷ [], 0, core-opened covers root false)
 
   -- the root stays
   pub root_after : (s : Story R) (es : List (Event R (Vec (Kid R)))) (n : Node R) → slice_get s.nodes 0 ≡ Some n → slice_get (after_all s es).nodes 0 ≡ Some n
@@ -54,7 +55,7 @@ module _ {R : Type 0} (covers : R → List ℕ → Bool) where
       by_guard false = at
 
   pub exactly_one : (root : R) (es : List (Event R (Vec (Kid R)))) (input : List ℕ) → AreFit covers (opening root false) es → IsTrue (covers root input) → standing_count covers (after_all (opening root false) es) input ≡ 1
-  exactly_one root es input fit covered_by = (core_of root es fit).2.partition input
+  exactly_one root es input fit covered_by = (core_of root es fit).3.partition input
       ∙ (ap (λ (o : Option (Node R)). one_if (covered covers (option_map (λ n. n.content) o) input)) (root_after (opening root false) es (record { origin = None; content = root; is_leaf = false }) refl) ∙ ap one_if covered_by)
 
 module _ {R : Type 0} where

@@ -9,16 +9,17 @@ use Rattle.std.specs.List.{All, slice_get}
 use Rattle.std.specs.Global.{Vec}
 use Rattle.tree_core.specs.declared.event.Event.{Event}
 use Rattle.tree_core.specs.declared.event.Kid.{Kid}
-use Rattle.tree_core.specs.declared.node.Node.{Node}
+use Rattle.tree_core.specs.Nodes.{Node}
 use Rattle.tree_core.specs.declared.node.Origin.{Origin}
 use Rattle.tree_core.specs.declared.node.Status.TheVariants.{Free, Leaf}
 use Rattle.tree_core.specs.Stories.{Story, status, last_on}
 use Rattle.tree_core.specs.Covers.{one_if, is_live}
-use Rattle.tree_core.specs.Replays.{is_allowed, IsFit, births, kids_of, kept, noted, node_of, noted_all, AllMayCome, Replays, opening}
-use Rattle.tree_core.specs.Cores.{IsCore, IsLast, is_held, held_count, takes, ends}
+use Rattle.tree_core.specs.Replays.{is_allowed, IsFit, births, deed_kept, kids_of, kept, noted, node_of, noted_all, AllMayCome, Replays, opening}
+use Rattle.tree_core.specs.Cores.{IsCore, IsLast, is_held, held_count, let_go, takes, ends, unworked, unworked_of}
 use Rattle.tree_core.proofs.Counting.{count_at}
 use Rattle.tree_core.proofs.Places.{get_set, get_before, get_behind, get_last, last_on-push}
 use Rattle.tree_core.proofs.Standing.{kid_unnamed}
+use Rattle.tree_core.proofs.Letting.{born_unworked, holds-noted, length-let_go}
 use Rattle.tree_core.proofs.Sharing.{partition-noted, held_count-noted, ends-before}
 
 module _ {R : Type 0} (covers : R → List ℕ → Bool) where
@@ -42,6 +43,11 @@ module _ {R : Type 0} (covers : R → List ℕ → Bool) where
 module _ {R : Type 0} where
   long-noted : (s : Story R) (e : Event R (Vec (Kid R))) → length (noted s e).nodes ≡ length s.nodes + length (kids_of e.deed)
   long-noted s e = length-append s.nodes (births e.node e.deed) ∙ ap (λ k. length s.nodes + k) (length-map (kids_of e.deed) (node_of e.node))
+
+  wide-noted : (s : Story R) (e : Event R (Vec (Kid R))) (contents : List (Option R)) → length contents ≡ length s.nodes
+      → length (let_go (deed_kept e.deed) e.node (contents ++ map (λ (kid : Kid R). unworked_of kid.is_leaf kid.content) (kids_of e.deed))) ≡ length (noted s e).nodes
+  wide-noted s e contents wide = let own : Kid R → Option R = λ kid. unworked_of kid.is_leaf kid.content in
+      length-let_go (deed_kept e.deed) e.node (contents ++ map own (kids_of e.deed)) ∙ (length-append contents (map own (kids_of e.deed)) ∙ ((λ i. wide i + length-map (kids_of e.deed) own i) ∙ sym (long-noted s e)))
 
   named-noted : (s : Story R) (e : Event R (Vec (Kid R))) → All (λ (x : Event R ℕ). x.node < length s.nodes) s.events → e.node < length s.nodes → All (λ (x : Event R ℕ). x.node < length (noted s e).nodes) (noted s e).events
   named-noted s e named there = let long = long-noted s e in
@@ -88,15 +94,18 @@ module _ {R : Type 0} where
       last_stays s e k o apart (last k o (sym (get_before latest nones k low) ∙ old))))
 
 module _ {R : Type 0} (covers : R → List ℕ → Bool) where
-  pub core-noted : (s : Story R) (latest : List (Option ℕ)) (held more : ℕ) (e : Event R (Vec (Kid R))) → IsCore covers s latest held → IsFit covers s e → IsTrue (is_allowed s e) → more + ends e.deed ≡ held + takes e.deed
-      → IsCore covers (noted s e) (set (latest ++ map (λ _. None) (kids_of e.deed)) e.node (Some (length s.events))) more
-  core-noted s latest held more e t fit may counts = record {
+  pub core-noted : (s : Story R) (latest : List (Option ℕ)) (contents : List (Option R)) (held more : ℕ) (e : Event R (Vec (Kid R))) → IsCore covers s latest contents held → IsFit covers s e → IsTrue (is_allowed s e) → more + ends e.deed ≡ held + takes e.deed
+      → IsCore covers (noted s e) (set (latest ++ map (λ _. None) (kids_of e.deed)) e.node (Some (length s.events)))
+      (let_go (deed_kept e.deed) e.node (contents ++ map (λ (kid : Kid R). unworked_of kid.is_leaf kid.content) (kids_of e.deed))) more
+  core-noted s latest contents held more e t fit may counts = record {
     replays = replays-noted covers s e t.replays fit may;
     partition = partition-noted covers s e t.partition t.named fit may;
     named = named-noted s e t.named fit.0;
     older = older-noted s e t.older fit.0;
     long = length-set (latest ++ map (λ _. None) (kids_of e.deed)) e.node (Some (length s.events)) ∙ (length-append latest (map (λ _. None) (kids_of e.deed)) ∙ ((λ i. t.long i + length-map {B = Option ℕ} (kids_of e.deed) (λ _. None) i) ∙ sym (long-noted s e)));
     last = last-noted s e latest t.last t.long t.named fit.0;
+    wide = wide-noted s e contents t.wide;
+    holds = holds-noted s e contents t.holds t.wide t.named fit.0 may;
     counted = balanced more (ends e.deed) held (takes e.deed) (held_count (noted s e)) (held_count s) counts (held_count-noted s e t.named fit.0 may) t.counted;
   }
     where
@@ -104,8 +113,8 @@ module _ {R : Type 0} (covers : R → List ℕ → Bool) where
       balanced more d held t after before x y z = omega arith
 
   -- a node that a worker gives back is held
-  pub ends-held : (s : Story R) (latest : List (Option ℕ)) (held : ℕ) (e : Event R (Vec (Kid R))) → IsCore covers s latest held → e.node < length s.nodes → IsTrue (is_allowed s e) → ends e.deed ≤ held
-  ends-held s latest held e t there may = subst (λ (k : ℕ). ends e.deed ≤ k) (sym t.counted)
+  pub ends-held : (s : Story R) (latest : List (Option ℕ)) (contents : List (Option R)) (held : ℕ) (e : Event R (Vec (Kid R))) → IsCore covers s latest contents held → e.node < length s.nodes → IsTrue (is_allowed s e) → ends e.deed ≤ held
+  ends-held s latest contents held e t there may = subst (λ (k : ℕ). ends e.deed ≤ k) (sym t.counted)
       (subst (λ (k : ℕ). k ≤ held_count s) (ends-before (status s e.node) e.by e.deed may) (count_at (λ m. is_held (status s m)) (length s.nodes) e.node there))
 
   birth_shared : (input : List ℕ) (root : R) (is_leaf : Bool) → 0 + one_if (is_live (cond is_leaf Leaf Free) && covers root input) ≡ one_if (covers root input)
@@ -132,7 +141,11 @@ module _ {R : Type 0} (covers : R → List ℕ → Bool) where
   no_last root is_leaf zero (Some k) at = cc
   no_last root is_leaf (suc m) o at = cc
 
-  pub core-opened : (root : R) (is_leaf : Bool) → IsCore covers (opening root is_leaf) (None ∷ []) 0
+  first_content : (root : R) (is_leaf : Bool) (m : ℕ) (o : Option R) → slice_get (unworked_of is_leaf root ∷ []) m ≡ Some o → o ≡ unworked (opening root is_leaf) m
+  first_content root is_leaf zero o at = let is : unworked_of is_leaf root ≡ o = cc in sym is ∙ born_unworked is_leaf root
+  first_content root is_leaf (suc m) o at = cc
+
+  pub core-opened : (root : R) (is_leaf : Bool) → IsCore covers (opening root is_leaf) (None ∷ []) (unworked_of is_leaf root ∷ []) 0
   core-opened root is_leaf = record {
     replays = (root, is_leaf, [], tt, refl);
     partition = λ input. birth_shared input root is_leaf;
@@ -140,5 +153,7 @@ module _ {R : Type 0} (covers : R → List ℕ → Bool) where
     older = only_root root is_leaf;
     long = refl;
     last = no_last root is_leaf;
+    wide = refl;
+    holds = first_content root is_leaf;
     counted = none_held is_leaf;
   }

@@ -2,6 +2,7 @@ pub mod Counting
 pub mod Places
 pub mod Standing
 pub mod Sharing
+pub mod Letting
 pub mod Keeping
 pub mod Rooms
 pub mod Histories

@@ -1,16 +1,16 @@
 -- Where no memory was found, and what an event that was allowed takes.
-use Rattle.std.proofs.Common.{◌≡◌, ℕ, ◌+◌, ◌-◌, ◌<◌, min, Bool, true, IsTrue, Option, List, length, sym, ap, ◌∙◌, arith}
+use Rattle.std.proofs.Common.{◌≡◌, ℕ, ◌+◌, ◌-◌, ◌<◌, Bool, true, IsTrue, Option, List, length, sym, ap, ◌∙◌, subst, arith}
 use Rattle.std.specs.Global.{Vec}
 use Rattle.std.specs.Vec.{vec_capacity, vec_len}
 use Rattle.tree_core.specs.declared.event.Event.{Event}
 use Rattle.tree_core.specs.declared.event.Deed.{Deed}
 use Rattle.tree_core.specs.declared.event.Deed.TheVariants.{Claim, Split, Finish, Cut, Release}
 use Rattle.tree_core.specs.declared.event.Kid.{Kid}
-use Rattle.tree_core.specs.declared.node.Node.{Node}
+use Rattle.tree_core.specs.Nodes.{Node}
 use Rattle.tree_core.specs.declared.node.Status.{Status}
 use Rattle.tree_core.specs.Stories.{Story, status}
 use Rattle.tree_core.specs.Replays.{allows, is_allowed}
-use Rattle.tree_core.specs.Cores.{LacksRoom, NoRoom}
+use Rattle.tree_core.specs.Cores.{LacksRoom, NoRoom, spare_nodes}
 
 module _ {R : Type 0} where
   pub may_come : (s : Story R) (e : Event R (Vec (Kid R))) (nodes : List (Node R)) (events : List (Event R ℕ)) (st : Status) (b : Bool) → nodes ≡ s.nodes → events ≡ s.events
@@ -19,13 +19,11 @@ module _ {R : Type 0} where
       let here : st ≡ status s e.node = is ∙ (λ k. status (record { nodes = n k; events = v k }) e.node) in
       ap (λ (x : Status). allows x e.by e.deed) (sym here) ∙ (sym test ∙ passed)
 
-  pub lacks_room : (nodes : Vec (Node R)) (latest : Vec (Option ℕ)) (events : Vec (Event R ℕ)) (held : ℕ) (d : Deed R (Vec (Kid R))) → NoRoom nodes latest events held d
-      → LacksRoom (record { story = record { nodes = nodes.items; events = events.items }; node_room = min (vec_capacity nodes - length nodes.items) (vec_capacity latest - length latest.items); event_room = vec_capacity events - (length events.items + held) }) d
-  lacks_room nodes latest events held Claim full = let long : vec_len events ≡ length events.items = events.ok.0 in let full' : vec_capacity events < vec_len events + held + 2 = full in
+  pub lacks_room : (nodes : Vec (Node R)) (latest : Vec (Option ℕ)) (contents : Vec (Option R)) (events : Vec (Event R ℕ)) (held : ℕ) (d : Deed R (Vec (Kid R))) → NoRoom nodes latest contents events held d
+      → LacksRoom (record { story = record { nodes = nodes.items; events = events.items }; node_room = spare_nodes nodes latest contents; event_room = vec_capacity events - (length events.items + held) }) d
+  lacks_room nodes latest contents events held Claim full = let long : vec_len events ≡ length events.items = events.ok.0 in let full' : vec_capacity events < vec_len events + held + 2 = full in
       let goal : vec_capacity events - (length events.items + held) < 2 = omega arith in goal
-  lacks_room nodes latest events held (Split kids) full = let long : vec_len nodes ≡ length nodes.items = nodes.ok.0 in let long' : vec_len latest ≡ length latest.items = latest.ok.0 in let many : vec_len kids ≡ length kids.items = kids.ok.0 in
-      let full' : min (vec_capacity nodes - vec_len nodes) (vec_capacity latest - vec_len latest) < vec_len kids = full in
-      let goal : min (vec_capacity nodes - length nodes.items) (vec_capacity latest - length latest.items) < length kids.items = omega arith in goal
-  lacks_room nodes latest events held (Finish r) full = absurd full
-  lacks_room nodes latest events held (Cut r) full = absurd full
-  lacks_room nodes latest events held Release full = absurd full
+  lacks_room nodes latest contents events held (Split kids) full = subst (λ (k : ℕ). spare_nodes nodes latest contents < k) kids.ok.0 full
+  lacks_room nodes latest contents events held (Finish r) full = absurd full
+  lacks_room nodes latest contents events held (Cut r) full = absurd full
+  lacks_room nodes latest contents events held Release full = absurd full

@@ -1,4 +1,5 @@
 pub mod Choices
+pub mod Nodes
 pub mod Stories
 pub mod Covers
 pub mod Replays

@@ -33,7 +33,7 @@ pub struct Kid<R> {
     pub is_leaf: bool,
 }
 
-/// An event as it is noted. The contents of a split's kids move into the nodes that they become, which are the next ones in
+/// An event as it is noted. The contents of a split's kids go with the nodes that they become, which are the next ones in
 /// their order, so their number is all that is kept here. A leaf's content stays in the event that made it: so nodes never
 /// change, and whoever has seen some of the nodes and events knows them for good.
 pub type Noted<R> = Event<R, usize>;

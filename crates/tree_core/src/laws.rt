@@ -7,7 +7,7 @@ ghost use Rattle.tree_core.specs.Covers.{Partition, standing_count};
 ghost use Rattle.tree_core.specs.Replays.{AreFit, Replays, after, after_all, is_allowed, opening};
 ghost use Rattle.tree_core.specs.declared.event.Event.{Event};
 ghost use Rattle.tree_core.specs.declared.event.Kid.{Kid};
-ghost use Rattle.tree_core.specs.declared.node.Node.{Node};
+ghost use Rattle.tree_core.specs.Nodes.{Node};
 ghost use Rattle.tree_core.specs.declared.node.Status.TheVariants.{Held};
 
 use crate::cover::Cover;

@@ -1,41 +1,44 @@
-//! The core of a fork tree: its nodes and events, both of which only grow.
+//! The core of a fork tree: its nodes and events, both of which only grow, and what the nodes hold on which there is work left.
 
-ghost use Rattle.std.specs.Prelude.{◌≡◌, ◌≢◌, ◌<◌, ◌≤◌, ◌↔◌, Some, Err, IsTrue, IsFalse, All, length, option_map, OnOk, OnErr, IfOk, IfSome};
+ghost use Rattle.std.specs.Prelude.{◌≡◌, ◌≢◌, ◌<◌, ◌≤◌, ◌↔◌, Some, Err, IsTrue, IsFalse, All, length, option_map, OnOk, OnErr, IfOk, IfSome, IsNone, Option, option_copied};
 ghost use Rattle.tree_core.specs.Stories.{status, content, origin, left_by, born_as, content_by};
+ghost use Rattle.tree_core.specs.declared.node.Status.TheVariants.{Parted};
 ghost use Rattle.tree_core.specs.Covers.{Partition};
 ghost use Rattle.tree_core.specs.Replays.{IsFit, Replays, is_allowed, noted, after, opening};
-ghost use Rattle.tree_core.specs.Cores.{LacksRoom, IsLast, held_count};
+ghost use Rattle.tree_core.specs.Cores.{LacksRoom, IsLast, held_count, if_leaf};
 
 use crate::choice::Choice;
 use crate::cover::Cover;
-use crate::deed::{bear, held_after, make_room};
+use crate::deed::{bear, held_after, let_go, make_room};
 use crate::event::{Deed, Event, Noted};
-use crate::node::{Node, Status};
+use crate::node::{Node, Status, newborn};
 use crate::refusal::Refusal;
 use std::alloc::{AllocError as NoMemory, Global};
 use std::marker::Model;
 
-/// A fork tree under its claim protocol. It keeps room for the event that ends each claim, so that only claims and splits
-/// may find no memory.
+/// A fork tree under its claim protocol. What a node holds is let go as the node is parted or becomes a leaf. Room is kept for
+/// the event that ends each claim, so that only claims and splits may find no memory.
 #[derive(Drop)]
 pub struct Core<R: Cover> {
     nodes: Vec<Node<R>>,
     events: Vec<Noted<R>>,
     // The place of the last event that names each node.
     latest: Vec<Option<usize>>,
+    // What each node holds that is free or held, and of any other node nothing.
+    contents: Vec<Option<R>>,
     // How many nodes are held.
     held: usize,
 }
 
 impl<R: Cover> Model for Core<R> {
-    ghost use Rattle.std.specs.Prelude.{◌+◌, ◌-◌, ◌≤◌, min, length, vec_capacity};
-    ghost use Rattle.tree_core.specs.Cores.{Kept, IsCore};
+    ghost use Rattle.std.specs.Prelude.{◌+◌, ◌-◌, ◌≤◌, length, vec_capacity};
+    ghost use Rattle.tree_core.specs.Cores.{Kept, IsCore, spare_nodes};
 
     ghost Value = { Kept R };
 
-    ghost view = { λ c. record { story = record { nodes = c.nodes.items; events = c.events.items }; node_room = min (vec_capacity c.nodes - length c.nodes.items) (vec_capacity c.latest - length c.latest.items); event_room = vec_capacity c.events - (length c.events.items + c.held) } };
+    ghost view = { λ c. record { story = record { nodes = c.nodes.items; events = c.events.items }; node_room = spare_nodes c.nodes c.latest c.contents; event_room = vec_capacity c.events - (length c.events.items + c.held) } };
 
-    ghost invariant = { λ c. IsCore R.covers (record { nodes = c.nodes.items; events = c.events.items }) c.latest.items c.held × (length c.events.items + c.held ≤ vec_capacity c.events) };
+    ghost invariant = { λ c. IsCore R.covers (record { nodes = c.nodes.items; events = c.events.items }) c.latest.items c.contents.items c.held × (length c.events.items + c.held ≤ vec_capacity c.events) };
 }
 
 impl<R: Cover> Core<R> {
@@ -45,16 +48,16 @@ impl<R: Cover> Core<R> {
     {
         let mut nodes = Vec::with_capacity(alloc, 1)?;
         let mut latest = Vec::with_capacity(alloc, 1)?;
-        nodes.push_reserved(Node {
-            origin: None,
-            content: root,
-            is_leaf,
-        });
+        let mut contents = Vec::with_capacity(alloc, 1)?;
+        let (node, content) = newborn(None, root, is_leaf);
+        nodes.push_reserved(node);
         latest.push_reserved(None);
+        contents.push_reserved(content);
         Ok(Core {
             nodes,
             events: Vec::new(alloc),
             latest,
+            contents,
             held: 0,
         })
     }
@@ -82,12 +85,20 @@ impl<R: Cover> Core<R> {
         make_room(
             &mut self.nodes,
             &mut self.latest,
+            &mut self.contents,
             &mut self.events,
             self.held,
             &deed,
         )?;
         self.held = held_after(self.held, &deed);
-        let deed = bear(&mut self.nodes, &mut self.latest, node, deed);
+        let deed = bear(
+            &mut self.nodes,
+            &mut self.latest,
+            &mut self.contents,
+            node,
+            deed,
+        );
+        let_go(&mut self.contents, node, &deed);
         self.latest[node] = Some(self.events.len());
         self.events.push_reserved(Event { by, node, deed });
         Ok(())
@@ -101,12 +112,17 @@ impl<R: Cover> Core<R> {
         status_at(&self.nodes, &self.events, self.latest[node], node)
     }
 
-    /// What the node holds: the content that it was finished or cut with, else that of its birth.
-    pub fn content(&self, node: usize) -> &R
+    /// What the node holds: the content that it was finished or cut with, else that of its birth. None of a parted node, whose
+    /// content was let go.
+    pub fn content(&self, node: usize) -> Option<&R>
         requires there { node < length self.now.story.nodes }
-        ensures { content self.now.story node ≡ Some result.now }
+        ensures value { IfSome result (λ held. content self.now.story node ≡ Some held.now) }
+        ensures none { IsNone result ↔ (status self.now.story node ≡ Parted) }
     {
-        content_at(&self.nodes, &self.events, self.latest[node], node)
+        match leaf_at(&self.nodes, &self.events, self.latest[node], node) {
+            Some(leaf) => Some(leaf),
+            None => self.contents[node].as_ref(),
+        }
     }
 
     /// Whose kid the node is: None for the root alone. A parent's number is below its kids'.
@@ -115,7 +131,8 @@ impl<R: Cover> Core<R> {
         ensures value { result ≡ option_map (λ o. o.parent) (origin self.now.story node) }
         ensures older { IfSome result (λ parent. parent < node) }
     {
-        self.nodes[node].origin.map(|origin| origin.parent)
+        let node = &self.nodes[node];
+        node.origin().map(|origin| origin.parent)
     }
 
     /// On which side of its parent's fork the node is: None for the root alone.
@@ -123,7 +140,8 @@ impl<R: Cover> Core<R> {
         requires there { node < length self.now.story.nodes }
         ensures { result ≡ option_map (λ o. o.choice) (origin self.now.story node) }
     {
-        self.nodes[node].origin.map(|origin| origin.choice)
+        let node = &self.nodes[node];
+        node.origin().map(|origin| origin.choice)
     }
 
     /// Finds room for so many kids, for a claim and for the event that ends it.
@@ -137,6 +155,7 @@ impl<R: Cover> Core<R> {
         };
         self.nodes.reserve(kids)?;
         self.latest.reserve(kids)?;
+        self.contents.reserve(kids)?;
         self.events.reserve(events)
     }
 
@@ -196,7 +215,7 @@ fn left_by<R>(event: &Noted<R>) -> Status
 fn born_as<R>(node: &Node<R>) -> Status
     ensures { result ≡ born_as (Some node.now) }
 {
-    if node.is_leaf {
+    if node.is_leaf() {
         Status::Leaf
     } else {
         Status::Free
@@ -215,30 +234,32 @@ fn status_at<R>(nodes: &[Node<R>], events: &[Noted<R>], last: Option<usize>, nod
     }
 }
 
-// What a deed leaves in a node that was born with this content.
-fn content_by<'a, R>(birth: &'a R, deed: &'a Deed<R, usize>) -> &'a R
-    ensures { content_by (Some birth.now) deed.now ≡ Some result.now }
+// The leaf that an event makes of its node.
+fn leaf_by<R>(event: &Noted<R>) -> Option<&R>
+    ensures { (birth : Option R) → option_copied result ≡ if_leaf (left_by event.now.by event.now.deed) (content_by birth event.now.deed) }
 {
-    match deed {
-        Deed::Finish(leaf) | Deed::Cut(leaf) => leaf,
-        _ => birth,
+    match &event.deed {
+        Deed::Finish(leaf) | Deed::Cut(leaf) => Some(leaf),
+        Deed::Claim | Deed::Split(_) | Deed::Release => None,
     }
 }
 
-// What the node holds, by the place of the last event that names it.
-fn content_at<'a, R>(
+// What the node holds where it's a leaf, by the place of the last event that names it.
+fn leaf_at<'a, R>(
     nodes: &'a [Node<R>],
     events: &'a [Noted<R>],
     last: Option<usize>,
     node: usize,
-) -> &'a R
+) -> Option<&'a R>
     requires there { node < length nodes.now }
     requires last { IsLast (record { nodes = nodes.now; events = events.now }) node last }
-    ensures { content (record { nodes = nodes.now; events = events.now }) node ≡ Some result.now }
+    ensures { option_copied result ≡ if_leaf (status (record { nodes = nodes.now; events = events.now }) node) (content (record { nodes = nodes.now; events = events.now }) node) }
 {
-    let birth = &nodes[node].content;
     match last {
-        Some(place) => content_by(birth, &events[place].deed),
-        None => birth,
+        Some(place) => leaf_by(&events[place]),
+        None => {
+            let birth = &nodes[node];
+            birth.leaf()
+        }
     }
 }

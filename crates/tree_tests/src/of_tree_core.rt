@@ -1,10 +1,12 @@
 //! The protocol by worked rows: claims that are held, released and ended, and a split.
 
-ghost use Rattle.std.specs.Prelude.{◌≤◌, ◌&&◌, Some, IfOk, length, nat_le, nat_lt};
+ghost use Rattle.std.specs.Prelude.{◌≡◌, ◌<◌, ◌≤◌, ◌&&◌, Some, IfOk, length, nat_le, nat_lt, true};
 ghost use Rattle.tree_core.specs.Covers.{Parts};
+ghost use Rattle.tree_core.specs.Stories.{content};
 
 use std::alloc::{AllocError, Global};
 use std::process::Abort;
+use std::sync::Arc;
 use std::test::Fail;
 use tree_core::{Choice, Core, Cover, Deed, Event, Kid, Refusal, Status};
 
@@ -21,7 +23,12 @@ impl Cover for Band {
 
 const ALL: Band = Band { low: 0, high: 9 };
 
-fn claim(rt: &impl Abort, core: &mut Core<Band>, by: u32, node: usize) -> Result<(), Refusal> {
+fn claim<R: Cover>(
+    rt: &impl Abort,
+    core: &mut Core<R>,
+    by: u32,
+    node: usize,
+) -> Result<(), Refusal> {
     assert!(rt; node < core.len());
     core.apply(Event {
         by,
@@ -30,7 +37,12 @@ fn claim(rt: &impl Abort, core: &mut Core<Band>, by: u32, node: usize) -> Result
     })
 }
 
-fn release(rt: &impl Abort, core: &mut Core<Band>, by: u32, node: usize) -> Result<(), Refusal> {
+fn release<R: Cover>(
+    rt: &impl Abort,
+    core: &mut Core<R>,
+    by: u32,
+    node: usize,
+) -> Result<(), Refusal> {
     assert!(rt; node < core.len());
     core.apply(Event {
         by,
@@ -39,9 +51,20 @@ fn release(rt: &impl Abort, core: &mut Core<Band>, by: u32, node: usize) -> Resu
     })
 }
 
-fn finish(rt: &impl Abort, core: &mut Core<Band>, by: u32, node: usize) -> Result<(), Refusal> {
+// What a node holds that isn't parted.
+fn held(rt: &impl Abort, core: &Core<Band>, node: usize) -> Band
+    ensures there { node < length core.now.story.nodes }
+    ensures value { content core.now.story node ≡ Some result }
+{
     assert!(rt; node < core.len());
-    let leaf = *core.content(node);
+    let Some(band) = core.content(node) else {
+        panic!(rt; "the node is parted");
+    };
+    *band
+}
+
+fn finish(rt: &impl Abort, core: &mut Core<Band>, by: u32, node: usize) -> Result<(), Refusal> {
+    let leaf = held(rt, core, node);
     core.apply(Event {
         by,
         node,
@@ -50,8 +73,7 @@ fn finish(rt: &impl Abort, core: &mut Core<Band>, by: u32, node: usize) -> Resul
 }
 
 fn cut(rt: &impl Abort, core: &mut Core<Band>, by: u32, node: usize) -> Result<(), Refusal> {
-    assert!(rt; node < core.len());
-    let leaf = *core.content(node);
+    let leaf = held(rt, core, node);
     core.apply(Event {
         by,
         node,
@@ -88,8 +110,7 @@ fn split(
     by: u32,
     node: usize,
 ) -> Result<(), Refusal> {
-    assert!(rt; node < core.len());
-    let band = *core.content(node);
+    let band = held(rt, core, node);
     assert!(rt; band.low <= 4 && 4 <= band.high);
     let kids = halves(alloc, band, 4)?;
     core.apply(Event {
@@ -124,7 +145,7 @@ fn a_claim_is_one_workers(rt: HostRuntime) -> Result<(), Fail> {
     Ok(())
 }
 
-type Seen = (Status, Option<usize>, Option<Choice>, Band);
+type Seen = (Status, Option<usize>, Option<Choice>, Option<Band>);
 
 fn seen(rt: &impl Abort, core: &Core<Band>, node: usize) -> Seen {
     assert!(rt; node < core.len());
@@ -132,7 +153,7 @@ fn seen(rt: &impl Abort, core: &Core<Band>, node: usize) -> Seen {
         core.status(node),
         core.parent(node),
         core.choice(node),
-        *core.content(node),
+        core.content(node).copied(),
     )
 }
 
@@ -156,11 +177,103 @@ fn kids_stand_for_what_was_split(rt: HostRuntime) -> Result<(), Fail> {
 
     let (low, high) = (Band { low: 0, high: 4 }, Band { low: 4, high: 9 });
     for (node, want) in [
-        (0, (Status::Parted, None, None, ALL)),
-        (1, (Status::Leaf, Some(0), Some(Choice::No), low)),
-        (2, (Status::Leaf, Some(0), Some(Choice::Yes), high)),
+        (0, (Status::Parted, None, None, None)),
+        (1, (Status::Leaf, Some(0), Some(Choice::No), Some(low))),
+        (2, (Status::Leaf, Some(0), Some(Choice::Yes), Some(high))),
     ] {
         assert_eq!(rt; seen(&rt, &core, node), want);
     }
+    Ok(())
+}
+
+/// A share of a state. It covers every assignment.
+#[derive(Drop)]
+struct Share(Arc<u32, Global>);
+
+impl Cover for Share {
+    ghost covers = { λ share input. true };
+}
+
+fn state(alloc: Global) -> Result<Arc<u32, Global>, AllocError> {
+    Ok(Arc::new(alloc, 0)?)
+}
+
+// The kids of a fork with one side.
+fn only_side(alloc: Global, state: &Arc<u32, Global>) -> Result<Vec<Kid<Share>>, AllocError>
+    ensures { IfOk result (λ kids. (old : Share) → Parts ⟦<Share as Cover>⟧.covers (Some old) kids.items) }
+{
+    let content = Share(Arc::try_clone(state)?);
+    let mut kids = Vec::with_capacity(alloc, 1)?;
+    kids.push_reserved(Kid {
+        choice: Choice::Rest,
+        content,
+        is_leaf: false,
+    });
+    Ok(kids)
+}
+
+// Parts a node into one kid, which gets a share of the state.
+fn pass_on(
+    rt: &impl Abort,
+    alloc: Global,
+    core: &mut Core<Share>,
+    node: usize,
+    state: &Arc<u32, Global>,
+) -> Result<(), Refusal> {
+    assert!(rt; node < core.len());
+    let Some(_) = core.content(node) else {
+        panic!(rt; "the node is parted");
+    };
+    let kids = only_side(alloc, state)?;
+    core.apply(Event {
+        by: 0,
+        node,
+        deed: Deed::Split(kids),
+    })
+}
+
+// Makes a node a leaf, which gets a share of the state.
+fn end(
+    rt: &impl Abort,
+    core: &mut Core<Share>,
+    node: usize,
+    state: &Arc<u32, Global>,
+) -> Result<(), Refusal> {
+    assert!(rt; node < core.len());
+    let Some(_) = core.content(node) else {
+        panic!(rt; "the node is parted");
+    };
+    let leaf = Share(Arc::try_clone(state)?);
+    core.apply(Event {
+        by: 0,
+        node,
+        deed: Deed::Finish(leaf),
+    })
+}
+
+#[test]
+fn what_a_node_held_is_let_go(rt: HostRuntime) -> Result<(), Fail> {
+    let alloc = rt.alloc();
+    let (first, second, last) = (state(alloc)?, state(alloc)?, state(alloc)?);
+    let root = Share(Arc::try_clone(&first)?);
+    let mut core = Core::new(alloc, root, false)?;
+    assert_eq!(rt; claim(&rt, &mut core, 0, 0), Ok(()));
+    assert_eq!(rt; Arc::strong_count(&first), 2);
+    assert_eq!(rt; pass_on(&rt, alloc, &mut core, 0, &second), Ok(()));
+    // The root is parted: its share is gone.
+    assert_eq!(rt;
+        (Arc::strong_count(&first), Arc::strong_count(&second)),
+        (1, 2)
+    );
+    assert_eq!(rt; claim(&rt, &mut core, 0, 1), Ok(()));
+    assert_eq!(rt; release(&rt, &mut core, 0, 1), Ok(()));
+    assert_eq!(rt; claim(&rt, &mut core, 0, 1), Ok(()));
+    assert_eq!(rt; Arc::strong_count(&second), 2);
+    assert_eq!(rt; end(&rt, &mut core, 1, &last), Ok(()));
+    // The kid is a leaf: the share of its birth is gone, and that of the leaf is kept.
+    assert_eq!(rt;
+        (Arc::strong_count(&second), Arc::strong_count(&last)),
+        (1, 2)
+    );
     Ok(())
 }

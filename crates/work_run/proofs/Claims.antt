@@ -6,7 +6,7 @@ use Rattle.tree_core.specs.Cores.{held_count, is_held}
 use Rattle.tree_core.specs.Replays.{Replays}
 use Rattle.tree_core.specs.Stories.{IsClaimBy, Story, content, last_on, status}
 use Rattle.tree_core.specs.declared.event.Event.{Event}
-use Rattle.tree_core.specs.declared.node.Node.{Node}
+use Rattle.tree_core.specs.Nodes.{Node}
 use Rattle.tree_core.specs.declared.node.Status.{Status}
 use Rattle.tree_core.specs.declared.node.Status.TheVariants.{Free, Held, Parted, Leaf}
 use Rattle.tree_core.proofs.Counting.{count_same}

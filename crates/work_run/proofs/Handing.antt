@@ -6,7 +6,7 @@ use Rattle.tree_core.specs.Replays.{Replays, kept, noted}
 use Rattle.tree_core.specs.Stories.{Story, status}
 use Rattle.tree_core.specs.declared.event.Event.{Event}
 use Rattle.tree_core.specs.declared.event.Kid.{Kid}
-use Rattle.tree_core.specs.declared.node.Node.{Node}
+use Rattle.tree_core.specs.Nodes.{Node}
 use Rattle.tree_core.specs.declared.node.Status.TheVariants.{Held}
 use Rattle.fork_spec.specs.Partings.{Place}
 use Rattle.fork_tree.specs.Calls.{IsClaim, release_event}

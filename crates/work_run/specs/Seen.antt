@@ -4,7 +4,7 @@ use Rattle.std.specs.Arc.{arc_value}
 use Rattle.tree_core.specs.Replays.{kept}
 use Rattle.tree_core.specs.Stories.{Story, content, status}
 use Rattle.tree_core.specs.declared.event.Event.{Event}
-use Rattle.tree_core.specs.declared.node.Node.{Node}
+use Rattle.tree_core.specs.Nodes.{Node}
 use Rattle.tree_core.specs.declared.node.Status.TheVariants.{Held}
 use Rattle.fork_spec.specs.Partings.{Place}
 use Rattle.fork_tree.specs.Calls.{IsQuiet, claim_event}

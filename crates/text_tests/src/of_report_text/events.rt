@@ -38,20 +38,17 @@ impl Marked for Mark {
 
 /// A side of the fork at a node; a leaf at once where it is cut.
 fn side(parent: usize, choice: Choice, cut: Option<Cause>) -> Node<Mark> {
-    Node {
-        origin: Some(Origin { parent, choice }),
-        content: Mark(cut),
-        is_leaf: cut.is_some(),
+    let origin = Some(Origin { parent, choice });
+    if cut.is_some() {
+        Node::new_leaf(origin, Mark(cut))
+    } else {
+        Node::new_free(origin, &Mark(cut))
     }
 }
 
 /// The root.
 fn root() -> Node<Mark> {
-    Node {
-        origin: None,
-        content: Mark(None),
-        is_leaf: false,
-    }
+    Node::new_free(None, &Mark(None))
 }
 
 /// The event of a worker and a node.

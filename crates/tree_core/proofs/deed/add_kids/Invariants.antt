@@ -1,6 +1,7 @@
 use Rattle.std.proofs.Common.{◌≡◌, ◌+◌, ◌≤◌, ◌++◌, None, length, map, vec_len}
 use Rattle.std.specs.Vec.{vec_capacity}
 use Rattle.std.specs.Vec.Iter.{into_iter_items, into_iter_len}
+use Rattle.tree_core.specs.Cores.{unworked_of}
 use Rattle.tree_core.specs.Replays.{node_of}
 use Rattle.tree_core.proofs.deed.add_kids.Given as goal
 
@@ -10,6 +11,8 @@ invariant-loop-kid g l = record {
   left : into_iter_len l.kid-iterator ≡ length (into_iter_items l.kid-iterator);
   nodes : l.nodes.items ≡ l.fn.nodes.items ++ map (node_of l.parent) l.yielded;
   latest : l.latest.items ≡ l.fn.latest.items ++ map (λ _. None) l.yielded;
+  contents : l.contents.items ≡ l.fn.contents.items ++ map (λ kid. unworked_of kid.is_leaf kid.content) l.yielded;
   node_room : vec_len l.nodes + into_iter_len l.kid-iterator ≤ vec_capacity l.nodes;
   latest_room : vec_len l.latest + into_iter_len l.kid-iterator ≤ vec_capacity l.latest;
+  content_room : vec_len l.contents + into_iter_len l.kid-iterator ≤ vec_capacity l.contents;
 }

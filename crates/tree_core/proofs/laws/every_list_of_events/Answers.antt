@@ -7,10 +7,10 @@ pub returns-clause-exactly_one : goal.returns-clause-exactly_one
 returns-clause-exactly_one g c = exactly_one g.R.Cover.covers
 
 pub returns-clause-partition : goal.returns-clause-partition
-returns-clause-partition g c = λ root events fit. (core_of g.R.Cover.covers root events fit).2.partition
+returns-clause-partition g c = λ root events fit. (core_of g.R.Cover.covers root events fit).3.partition
 
 pub returns-clause-replays : goal.returns-clause-replays
-returns-clause-replays g c = λ root events fit. (core_of g.R.Cover.covers root events fit).2.replays
+returns-clause-replays g c = λ root events fit. (core_of g.R.Cover.covers root events fit).3.replays
 
 pub returns-clause-held : goal.returns-clause-held
 returns-clause-held g c = λ root events node by. held_by_claim (after_all (opening root false) events) node by

@@ -15,6 +15,12 @@ state_of-requires-clause-there g c =
     free-within s m (listed-free s i.free.items c.pop.new.self.items m c.in-Some.ensures.items
     c.self.invariant.1)
 
+pub state_of-requires-clause-free : goal.state_of-requires-clause-free
+state_of-requires-clause-free g c =
+    let i = c.self.inside in let s = i.core.story in let m = c.in-Some.node in
+    free-status s m (listed-free s i.free.items c.pop.new.self.items m c.in-Some.ensures.items
+    c.self.invariant.1)
+
 pub state_of-requires-clause-open : goal.state_of-requires-clause-open
 state_of-requires-clause-open g c =
     let i = c.self.inside in

@@ -10,8 +10,8 @@ of_origin m None older = tt
 of_origin m (Some x) older = older
 
 pub returns-clause-older : goal.returns-clause-older
-returns-clause-older g c = let i = c.self.inside in let n = c.index.result.now in
+returns-clause-older g c = let i = c.self.inside in let n = c.index-node.result.now in
     let there : c.args.node < length i.nodes.items = subst (λ (k : Kept g.row.R.Denot). c.args.node < length k.story.nodes) (sym c.self.view_is) c.requires.there in
-    let at : slice_get i.nodes.items c.args.node ≡ Some n = slice_get-get_or i.nodes.items c.args.node n there ∙ ap Some (sym c.index.ensures) in
+    let at : slice_get i.nodes.items c.args.node ≡ Some n = slice_get-get_or i.nodes.items c.args.node n there ∙ ap Some (sym c.index-node.ensures) in
     let is : c.map.result ≡ option_map (λ (x : Origin). x.parent) n.origin = search rules in
     subst (λ (o : Option ℕ). IfSome o (λ (k : ℕ). k < c.args.node)) (sym is) (of_origin c.args.node n.origin (c.self.invariant.0.older c.args.node n at))
