@@ -121,10 +121,10 @@ fn check_steps(rt: &impl Abort, alloc: Global, checker: &mut Checker) -> Result<
     assert!(rt; may_come(rt, alloc, checker, &[b()], &[1, 2])?);
     assert!(rt; !may_come(rt, alloc, checker, &[b()], &[1])?);
     assert!(rt; !may_come(rt, alloc, checker, &[a()], &[1])?);
-    checker.note(&[b()])?;
+    checker.note(clause(rt, alloc, &[b()])?.literals())?;
     assert!(rt; !may_come(rt, alloc, checker, &[b()], &[1, 2])?);
     assert!(rt; may_come(rt, alloc, checker, &[], &[4, 3])?);
-    checker.note(&[])?;
+    checker.note(clause(rt, alloc, &[])?.literals())?;
     assert!(rt; !checker.is_new(&clause(rt, alloc, &[b()])?)?);
     assert_eq!(rt; checker.clauses().len(), 5);
     Ok(())
