@@ -1,5 +1,7 @@
 //! Small formulas with known answers, each answer checked by the checker.
 
+mod queue;
+
 use cdcl_core::{Answer, search};
 use cnf_form::{Clause, Cnf, Lit};
 use proof_check::{check, ends_empty, fresh};
