@@ -1,6 +1,6 @@
 //! The protocol by worked rows: claims that are held, released and ended, and a split.
 
-ghost use Rattle.std.specs.Prelude.{◌≡◌, ◌<◌, ◌≤◌, ◌&&◌, Some, IfOk, length, nat_le, nat_lt, true};
+ghost use Rattle.std.specs.Prelude.{◌≡◌, ◌<◌, ◌≤◌, ◌&&◌, Some, IfOk, count_by, length, nat_le, nat_lt, true};
 ghost use Rattle.tree_core.specs.Covers.{Parts};
 ghost use Rattle.tree_core.specs.Stories.{content};
 
@@ -200,7 +200,7 @@ fn state(alloc: Global) -> Result<Arc<u32, Global>, AllocError> {
 
 // The kids of a fork with one side.
 fn only_side(alloc: Global, state: &Arc<u32, Global>) -> Result<Vec<Kid<Share>>, AllocError>
-    ensures { IfOk result (λ kids. (old : Share) → Parts ⟦<Share as Cover>⟧.covers (Some old) kids.items) }
+    ensures { IfOk result (λ kids. count_by (λ _. true) kids.items ≡ 1) }
 {
     let content = Share(Arc::try_clone(state)?);
     let mut kids = Vec::with_capacity(alloc, 1)?;
