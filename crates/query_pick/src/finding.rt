@@ -10,12 +10,18 @@ use bv_dag::Table;
 use std::alloc::{AllocError as NoMemory, Global};
 use std::collections::BinaryHeap;
 
-// These places as a heap.
+// Room for so many places is there from the start. Most questions stand on fewer terms; and a list that grows asks the
+// allocator for its turn each time, for which the workers wait.
+const ROOM: usize = 96;
+
+// These places as a heap, with room for others.
 fn heap_of(alloc: Global, places: &[usize]) -> Result<BinaryHeap<usize>, NoMemory>
     ensures same { IfOk result (λ heap. IsPermutation places.now (heap_items heap)) }
     ensures ordered { IfOk result (λ heap. IsHeap nat_cmp (heap_items heap)) }
 {
-    places.iter().copied().collect(alloc)
+    let mut items = Vec::with_capacity(alloc, places.len().saturating_add(ROOM))?;
+    items.extend_from_slice(places)?;
+    Ok(BinaryHeap::from(items))
 }
 
 // Whether this place is the one found last.
@@ -32,7 +38,7 @@ pub fn cone<T: Table>(alloc: Global, terms: &T, tops: &[usize]) -> Result<Vec<us
 {
     let mut pending = heap_of(alloc, tops)?;
     // The greatest first: what a term stands on comes after it.
-    let mut found = Vec::new(alloc);
+    let mut found = Vec::with_capacity(alloc, ROOM)?;
     while let Some(id) = pending.pop() {
         if !is_last(&found, id) {
             found.push(id)?;

@@ -9,15 +9,15 @@ use Rattle.query_pick.proofs.finding.cone.Goals as goal
 pub loop-id-init : goal.loop-id-init
 loop-id-init g c = (
   c.in_ok-pending.ensures.ordered,
-  subst (λ (found : List ℕ). IsSearched (g.T.Table.graph c.args.terms.now) c.args.tops.now (heap_items c.in_ok-pending.pending) (reverse found)) (sym c.new-found.ensures.items)
+  subst (λ (found : List ℕ). IsSearched (g.T.Table.graph c.args.terms.now) c.args.tops.now (heap_items c.in_ok-pending.pending) (reverse found)) (sym c.in_ok-found.ensures.items)
       (searched_first (g.T.Table.graph c.args.terms.now) c.args.tops.now (heap_items c.in_ok-pending.pending) c.requires c.in_ok-pending.ensures.same),
 )
 
 pub node-requires : goal.node-requires
 node-requires g c = taken_there (g.T.Table.graph c.args.terms.now) c.args.tops.now (heap_items c.loop-id.pending) (heap_items c.pop.new.self) (reverse c.loop-id.found.items) c.in-Some.id c.in-Some.ensures.permutation c.loop-id.invariant.1
 
-pub loop-id-smaller-in-Continue-branch-3 : goal.loop-id-smaller-in-Continue-branch-3
-loop-id-smaller-in-Continue-branch-3 g c =
+pub loop-id-smaller-in-Continue-branch-4 : goal.loop-id-smaller-in-Continue-branch-4
+loop-id-smaller-in-Continue-branch-4 g c =
     subst (λ (found : List ℕ). left_of (g.T.Table.graph c.args.terms.now) (heap_items c.add_operands.new.places) found < left_of (g.T.Table.graph c.args.terms.now) (heap_items c.loop-id.pending) (reverse c.loop-id.found.items))
     (sym (reverse-push c.loop-id.found.items c.push.new.self.items c.in-Some.id c.in_ok-push.ensures.items))
     (left_of-more (g.T.Table.graph c.args.terms.now) c.args.tops.now (heap_items c.loop-id.pending) (heap_items c.pop.new.self) (reverse c.loop-id.found.items) c.in-Some.id c.in-Some.ensures.permutation c.loop-id.invariant.1
@@ -26,8 +26,8 @@ loop-id-smaller-in-Continue-branch-3 g c =
     (below_found c.loop-id.found.items c.deref.result.now c.in-Some.id (length (g.T.Table.graph c.args.terms.now).nodes) c.is_last.result c.deref.ensures.value c.is_last.ensures c.if-not-is_last.true (taken_there (g.T.Table.graph c.args.terms.now) c.args.tops.now (heap_items c.loop-id.pending) (heap_items c.pop.new.self) (reverse c.loop-id.found.items) c.in-Some.id c.in-Some.ensures.permutation c.loop-id.invariant.1) (taken_not_above (g.T.Table.graph c.args.terms.now) c.args.tops.now (heap_items c.loop-id.pending) (heap_items c.pop.new.self) (reverse c.loop-id.found.items) c.in-Some.id c.in-Some.ensures.permutation c.loop-id.invariant.1))
     c.in_ok-add_operands.ensures.adds)
 
-pub loop-id-preserved-in-Continue-branch-3 : goal.loop-id-preserved-in-Continue-branch-3
-loop-id-preserved-in-Continue-branch-3 g c = (
+pub loop-id-preserved-in-Continue-branch-4 : goal.loop-id-preserved-in-Continue-branch-4
+loop-id-preserved-in-Continue-branch-4 g c = (
   c.in_ok-add_operands.ensures.ordered (c.in-Some.ensures.heap_order c.loop-id.invariant.0).0,
   subst (λ (found : List ℕ). IsSearched (g.T.Table.graph c.args.terms.now) c.args.tops.now (heap_items c.add_operands.new.places) found)
       (sym (reverse-push c.loop-id.found.items c.push.new.self.items c.in-Some.id c.in_ok-push.ensures.items))
