@@ -105,7 +105,8 @@ pub fn leaf_of(
 {
     let choices = listed(alloc, state.choices())?;
     let path = listed(alloc, state.path())?;
-    Ok(LeafPart::new(
+    LeafPart::new(
+        alloc,
         choices,
         path,
         state.steps(),
@@ -114,5 +115,5 @@ pub fn leaf_of(
         terms.outputs,
         sample,
         evidence,
-    ))
+    )
 }

@@ -1,6 +1,6 @@
 //! A leaf, with what shows it.
 
-ghost use Rattle.std.specs.Prelude.{◌≡◌, option_map};
+ghost use Rattle.std.specs.Prelude.{◌≡◌, IfOk, option_map};
 ghost use Rattle.fork_spec.specs.Leaves.{IsFull};
 ghost use Rattle.sym_state.specs.Places.{evidence_of};
 
@@ -9,14 +9,15 @@ use bv_dag::Query;
 use fork_spec::LeafEnd;
 use fork_tree::Placed;
 use rv_decode::PathStep;
+use std::alloc::{AllocError as NoMemory, Global};
 use std::marker::Model;
 use tool_io::Bytes;
 use tree_core::Choice;
 
-/// A leaf in full: its terms fit, its status and its outputs are bytes, and its numbers are below 2^32. With it an assignment
-/// that it covers, and what shows the budget that was spent on it.
+/// What a leaf part is made of. It stands in a place of its own: a tree moves leaf parts into its nodes and events while no other
+/// worker can go on, and moves a reference then.
 #[derive(Debug, Drop)]
-pub struct LeafPart {
+struct PartFields {
     choices: Vec<Choice>,
     path: Vec<PathStep>,
     steps: u32,
@@ -25,6 +26,13 @@ pub struct LeafPart {
     outputs: Vec<usize>,
     sample: Option<Bytes>,
     evidence: Option<Evidence>,
+}
+
+/// A leaf in full: its terms fit, its status and its outputs are bytes, and its numbers are below 2^32. With it an assignment
+/// that it covers, and what shows the budget that was spent on it.
+#[derive(Debug, Drop)]
+pub struct LeafPart {
+    fields: Box<PartFields>,
 }
 
 impl Model for LeafPart {
@@ -37,24 +45,24 @@ impl Model for LeafPart {
 
     ghost view = { λ l. record {
       leaf = record {
-        choices = l.choices.items;
-        path = l.path.items;
-        steps = l.steps;
-        end = l.end;
-        condition = l.condition;
-        outputs = l.outputs.items;
+        choices = l.fields.value.choices.items;
+        path = l.fields.value.path.items;
+        steps = l.fields.value.steps;
+        end = l.fields.value.end;
+        condition = l.fields.value.condition;
+        outputs = l.fields.value.outputs.items;
       };
-      sample = l.sample;
-      evidence = option_map evidence_of l.evidence;
+      sample = l.fields.value.sample;
+      evidence = option_map evidence_of l.fields.value.evidence;
     } };
 
     ghost invariant = { λ l. IsFull (record {
-      choices = l.choices.items;
-      path = l.path.items;
-      steps = l.steps;
-      end = l.end;
-      condition = l.condition;
-      outputs = l.outputs.items;
+      choices = l.fields.value.choices.items;
+      path = l.fields.value.path.items;
+      steps = l.fields.value.steps;
+      end = l.fields.value.end;
+      condition = l.fields.value.condition;
+      outputs = l.fields.value.outputs.items;
     }) };
 }
 
@@ -67,6 +75,7 @@ impl Placed for LeafPart {
 impl LeafPart {
     /// The leaf of these, which are a leaf in full.
     pub fn new(
+        alloc: Global,
         choices: Vec<Choice>,
         path: Vec<PathStep>,
         steps: u32,
@@ -75,15 +84,15 @@ impl LeafPart {
         outputs: Vec<usize>,
         sample: Option<Bytes>,
         evidence: Option<Evidence>,
-    ) -> LeafPart
+    ) -> Result<LeafPart, NoMemory>
         requires { IsFull (record { choices = choices.items; path = path.items; steps = steps; end = end; condition = condition; outputs = outputs.items }) }
-        ensures { result ≡ record {
+        ensures { IfOk result (λ part. part ≡ record {
           leaf = record { choices = choices.items; path = path.items; steps = steps; end = end; condition = condition; outputs = outputs.items };
           sample = sample;
           evidence = option_map evidence_of evidence;
-        } }
+        }) }
     {
-        LeafPart {
+        let fields = PartFields {
             choices,
             path,
             steps,
@@ -92,7 +101,10 @@ impl LeafPart {
             outputs,
             sample,
             evidence,
-        }
+        };
+        Ok(LeafPart {
+            fields: Box::new(alloc, fields)?,
+        })
     }
 
     /// The sides taken at the forks above it, from the root on.
@@ -100,7 +112,7 @@ impl LeafPart {
         ensures value { result.now ≡ self.now.leaf.choices }
         ensures full { IsFull self.now.leaf }
     {
-        &self.choices
+        &self.fields.choices
     }
 
     /// What each conditional branch and each JALR of its runs does.
@@ -108,14 +120,14 @@ impl LeafPart {
         ensures value { result.now ≡ self.now.leaf.path }
         ensures full { IsFull self.now.leaf }
     {
-        &self.path
+        &self.fields.path
     }
 
     /// The steps of its runs, the ending one included.
     pub fn steps(&self) -> u32
         ensures { result ≡ self.now.leaf.steps }
     {
-        self.steps
+        self.fields.steps
     }
 
     /// How its runs end, or why they were cut.
@@ -123,7 +135,7 @@ impl LeafPart {
         ensures value { result ≡ self.now.leaf.end }
         ensures full { IsFull self.now.leaf }
     {
-        self.end
+        self.fields.end
     }
 
     /// The condition that its assignments meet.
@@ -131,7 +143,7 @@ impl LeafPart {
         ensures value { result.now ≡ self.now.leaf.condition }
         ensures full { IsFull self.now.leaf }
     {
-        &self.condition
+        &self.fields.condition
     }
 
     /// The terms of the bytes that its runs write.
@@ -139,20 +151,20 @@ impl LeafPart {
         ensures value { result.now ≡ self.now.leaf.outputs }
         ensures full { IsFull self.now.leaf }
     {
-        &self.outputs
+        &self.fields.outputs
     }
 
     /// An assignment that it covers, one byte for each input, if one is known.
     pub fn sample(&self) -> Option<&Bytes>
         ensures { option_map (λ sample. sample.now) result ≡ self.now.sample }
     {
-        self.sample.as_ref()
+        self.fields.sample.as_ref()
     }
 
     /// What shows the budget that was spent, where steps alone don't.
     pub fn evidence(&self) -> Option<&Evidence>
         ensures { option_map (λ evidence. evidence_of evidence.now) result ≡ self.now.evidence }
     {
-        self.evidence.as_ref()
+        self.fields.evidence.as_ref()
     }
 }
