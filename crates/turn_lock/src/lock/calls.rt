@@ -63,6 +63,10 @@ impl<V: Growing> TurnLock<V> {
         ensures none { IfNone result (known pass.new ≡ known pass.old) }
     {
         let shared = &self.table.shared;
+        // A pass that waits only reads, so that the word stays in each waiting processor's cache.
+        if shared.peek(TURN) != 0 {
+            return None;
+        }
         if shared.compare_exchange::<Try>(&mut pass.seat, TURN, 0, 1) != 0 {
             return None;
         }
