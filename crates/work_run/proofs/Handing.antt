@@ -1,6 +1,6 @@
 -- A turn of one pass: what it took, what it gave back, and what it knows then.
-use Rattle.std.proofs.Common.{◌≡◌, ℕ, Bool, true, false, Option, List, drop, sym, refl, ap, ◌∙◌, subst}
-use Rattle.std.specs.Prelude.{Result, Ok, Err, IfOk, OnErr, OnOk}
+use Rattle.std.proofs.Common.{◌≡◌, ℕ, Bool, true, false, Option, List, ◌++◌, drop, length, append_assoc, sym, ap, ◌∙◌, subst}
+use Rattle.std.specs.Prelude.{Result, Ok, Err, IfOk, OnErr}
 use Rattle.std.specs.Global.{Vec}
 use Rattle.tree_core.specs.Replays.{Replays, kept, noted}
 use Rattle.tree_core.specs.Stories.{Story, status}
@@ -9,7 +9,7 @@ use Rattle.tree_core.specs.declared.event.Kid.{Kid}
 use Rattle.tree_core.specs.Nodes.{Node}
 use Rattle.tree_core.specs.declared.node.Status.TheVariants.{Held}
 use Rattle.fork_spec.specs.Partings.{Place}
-use Rattle.fork_tree.specs.Calls.{IsClaim, release_event}
+use Rattle.fork_tree.specs.Calls.{IsClaim}
 use Rattle.fork_tree.specs.Drains.{GrowsBy}
 use Rattle.fork_tree.specs.Nodes.{StateIs}
 use Rattle.fork_tree.specs.Trees.{covers_at}
@@ -19,10 +19,13 @@ use Rattle.fork_tree.specs.declared.tree.Claim.{Claim}
 use Rattle.fork_tree.specs.declared.work.Parts.{Parts}
 use Rattle.turn_lock.specs.Growth.{GoesOnBy, StartsWith, by_number}
 use Rattle.turn_lock.specs.Views.{Follows, given, looked}
-use Rattle.work_run.specs.Entering.{IsEntered, IsResult}
-use Rattle.work_run.specs.Seen.{EndsClaim, HasResult, HoldsNode, IsClaimed, IsLater, KnownOf, story_of}
+use Rattle.work_run.specs.Entering.{IsClaimEnded, IsNextClaim, IsResult}
+use Rattle.work_run.specs.Seen.{EndsAndClaims, EndsClaim, HasResult, HoldsNode, IsClaimed, IsLater, KnownOf, story_of}
 use Rattle.work_run.specs.Turns.{is_claim, is_release}
-use Rattle.work_run.proofs.Passing.{IsHanded, claimed-passed, ends-passed, held-handed, later-passed, passed, same-passed}
+use Rattle.work_run.proofs.Passing.{IsHanded, all-passed, claimed-passed, ends-passed, held-handed, later-passed, own-passed, passed, same-passed}
+use Rattle.work_run.proofs.Entries.{made-grows}
+use Rattle.turn_lock.proofs.Growths.{drop_seam, starts_refl}
+use Rattle.fork_tree.proofs.Entering.{grows-one}
 
 by_same_worker : {R : Type 0} (by k : ℕ) (s t : Story R) → by ≡ k → GrowsBy by s t → GrowsBy k s t
 by_same_worker by k s t is grows = subst (λ n. GrowsBy n s t) is grows
@@ -97,12 +100,16 @@ module _ {F R : Type 0} where
         subst (λ (x : KnownOf F R). EndsClaim released node v.own x.own) (sym turn.is)
         (ends-passed released v s t node e is at ends how)
 
-    -- what a turn for the end of a claim came to
-    pub entered-all : {X E : Type 0} (by node : ℕ) (answer : Result X E) →
-        OnOk answer (IsEntered by node s t) → OnOk answer (EndsClaim false node v.own w.own)
-    entered-all by node (Ok x) ok =
-        turn-ends false node ok.event ok.story ok.of_node ok.ends ok.stays
-    entered-all by node (Err e) ok = ok
+    -- what a turn came to in which a claim was ended, and memory refused
+    pub ended-all : {X E : Type 0} (by node : ℕ) (answer : Result X E) →
+        OnErr answer ((released : Bool) × IsClaimEnded released by node s t) →
+        OnErr answer ((released : Bool) × EndsClaim released node v.own w.own)
+    ended-all by node (Ok x) err = err
+    ended-all by node (Err e) err =
+        let end = err.1 in (
+          err.0,
+          turn-ends err.0 node end.event end.story end.of_node end.ends end.is_released,
+        )
 
     pub nothing-all : {X E : Type 0} (answer : Result X E) → OnErr answer (t ≡ s) →
         OnErr answer (w.own ≡ v.own)
@@ -116,27 +123,67 @@ module _ {F R : Type 0} where
   held-by covers v s by node mine replays handed holds =
       (held-handed covers v s node replays handed holds).1 ∙ ap Held (sym mine)
 
--- what a turn came to in which there was no memory for kids
-pub released-all : {F S L X E : Type 0} (v w : KnownOf F (Content S L))
-    (s t : Story (Content S L)) →
-    IsTurn v w s t → (by node : ℕ) (answer : Result X E) →
-    OnErr answer (t ≡ noted s (release_event by node)) →
-    OnErr answer (EndsClaim true node v.own w.own)
-released-all v w s t turn by node (Ok x) err = err
-released-all v w s t turn by node (Err e) err =
-    turn-ends v w s t turn true node (release_event by node) err refl refl refl
+-- A turn in which the worker did two things, and between them the story was m, is two turns.
+module _ {F R : Type 0} (v w : KnownOf F R) (s m t : Story R) (turn : IsTurn v w s t)
+    (first : GrowsBy v.number s m) (second : GrowsBy v.number m t) where
+  handed-between : IsHanded (passed v s m) m
+  handed-between = record {
+    nodes = starts_refl m.nodes;
+    events = starts_refl m.events;
+    own = all-passed v s m turn.handed first;
+  }
+
+  own-between : (passed v s t).own ≡ (passed (passed v s m) m t).own
+  own-between =
+      ap (λ l. v.own ++ drop (length s.events) l)
+      (second.3 ∙ (ap (λ l. l ++ second.1) first.3 ∙ append_assoc s.events first.1 second.1))
+      ∙ (ap (λ l. v.own ++ l) (drop_seam s.events (first.1 ++ second.1))
+      ∙ (sym (append_assoc v.own first.1 second.1)
+      ∙ (ap (λ l. l ++ second.1) (sym (own-passed v s m turn.handed first))
+      ∙ sym (own-passed (passed v s m) m t handed-between second))))
+
+  pub turn-behind : IsTurn (passed v s m) w m t
+  turn-behind = record {
+    handed = handed-between;
+    grows = second;
+    is = turn.is
+        ∙ ap (λ l. record v { has_turn = false; nodes = t.nodes; events = t.events; own = l })
+        own-between;
+  }
 
 module _ {W S L : Type 0} (rules : W → Rules S L) where
   -- what a turn for a claim came to
   pub claims-all : {E : Type 0} (v w : KnownOf W (Content S L)) (s t : Story (Content S L)) →
       IsTurn v w s t → (x : W) (by : ℕ) (answer : Result (Claim S) E) → x ≡ v.fixed →
       by ≡ v.number → IfOk answer (λ claim. IsClaim (rules x).IsWell s by claim t) →
-      IfOk answer (IsClaimed (rules v.fixed) v w)
+      IfOk answer (IsClaimed (rules v.fixed) v.own w)
   claims-all v w s t turn x by (Ok claim) same mine ok =
-      subst (λ (k : KnownOf W (Content S L)). IsClaimed (rules v.fixed) v k claim) (sym turn.is)
+      subst (λ (k : KnownOf W (Content S L)). IsClaimed (rules v.fixed) v.own k claim) (sym turn.is)
       (claimed-passed (rules v.fixed) v s t turn.handed turn.grows claim
       (subst (λ (p : W × ℕ). IsClaim (rules p.0).IsWell s p.1 claim t) (λ i. (same i, mine i)) ok))
   claims-all v w s t turn x by (Err e) same mine ok = ok
+
+  -- what a turn came to in which a claim was ended, and the next one made
+  pub next-all : {E : Type 0} (v w : KnownOf W (Content S L)) (s t : Story (Content S L)) →
+      IsTurn v w s t → (x : W) (by node : ℕ) (answer : Result (Claim S) E) → x ≡ v.fixed →
+      by ≡ v.number → IfOk answer (IsNextClaim (rules x).IsWell by node s t) →
+      IfOk answer (EndsAndClaims (rules v.fixed) node v.own w)
+  next-all v w s t turn x by node (Ok claim) same mine ok =
+      let here : IsNextClaim (rules v.fixed).IsWell v.number node s t claim =
+      subst (λ (p : W × ℕ). IsNextClaim (rules p.0).IsWell p.1 node s t claim)
+      (λ i. (same i, mine i)) ok in
+      let m = here.0 in
+      let end = here.1 in
+      let first = grows-one v.number s m end.event end.story end.of_worker in
+      let second = made-grows (rules v.fixed).IsWell m t v.number claim here.2 in
+      let behind = turn-behind v w s m t turn first second in (
+        (passed v s m).own,
+        ends-passed false v s m node end.event end.story end.of_node end.ends end.is_released,
+        subst (λ (k : KnownOf W (Content S L)). IsClaimed (rules v.fixed) (passed v s m).own k claim)
+            (sym behind.is)
+            (claimed-passed (rules v.fixed) (passed v s m) m t behind.handed second claim here.2),
+      )
+  next-all v w s t turn x by node (Err e) same mine ok = ok
 
   -- what came of a node's state is still that when the story is handed out again
   pub result-handed : (state_place : S → Place) (leaf_place : L → Place)

@@ -118,7 +118,7 @@ module _ {F S L : Type 0} (rules : Rules S L)
 
   -- what a turn for a claim answered
   pub claimed-passed : (claim : Claim S) → IsClaim rules.IsWell s v.number claim t →
-      IsClaimed rules v (passed v s t) claim
+      IsClaimed rules v.own (passed v s t) claim
   claimed-passed Nothing ok = same-passed v s t ok.2
   claimed-passed Quiet ok = (same-passed v s t ok.1, subst IsQuiet (sym ok.1) ok.0)
   claimed-passed (Claimed m a) ok = (

@@ -1,6 +1,6 @@
 -- A round of work: a claim, and its end.
-use Rattle.std.proofs.Common.{◌≡◌, ℕ, ◌&&◌, not, Bool, true, false, List, [], ◌∷◌, ◌++◌, sym, refl, ap, ◌∙◌, eq-eqb, append_assoc, subst}
-use Rattle.std.specs.Prelude.{Result, Ok, Err, OnErr, OnOk}
+use Rattle.std.proofs.Common.{◌≡◌, ℕ, ◌&&◌, not, true, false, List, [], ◌∷◌, ◌++◌, sym, refl, ap, ◌∙◌, eq-eqb, append_assoc, subst}
+use Rattle.std.specs.Prelude.{Result, Ok, Err, IfOk, OnErr}
 use Rattle.std.specs.declared.alloc.Global.{Global}
 use Rattle.std.specs.declared.sync.Arc.{Arc}
 use Rattle.std.proofs.lemmas.List.Elements.{All-cons, All-nil}
@@ -12,9 +12,9 @@ use Rattle.fork_tree.specs.declared.content.Content.{Content}
 use Rattle.fork_tree.specs.declared.tree.Claim.{Claim}
 use Rattle.fork_tree.specs.declared.tree.Claim.TheVariants.{Claimed}
 use Rattle.turn_lock.proofs.Growths.{starts_refl, starts_trans}
-use Rattle.work_run.specs.Seen.{EndsClaim, IsClaimed, IsLater, KnownOf, SeesMore}
+use Rattle.work_run.specs.Seen.{CarriesOn, EndsAndClaims, EndsByTurns, EndsClaim, GoesOnToClaim, IsClaimed, IsLater, KnownOf, SeesMore, StopsBehind}
 use Rattle.work_run.specs.Turns.{GoesOnByEntered, GoesOnByTurns, is_release, is_turn}
-use Rattle.work_run.proofs.Turning.{one_turn}
+use Rattle.work_run.proofs.Turning.{goes-entered, goes-turns, one_turn}
 
 module _ {F R : Type 0} where
   pub sees-after : (u v w : KnownOf F R) → SeesMore u v → SeesMore v w → SeesMore u w
@@ -44,58 +44,67 @@ module _ {F R : Type 0} where
   }
 
 module _ {S L : Type 0} (by m : ℕ) (u v w : List (Event (Content S L) ℕ))
-    (claims : v ≡ u ++ kept (claim_event {S = S} {L = L} by m) ∷ []) (released : Bool)
-    (ends : EndsClaim released m v w) where
+    (claims : v ≡ u ++ kept (claim_event {S = S} {L = L} by m) ∷ []) where
   abbrev first : Event (Content S L) ℕ
   first = kept (claim_event by m)
 
-  a_turn : is_turn first ends.event ≡ true
-  a_turn = λ i. true && (not (ends.ends i) && eq-eqb m ends.event.node (sym ends.of_node) i)
+  -- a claim, and what it was ended by, are turns of work
+  pub claim-turns : EndsByTurns m v w → GoesOnByTurns u w
+  claim-turns ends = (
+    first ∷ ends.0,
+    ends.1 ∙ (ap (λ l. l ++ ends.0) claims ∙ append_assoc u (first ∷ []) ends.0),
+    ends.2 first refl refl,
+  )
 
-  goes : w ≡ u ++ first ∷ ends.event ∷ []
-  goes = ends.goes ∙ (ap (λ l. l ++ ends.event ∷ []) claims
-      ∙ append_assoc u (first ∷ []) (ends.event ∷ []))
-
-  -- a claim and its end are a turn of work
-  pub turn-ended : GoesOnByTurns u w
-  turn-ended = (first ∷ ends.event ∷ [], goes, one_turn first ends.event a_turn)
-
-  pub turn-entered : released ≡ false → GoesOnByEntered u w
-  turn-entered stays =
+  pub claim-entered : EndsClaim false m v w → GoesOnByEntered u w
+  claim-entered ends =
       let P : Event (Content S L) ℕ → Type 0 = λ e. is_release e.deed ≡ false in (
         first ∷ ends.event ∷ [],
-        goes,
+        ends.goes ∙ (ap (λ l. l ++ ends.event ∷ []) claims
+            ∙ append_assoc u (first ∷ []) (ends.event ∷ [])),
         (
           one_turn first ends.event a_turn,
           All-cons P first (ends.event ∷ []) refl
-              (All-cons P ends.event [] (ends.is_released ∙ stays) (All-nil P)),
+              (All-cons P ends.event [] ends.is_released (All-nil P)),
         ),
       )
-
-module _ {F S L X E : Type 0} (rules : Rules S L) (v u w : KnownOf F (Content S L))
-    (claim : Claim S)
-    (m : ℕ) (a : Arc S Global) (is : claim ≡ Claimed m a) (claimed : IsClaimed rules v u claim)
-    (answer : Result X E) where
-  got : IsClaimed rules v u (Claimed m a)
-  got = subst (IsClaimed rules v u) is claimed
-
-  -- a node was claimed, and its end was entered
-  pub round-entered : OnOk answer (EndsClaim false m u.own w.own) →
-      OnOk answer (GoesOnByEntered v.own w.own)
-  round-entered = by_answer answer
     where
-      by_answer : (r : Result X E) → OnOk r (EndsClaim false m u.own w.own) →
-          OnOk r (GoesOnByEntered v.own w.own)
-      by_answer (Ok x) ends = turn-entered v.number m v.own u.own w.own got.1 false ends refl
-      by_answer (Err e) ends = ends
+      a_turn : is_turn first ends.event ≡ true
+      a_turn = λ i. true && (not (ends.ends i) && eq-eqb m ends.event.node (sym ends.of_node) i)
 
-  -- a node was claimed, and the worker stopped behind its end
-  pub round-ended : OnErr answer ((released : Bool) × EndsClaim released m u.own w.own) →
-      OnErr answer (GoesOnByTurns v.own w.own)
-  round-ended = by_answer answer
-    where
-      by_answer : (r : Result X E) →
-          OnErr r ((released : Bool) × EndsClaim released m u.own w.own) →
-          OnErr r (GoesOnByTurns v.own w.own)
-      by_answer (Ok x) ends = ends
-      by_answer (Err e) ends = turn-ended v.number m v.own u.own w.own got.1 ends.0 ends.1
+module _ {F S L : Type 0} (rules : Rules S L) (v w : KnownOf F (Content S L))
+    (last : Claim S) where
+  -- a round in which a node was worked
+  pub worked-carries : {E : Type 0} (m : ℕ) (a : Arc S Global) → last ≡ Claimed m a →
+      (answer : Result (Claim S) E) → IfOk answer (EndsAndClaims rules m v.own w) →
+      IfOk answer (CarriesOn rules v last w)
+  worked-carries m a is (Ok next) has = λ old goes.
+      let own = goes.0 in
+      let got : IsClaimed rules own v (Claimed m a) = subst (IsClaimed rules own v) is goes.2 in (
+        has.0,
+        goes-entered old own has.0 goes.1 (claim-entered v.number m own v.own has.0 got.1 has.1),
+        has.2,
+      )
+  worked-carries m a is (Err e) has = has
+
+  pub worked-stops : {X E : Type 0} (m : ℕ) (a : Arc S Global) → last ≡ Claimed m a →
+      (answer : Result X E) → OnErr answer (EndsByTurns m v.own w.own) →
+      OnErr answer (StopsBehind rules v last w)
+  worked-stops m a is (Ok x) ends = ends
+  worked-stops m a is (Err e) ends = λ old goes.
+      let own = goes.0 in
+      let got : IsClaimed rules own v (Claimed m a) = subst (IsClaimed rules own v) is goes.2 in
+      goes-turns old own w.own goes.1 (claim-turns v.number m own v.own w.own got.1 ends)
+
+-- The rules stay those of the pass's fixed part.
+module _ {F S L : Type 0} (rules : F → Rules S L) (u v w : KnownOf F (Content S L))
+    (last : Claim S) where
+  pub carried : (next : Claim S) → IsLater u v → CarriesOn (rules v.fixed) v last w next →
+      GoesOnToClaim (rules u.fixed) u.own v last → GoesOnToClaim (rules u.fixed) u.own w next
+  carried next later on goes =
+      subst (λ f. CarriesOn (rules f) v last w next) later.same.fixed on u.own goes
+
+  pub stopped-by : IsLater u v → StopsBehind (rules v.fixed) v last w →
+      GoesOnToClaim (rules u.fixed) u.own v last → GoesOnByTurns u.own w.own
+  stopped-by later stops goes =
+      subst (λ f. StopsBehind (rules f) v last w) later.same.fixed stops u.own goes

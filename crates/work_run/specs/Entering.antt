@@ -1,25 +1,27 @@
 -- What is entered for a node that was worked.
-use Rattle.std.specs.Prelude.{◌≡◌, ℕ, false}
+use Rattle.std.specs.Prelude.{◌≡◌, ℕ, Bool, false}
 use Rattle.std.specs.Global.{Vec}
 use Rattle.tree_core.specs.Replays.{kept, noted}
 use Rattle.tree_core.specs.Stories.{Story, content}
 use Rattle.tree_core.specs.declared.event.Event.{Event}
 use Rattle.tree_core.specs.declared.event.Kid.{Kid}
 use Rattle.fork_spec.specs.Partings.{Place}
+use Rattle.fork_tree.specs.Calls.{IsClaim}
 use Rattle.fork_tree.specs.Nodes.{StateIs}
 use Rattle.fork_tree.specs.Works.{IsWorked, Rules}
 use Rattle.fork_tree.specs.declared.content.Content.{Content}
+use Rattle.fork_tree.specs.declared.tree.Claim.{Claim}
 use Rattle.fork_tree.specs.declared.work.Parts.{Parts}
 use Rattle.work_run.specs.Turns.{is_claim, is_release}
 
--- The story has one event more, by which the worker ends its claim of the node, and which is no
--- release.
-pub record IsEntered {R : Type 0} (by node : ℕ) (s t : Story R) : Type 0 where
+-- The story has one event more, by which the worker ends its claim of the node: by a release, or
+-- not.
+pub record IsClaimEnded {R : Type 0} (released : Bool) (by node : ℕ) (s t : Story R) : Type 0 where
   pub event : Event R (Vec (Kid R))
   pub of_worker : event.by ≡ by
   pub of_node : event.node ≡ node
   pub ends : is_claim (kept event).deed ≡ false
-  pub stays : is_release (kept event).deed ≡ false
+  pub is_released : is_release (kept event).deed ≡ released
   pub story : t ≡ noted s event
 
 module _ {S L : Type 0} where
@@ -28,3 +30,10 @@ module _ {S L : Type 0} where
       Parts S L → Type 0
   IsResult rules state_place leaf_place s node parts =
       (x : S) × StateIs (content s node) x × IsWorked rules state_place leaf_place x parts
+
+  -- The worker ends its claim of the node, and not by a release, and then makes the next claim.
+  abbrev pub IsNextClaim : (well : S → Type 0) → (by node : ℕ) → Story (Content S L) →
+      Story (Content S L) → Claim S → Type 0
+  IsNextClaim well by node s t claim =
+      (between : Story (Content S L)) × IsClaimEnded false by node s between
+      × IsClaim well between by claim t

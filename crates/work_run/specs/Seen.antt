@@ -1,5 +1,5 @@
 -- What a worker knows of the tree between two of its turns.
-use Rattle.std.specs.Prelude.{◌≡◌, ◌++◌, ◌∷◌, ◌<◌, ℕ, Bool, false, List, [], length}
+use Rattle.std.specs.Prelude.{◌≡◌, ◌++◌, ◌∷◌, ◌<◌, ℕ, Bool, false, true, List, [], length}
 use Rattle.std.specs.Arc.{arc_value}
 use Rattle.tree_core.specs.Replays.{kept}
 use Rattle.tree_core.specs.Stories.{Story, content, status}
@@ -18,7 +18,7 @@ use Rattle.turn_lock.specs.Growth.{StartsWith, by_number}
 use Rattle.turn_lock.specs.Passes.{IsSamePass}
 use Rattle.turn_lock.specs.declared.known.Known.{Known}
 use Rattle.work_run.specs.Entering.{IsResult}
-use Rattle.work_run.specs.Turns.{is_claim, is_release}
+use Rattle.work_run.specs.Turns.{GoesOnByEntered, GoesOnByTurns, are_turns, is_claim, is_release}
 
 -- what a pass knows of a tree whose nodes have such contents
 abbrev pub KnownOf : Type 0 → Type 0 → Type 0
@@ -50,6 +50,13 @@ pub record HoldsNode {R : Type 0} (s : Story R) (own : List (Event R ℕ))
   pub held : status s node ≡ Held by
   pub own_all : by_number (λ (e : Event R ℕ). e.by) by s.events ≡ own
 
+-- The list goes on by events that, behind a claim of the node, are turns of work.
+abbrev pub EndsByTurns : {R : Type 0} → ℕ → List (Event R ℕ) → List (Event R ℕ) → Type 0
+EndsByTurns {R} node old new =
+    (es : List (Event R ℕ)) × (new ≡ old ++ es)
+    × ((claim : Event R ℕ) → is_claim claim.deed ≡ true → claim.node ≡ node →
+    are_turns (claim ∷ es) ≡ true)
+
 -- The list goes on with one event, which ends a claim of the node: by a release, or not.
 pub record EndsClaim {R : Type 0} (released : Bool) (node : ℕ)
     (old new : List (Event R ℕ)) : Type 0 where
@@ -60,6 +67,13 @@ pub record EndsClaim {R : Type 0} (released : Bool) (node : ℕ)
   pub is_released : is_release event.deed ≡ released
 
 module _ {S L : Type 0} where
+  -- the claim was given up: a node that it got was released, and else no event was noted
+  abbrev pub GivesUp : Claim S → List (Event (Content S L) ℕ) → List (Event (Content S L) ℕ) →
+      Type 0
+  GivesUp (Claimed m a) old new = EndsClaim true m old new
+  GivesUp Nothing old new = new ≡ old
+  GivesUp Quiet old new = new ≡ old
+
   module _ {F : Type 0} where
     -- the worker holds the node, which has this state, and the state is well
     abbrev pub HasClaim : Rules S L → KnownOf F (Content S L) → ℕ → S → Type 0
@@ -74,11 +88,40 @@ module _ {S L : Type 0} where
         HoldsNode (story_of v) v.own v.number node ×
         IsResult rules state_place leaf_place (story_of v) node parts
 
-    -- What a turn for a claim answered: a node that the worker holds now; or no event was noted,
-    -- where some nodes are held but none is free, or the tree is quiet.
-    abbrev pub IsClaimed : Rules S L → KnownOf F (Content S L) → KnownOf F (Content S L) → Claim S →
-        Type 0
-    IsClaimed rules v w (Claimed m a) =
-        HasClaim rules w m (arc_value a) × (w.own ≡ v.own ++ kept (claim_event v.number m) ∷ [])
-    IsClaimed rules v w Nothing = w.own ≡ v.own
-    IsClaimed rules v w Quiet = (w.own ≡ v.own) × IsQuiet (story_of w)
+    -- What a worker with these own events got by a claim: a node that it holds now; or no event was
+    -- noted, where some nodes are held but none is free, or the tree is quiet.
+    abbrev pub IsClaimed : Rules S L → List (Event (Content S L) ℕ) → KnownOf F (Content S L) →
+        Claim S → Type 0
+    IsClaimed rules own w (Claimed m a) =
+        HasClaim rules w m (arc_value a) × (w.own ≡ own ++ kept (claim_event w.number m) ∷ [])
+    IsClaimed rules own w Nothing = w.own ≡ own
+    IsClaimed rules own w Quiet = (w.own ≡ own) × IsQuiet (story_of w)
+
+    -- The claim of the node was ended, and not by a release, and then the next claim made.
+    abbrev pub EndsAndClaims : Rules S L → ℕ → List (Event (Content S L) ℕ) →
+        KnownOf F (Content S L) → Claim S → Type 0
+    EndsAndClaims rules node old w next =
+        (own : List (Event (Content S L) ℕ)) × EndsClaim false node old own
+        × IsClaimed rules own w next
+
+    -- The pass's own events go on by turns of work, of which none ends by a release, and then by
+    -- the claim that the worker has.
+    abbrev pub GoesOnToClaim : Rules S L → List (Event (Content S L) ℕ) →
+        KnownOf F (Content S L) → Claim S → Type 0
+    GoesOnToClaim rules old w claim =
+        (own : List (Event (Content S L) ℕ)) × GoesOnByEntered old own
+        × IsClaimed rules own w claim
+
+    -- from where a list goes on to the one claim, it goes on to the next
+    abbrev pub CarriesOn : Rules S L → KnownOf F (Content S L) → Claim S →
+        KnownOf F (Content S L) → Claim S → Type 0
+    CarriesOn rules v claim w next =
+        (old : List (Event (Content S L) ℕ)) → GoesOnToClaim rules old v claim →
+        GoesOnToClaim rules old w next
+
+    -- from where a list goes on to the claim, it has gone on by turns of work
+    abbrev pub StopsBehind : Rules S L → KnownOf F (Content S L) → Claim S →
+        KnownOf F (Content S L) → Type 0
+    StopsBehind rules v claim w =
+        (old : List (Event (Content S L) ℕ)) → GoesOnToClaim rules old v claim →
+        GoesOnByTurns old w.own

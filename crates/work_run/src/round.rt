@@ -1,13 +1,14 @@
-//! A round of work: a claim in one turn, and its end in another.
+//! A round of work: the end of a claim, and the next claim, in one turn.
 
-ghost use Rattle.std.specs.Prelude.{◌≡◌, Bool, IfErr, OnErr, OnOk, false, true};
+ghost use Rattle.std.specs.Prelude.{◌≡◌, ℕ, IfErr, IfOk, List, OnErr, true};
+ghost use Rattle.tree_core.specs.declared.event.Event.{Event};
+ghost use Rattle.fork_tree.specs.declared.content.Content.{Content};
 ghost use Rattle.turn_lock.specs.Passes.{IsPassOf, known};
 ghost use Rattle.work_run.specs.Causes.{HasCause, MayLeave};
-ghost use Rattle.work_run.specs.Seen.{EndsClaim, HasClaim, HasResult, IsAtRest, IsLater};
-ghost use Rattle.work_run.specs.Turns.{GoesOnByEntered, GoesOnByTurns};
+ghost use Rattle.work_run.specs.Seen.{CarriesOn, EndsAndClaims, EndsByTurns, GivesUp, HasClaim, HasResult, IsAtRest, IsClaimed, IsLater, StopsBehind};
 
 use crate::stopped::Stopped;
-use crate::turn::{claim, enter, release};
+use crate::turn::{claim, enter_and_claim, release};
 use crate::turn_tree::TurnTree;
 use fork_tree::{Claim, Parts, Work};
 use std::alloc::Global;
@@ -23,8 +24,8 @@ fn leaves<G: Gate>(gate: &G, worker: u32, point: Point) -> bool
     gate.reached(worker, point) == Next::Leave
 }
 
-/// Claims a free node, works its state outside the turn, and enters what came of it. Where no node is free, and some are held,
-/// nothing is done. Where the worker stops, it holds no node.
+/// Does what the worker's last claim asks for, and claims a free node: where it got a node, works its state outside the turn, and
+/// enters what came of it in the turn of the next claim; where it got none, waits. Where the worker stops, it holds no node.
 pub(crate) fn work_once<W: Work, R: Wait, G: Gate>(
     rt: &R,
     alloc: Global,
@@ -32,34 +33,48 @@ pub(crate) fn work_once<W: Work, R: Wait, G: Gate>(
     pass: &mut Pass<TurnTree<W>>,
     worker: &W,
     gate: &G,
-) -> Result<(), Stopped>
+    last: Claim<W::State>,
+) -> Result<Claim<W::State>, Stopped>
     requires lock { IsPassOf lock.now pass.old }
     requires rest { IsAtRest (known pass.old) }
     requires worker { (known pass.old).fixed ≡ worker.now }
+    requires last { (own : List (Event (Content W.State W.Leaf) ℕ)) × IsClaimed (W.rules (known pass.old).fixed) own (known pass.old) last }
     ensures lock { IsPassOf lock.now pass.new }
     ensures later { IsLater (known pass.old) (known pass.new) }
-    ensures entered { OnOk result (GoesOnByEntered (known pass.old).own (known pass.new).own) }
-    ensures turns { OnErr result (GoesOnByTurns (known pass.old).own (known pass.new).own) }
+    ensures next { IfOk result (CarriesOn (W.rules (known pass.old).fixed) (known pass.old) last (known pass.new)) }
+    ensures turns { OnErr result (StopsBehind (W.rules (known pass.old).fixed) (known pass.old) last (known pass.new)) }
     ensures cause { IfErr result (HasCause (G.may_leave gate.now) (known pass.new)) }
 {
-    match claim(rt, lock, pass)? {
+    match last {
         Claim::Quiet => Err(Stopped::Quiet),
-        Claim::Nothing => wait(pass, gate),
+        Claim::Nothing => claim_later(rt, lock, pass, gate),
+        // This share of the state is let go of here, once the turn is given back.
         Claim::Claimed(node, state) => work_claim(
             rt, alloc, lock, pass, worker, gate, node, &state,
         ),
     }
 }
 
-// Lets other threads go on, and asks the gate whether the worker waits for them.
-fn wait<W: Work, G: Gate>(pass: &Pass<TurnTree<W>>, gate: &G) -> Result<(), Stopped>
-    ensures { IfErr result (HasCause (G.may_leave gate.now) (known pass.now)) }
+// Waits, and claims a free node.
+fn claim_later<W: Work, R: Wait, G: Gate>(
+    rt: &R,
+    lock: &TurnLock<TurnTree<W>>,
+    pass: &mut Pass<TurnTree<W>>,
+    gate: &G,
+) -> Result<Claim<W::State>, Stopped>
+    requires lock { IsPassOf lock.now pass.old }
+    requires rest { IsAtRest (known pass.old) }
+    ensures lock { IsPassOf lock.now pass.new }
+    ensures later { IsLater (known pass.old) (known pass.new) }
+    ensures claimed { IfOk result (IsClaimed (W.rules (known pass.old).fixed) (known pass.old).own (known pass.new)) }
+    ensures none { OnErr result ((known pass.new).own ≡ (known pass.old).own) }
+    ensures cause { IfErr result (HasCause (G.may_leave gate.now) (known pass.new)) }
 {
     if leaves(gate, pass.number(), Point::Idle) {
         return Err(Stopped::Left);
     }
     thread::yield_now();
-    Ok(())
+    Ok(claim(rt, lock, pass)?)
 }
 
 // Works the state of a node that the worker holds, and ends the claim.
@@ -72,15 +87,15 @@ fn work_claim<W: Work, R: Wait, G: Gate>(
     gate: &G,
     node: usize,
     state: &W::State,
-) -> Result<(), Stopped>
+) -> Result<Claim<W::State>, Stopped>
     requires lock { IsPassOf lock.now pass.old }
     requires rest { IsAtRest (known pass.old) }
     requires worker { (known pass.old).fixed ≡ worker.now }
     requires claim { HasClaim (W.rules (known pass.old).fixed) (known pass.old) node state.now }
     ensures lock { IsPassOf lock.now pass.new }
     ensures later { IsLater (known pass.old) (known pass.new) }
-    ensures entered { OnOk result (EndsClaim false node (known pass.old).own (known pass.new).own) }
-    ensures ended { OnErr result ((released : Bool) × EndsClaim released node (known pass.old).own (known pass.new).own) }
+    ensures next { IfOk result (EndsAndClaims (W.rules (known pass.old).fixed) node (known pass.old).own (known pass.new)) }
+    ensures ended { OnErr result (EndsByTurns node (known pass.old).own (known pass.new).own) }
     ensures cause { IfErr result (HasCause (G.may_leave gate.now) (known pass.new)) }
 {
     let by = pass.number();
@@ -100,7 +115,7 @@ fn work_claim<W: Work, R: Wait, G: Gate>(
     }
 }
 
-// Enters what came of a node that the worker holds.
+// Enters what came of a node that the worker holds, and claims a free node. Who leaves behind that turn gives the claim up.
 fn hand_in<W: Work, R: Wait, G: Gate>(
     rt: &R,
     lock: &TurnLock<TurnTree<W>>,
@@ -108,14 +123,14 @@ fn hand_in<W: Work, R: Wait, G: Gate>(
     gate: &G,
     node: usize,
     parts: Parts<W::State, W::Leaf>,
-) -> Result<(), Stopped>
+) -> Result<Claim<W::State>, Stopped>
     requires lock { IsPassOf lock.now pass.old }
     requires rest { IsAtRest (known pass.old) }
     requires worked { HasResult (W.rules (known pass.old).fixed) W.State.place W.Leaf.place (known pass.old) node parts }
     ensures lock { IsPassOf lock.now pass.new }
     ensures later { IsLater (known pass.old) (known pass.new) }
-    ensures entered { OnOk result (EndsClaim false node (known pass.old).own (known pass.new).own) }
-    ensures ended { OnErr result ((released : Bool) × EndsClaim released node (known pass.old).own (known pass.new).own) }
+    ensures next { IfOk result (EndsAndClaims (W.rules (known pass.old).fixed) node (known pass.old).own (known pass.new)) }
+    ensures ended { OnErr result (EndsByTurns node (known pass.old).own (known pass.new).own) }
     ensures cause { IfErr result (HasCause (G.may_leave gate.now) (known pass.new)) }
 {
     let by = pass.number();
@@ -123,9 +138,29 @@ fn hand_in<W: Work, R: Wait, G: Gate>(
         release(rt, lock, pass, node);
         return Err(Stopped::Left);
     }
-    enter(rt, lock, pass, node, parts)?;
+    let next = enter_and_claim(rt, lock, pass, node, parts)?;
     if leaves(gate, by, Point::AfterGive) {
+        give_up(rt, lock, pass, &next);
         return Err(Stopped::Left);
     }
-    Ok(())
+    Ok(next)
+}
+
+// Frees the node that a claim got, if it got one.
+fn give_up<W: Work, R: Wait>(
+    rt: &R,
+    lock: &TurnLock<TurnTree<W>>,
+    pass: &mut Pass<TurnTree<W>>,
+    last: &Claim<W::State>,
+)
+    requires lock { IsPassOf lock.now pass.old }
+    requires rest { IsAtRest (known pass.old) }
+    requires last { (own : List (Event (Content W.State W.Leaf) ℕ)) × IsClaimed (W.rules (known pass.old).fixed) own (known pass.old) last.now }
+    ensures lock { IsPassOf lock.now pass.new }
+    ensures later { IsLater (known pass.old) (known pass.new) }
+    ensures released { GivesUp last.now (known pass.old).own (known pass.new).own }
+{
+    if let Claim::Claimed(node, _) = last {
+        release(rt, lock, pass, *node);
+    }
 }

@@ -1,8 +1,8 @@
 //! What a worker does in one turn at a lock: it takes the tree, does one thing to it, and gives it back.
 
-ghost use Rattle.std.specs.Prelude.{◌≡◌, IfOk, OnErr, OnOk, false, true};
+ghost use Rattle.std.specs.Prelude.{◌≡◌, Bool, IfOk, OnErr, false, true};
 ghost use Rattle.turn_lock.specs.Passes.{IsPassOf, known};
-ghost use Rattle.work_run.specs.Seen.{EndsClaim, HasResult, HoldsNode, IsAtRest, IsClaimed, IsLater, story_of};
+ghost use Rattle.work_run.specs.Seen.{EndsAndClaims, EndsClaim, HasResult, HoldsNode, IsAtRest, IsClaimed, IsLater, story_of};
 
 use crate::turn_tree::TurnTree;
 use fork_tree::{Claim, Parts, Work};
@@ -20,7 +20,7 @@ pub(crate) fn claim<W: Work, R: Wait>(
     requires rest { IsAtRest (known pass.old) }
     ensures lock { IsPassOf lock.now pass.new }
     ensures later { IsLater (known pass.old) (known pass.new) }
-    ensures ok { IfOk result (IsClaimed (W.rules (known pass.old).fixed) (known pass.old) (known pass.new)) }
+    ensures ok { IfOk result (IsClaimed (W.rules (known pass.old).fixed) (known pass.old).own (known pass.new)) }
     ensures err { OnErr result ((known pass.new).own ≡ (known pass.old).own) }
 {
     let by = pass.number();
@@ -30,28 +30,29 @@ pub(crate) fn claim<W: Work, R: Wait>(
     claimed
 }
 
-/// Enters what came of a node that the worker holds. Where there is no memory for its kids, it is free again.
-pub(crate) fn enter<W: Work, R: Wait>(
+/// Enters what came of a node that the worker holds, and claims a free node. Where memory is refused the worker holds no node:
+/// either there was none for the kids, and the node is free again, or there was none for a claim.
+pub(crate) fn enter_and_claim<W: Work, R: Wait>(
     rt: &R,
     lock: &TurnLock<TurnTree<W>>,
     pass: &mut Pass<TurnTree<W>>,
     node: usize,
     parts: Parts<W::State, W::Leaf>,
-) -> Result<(), NoMemory>
+) -> Result<Claim<W::State>, NoMemory>
     requires lock { IsPassOf lock.now pass.old }
     requires rest { IsAtRest (known pass.old) }
     requires worked { HasResult (W.rules (known pass.old).fixed) W.State.place W.Leaf.place (known pass.old) node parts }
     ensures lock { IsPassOf lock.now pass.new }
     ensures later { IsLater (known pass.old) (known pass.new) }
-    ensures ok { OnOk result (EndsClaim false node (known pass.old).own (known pass.new).own) }
-    ensures err { OnErr result (EndsClaim true node (known pass.old).own (known pass.new).own) }
+    ensures ok { IfOk result (EndsAndClaims (W.rules (known pass.old).fixed) node (known pass.old).own (known pass.new)) }
+    ensures err { OnErr result ((released : Bool) × EndsClaim released node (known pass.old).own (known pass.new).own) }
 {
     let by = pass.number();
     let mut tree = lock.take(rt, pass);
     tree.tree.is_whole();
-    let entered = tree.enter(by, node, parts);
+    let claimed = tree.enter_and_claim(by, node, parts);
     lock.give(pass, tree);
-    entered
+    claimed
 }
 
 /// Frees a node that the worker holds.

@@ -1,12 +1,12 @@
 //! A tree as a lock hands it out, and what a worker does to it in one turn.
 
-ghost use Rattle.std.specs.Prelude.{◌≡◌, ◌<◌, IfOk, OnErr, OnOk, length};
+ghost use Rattle.std.specs.Prelude.{◌≡◌, ◌<◌, Bool, IfOk, OnErr, OnOk, false, length};
 ghost use Rattle.tree_core.specs.declared.node.Status.TheVariants.{Held};
 ghost use Rattle.tree_core.specs.Replays.{noted};
 ghost use Rattle.tree_core.specs.Stories.{status};
 ghost use Rattle.fork_tree.specs.Calls.{IsClaim, release_event};
 ghost use Rattle.fork_tree.specs.Drains.{GrowsBy};
-ghost use Rattle.work_run.specs.Entering.{IsEntered, IsResult};
+ghost use Rattle.work_run.specs.Entering.{IsClaimEnded, IsNextClaim, IsResult};
 
 use fork_tree::{Claim, Content, Parts, Tree, Work};
 use std::alloc::AllocError as NoMemory;
@@ -51,8 +51,28 @@ impl<W: Work> TurnTree<W> {
         self.tree.claim(by)
     }
 
-    /// Enters what came of a node that the worker holds. Where there is no memory for its kids, it is free again.
-    pub(crate) fn enter(
+    /// Enters what came of a node that the worker holds, and claims a free node. Where there is no memory for the kids of the
+    /// one it is free again, and where there is none for a claim nothing is claimed.
+    pub(crate) fn enter_and_claim(
+        &mut self,
+        by: u32,
+        node: usize,
+        parts: Parts<W::State, W::Leaf>,
+    ) -> Result<Claim<W::State>, NoMemory>
+        requires there { node < length self.old.tree.story.nodes }
+        requires held { status self.old.tree.story node ≡ Held by }
+        requires worked { IsResult (W.rules self.old.tree.worker) W.State.place W.Leaf.place self.old.tree.story node parts }
+        ensures worker { self.new.tree.worker ≡ self.old.tree.worker }
+        ensures ok { IfOk result (IsNextClaim (W.rules self.old.tree.worker).IsWell by node self.old.tree.story self.new.tree.story) }
+        ensures err { OnErr result ((released : Bool) × IsClaimEnded released by node self.old.tree.story self.new.tree.story) }
+        ensures grows { GrowsBy by self.old.tree.story self.new.tree.story }
+    {
+        self.enter(by, node, parts)?;
+        self.claim(by)
+    }
+
+    // Enters what came of a node that the worker holds. Where there is no memory for its kids, it is free again.
+    fn enter(
         &mut self,
         by: u32,
         node: usize,
@@ -62,7 +82,7 @@ impl<W: Work> TurnTree<W> {
         requires held { status self.old.tree.story node ≡ Held by }
         requires worked { IsResult (W.rules self.old.tree.worker) W.State.place W.Leaf.place self.old.tree.story node parts }
         ensures worker { self.new.tree.worker ≡ self.old.tree.worker }
-        ensures ok { OnOk result (IsEntered by node self.old.tree.story self.new.tree.story) }
+        ensures ok { OnOk result (IsClaimEnded false by node self.old.tree.story self.new.tree.story) }
         ensures err { OnErr result (self.new.tree.story ≡ noted self.old.tree.story (release_event by node)) }
         ensures grows { GrowsBy by self.old.tree.story self.new.tree.story }
     {

@@ -10,6 +10,7 @@ ghost use Rattle.work_run.specs.declared.stopped.Stopped.TheVariants.{Left, Quie
 
 use crate::round::work_once;
 use crate::stopped::Stopped;
+use crate::turn::claim;
 use crate::turn_tree::TurnTree;
 use fork_tree::Work;
 use std::alloc::Global;
@@ -41,9 +42,14 @@ pub fn work<W: Work, R: Wait, G: Gate>(
     ensures quiet { result ≡ Quiet → IsQuiet (story_of (known pass.new)) }
     ensures left { result ≡ Left → MayLeave (G.may_leave gate.now) (known pass.old).number }
 {
+    let mut last = match claim(rt, lock, pass) {
+        Ok(first) => first,
+        Err(refused) => return Stopped::from(refused),
+    };
     for _ in rt.forever() {
-        if let Err(stopped) = work_once(rt, alloc, lock, pass, worker, gate) {
-            return stopped;
+        match work_once(rt, alloc, lock, pass, worker, gate, last) {
+            Ok(next) => last = next,
+            Err(stopped) => return stopped,
         }
     }
     unreachable!()

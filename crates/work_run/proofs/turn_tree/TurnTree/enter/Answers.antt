@@ -54,7 +54,7 @@ returns-else-is_err-clause-ok g c =
       of_worker = refl;
       of_node = refl;
       ends = refl;
-      stays = refl;
+      is_released = refl;
       story = noted_still c.args.self.now.tree.story c.reserve.new.self.story
           c.split.new.self.story e c.split.ensures.story c.reserve.ensures.story;
     }

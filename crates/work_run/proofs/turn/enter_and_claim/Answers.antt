@@ -1,10 +1,10 @@
 use Rattle.turn_lock.specs.Passes.{known}
 use Rattle.fork_tree.specs.Trees.{covers_at}
-use Rattle.work_run.proofs.Handing.{entered-all, gives-events, handed-by, held-by, released-all, result-handed, turn-later, turned}
-use Rattle.work_run.proofs.turn.enter.Goals as goal
+use Rattle.work_run.proofs.Handing.{ended-all, gives-events, handed-by, held-by, next-all, result-handed, turn-later, turned}
+use Rattle.work_run.proofs.turn.enter_and_claim.Goals as goal
 
-pub enter-entered-requires-clause-held : goal.enter-entered-requires-clause-held
-enter-entered-requires-clause-held g c =
+pub enter_and_claim-claimed-requires-clause-held : goal.enter_and_claim-claimed-requires-clause-held
+enter_and_claim-claimed-requires-clause-held g c =
     let v = known c.args.pass.now in
     let s = c.take-tree.result.tree.story in
     let follows = c.take-tree.ensures.follows in
@@ -12,8 +12,8 @@ enter-entered-requires-clause-held g c =
     held-by (covers_at g.W.State.Placed.place g.W.Leaf.Placed.place) v s c.number-by.result
     c.args.node c.number-by.ensures c.is_whole.ensures.replays handed c.requires.worked.0
 
-pub enter-entered-requires-clause-worked : goal.enter-entered-requires-clause-worked
-enter-entered-requires-clause-worked g c =
+pub enter_and_claim-claimed-requires-clause-worked : goal.enter_and_claim-claimed-requires-clause-worked
+enter_and_claim-claimed-requires-clause-worked g c =
     let v = known c.args.pass.now in
     let s = c.take-tree.result.tree.story in
     let follows = c.take-tree.ensures.follows in
@@ -25,32 +25,33 @@ enter-entered-requires-clause-worked g c =
 pub give-requires-clause-events : goal.give-requires-clause-events
 give-requires-clause-events g c =
     gives-events (known c.args.pass.now) (known c.take-tree.new.pass) c.take-tree.result.tree.story
-    c.enter-entered.new.self.tree.story c.number-by.result c.take-tree.ensures.taken
+    c.enter_and_claim-claimed.new.self.tree.story c.number-by.result c.take-tree.ensures.taken
     c.number-by.ensures
-    c.enter-entered.ensures.grows
+    c.enter_and_claim-claimed.ensures.grows
 
 pub returns-clause-later : goal.returns-clause-later
 returns-clause-later g c =
     let take = c.take-tree in
-    let turn = turned (known c.args.pass.now) _ _ take.result c.enter-entered.new.self _
+    let turn = turned (known c.args.pass.now) _ _ take.result c.enter_and_claim-claimed.new.self _
     c.requires.rest.1 take.ensures.follows take.ensures.taken c.give.ensures.given
-    c.number-by.ensures c.enter-entered.ensures.grows in
+    c.number-by.ensures c.enter_and_claim-claimed.ensures.grows in
     turn-later _ _ _ _ turn
 
 pub returns-clause-ok : goal.returns-clause-ok
 returns-clause-ok g c =
     let take = c.take-tree in
-    let turn = turned (known c.args.pass.now) _ _ take.result c.enter-entered.new.self _
+    let turn = turned (known c.args.pass.now) _ _ take.result c.enter_and_claim-claimed.new.self _
     c.requires.rest.1 take.ensures.follows take.ensures.taken c.give.ensures.given
-    c.number-by.ensures c.enter-entered.ensures.grows in
-    entered-all _ _ _ _ turn c.number-by.result c.args.node c.enter-entered.result
-    c.enter-entered.ensures.ok
+    c.number-by.ensures c.enter_and_claim-claimed.ensures.grows in
+    next-all g.W.Work.rules _ _ _ _ turn take.result.tree.worker c.number-by.result c.args.node
+    c.enter_and_claim-claimed.result take.ensures.follows.fixed c.number-by.ensures
+    c.enter_and_claim-claimed.ensures.ok
 
 pub returns-clause-err : goal.returns-clause-err
 returns-clause-err g c =
     let take = c.take-tree in
-    let turn = turned (known c.args.pass.now) _ _ take.result c.enter-entered.new.self _
+    let turn = turned (known c.args.pass.now) _ _ take.result c.enter_and_claim-claimed.new.self _
     c.requires.rest.1 take.ensures.follows take.ensures.taken c.give.ensures.given
-    c.number-by.ensures c.enter-entered.ensures.grows in
-    released-all _ _ _ _ turn c.number-by.result c.args.node c.enter-entered.result
-    c.enter-entered.ensures.err
+    c.number-by.ensures c.enter_and_claim-claimed.ensures.grows in
+    ended-all _ _ _ _ turn c.number-by.result c.args.node c.enter_and_claim-claimed.result
+    c.enter_and_claim-claimed.ensures.err
