@@ -160,3 +160,16 @@ fn a_worker_may_leave_behind_its_claim(rt: HostRuntime) -> Result<(), Fail> {
     assert_eq!(rt; releases(&tree), 1);
     Ok(())
 }
+
+#[test]
+fn a_worker_may_leave_behind_a_give(rt: HostRuntime) -> Result<(), Fail> {
+    let gate = DropGate {
+        worker: 0,
+        point: Point::AfterGive,
+    };
+    let tree = explore(&rt, rt.alloc(), &Dealer, WHOLE, 1, &gate)?;
+    assert!(rt; has_each_leaf(&tree));
+    // Of the card that it claimed in the same turn.
+    assert_eq!(rt; releases(&tree), 1);
+    Ok(())
+}
