@@ -165,7 +165,10 @@ impl Analysis {
     }
 
     /// The step that was found: its clause with its hints. None if its literals make no clause.
-    pub fn step(&self, alloc: Global, conflict: usize) -> Result<Option<LogStep>, NoMemory> {
+    pub fn step(&mut self, alloc: Global, conflict: usize) -> Result<Option<LogStep>, NoMemory> {
+        // The last variable comes first, so that a clause finds the place of each literal at its front.
+        self.literals
+            .sort_unstable_by_key(|literal| u32::MAX - literal.variable());
         match Clause::from_literals(alloc, &self.literals)? {
             Some(clause) => Ok(Some(LogStep::new(clause, self.hints(alloc, conflict)?))),
             None => Ok(None),
