@@ -18,8 +18,9 @@ use Rattle.fork_tree.specs.Calls.{IsQuiet, NoneFree}
 use Rattle.fork_tree.specs.Contents.{place_in}
 use Rattle.fork_tree.specs.Drains.{IsDrained}
 use Rattle.fork_tree.specs.Nodes.{HoldsFor, IsLeafRight}
-use Rattle.fork_tree.specs.Trees.{FollowsRules, IsListOfFree, stands_free, times_listed}
+use Rattle.fork_tree.specs.Trees.{FollowsRules, IsListOfFree, stands_free}
 use Rattle.fork_tree.specs.Works.{Rules}
+use Rattle.fork_tree.specs.Worklists.{times_listed}
 use Rattle.fork_tree.specs.declared.content.Content.{Content}
 use Rattle.fork_tree.proofs.Listing.{one_some, free-within, free-status}
 

@@ -1,5 +1,5 @@
 -- Which nodes stand free when an event was noted, and how often a list has them.
-use Rattle.std.proofs.Common.{◌≡◌, ◌≢◌, ℕ, zero, suc, ◌+◌, ◌-◌, ◌<◌, ◌≤◌, eqb, Bool, true, false, cond, not, Option, Some, None, List, [], ◌∷◌, ◌++◌, length, get_or, drop, append_assoc, option_map, sym, refl, ap, ◌∙◌, arith, eq-eqb, ne_eqb}
+use Rattle.std.proofs.Common.{◌≡◌, ◌≢◌, ℕ, zero, suc, ◌+◌, ◌-◌, ◌<◌, ◌≤◌, eqb, Bool, true, false, cond, not, Option, Some, None, List, [], ◌∷◌, ◌++◌, length, get_or, drop, append_assoc, option_map, sym, refl, ap, subst, ◌∙◌, arith, eq-eqb, ne_eqb}
 use mathlib.Core.Logic.{dite}
 use native.Mathlib.Decide.{dec_le}
 use Rattle.std.specs.List.{slice_get}
@@ -14,7 +14,8 @@ use Rattle.tree_core.specs.Covers.{one_if}
 use Rattle.tree_core.specs.Replays.{is_free, births, kids_of, deed_kept, noted, node_of}
 use Rattle.tree_core.proofs.Places.{get_before, get_behind}
 use Rattle.tree_core.proofs.Standing.{status-kid}
-use Rattle.fork_tree.specs.Trees.{free_if_there, stands_free, times_listed, born_free}
+use Rattle.fork_tree.specs.Trees.{HasBorn, free_if_there, stands_free, born_free}
+use Rattle.fork_tree.specs.Worklists.{HasOnceMore, times_listed}
 use Rattle.fork_tree.proofs.Standings.{AreThere, Coming, status-here, status-other}
 
 pub get_some : {X : Type 0} (xs : List X) (k : ℕ) → k < length xs →
@@ -159,3 +160,50 @@ born-listed {R} (kid ∷ kids) n (suc i) = let move : n + suc i ≡ (n + 1) + i 
     later_by_leaf n (n + suc i) (one_if (kid_free (slice_get kids i))) (born_free (n + 1) kids)
     kid.is_leaf (omega arith)
     (ap (λ k. times_listed k (born_free (n + 1) kids)) move ∙ born-listed kids (n + 1) i)
+
+module _ {R : Type 0} (kids : List (Kid R)) (first i : ℕ) (d : Kid R) (before : List ℕ) where
+  born_next : 0 < i → i ≤ length kids → (b : Bool) → (get_or kids (i - 1) d).is_leaf ≡ b →
+      born_free (first + (i - 1)) (drop (i - 1) kids) ≡ cond b (born_free (first + i) (drop i kids))
+      (born_free (first + i) (drop i kids) ++ (first + (i - 1)) ∷ [])
+  born_next some lt b is =
+      let n : ℕ = first + (i - 1) in
+      let up : n + 1 ≡ first + i = omega arith in
+      let on : (i - 1) + 1 ≡ i = omega arith in
+      born-at kids (i - 1) n d (omega arith)
+      ∙ (λ j. cond (is j) (born_free (up j) (drop (on j) kids))
+      (born_free (up j) (drop (on j) kids) ++ n ∷ []))
+
+  -- a kid that is a leaf isn't listed
+  pub born-skips : (after : List ℕ) → 0 < i → i ≤ length kids →
+      (get_or kids (i - 1) d).is_leaf ≡ true → HasBorn (first + i) (drop i kids) before after →
+      HasBorn (first + (i - 1)) (drop (i - 1) kids) before after
+  born-skips after some lt leaf has k =
+      has k
+      ∙ ap (λ (l : List ℕ). times_listed k before + times_listed k l)
+      (sym (born_next some lt true leaf))
+
+  -- any other is
+  pub born-lists : (mid after : List ℕ) → 0 < i → i ≤ length kids →
+      (get_or kids (i - 1) d).is_leaf ≡ false → HasBorn (first + i) (drop i kids) before mid →
+      HasOnceMore (first + (i - 1)) mid after →
+      HasBorn (first + (i - 1)) (drop (i - 1) kids) before after
+  born-lists mid after some lt free has put k =
+      let n : ℕ = first + (i - 1) in
+      let later : List ℕ = born_free (first + i) (drop i kids) in
+      put k
+      ∙ (ap (λ m. m + one_if (eqb n k)) (has k)
+      ∙ (together (times_listed k before) (times_listed k later) (one_if (eqb n k))
+      ∙ ap (λ m. times_listed k before + m)
+      (sym (listed-push k n later) ∙ ap (times_listed k) (sym (born_next some lt false free)))))
+    where
+      together : (a b c : ℕ) → a + b + c ≡ a + (b + c)
+      together a b c = omega arith
+
+-- all kids that are free are listed
+pub born-all : {R : Type 0} (kids : List (Kid R)) (first i : ℕ) (before after : List ℕ) → i ≤ 0 →
+    HasBorn (first + i) (drop i kids) before after → HasBorn first kids before after
+born-all {R} kids first i before after none has =
+    let zero : i ≡ 0 = omega arith in
+    let same : first + i ≡ first = omega arith in
+    subst (λ (p : ℕ × List (Kid R)). HasBorn p.0 p.1 before after)
+    (λ j. (same j, drop (zero j) kids)) has

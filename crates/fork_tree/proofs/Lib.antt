@@ -1,5 +1,6 @@
 pub mod Standings
 pub mod Free
+pub mod Totals
 pub mod Listing
 pub mod Holding
 pub mod Noting

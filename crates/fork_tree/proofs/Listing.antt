@@ -4,7 +4,6 @@ use mathlib.Core.Logic.{dite}
 use native.Mathlib.Decide.{ℕ_discrete, dec_le}
 use Rattle.std.specs.List.{slice_get}
 use Rattle.std.specs.Global.{Vec}
-use Rattle.std.proofs.lemmas.List.Sums.{sum_by-append}
 use Rattle.tree_core.specs.declared.event.Deed.{Deed}
 use Rattle.tree_core.specs.declared.event.Deed.TheVariants.{Claim, Release}
 use Rattle.tree_core.specs.declared.event.Kid.{Kid}
@@ -15,9 +14,10 @@ use Rattle.tree_core.specs.Covers.{one_if}
 use Rattle.tree_core.specs.Replays.{allows, is_allowed, is_free, is_held_by, kids_of, deed_kept, noted}
 use Rattle.tree_core.specs.Cores.{held_count, is_held}
 use Rattle.tree_core.proofs.Counting.{count_at}
-use Rattle.fork_tree.specs.Trees.{stands_free, times_listed, born_free}
+use Rattle.fork_tree.specs.Trees.{HasBorn, stands_free, born_free}
+use Rattle.fork_tree.specs.Worklists.{HasOnceMore, times_listed}
 use Rattle.fork_tree.proofs.Standings.{AreThere, Coming}
-use Rattle.fork_tree.proofs.Free.{kid_free, free-old, free-here, free-is, free-none, free-behind, free-same, listed-push, born-low, born-listed}
+use Rattle.fork_tree.proofs.Free.{kid_free, free-old, free-here, free-is, free-none, free-behind, free-same, born-low, born-listed}
 
 one_most : (b : Bool) → one_if b ≤ 1
 one_most true = let goal : 1 ≤ 1 = omega arith in goal
@@ -29,12 +29,12 @@ not_free st by held = ap is_free held
 module _ {R : Type 0} where
   -- a claim takes its node from the list
   pub listed-claim : (s : Story R) (e : Coming R) (free rest : List ℕ) → AreThere s →
-      e.node < length s.nodes → e.deed ≡ Claim → free ≡ rest ++ e.node ∷ [] →
+      e.node < length s.nodes → e.deed ≡ Claim → HasOnceMore e.node rest free →
       ((k : ℕ) → times_listed k free ≡ one_if (stands_free s k)) → (k : ℕ) →
       times_listed k rest ≡ one_if (stands_free (noted s e) k)
   listed-claim s e free rest named there claims is listed k = let m : ℕ = e.node in
       let all : times_listed k rest + one_if (eqb m k) ≡ one_if (stands_free s k) =
-      sym (listed-push k m rest) ∙ (ap (times_listed k) (sym is) ∙ listed k) in
+      sym (is k) ∙ listed k in
       dite (ℕ_discrete k m)
       (λ same. let yes : one_if (eqb m k) ≡ 1 = ap one_if (eq-eqb m k (sym same)) in
       let most : one_if (stands_free s k) ≤ 1 = one_most (stands_free s k) in
@@ -62,13 +62,14 @@ module _ {R : Type 0} where
       ∙ (free-here s e there ∙ ends) in before ∙ sym after)
       (λ ne. sym (free-same s e k named there none ne)))
 
-  -- a release puts its node behind the others
-  pub listed-release : (s : Story R) (e : Coming R) (free : List ℕ) → AreThere s →
+  -- a release puts its node into the list
+  pub listed-release : (s : Story R) (e : Coming R) (free more : List ℕ) → AreThere s →
       e.node < length s.nodes → e.deed ≡ Release → is_free (status s e.node) ≡ false →
+      HasOnceMore e.node free more →
       ((k : ℕ) → times_listed k free ≡ one_if (stands_free s k)) → (k : ℕ) →
-      times_listed k (free ++ e.node ∷ []) ≡ one_if (stands_free (noted s e) k)
-  listed-release s e free named there gives was listed k =
-      let m : ℕ = e.node in listed-push k m free ∙ dite (ℕ_discrete k m)
+      times_listed k more ≡ one_if (stands_free (noted s e) k)
+  listed-release s e free more named there gives was put listed k =
+      let m : ℕ = e.node in put k ∙ dite (ℕ_discrete k m)
       (λ same. let before : stands_free s k ≡ false = ap (stands_free s) same
       ∙ (free-is s m there ∙ was) in
       let after : stands_free (noted s e) k ≡ true =
@@ -83,18 +84,17 @@ module _ {R : Type 0} where
       let a : times_listed k free + one_if (eqb m k) ≡ times_listed k free = omega arith in
       a ∙ (listed k ∙ ap one_if (sym (free-same s e k named there (ap kids_of gives) ne))))
 
-  -- a split puts the kids that are free behind the others
-  pub listed-split : (s : Story R) (e : Coming R) (free : List ℕ) → AreThere s →
+  -- a split puts the kids that are free into the list
+  pub listed-split : (s : Story R) (e : Coming R) (free more : List ℕ) → AreThere s →
       e.node < length s.nodes → is_free (left_by e.by (deed_kept e.deed)) ≡ false →
-      is_free (status s e.node) ≡ false →
+      is_free (status s e.node) ≡ false → HasBorn (length s.nodes) (kids_of e.deed) free more →
       ((k : ℕ) → times_listed k free ≡ one_if (stands_free s k)) → (k : ℕ) →
-      times_listed k (free ++ born_free (length s.nodes) (kids_of e.deed)) ≡ one_if
-      (stands_free (noted s e) k)
-  listed-split s e free named there parts was listed k =
+      times_listed k more ≡ one_if (stands_free (noted s e) k)
+  listed-split s e free more named there parts was put listed k =
       let n : ℕ = length s.nodes in
       let m : ℕ = e.node in
       let kids : List (Kid R) = kids_of e.deed in
-      sum_by-append (λ (x : ℕ). cond (eqb x k) 1 0) free (born_free n kids) ∙ dite (dec_le n k)
+      put k ∙ dite (dec_le n k)
       (λ le. let i : ℕ = k - n in let split : n + i ≡ k = omega arith in
       let none : times_listed k free ≡ 0 = listed k ∙ ap one_if (free-none s k le) in
       let born : times_listed k (born_free n kids) ≡ one_if (kid_free (slice_get kids i)) =
@@ -143,12 +143,12 @@ one_some a false is = let two : a + 1 ≡ 0 = is in absurd (omega arith)
 
 module _ {R : Type 0} where
   -- what is listed stands free
-  pub listed-free : (s : Story R) (free rest : List ℕ) (m : ℕ) → free ≡ rest ++ m ∷ [] →
+  pub listed-free : (s : Story R) (free rest : List ℕ) (m : ℕ) → HasOnceMore m rest free →
       ((k : ℕ) → times_listed k free ≡ one_if (stands_free s k)) → stands_free s m ≡ true
   listed-free s free rest m is listed =
       one_some (times_listed m rest) (stands_free s m)
       (ap (λ n. times_listed m rest + n) (sym (ap one_if (eq-eqb m m refl)))
-      ∙ (sym (listed-push m m rest) ∙ (sym (ap (times_listed m) is) ∙ listed m)))
+      ∙ (sym (is m) ∙ listed m))
 
 is_free-true : (st : Status) → is_free st ≡ true → st ≡ Free
 is_free-true Free is = refl

@@ -1,5 +1,5 @@
 -- What a tree keeps when an event was noted.
-use Rattle.std.proofs.Common.{◌≡◌, ℕ, zero, suc, ◌+◌, ◌^◌, ◌<◌, ◌≤◌, true, false, IsTrue, Option, Some, None, List, [], ◌∷◌, ◌++◌, length, sym, refl, ap, ◌∙◌, subst, arith, ne_eqb, length-append}
+use Rattle.std.proofs.Common.{◌≡◌, ℕ, zero, suc, ◌+◌, ◌^◌, ◌<◌, ◌≤◌, true, false, IsTrue, Option, Some, None, [], length, sym, refl, ap, ◌∙◌, subst, arith, ne_eqb}
 use Rattle.std.specs.Global.{Vec}
 use Rattle.std.proofs.lemmas.List.{append-nil}
 use Rattle.tree_core.specs.declared.cause.Cause.{Cause}
@@ -17,14 +17,15 @@ use Rattle.fork_spec.specs.Written.{IsInForm}
 use Rattle.fork_tree.specs.Calls.{IsEndFit, IsSplitFit, claim_event, cut_event, finish_event, release_event, split_event}
 use Rattle.fork_tree.specs.Contents.{cut_in, place_in}
 use Rattle.fork_tree.specs.Nodes.{AllHold, HasState, HoldsFor, IsLeafRight, StateIs}
-use Rattle.fork_tree.specs.Trees.{FollowsRules, IsListOfFree, born_free, choices_at, stands_free}
+use Rattle.fork_tree.specs.Trees.{FollowsRules, HasBorn, HasPlaces, IsListOfFree, choices_at, stands_free}
 use Rattle.fork_tree.specs.Works.{Rules}
+use Rattle.fork_tree.specs.Worklists.{HasOnceMore, Listed}
 use Rattle.fork_tree.specs.declared.content.Content.{Content}
 use Rattle.fork_tree.specs.declared.content.Content.TheVariants.{Open, Shut}
 use Rattle.fork_spec.proofs.Apart.{apart-noted, apart-opening}
 use Rattle.fork_spec.proofs.Walked.{walked-noted, walked-opening}
 use Rattle.fork_tree.proofs.Standings.{AreThere, Coming, length-noted}
-use Rattle.fork_tree.proofs.Free.{free-none, listed-push}
+use Rattle.fork_tree.proofs.Free.{free-none}
 use Rattle.fork_tree.proofs.Holding.{DeedHolds, holds-noted}
 use Rattle.fork_tree.proofs.Listing.{allowed-claim, free-status, free-within, held-allows, listed-claim, listed-end, listed-free, listed-release, listed-split, not_free}
 
@@ -65,10 +66,9 @@ module _ {S L : Type 0} (rules : Rules S L) (state_place : S → Place) (leaf_pl
   }
 
   -- what the fields of a tree keep
-  abbrev pub IsTended : Story (Content S L) → List ℕ → ℕ → Type 0
-  IsTended s free room =
-      FollowsRules rules state_place leaf_place s × IsListOfFree s free ×
-      (length free + held_count s ≤ room)
+  abbrev pub IsTended : Story (Content S L) → Listed → Type 0
+  IsTended s free =
+      FollowsRules rules state_place leaf_place s × IsListOfFree s free.nodes × HasPlaces s free
 
   -- a free node has a state, which is well
   pub free-state : (s : Story (Content S L)) (m : ℕ) → FollowsRules rules state_place leaf_place s →
@@ -84,51 +84,96 @@ module _ {S L : Type 0} (rules : Rules S L) (state_place : S → Place) (leaf_pl
       (follows.holds m there)
 
   -- a claim takes its node from the list
-  pub tended-claim : (s t : Story (Content S L)) (by m : ℕ) (free rest : List ℕ) (room : ℕ) →
-      IsTended s free room → t ≡ noted s (claim_event by m) → AreThere s → free ≡ rest ++ m ∷ [] →
-      IsTended t rest room
-  tended-claim s t by m free rest room tended is named last =
+  pub tended-claim : (s t : Story (Content S L)) (by m : ℕ) (free rest : Listed) →
+      IsTended s free → t ≡ noted s (claim_event by m) → AreThere s →
+      HasOnceMore m rest.nodes free.nodes → length rest.nodes + 1 ≡ length free.nodes →
+      rest.capacity ≡ free.capacity → IsTended t rest
+  tended-claim s t by m free rest tended is named last long room =
       let e : Coming (Content S L) = claim_event by m in
-      let stands : stands_free s m ≡ true = listed-free s free rest m last tended.1 in
+      let stands : stands_free s m ≡ true = listed-free s free.nodes rest.nodes m last tended.1 in
       let there : m < length s.nodes = free-within s m stands in
       let may : IsTrue (is_allowed s e) = allowed-claim s e refl (free-status s m stands) in
       let old = some_content rules.IsWell (content s m) (free-state s m tended.0 stands) in
-      subst (λ (x : Story (Content S L)). IsTended x rest room) (sym is) (
+      subst (λ (x : Story (Content S L)). IsTended x rest) (sym is) (
         follows-noted s e old.0 tended.0 named there old.1 may tt tt tt
             (as_few (length s.nodes) tended.0.few),
-        listed-claim s e free rest named there refl last tended.1,
-        balance (length rest) (length free) (held_count (noted s e)) (held_count s) room
-            (ap length last ∙ length-append rest (m ∷ [])) (held_count-noted s e named there may)
-            tended.2,
+        listed-claim s e free.nodes rest.nodes named there refl last tended.1,
+        (
+          balance (length rest.nodes) (length free.nodes) (held_count (noted s e)) (held_count s)
+              free.capacity rest.capacity long (held_count-noted s e named there may) tended.2.0
+              (at_least rest.capacity free.capacity room),
+          balance (length rest.nodes) (length free.nodes) (held_count (noted s e)) (held_count s)
+              (length s.nodes) (length (noted s e).nodes) long
+              (held_count-noted s e named there may) tended.2.1
+              (grown (length (noted s e).nodes) (length s.nodes) (length-noted s e)),
+        ),
       )
     where
+      at_least : (a b : ℕ) → a ≡ b → b ≤ a
+      at_least a b is = omega arith
+
+      grown : (now n : ℕ) → now ≡ n + 0 → n ≤ now
+      grown now n is = omega arith
+
       as_few : (n : ℕ) → n < 2 ^ 32 → n + 0 < 2 ^ 32
       as_few n lt = omega arith
 
-      balance : (r f h g room : ℕ) → f ≡ r + 1 → h + 0 ≡ g + 1 → f + g ≤ room → r + h ≤ room
-      balance r f h g room x y z = omega arith
+      balance : (r f h g room now : ℕ) → r + 1 ≡ f → h + 0 ≡ g + 1 → f + g ≤ room → room ≤ now →
+          r + h ≤ now
+      balance r f h g room now x y z w = omega arith
+
+  -- a node that was taken from the list was put back
+  pub tended-back : (s : Story (Content S L)) (m : ℕ) (free rest back : Listed) → IsTended s free →
+      HasOnceMore m rest.nodes free.nodes → HasOnceMore m rest.nodes back.nodes →
+      length rest.nodes + 1 ≡ length free.nodes → length back.nodes ≡ length rest.nodes + 1 →
+      back.capacity ≡ free.capacity → IsTended s back
+  tended-back s m free rest back tended taken put shorter longer room = (
+    tended.0,
+    λ k. put k ∙ (sym (taken k) ∙ tended.1 k),
+    (
+      still (length back.nodes) (length free.nodes) (held_count s) free.capacity back.capacity
+          (longer ∙ shorter) tended.2.0 room,
+      still (length back.nodes) (length free.nodes) (held_count s) (length s.nodes) (length s.nodes)
+          (longer ∙ shorter) tended.2.1 refl,
+    ),
+  )
+    where
+      still : (b f h room now : ℕ) → b ≡ f → f + h ≤ room → now ≡ room → b + h ≤ now
+      still b f h room now x y z = omega arith
 
   -- an end of a claim
   tended-end : (s t : Story (Content S L)) (e : Coming (Content S L)) (r : Content S L)
-      (free more : List ℕ) (room : ℕ) →
-      IsTended s free room → t ≡ noted s e → AreThere s → e.node < length s.nodes →
+      (free more : Listed) →
+      IsTended s free → t ≡ noted s e → AreThere s → e.node < length s.nodes →
       content s e.node ≡ Some r → status s e.node ≡ Held e.by →
       ((st : Status) (by : ℕ) → allows st by e.deed ≡ is_held_by by st) → ends e.deed ≡ 1 →
       takes e.deed ≡ 0 →
       IsInForm (choices_at state_place leaf_place) (cut_in rules.cut) rules.targets r e.deed →
       KeepsApart (place_in state_place leaf_place) rules.decides r e.deed → DeedHolds rules e.deed →
-      length s.nodes + length (kids_of e.deed) < 2 ^ 32 → IsListOfFree (noted s e) more →
-      length more + held_count s ≤ room + 1 → IsTended t more room
-  tended-end s t e r free more room tended is named there old held allow one nil form keeps new few
-      listed fits =
+      length s.nodes + length (kids_of e.deed) < 2 ^ 32 → IsListOfFree (noted s e) more.nodes →
+      length more.nodes + held_count s ≤ more.capacity + 1 →
+      length more.nodes ≤ length free.nodes + (length (kids_of e.deed) + 1) → IsTended t more
+  tended-end s t e r free more tended is named there old held allow one nil form keeps new few
+      listed fits long =
       let may : IsTrue (is_allowed s e) = held-allows s e held allow in
-      subst (λ (x : Story (Content S L)). IsTended x more room) (sym is) (
+      subst (λ (x : Story (Content S L)). IsTended x more) (sym is) (
         follows-noted s e r tended.0 named there old may form keeps new few,
         listed,
-        balance (length more) (held_count (noted s e)) (held_count s) (ends e.deed) (takes e.deed)
-            room (held_count-noted s e named there may) one nil fits,
+        (
+          balance (length more.nodes) (held_count (noted s e)) (held_count s) (ends e.deed)
+              (takes e.deed) more.capacity (held_count-noted s e named there may) one nil fits,
+          balance (length more.nodes) (held_count (noted s e)) (held_count s) (ends e.deed)
+              (takes e.deed) (length (noted s e).nodes) (held_count-noted s e named there may) one nil
+              (among (length more.nodes) (length free.nodes) (held_count s) (length s.nodes)
+              (length (kids_of e.deed)) (length (noted s e).nodes) long tended.2.1
+              (length-noted s e)),
+        ),
       )
     where
+      among : (m f h n kids now : ℕ) → m ≤ f + (kids + 1) → f + h ≤ n → now ≡ n + kids →
+          m + h ≤ now + 1
+      among m f h n kids now x y z = omega arith
+
       balance : (m h g d t room : ℕ) → h + d ≡ g + t → d ≡ 1 → t ≡ 0 → m + g ≤ room + 1 →
           m + h ≤ room
       balance m h g d t room x y z w = omega arith
@@ -150,64 +195,78 @@ module _ {S L : Type 0} (rules : Rules S L) (state_place : S → Place) (leaf_pl
   one_less : (f h room : ℕ) → f + h ≤ room → f + h ≤ room + 1
   one_less f h room le = omega arith
 
-  pub tended-finish : (s t : Story (Content S L)) (by node : ℕ) (leaf : L) (free : List ℕ)
-      (room : ℕ) →
-      IsTended s free room → t ≡ noted s (finish_event by node leaf) → AreThere s →
-      IsEndFit rules state_place leaf_place None s by node leaf → IsTended t free room
-  tended-finish s t by node leaf free room tended is named fit =
+  as_long : (f : ℕ) → f ≤ f + (0 + 1)
+  as_long f = omega arith
+
+  pub tended-finish : (s t : Story (Content S L)) (by node : ℕ) (leaf : L) (free : Listed) →
+      IsTended s free → t ≡ noted s (finish_event by node leaf) → AreThere s →
+      IsEndFit rules state_place leaf_place None s by node leaf → IsTended t free
+  tended-finish s t by node leaf free tended is named fit =
       let e : Coming (Content S L) = finish_event by node leaf in
-      tended-end s t e fit.old free free room tended is named fit.there fit.is_old fit.held
+      tended-end s t e fit.old free free tended is named fit.there fit.is_old fit.held
       (λ st by. refl) refl refl
       (fit.same_choices, fit.cause) (leaf-under None s by node leaf fit) fit.right
       (no_more (length s.nodes) tended.0.few)
-      (listed-end s e free named fit.there refl (not_free (status s node) by fit.held) refl
-      tended.1) (one_less (length free) (held_count s) room tended.2)
+      (listed-end s e free.nodes named fit.there refl (not_free (status s node) by fit.held) refl
+      tended.1) (one_less (length free.nodes) (held_count s) free.capacity tended.2.0)
+      (as_long (length free.nodes))
 
-  pub tended-cut : (s t : Story (Content S L)) (by node : ℕ) (leaf : L) (free : List ℕ) (room : ℕ) →
-      IsTended s free room → t ≡ noted s (cut_event by node leaf) → AreThere s →
-      IsEndFit rules state_place leaf_place (Some Steps) s by node leaf → IsTended t free room
-  tended-cut s t by node leaf free room tended is named fit =
+  pub tended-cut : (s t : Story (Content S L)) (by node : ℕ) (leaf : L) (free : Listed) →
+      IsTended s free → t ≡ noted s (cut_event by node leaf) → AreThere s →
+      IsEndFit rules state_place leaf_place (Some Steps) s by node leaf → IsTended t free
+  tended-cut s t by node leaf free tended is named fit =
       let e : Coming (Content S L) = cut_event by node leaf in
-      tended-end s t e fit.old free free room tended is named fit.there fit.is_old fit.held
+      tended-end s t e fit.old free free tended is named fit.there fit.is_old fit.held
       (λ st by. refl) refl refl
       (fit.same_choices, fit.cause) (leaf-under (Some Steps) s by node leaf fit) fit.right
       (no_more (length s.nodes) tended.0.few)
-      (listed-end s e free named fit.there refl (not_free (status s node) by fit.held) refl
-      tended.1) (one_less (length free) (held_count s) room tended.2)
+      (listed-end s e free.nodes named fit.there refl (not_free (status s node) by fit.held) refl
+      tended.1) (one_less (length free.nodes) (held_count s) free.capacity tended.2.0)
+      (as_long (length free.nodes))
 
-  -- a release puts its node behind the others
-  pub tended-release : (s t : Story (Content S L)) (by node : ℕ) (free : List ℕ) (room : ℕ) →
-      IsTended s free room → t ≡ noted s (release_event by node) → AreThere s →
-      node < length s.nodes → status s node ≡ Held by → IsTended t (free ++ node ∷ []) room
-  tended-release s t by node free room tended is named there held =
+  -- a release puts its node into the list
+  pub tended-release : (s t : Story (Content S L)) (by node : ℕ) (free more : Listed) →
+      IsTended s free → t ≡ noted s (release_event by node) → AreThere s →
+      node < length s.nodes → status s node ≡ Held by → HasOnceMore node free.nodes more.nodes →
+      length more.nodes ≡ length free.nodes + 1 → more.capacity ≡ free.capacity → IsTended t more
+  tended-release s t by node free more tended is named there held put long room =
       let e : Coming (Content S L) = release_event by node in
       let old =
       some_content rules.IsWell (content s node) (held-state s node by tended.0 there held) in
-      tended-end s t e old.0 free (free ++ node ∷ []) room tended is named there old.1 held
+      tended-end s t e old.0 free more tended is named there old.1 held
       (λ st by. refl) refl refl tt tt tt (no_more (length s.nodes) tended.0.few)
-      (listed-release s e free named there refl (not_free (status s node) by held) tended.1)
-      (one_more (length (free ++ node ∷ [])) (length free) (held_count s) room
-      (length-append free (node ∷ [])) tended.2)
+      (listed-release s e free.nodes more.nodes named there refl (not_free (status s node) by held)
+      put tended.1)
+      (one_more (length more.nodes) (length free.nodes) (held_count s) free.capacity more.capacity
+      long tended.2.0 room)
+      (longer (length more.nodes) (length free.nodes) long)
     where
-      one_more : (m f h room : ℕ) → m ≡ f + 1 → f + h ≤ room → m + h ≤ room + 1
-      one_more m f h room x y = omega arith
+      one_more : (m f h room now : ℕ) → m ≡ f + 1 → f + h ≤ room → now ≡ room → m + h ≤ now + 1
+      one_more m f h room now x y z = omega arith
 
-  -- a split puts the kids that are free behind the others
+      longer : (m f : ℕ) → m ≡ f + 1 → m ≤ f + (0 + 1)
+      longer m f is = omega arith
+
+  -- a split puts the kids that are free into the list
   pub tended-split : (s t : Story (Content S L)) (by node : ℕ) (kids : Vec (Kid (Content S L)))
-      (free more : List ℕ) (room : ℕ) →
-      IsTended s free room → t ≡ noted s (split_event by node kids) → AreThere s →
+      (free more : Listed) →
+      IsTended s free → t ≡ noted s (split_event by node kids) → AreThere s →
       IsSplitFit rules state_place leaf_place s by node kids →
       length s.nodes + length kids.items < 2 ^ 32 →
-      more ≡ free ++ born_free (length s.nodes) kids.items → length more + held_count s ≤ room + 1 →
-      IsTended t more room
-  tended-split s t by node kids free more room tended is named fit few are fits =
+      HasBorn (length s.nodes) kids.items free.nodes more.nodes →
+      length more.nodes ≤ length free.nodes + length kids.items →
+      length more.nodes + held_count s ≤ more.capacity + 1 → IsTended t more
+  tended-split s t by node kids free more tended is named fit few are long fits =
       let e : Coming (Content S L) = split_event by node kids in
-      tended-end s t e fit.old free more room tended is named fit.there fit.is_old fit.held
+      tended-end s t e fit.old free more tended is named fit.there fit.is_old fit.held
       (λ st by. refl) refl refl
       fit.in_form fit.apart fit.parts few
-      (subst (IsListOfFree (noted s e)) (sym are)
-      (listed-split s e free named fit.there refl (not_free (status s node) by fit.held)
-      tended.1)) fits
+      (listed-split s e free.nodes more.nodes named fit.there refl
+      (not_free (status s node) by fit.held) are tended.1)
+      fits (longer (length more.nodes) (length free.nodes) (length kids.items) long)
+    where
+      longer : (m f kids : ℕ) → m ≤ f + kids → m ≤ f + (kids + 1)
+      longer m f kids le = omega arith
 
   -- a tree of one node, which is free
   follows-opening : (c : Content S L) → HasState rules.IsWell (Some c) →
@@ -225,15 +284,28 @@ module _ {S L : Type 0} (rules : Rules S L) (state_place : S → Place) (leaf_pl
       at_root zero lt = well
       at_root (suc m) lt = absurd (omega arith)
 
-  pub tended-opening : (c : Content S L) (s : Story (Content S L)) (free : List ℕ) (room : ℕ) →
-      s ≡ opening c false → free ≡ 0 ∷ [] → 1 ≤ room → HasState rules.IsWell (Some c) →
-      choices_at state_place leaf_place c ≡ [] → IsTended s free room
-  tended-opening c s free room is lists fits well none =
-      subst (λ (p : Story (Content S L) × List ℕ). IsTended p.0 p.1 room)
-      (λ i. (sym is i, sym lists i)) (follows-opening c well none, root_listed, fits)
+  pub tended-opening : (c : Content S L) (s : Story (Content S L)) (free : Listed) →
+      s ≡ opening c false → HasOnceMore 0 [] free.nodes → length free.nodes ≡ 1 →
+      1 ≤ free.capacity → HasState rules.IsWell (Some c) →
+      choices_at state_place leaf_place c ≡ [] → IsTended s free
+  tended-opening c s free is lists long fits well none =
+      subst (λ (x : Story (Content S L)). IsTended x free) (sym is)
+      (follows-opening c well none, root_listed, (room, among))
     where
-      root_listed : IsListOfFree (opening c false) (0 ∷ [])
-      root_listed zero = refl
+      room : length free.nodes + held_count (opening c false) ≤ free.capacity
+      room = fewer (length free.nodes) free.capacity long fits
+        where
+          fewer : (f cap : ℕ) → f ≡ 1 → 1 ≤ cap → f + 0 ≤ cap
+          fewer f cap x y = omega arith
+
+      among : length free.nodes + held_count (opening c false) ≤ 1
+      among = one (length free.nodes) long
+        where
+          one : (f : ℕ) → f ≡ 1 → f + 0 ≤ 1
+          one f is = omega arith
+
+      root_listed : IsListOfFree (opening c false) free.nodes
+      root_listed zero = lists 0
       root_listed (suc m) =
-          listed-push (suc m) 0 [] ∙ ap (λ b. 0 + one_if b) (ne_eqb 0 (suc m) (λ is. omega arith))
+          lists (suc m) ∙ ap (λ b. 0 + one_if b) (ne_eqb 0 (suc m) (λ is. omega arith))
           ∙ sym (ap one_if (free-none (opening c false) (suc m) (omega arith)))

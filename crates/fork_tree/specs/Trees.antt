@@ -1,6 +1,7 @@
 -- A tree as a story with room for more, and what its fields keep.
-use Rattle.std.specs.Prelude.{◌≡◌, ◌++◌, ℕ, ◌+◌, ◌<◌, ◌==◌, ◌^◌, Bool, false, if◌then◌else◌, Option, Some, None, List, [], ◌∷◌, length, slice_get, count_by}
+use Rattle.std.specs.Prelude.{◌≡◌, ◌++◌, ℕ, ◌+◌, ◌<◌, ◌≤◌, ◌^◌, Bool, false, if◌then◌else◌, Option, Some, None, List, [], ◌∷◌, length, slice_get}
 use Rattle.tree_core.specs.Stories.{Story, status}
+use Rattle.tree_core.specs.Cores.{held_count}
 use Rattle.tree_core.specs.Covers.{one_if}
 use Rattle.tree_core.specs.Replays.{is_free}
 use Rattle.tree_core.specs.declared.choice.Choice.{Choice}
@@ -12,6 +13,7 @@ use Rattle.fork_spec.specs.Written.{IsWalked}
 use Rattle.fork_tree.specs.Contents.{cut_in, place_in}
 use Rattle.fork_tree.specs.Nodes.{AllHold}
 use Rattle.fork_tree.specs.Works.{Rules}
+use Rattle.fork_tree.specs.Worklists.{Listed, times_listed}
 use Rattle.fork_tree.specs.declared.content.Content.{Content}
 
 -- a worker and a story, the number of nodes that may come with no memory, and that of events
@@ -54,10 +56,18 @@ module _ {R : Type 0} where
   born_free n (kid ∷ kids) =
       if kid.is_leaf then born_free (n + 1) kids else (born_free (n + 1) kids ++ n ∷ [])
 
--- how often a number is in a list
-abbrev pub times_listed : ℕ → List ℕ → ℕ
-times_listed m ms = count_by (λ k. k == m) ms
+-- the second list has what the first has, and the kids that are free besides
+abbrev pub HasBorn : {R : Type 0} → ℕ → List (Kid R) → List ℕ → List ℕ → Type 0
+HasBorn n kids before after =
+    (k : ℕ) → times_listed k after ≡ times_listed k before + times_listed k (born_free n kids)
 
 -- each free node is listed once, and any other number not at all
 abbrev pub IsListOfFree : {R : Type 0} → Story R → List ℕ → Type 0
 IsListOfFree s free = (m : ℕ) → times_listed m free ≡ one_if (stands_free s m)
+
+-- Each worklist has room for all nodes that are free or held, which are some of the nodes that there
+-- are. So a node that is taken or given back needs no memory, whoever has it.
+abbrev pub HasPlaces : {R : Type 0} → Story R → Listed → Type 0
+HasPlaces s free =
+    (length free.nodes + held_count s ≤ free.capacity)
+    × (length free.nodes + held_count s ≤ length s.nodes)

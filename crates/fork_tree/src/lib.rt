@@ -6,6 +6,7 @@ mod draining;
 pub mod laws;
 mod tree;
 mod work;
+mod worklists;
 
 pub use content::{Content, Placed};
 pub use draining::drain;

@@ -1,6 +1,6 @@
 //! The tree, and the calls by which workers take nodes and enter what came of them.
 
-ghost use Rattle.std.specs.Prelude.{◌≡◌, ◌↔◌, ◌<◌, ◌≤◌, ◌+◌, ◌++◌, ◌^◌, IfOk, OnOk, OnErr, IsTrue, Some, None, All, [], length, vec_len, vec_capacity};
+ghost use Rattle.std.specs.Prelude.{◌≡◌, ◌↔◌, ◌<◌, ◌≤◌, ◌+◌, ◌^◌, IfOk, OnOk, OnErr, IsTrue, Some, None, All, [], length, vec_len};
 ghost use Rattle.std.specs.Arc.{arc_value};
 ghost use Rattle.tree_core.specs.declared.cause.Cause.TheVariants.{Steps};
 ghost use Rattle.tree_core.specs.declared.node.Status.TheVariants.{Free, Held, Leaf};
@@ -11,10 +11,11 @@ ghost use Rattle.tree_core.specs.Stories.{content, status};
 ghost use Rattle.fork_tree.specs.declared.content.Content.TheVariants.{Shut};
 ghost use Rattle.fork_tree.specs.Calls.{IsClaim, IsEndFit, IsOpening, IsQuiet, IsSplitFit, cut_event, finish_event, release_event, split_event};
 ghost use Rattle.fork_tree.specs.Nodes.{HasState, IsLeafRight, StateIs};
-ghost use Rattle.fork_tree.specs.Trees.{FollowsRules, born_free};
+ghost use Rattle.fork_tree.specs.Trees.{FollowsRules, HasBorn};
 
 use crate::content::{Content, Placed};
 use crate::work::Work;
+use crate::worklists::Worklists;
 use std::alloc::{AllocError as NoMemory, Global};
 use std::marker::Model;
 use std::sync::Arc;
@@ -41,33 +42,35 @@ const MOST_NODES: usize = u32::MAX as usize;
 pub struct Tree<W: Work> {
     worker: W,
     core: Core<Content<W::State, W::Leaf>>,
-    // The nodes that are free, with room for those that are held. The last is claimed first.
-    free: Vec<usize>,
+    // The nodes that are free, with room for those that are held.
+    free: Worklists,
 }
 
 impl<W: Work> Model for Tree<W> {
-    ghost use Rattle.std.specs.Prelude.{◌+◌, ◌-◌, ◌^◌, ◌≤◌, min, length, vec_capacity};
+    ghost use Rattle.std.specs.Prelude.{◌+◌, ◌-◌, ◌^◌, min, length};
     ghost use Rattle.tree_core.specs.Cores.{held_count};
-    ghost use Rattle.fork_tree.specs.Trees.{FollowsRules, IsListOfFree, TreeValue};
+    ghost use Rattle.fork_tree.specs.Trees.{FollowsRules, HasPlaces, IsListOfFree, TreeValue};
 
     ghost Value = { TreeValue W W.State W.Leaf };
 
-    ghost view = { λ t. record { worker = t.worker; story = t.core.story; node_room = min (min t.core.node_room (2 ^ 32 - 1 - length t.core.story.nodes)) (vec_capacity t.free - (length t.free.items + held_count t.core.story)); event_room = t.core.event_room } };
+    ghost view = { λ t. record { worker = t.worker; story = t.core.story; node_room = min (min t.core.node_room (2 ^ 32 - 1 - length t.core.story.nodes)) (t.free.capacity - (length t.free.nodes + held_count t.core.story)); event_room = t.core.event_room } };
 
-    ghost invariant = { λ t. FollowsRules (W.rules t.worker) W.State.place W.Leaf.place t.core.story × IsListOfFree t.core.story t.free.items × (length t.free.items + held_count t.core.story ≤ vec_capacity t.free) };
+    ghost invariant = { λ t. FollowsRules (W.rules t.worker) W.State.place W.Leaf.place t.core.story × IsListOfFree t.core.story t.free.nodes × HasPlaces t.core.story t.free };
 }
 
 impl<W: Work> Tree<W> {
-    /// A tree of one node, which is free.
-    pub fn new(alloc: Global, worker: W, root: W::State) -> Result<Tree<W>, NoMemory>
+    /// A tree of one node, which is free, to be worked by so many workers: each has a list of the nodes that it made free, and
+    /// claims the last of these first. Where there are more workers, some share a list.
+    pub fn new(alloc: Global, worker: W, root: W::State, workers: u32) -> Result<Tree<W>, NoMemory>
         requires well { (W.rules worker).IsWell root }
         requires first { (W.State.place root).choices ≡ [] }
         ensures worker { IfOk result (λ t. t.worker ≡ worker) }
         ensures story { IfOk result (λ t. IsOpening root t.story) }
     {
         let core = Core::new(alloc, Content::Open(Arc::new(alloc, root)?), false)?;
-        let mut free = Vec::with_capacity(alloc, 1)?;
-        free.push_reserved(0);
+        let mut free = Worklists::new(alloc, workers)?;
+        free.reserve(1)?;
+        free.push(0, 0);
         Ok(Tree { worker, core, free })
     }
 
@@ -94,7 +97,7 @@ impl<W: Work> Tree<W> {
         ensures ok { IfOk result (λ claim. IsClaim (W.rules self.old.worker).IsWell self.old.story by claim self.new.story) }
         ensures err { OnErr result (self.new.story ≡ self.old.story) }
     {
-        let Some(node) = self.free.pop() else {
+        let Some(node) = self.free.pop(by) else {
             return Ok(if self.core.held() == 0 {
                 Claim::Quiet
             } else {
@@ -102,7 +105,7 @@ impl<W: Work> Tree<W> {
             });
         };
         let Ok(state) = state_of(&self.core, node) else {
-            self.free.push_reserved(node);
+            self.free.push(by, node);
             return Err(NoMemory);
         };
         let deed = Deed::Claim;
@@ -118,7 +121,7 @@ impl<W: Work> Tree<W> {
         ensures story { self.new.story ≡ noted self.old.story (split_event by node kids) }
     {
         let first = self.core.len();
-        list_kids(&mut self.free, first, kids.as_slice());
+        list_kids(&mut self.free, by, first, kids.as_slice());
         let deed = Deed::Split(kids);
         note(&mut self.core, Event { by, node, deed });
     }
@@ -152,7 +155,7 @@ impl<W: Work> Tree<W> {
     {
         let deed = Deed::Release;
         note(&mut self.core, Event { by, node, deed });
-        self.free.push_reserved(node);
+        self.free.push(by, node);
     }
 
     /// Whether no node is free or held.
@@ -257,17 +260,17 @@ fn note<R: Cover>(core: &mut Core<R>, event: Event<R>)
     }
 }
 
-// Lists the kids that are free, so that the first of them, which gets this number, is claimed first.
-fn list_kids<R>(free: &mut Vec<usize>, first: usize, kids: &[Kid<R>])
-    requires room { vec_len free.old + length kids.now ≤ vec_capacity free.old }
+// Lists the kids that are free, so that the worker claims the first of them first, which gets this number.
+fn list_kids<R>(free: &mut Worklists, by: u32, first: usize, kids: &[Kid<R>])
+    requires room { length free.old.nodes + length kids.now ≤ free.old.capacity }
     requires fits { first + length kids.now < 2 ^ 64 }
-    ensures items { free.new.items ≡ free.old.items ++ born_free first kids.now }
-    ensures long { vec_len free.new ≤ vec_len free.old + length kids.now }
-    ensures capacity { vec_capacity free.new ≡ vec_capacity free.old }
+    ensures nodes { HasBorn first kids.now free.old.nodes free.new.nodes }
+    ensures long { length free.new.nodes ≤ length free.old.nodes + length kids.now }
+    ensures capacity { free.new.capacity ≡ free.old.capacity }
 {
     for i in (0..kids.len()).rev() {
         if !kids[i].is_leaf {
-            free.push_reserved(first + i);
+            free.push(by, first + i);
         }
     }
 }

@@ -129,7 +129,7 @@ const GROUND: Rung = Rung {
 
 #[test]
 fn drains(rt: HostRuntime) -> Result<(), Fail> {
-    let mut tree = Tree::new(rt.alloc(), Climber { top: 3 }, GROUND)?;
+    let mut tree = Tree::new(rt.alloc(), Climber { top: 3 }, GROUND, 1)?;
     assert!(rt; !tree.quiet());
     drain(&rt, rt.alloc(), &mut tree, 0)?;
     assert!(rt; tree.quiet());
@@ -153,14 +153,14 @@ fn drains(rt: HostRuntime) -> Result<(), Fail> {
 // A fork has a side for each of 64 values, and one for the rest.
 #[test]
 fn a_fork_into_65_sides_has_room(rt: HostRuntime) -> Result<(), Fail> {
-    let mut tree = Tree::new(rt.alloc(), Climber { top: 3 }, GROUND)?;
+    let mut tree = Tree::new(rt.alloc(), Climber { top: 3 }, GROUND, 1)?;
     tree.reserve(65)?;
     Ok(())
 }
 
 #[test]
 fn two_workers_take_turns(rt: HostRuntime) -> Result<(), Fail> {
-    let mut tree = Tree::new(rt.alloc(), Climber { top: 3 }, GROUND)?;
+    let mut tree = Tree::new(rt.alloc(), Climber { top: 3 }, GROUND, 2)?;
     tree.reserve(0)?;
     let Claim::Claimed(node, state) = tree.claim(0)? else {
         panic!(rt; "no node is free");
@@ -178,5 +178,52 @@ fn two_workers_take_turns(rt: HostRuntime) -> Result<(), Fail> {
     assert_eq!(rt; tree.len(), 7);
     tree.reserve(0)?;
     assert!(rt; matches!(tree.claim(0)?, Claim::Quiet));
+    Ok(())
+}
+
+/// Climbs from the ground, and finds no memory for the rungs above it.
+#[derive(Clone, Copy)]
+struct Beginner {
+    climber: Climber,
+}
+
+impl Work for Beginner {
+    type State = Rung;
+
+    type Leaf = End;
+
+    ghost rules = { λ beginner. ⟦<Climber as Work>⟧.rules beginner.climber };
+
+    fn work(
+        &self,
+        rt: &impl Wait,
+        alloc: Global,
+        state: &Rung,
+    ) -> Result<Parts<Rung, End>, NoMemory> {
+        if *state != GROUND {
+            return Err(NoMemory);
+        }
+        self.climber.work(rt, alloc, state)
+    }
+}
+
+// The node that a worker claims next, if one is free.
+fn claimed(tree: &mut Tree<Beginner>, by: u32) -> Result<Option<usize>, NoMemory> {
+    tree.reserve(0)?;
+    match tree.claim(by)? {
+        Claim::Claimed(node, _) => Ok(Some(node)),
+        Claim::Nothing | Claim::Quiet => Ok(None),
+    }
+}
+
+#[test]
+fn a_worker_goes_on_with_its_own(rt: HostRuntime) -> Result<(), Fail> {
+    let climber = Climber { top: 3 };
+    let mut tree = Tree::new(rt.alloc(), Beginner { climber }, GROUND, 2)?;
+    assert!(rt; drain(&rt, rt.alloc(), &mut tree, 0).is_err());
+    // The first worker freed both sides of the ground, and gave the first of them back.
+    assert_eq!(rt; claimed(&mut tree, 1)?, Some(2));
+    assert_eq!(rt; claimed(&mut tree, 0)?, Some(1));
+    assert_eq!(rt; claimed(&mut tree, 1)?, None);
     Ok(())
 }

@@ -168,6 +168,6 @@ where
     ensures opening { IfOk result (λ t. (old : Story (Content W.State W.Leaf)) × IsOpening root old × GoesOn old t.story) }
     ensures few { IfOk result (λ t. All (λ e. e.by < workers) t.story.events) }
 {
-    let tree = Tree::new(alloc, Lent { worker }, root)?;
+    let tree = Tree::new(alloc, Lent { worker }, root, workers)?;
     run_to_end(rt, alloc, tree, &Lent { worker }, workers, gate)
 }

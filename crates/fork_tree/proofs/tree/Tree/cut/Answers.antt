@@ -1,4 +1,4 @@
-use Rattle.std.proofs.Common.{Some, sym, subst, vec_capacity}
+use Rattle.std.proofs.Common.{Some, sym, subst}
 use Rattle.tree_core.specs.declared.cause.Cause.TheVariants.{Steps}
 use Rattle.fork_tree.specs.Trees.{TreeValue}
 use Rattle.fork_tree.specs.Calls.{IsEndFit}
@@ -12,5 +12,5 @@ invariant_of-self g c = let i = c.self.inside in
     (g.W.Work.rules k.worker) g.W.State.Placed.place g.W.Leaf.Placed.place (Some Steps)
     k.story c.args.by c.args.node c.args.leaf) (sym c.self.view_is) c.requires.fit in
     tended-cut (g.W.Work.rules i.worker) g.W.State.Placed.place g.W.Leaf.Placed.place i.core.story
-    c.note.new.core.story c.args.by c.args.node c.args.leaf i.free.items (vec_capacity i.free)
+    c.note.new.core.story c.args.by c.args.node c.args.leaf i.free
     c.self.invariant c.note.ensures.story c.note.ensures.named fit

@@ -1,4 +1,4 @@
-use Rattle.std.proofs.Common.{◌≡◌, [], length, vec_len, sym, ap, subst, ◌∙◌, eq-eqb}
+use Rattle.std.proofs.Common.{◌≡◌, [], length, sym, ap, subst, ◌∙◌, eq-eqb}
 use Rattle.fork_tree.specs.Calls.{IsQuiet}
 use Rattle.fork_tree.specs.Trees.{TreeValue}
 use Rattle.fork_tree.proofs.Drained.{none_listed}
@@ -11,7 +11,7 @@ returns-else-is_empty g c = (
       let quiet' : IsQuiet i.core.story =
       subst (λ (k : TreeValue g.row.W.Denot g.row.W-State.Denot g.row.W-Leaf.Denot). IsQuiet
       k.story) (sym c.self.view_is) quiet in
-      let none : i.free.items ≡ [] =
-      none_listed i.core.story i.free.items quiet'.0 c.self.invariant.1 in
-      c.is_empty.ensures ∙ eq-eqb (vec_len i.free) 0 (i.free.ok.0 ∙ ap length none),
+      let none : i.free.nodes ≡ [] =
+      none_listed i.core.story i.free.nodes quiet'.0 c.self.invariant.1 in
+      c.is_empty.ensures ∙ eq-eqb (length i.free.nodes) 0 (ap length none),
 )

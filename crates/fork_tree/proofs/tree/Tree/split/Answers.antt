@@ -1,8 +1,10 @@
-use Rattle.std.proofs.Common.{◌≡◌, ℕ, ◌++◌, ◌+◌, ◌-◌, ◌^◌, ◌≤◌, ◌<◌, length, min, vec_capacity, vec_len, ◌∙◌, sym, subst, arith}
+use Rattle.std.proofs.Common.{◌≡◌, ℕ, ◌+◌, ◌-◌, ◌^◌, ◌≤◌, ◌<◌, List, length, min, vec_len, sym, subst, arith}
 use Rattle.tree_core.specs.Cores.{held_count}
 use Rattle.fork_tree.specs.Calls.{IsSplitFit}
-use Rattle.fork_tree.specs.Trees.{TreeValue, born_free}
-use Rattle.fork_tree.proofs.Noting.{IsTended, tended-split}
+use Rattle.tree_core.specs.declared.event.Kid.{Kid}
+use Rattle.fork_tree.specs.Trees.{HasBorn, TreeValue}
+use Rattle.fork_tree.specs.declared.content.Content.{Content}
+use Rattle.fork_tree.proofs.Noting.{tended-split}
 use Rattle.fork_tree.proofs.tree.Tree.split.Goals as goal
 
 at_most_mid : (k a b c : ℕ) → k ≤ min (min a b) c → k ≤ b
@@ -32,26 +34,17 @@ invariant_of-self g c =
     let few : length s.nodes + vec_len c.args.kids < 2 ^ 32 =
     stays_few (vec_len c.args.kids) (length s.nodes) (at_most_mid _ _ _ _ room)
     c.self.invariant.0.few in
-    let spare : vec_len c.args.kids ≤ vec_capacity i.free - (length i.free.items + held_count s) =
+    let spare : vec_len c.args.kids ≤ i.free.capacity - (length i.free.nodes + held_count s) =
     at_most_last _ _ _ room in
-    let long : length c.list_kids.new.free.items ≤ length i.free.items + vec_len c.args.kids =
-    omega (
-      arith,
-      count,
-      i.free.ok.0,
-      c.list_kids.new.free.ok.0,
-      c.list_kids.ensures.long,
-      c.as_slice.ensures.len,
-    ) in
-    subst (IsTended rules g.W.State.Placed.place g.W.Leaf.Placed.place c.note.new.core.story
-    c.list_kids.new.free.items) (sym c.list_kids.ensures.capacity)
-    (tended-split rules g.W.State.Placed.place g.W.Leaf.Placed.place s c.note.new.core.story
-    c.args.by c.args.node c.args.kids i.free.items c.list_kids.new.free.items
-    (vec_capacity i.free)
+    let long : length c.list_kids.new.free.nodes ≤ length i.free.nodes + vec_len c.args.kids =
+    omega (arith, c.list_kids.ensures.long, c.as_slice.ensures.len) in
+    tended-split rules g.W.State.Placed.place g.W.Leaf.Placed.place s c.note.new.core.story
+    c.args.by c.args.node c.args.kids i.free c.list_kids.new.free
     c.self.invariant c.note.ensures.story c.note.ensures.named fit
     (subst (λ (k : ℕ). length s.nodes + k < 2 ^ 32) (sym count) few)
-    (c.list_kids.ensures.items
-    ∙ (λ j. i.free.items ++ born_free (c.len-first.ensures.count j)
-    (c.as_slice.ensures.value j)))
-    (still_fits (length c.list_kids.new.free.items) (length i.free.items) (vec_len c.args.kids)
-    (held_count s) (vec_capacity i.free) long c.self.invariant.2 spare))
+    (subst (λ (p : ℕ × List (Kid (Content g.row.W-State.Denot g.row.W-Leaf.Denot))). HasBorn p.0 p.1 i.free.nodes c.list_kids.new.free.nodes)
+    (λ j. (c.len-first.ensures.count j, c.as_slice.ensures.value j)) c.list_kids.ensures.nodes)
+    (subst (λ (k : ℕ). length c.list_kids.new.free.nodes ≤ length i.free.nodes + k) (sym count) long)
+    (subst (λ (room : ℕ). length c.list_kids.new.free.nodes + held_count s ≤ room + 1) (sym c.list_kids.ensures.capacity)
+    (still_fits (length c.list_kids.new.free.nodes) (length i.free.nodes) (vec_len c.args.kids)
+    (held_count s) i.free.capacity long c.self.invariant.2.0 spare))
