@@ -1,6 +1,6 @@
 //! The groups of a memory, in the order of their numbers.
 
-ghost use Rattle.std.specs.Prelude.{◌≡◌, ◌<◌, ◌/◌, [], slice_set, is_some, Some, IsSome, IfSome, IfOk, IfErr, OnOk, OnErr};
+ghost use Rattle.std.specs.Prelude.{◌≡◌, ◌<◌, ◌/◌, [], length, slice_set, is_some, Some, IsSome, IfSome, IfOk, IfErr, OnOk, OnErr};
 ghost use Rattle.std.specs.Arc.{arc_value};
 ghost use Rattle.std.specs.FinMap as map;
 ghost use Rattle.std.specs.Option.{option_copied};
@@ -80,7 +80,8 @@ impl GroupList {
         self.groups.binary_search_by_key(&number, |group| group.0)
     }
 
-    /// What `search` says. Of a group at this place, and of one below all, it is said at once.
+    /// What `search` says. It is said at once of a group that stands at this place, of one below all,
+    /// and where there are none.
     fn search_near(&self, recent: usize, number: u32) -> Result<usize, usize>
         ensures found { IfOk result (IsGroupAt self.now number) }
         ensures gap { IfErr result (IsGapFor self.now number) }
@@ -88,13 +89,21 @@ impl GroupList {
         match self.groups.get(recent) {
             Some(group) if group.0 == number => Ok(recent),
             Some(group) if recent == 0 && number < group.0 => Err(0),
+            None if recent == 0 => Err(0),
             _ => self.search(number),
         }
     }
 
-    /// The place at which the group of this page stands or would stand.
+    /// How many groups there are.
+    pub(crate) fn len(&self) -> usize
+        ensures { result ≡ length self.now }
+    {
+        self.groups.len()
+    }
+
+    /// The place at which the group of this number stands or would stand.
     pub(crate) fn place_near(&self, recent: usize, number: u32) -> usize {
-        match self.search_near(recent, number / GROUP_SIZE) {
+        match self.search_near(recent, number) {
             Ok(place) => place,
             Err(place) => place,
         }

@@ -7,6 +7,7 @@ ghost use Rattle.rv_spec.specs.Memory.{byte_of, flags_of};
 ghost use Rattle.cow_pages.specs.SymbolicMemory.{HasAllBytes, as_symbolic, memory_byte, memory_flags, memory_with};
 
 use crate::byte::Byte;
+use crate::group::GROUP_SIZE;
 use crate::groups::GroupList;
 use crate::page::{PAGE_SIZE, Page};
 use elf_load::Image;
@@ -24,10 +25,21 @@ pub struct Pages {
     base: Arc<GroupList>,
     /// The pages that were written.
     own: GroupList,
-    /// Where among the pages of the image is looked first.
-    recent_base: usize,
-    /// Where among those that were written is looked first.
-    recent_own: usize,
+    /// Where is looked first.
+    recent: Recent,
+}
+
+/// At which places the group of pages that was turned to last stood, or would have stood. A page of
+/// that group is found there at once; any other is found too.
+#[derive(Clone, Copy, Debug)]
+struct Recent {
+    group: u32,
+    /// Its place among the groups of the image.
+    base: usize,
+    /// Its place among the groups that were written.
+    own: usize,
+    /// How many groups were written by then. One that is added may move its place.
+    written: usize,
 }
 
 impl Model for Pages {
@@ -62,8 +74,12 @@ impl Pages {
         Ok(Pages {
             base,
             own,
-            recent_base: 0,
-            recent_own: 0,
+            recent: Recent {
+                group: 0,
+                base: 0,
+                own: 0,
+                written: 0,
+            },
         })
     }
 
@@ -73,9 +89,9 @@ impl Pages {
         ensures mapped { is_some result ≡ is_some (memory_flags self.now number) }
         ensures whole { IfSome (map.get self.now number) HasAllBytes }
     {
-        match self.own.page(self.recent_own, number) {
+        match self.own.page(self.recent.own, number) {
             Some(page) => Some(page),
-            None => self.base.page(self.recent_base, number),
+            None => self.base.page(self.recent.base, number),
         }
     }
 
@@ -83,8 +99,16 @@ impl Pages {
     pub fn turn_to(&mut self, number: u32)
         ensures { self.new ≡ self.old }
     {
-        self.recent_base = self.base.place_near(self.recent_base, number);
-        self.recent_own = self.own.place_near(self.recent_own, number);
+        let group = number / GROUP_SIZE;
+        let written = self.own.len();
+        if group != self.recent.group || written != self.recent.written {
+            self.recent = Recent {
+                group,
+                base: self.base.place_near(self.recent.base, group),
+                own: self.own.place_near(self.recent.own, group),
+                written,
+            };
+        }
     }
 
     /// What may be done on the page of this number, if it is mapped.
@@ -125,8 +149,7 @@ impl Pages {
         Ok(Pages {
             base: Arc::try_clone(&self.base)?,
             own: self.own.share()?,
-            recent_base: self.recent_base,
-            recent_own: self.recent_own,
+            recent: self.recent,
         })
     }
 }
