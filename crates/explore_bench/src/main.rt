@@ -1,5 +1,5 @@
 //! What an exploration comes to: how many leaves there are, how many of them each budget cut, and by what the questions of the
-//! runs were answered. It makes no report, and writes no file.
+//! runs were answered. It makes no report, and writes no file. On standard error it says how long its call of `explore` took.
 //!
 //! - `words`: the words of the command line
 //! - `ends`: how the leaves end
@@ -21,6 +21,7 @@ use std::alloc::Global;
 use std::rt::Env;
 use std::sync::Wait;
 use std::thread::Threads;
+use std::time::{Clock, Duration, Instant};
 use std::{env, io};
 use sym_state::{Program, State};
 use tool_io::{Files, HostFiles};
@@ -46,19 +47,21 @@ fn worker_of(alloc: Global, bytes: &[u8], input: Region, budgets: Budgets) -> Re
     Ok(Worker::new(alloc, Program::new(image, regions), budgets)?)
 }
 
-// How the leaves end that so many workers find.
-fn explored<R: Threads + Wait + Sync>(
+// How the leaves end that so many workers find, and how long they explored: from the first state to the whole tree.
+fn explored<R: Threads + Wait + Clock + Sync>(
     rt: &R,
     alloc: Global,
     worker: &Worker,
     workers: u32,
-) -> Result<Vec<LeafEnd>>
+) -> Result<(Vec<LeafEnd>, Duration)>
     requires within { IsBudgets worker.now.budgets }
     requires some { 1 ≤ workers }
 {
     let root = State::first(alloc, worker.program())?;
+    let start = Instant::now(rt)?;
     let tree = explore(rt, alloc, worker, root, workers, &OpenGate)?;
-    Ok(ends_of(alloc, &tree)?)
+    let time = start.elapsed(rt)?;
+    Ok((ends_of(alloc, &tree)?, time))
 }
 
 fn print_line(rt: &impl Print, ends: &[LeafEnd], counts: Counts) -> Result<()> {
@@ -95,6 +98,7 @@ fn main(rt: HostRuntime) -> Result<()> {
         bail!("{} can't be read", job.program);
     };
     let worker = worker_of(alloc, bytes.as_slice(), job.input, job.budgets)?;
-    let ends = explored(&rt, alloc, &worker, job.workers)?;
+    let (ends, time) = explored(&rt, alloc, &worker, job.workers)?;
+    eprintln!(rt; "explored in {} microseconds", time.as_micros())?;
     print_line(&rt, &ends, worker.counts())
 }
