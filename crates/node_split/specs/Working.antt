@@ -1,12 +1,14 @@
 -- A run that goes on for a while.
-use Rattle.std.specs.Prelude.{◌≡◌, ℕ, ◌≤◌, List}
+use Rattle.std.specs.Prelude.{ℕ, ◌≤◌}
+use Rattle.sym_machine.specs.Advancing.{StoppedBy}
+use Rattle.sym_machine.specs.declared.stepping.Stop.{Stop}
+use Rattle.sym_state.specs.Moves.{IsSame}
 use Rattle.sym_state.specs.Programs.{Program}
-use Rattle.sym_state.specs.Runs.{IsOpen, left_to_do}
-use Rattle.sym_state.specs.Symbolic.{Symbolic, stands_for}
+use Rattle.sym_state.specs.Runs.{left_to_do}
+use Rattle.sym_state.specs.Symbolic.{Symbolic}
 
--- it stands for the same assignments, on the same side of every fork, and has no more to do
-pub record IsOnward (p : Program) (old new : Symbolic) : Type 0 where
-  pub is_open : IsOpen p new
-  pub choices : new.choices ≡ old.choices
-  pub covers : (input : List ℕ) → stands_for new input ≡ stands_for old input
+-- it stopped so, stands for the same assignments, on the same side of every fork, and has no more to do
+pub record IsOnward (p : Program) (most : ℕ) (old new : Symbolic) (stop : Stop) : Type 0 where
+  pub stopped : StoppedBy p most new stop
+  pub same : IsSame old new
   pub less : left_to_do new ≤ left_to_do old

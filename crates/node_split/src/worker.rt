@@ -5,8 +5,9 @@ ghost use Rattle.fork_spec.specs.Leaves.{IsSmall};
 ghost use Rattle.fork_tree.specs.Works.{IsWorked};
 ghost use Rattle.sym_state.specs.Places.{run_place};
 ghost use Rattle.rv_spec.specs.Memory.{count_of};
-ghost use Rattle.sym_state.specs.Runs.{IsOpen};
 ghost use Rattle.sym_state.specs.Symbolic.{most_steps};
+ghost use Rattle.sym_state.specs.Runs.{IsReady};
+ghost use Rattle.sym_machine.specs.Advancing.{Advances, StoppedBy};
 ghost use Rattle.node_split.specs.Rules.{leaf_place, rules_of};
 
 use crate::branch::at_branch;
@@ -18,7 +19,7 @@ use query_front::{Counts, Shared};
 use std::alloc::{AllocError as NoMemory, Global};
 use std::marker::Model;
 use std::sync::Wait;
-use sym_machine::{Stop, advance};
+use sym_machine::{Advanced, Stop, advance};
 use sym_state::{LeafPart, Program, State};
 use tree_core::Budgets;
 
@@ -84,31 +85,45 @@ impl Worker {
         self.shared.counts()
     }
 
-    /// Goes on until the run forks, all its runs have ended, or its budget of steps is spent.
+    // Advances a run, and puts in its place what came of it.
+    fn resume(&self, run: &mut State) -> Result<Stop, NoMemory>
+        requires ready { IsReady run.old }
+        requires within { run.old.steps ≤ self.now.budgets.steps }
+        ensures { IfOk result (Advances self.now.budgets.steps run.old run.new) }
+    {
+        let further = advance(run, self.budgets.steps)?;
+        *run = further.run;
+        Ok(further.stop)
+    }
+
+    // Goes on with a run that stopped, until it forks, all its runs have ended, or its budget of steps is spent.
     fn follow(
         &self,
         rt: &impl Wait,
         alloc: Global,
-        state: &mut State,
+        run: &mut State,
+        mut stop: Stop,
     ) -> Result<Parts<State, LeafPart>, NoMemory>
-        requires open { IsOpen self.now.program state.old }
-        requires within { state.old.steps ≤ self.now.budgets.steps }
-        ensures { IfOk result (IsWorked (rules_of self.now.program self.now.budgets) run_place leaf_place state.old) }
+        requires stopped { StoppedBy self.now.program self.now.budgets.steps run.old stop }
+        ensures { IfOk result (IsWorked (rules_of self.now.program self.now.budgets) run_place leaf_place run.old) }
     {
         loop {
-            let forked = match advance(state, self.budgets.steps)? {
-                Stop::Steps => return Ok(Parts::CutSteps(cut_steps(alloc, state)?)),
-                Stop::Ended(end) => return Ok(Parts::Finished(finish(alloc, state, end)?)),
+            let forked = match stop {
+                Stop::Steps => return Ok(Parts::CutSteps(cut_steps(alloc, run)?)),
+                Stop::Ended(end) => return Ok(Parts::Finished(finish(alloc, run, end)?)),
                 Stop::Branch { term } => {
-                    at_branch(rt, alloc, &self.shared, state, term, &self.budgets)?
+                    at_branch(rt, alloc, &self.shared, run, term, &self.budgets)?
                 }
                 Stop::Pin { place, term } => {
                     let pin = Pin { place, term };
-                    at_pin(rt, alloc, &self.shared, state, &pin, &self.budgets)?
+                    at_pin(rt, alloc, &self.shared, run, &pin, &self.budgets)?
                 }
             };
             match forked {
-                Forked::One { place, decided } => state.know(place, decided),
+                Forked::One { place, decided } => {
+                    run.know(place, decided);
+                    stop = self.resume(run)?;
+                }
                 Forked::Split(kids) => return Ok(Parts::Kids(kids)),
             }
         }
@@ -130,7 +145,7 @@ impl Work for Worker {
         alloc: Global,
         state: &State,
     ) -> Result<Parts<State, LeafPart>, NoMemory> {
-        let mut state = state.share()?;
-        self.follow(rt, alloc, &mut state)
+        let Advanced { mut run, stop } = advance(state, self.budgets.steps)?;
+        self.follow(rt, alloc, &mut run, stop)
     }
 }

@@ -7,7 +7,7 @@ use rv_decode::Trap;
 use std::alloc::Global;
 use std::process::Abort;
 use std::test::Fail;
-use sym_machine::{RunEnd, Stop, advance};
+use sym_machine::{Advanced, RunEnd, Stop, advance};
 use sym_state::{Program, State};
 
 /// The input byte of all of them.
@@ -34,9 +34,10 @@ fn stops(
     most: u32,
 ) -> Result<(&'static str, u32), Fail> {
     let program = program_of(rt, alloc, words)?;
-    let mut state = State::first(alloc, &program)?;
+    let state = State::first(alloc, &program)?;
     assert!(rt; state.steps() <= most && most <= 1_000_000);
-    let stop = match advance(&mut state, most)? {
+    let Advanced { run, stop } = advance(&state, most)?;
+    let stop = match stop {
         Stop::Branch { .. } => "branch",
         Stop::Pin { place: 1, .. } => "pin",
         Stop::Pin { .. } => "another pin",
@@ -45,7 +46,7 @@ fn stops(
         Stop::Ended(RunEnd::Traps(_)) => "trap",
         Stop::Steps => "steps",
     };
-    Ok((stop, state.steps()))
+    Ok((stop, run.steps()))
 }
 
 /// Each row: a program, how many steps it may make, where it stops, and after how many. A branch on the input, its quotient or a

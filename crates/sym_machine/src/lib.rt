@@ -22,4 +22,4 @@ mod stepping;
 mod transfer;
 
 pub use outcome::RunEnd;
-pub use stepping::{Stop, advance};
+pub use stepping::{Advanced, Stop, advance};

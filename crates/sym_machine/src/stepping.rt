@@ -1,6 +1,6 @@
 //! Steps, one after the other.
 
-ghost use Rattle.std.specs.Prelude.{◌≡◌, ◌≤◌, IfOk, OnErr};
+ghost use Rattle.std.specs.Prelude.{◌≤◌, IfOk};
 ghost use Rattle.sym_state.specs.Runs.{IsReady};
 ghost use Rattle.sym_state.specs.Symbolic.{most_steps};
 ghost use Rattle.sym_machine.specs.Advancing.{Advances};
@@ -25,6 +25,13 @@ pub enum Stop {
     Steps,
 }
 
+/// A run that made steps, and why it makes no step more.
+#[derive(Drop)]
+pub struct Advanced {
+    pub run: State,
+    pub stop: Stop,
+}
+
 // Makes steps on a run that is of no use after want of memory.
 fn go_on(state: &mut State, most: u32) -> Result<Stop, NoMemory>
     requires ready { IsReady state.old }
@@ -44,20 +51,15 @@ fn go_on(state: &mut State, most: u32) -> Result<Stop, NoMemory>
     Ok(Stop::Steps)
 }
 
-/// Makes steps until all runs have ended, or so many were made in all, or a step needs to know what may differ from run to run.
-///
-/// # Errors
-///
-/// Where memory is wanting; the run is then as it was.
-pub fn advance(state: &mut State, most: u32) -> Result<Stop, NoMemory>
-    requires ready { IsReady state.old }
-    requires within { state.old.steps ≤ most }
+/// Makes steps on a share of a run until all runs have ended, or so many were made in all, or a step needs to know what may differ
+/// from run to run.
+pub fn advance(state: &State, most: u32) -> Result<Advanced, NoMemory>
+    requires ready { IsReady state.now }
+    requires within { state.now.steps ≤ most }
     requires steps { most ≤ most_steps }
-    ensures ok { IfOk result (Advances most state.old state.new) }
-    ensures err { OnErr result (state.new ≡ state.old) }
+    ensures { IfOk result (λ advanced. Advances most state.now advanced.run advanced.stop) }
 {
     let mut run = state.share()?;
     let stop = go_on(&mut run, most)?;
-    *state = run;
-    Ok(stop)
+    Ok(Advanced { run, stop })
 }
