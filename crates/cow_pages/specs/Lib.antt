@@ -1,3 +1,4 @@
 pub mod SymbolicMemory
 pub mod Contents
 pub mod Groups
+pub mod Unwritten

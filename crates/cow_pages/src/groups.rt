@@ -4,7 +4,7 @@ ghost use Rattle.std.specs.Prelude.{◌≡◌, ◌<◌, ◌/◌, [], length, sli
 ghost use Rattle.std.specs.Arc.{arc_value};
 ghost use Rattle.std.specs.FinMap as map;
 ghost use Rattle.std.specs.Option.{option_copied};
-ghost use Rattle.cow_pages.specs.Groups.{IsGapFor, IsGroupAt, memory_in, memory_over, page_at_place, with_byte_in};
+ghost use Rattle.cow_pages.specs.Groups.{AreGroups, IsGapFor, IsGroupAt, memory_in, memory_over, page_at_place, with_byte_in};
 ghost use Rattle.cow_pages.specs.SymbolicMemory.{HasAllBytes, memory_with};
 
 use crate::byte::Byte;
@@ -82,9 +82,10 @@ impl GroupList {
 
     /// What `search` says. It is said at once of a group that stands at this place, of one below all,
     /// and where there are none.
-    fn search_near(&self, recent: usize, number: u32) -> Result<usize, usize>
+    pub(crate) fn search_near(&self, recent: usize, number: u32) -> Result<usize, usize>
         ensures found { IfOk result (IsGroupAt self.now number) }
         ensures gap { IfErr result (IsGapFor self.now number) }
+        ensures groups { AreGroups self.now }
     {
         match self.groups.get(recent) {
             Some(group) if group.0 == number => Ok(recent),
@@ -109,13 +110,22 @@ impl GroupList {
         }
     }
 
+    /// The page of this number, if it is here. Its group has this place.
+    pub(crate) fn page_at(&self, group: usize, number: u32) -> Option<&Page>
+        requires group { IsGroupAt self.now (number / 64) group }
+        ensures value { option_copied result ≡ map.get (memory_in self.now) number }
+        ensures whole { IfSome (map.get (memory_in self.now) number) HasAllBytes }
+    {
+        self.groups[group].1.page((number % GROUP_SIZE) as usize)
+    }
+
     /// The page of this number, if it is here. It is found at once where its group has this place.
     pub(crate) fn page(&self, recent: usize, number: u32) -> Option<&Page>
         ensures value { option_copied result ≡ map.get (memory_in self.now) number }
         ensures whole { IfSome (map.get (memory_in self.now) number) HasAllBytes }
     {
         match self.search_near(recent, number / GROUP_SIZE) {
-            Ok(group) => self.groups[group].1.page((number % GROUP_SIZE) as usize),
+            Ok(group) => self.page_at(group, number),
             Err(_) => None,
         }
     }

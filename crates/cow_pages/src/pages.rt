@@ -4,6 +4,7 @@ ghost use Rattle.std.specs.Prelude.{◌≡◌, ◌/◌, ◌==◌, ℕ, if◌then
 ghost use Rattle.std.specs.FinMap as map;
 ghost use Rattle.std.specs.Option.{option_copied, option_map};
 ghost use Rattle.rv_spec.specs.Memory.{byte_of, flags_of};
+ghost use Rattle.cow_pages.specs.Unwritten.{IsUnwritten};
 ghost use Rattle.cow_pages.specs.SymbolicMemory.{HasAllBytes, as_symbolic, memory_byte, memory_flags, memory_with};
 
 use crate::byte::Byte;
@@ -27,6 +28,8 @@ pub struct Pages {
     own: GroupList,
     /// Where is looked first.
     recent: Recent,
+    /// The page that was turned to last, if it wasn't written.
+    unwritten: Option<Unwritten>,
 }
 
 /// At which places the group of pages that was turned to last stood, or would have stood. A page of
@@ -42,16 +45,41 @@ struct Recent {
     written: usize,
 }
 
+/// A page of the image that wasn't written.
+#[derive(Clone, Copy, Debug)]
+struct Unwritten {
+    number: u32,
+    /// The place of its group among those of the image.
+    group: usize,
+}
+
+// The page of this number, if it is one of the image that wasn't written.
+fn unwritten_in(base: &GroupList, own: &GroupList, recent: Recent, number: u32) -> Option<Unwritten>
+    ensures { IfSome result (IsUnwritten base.now own.now) }
+{
+    if own.page(recent.own, number).is_some() {
+        return None;
+    }
+    match base.search_near(recent.base, number / GROUP_SIZE) {
+        Ok(group) => Some(Unwritten { number, group }),
+        Err(_) => None,
+    }
+}
+
 impl Model for Pages {
     ghost use Rattle.cow_pages.specs.SymbolicMemory as memory;
     ghost use Rattle.std.specs.Arc.{arc_value};
+    ghost use Rattle.std.specs.Prelude.{IfSome};
     ghost use Rattle.cow_pages.specs.Groups.{memory_over};
+    ghost use Rattle.cow_pages.specs.Unwritten.{IsUnwritten};
 
     ghost Value = { memory.SymbolicMemory };
 
     ghost coded = { memory.memory_code };
 
     ghost view = { λ p. memory_over (arc_value p.base) p.own };
+
+    ghost invariant = { λ p. IfSome p.unwritten (IsUnwritten (arc_value p.base) p.own) };
 }
 
 impl Pages {
@@ -80,11 +108,12 @@ impl Pages {
                 own: 0,
                 written: 0,
             },
+            unwritten: None,
         })
     }
 
-    /// The page of this number, if it is mapped.
-    pub fn page(&self, number: u32) -> Option<&Page>
+    // The page of this number, wherever it stands.
+    fn find(&self, number: u32) -> Option<&Page>
         ensures value { option_copied result ≡ map.get self.now number }
         ensures mapped { is_some result ≡ is_some (memory_flags self.now number) }
         ensures whole { IfSome (map.get self.now number) HasAllBytes }
@@ -95,8 +124,20 @@ impl Pages {
         }
     }
 
-    /// Looks for pages near this one first from now on.
-    pub fn turn_to(&mut self, number: u32)
+    /// The page of this number, if it is mapped.
+    pub fn page(&self, number: u32) -> Option<&Page>
+        ensures value { option_copied result ≡ map.get self.now number }
+        ensures mapped { is_some result ≡ is_some (memory_flags self.now number) }
+        ensures whole { IfSome (map.get self.now number) HasAllBytes }
+    {
+        match self.unwritten {
+            Some(page) if page.number == number => self.base.page_at(page.group, number),
+            _ => self.find(number),
+        }
+    }
+
+    // Finds this page, and those near it, more quickly from now on.
+    fn turn(&mut self, number: u32)
         ensures { self.new ≡ self.old }
     {
         let group = number / GROUP_SIZE;
@@ -108,6 +149,17 @@ impl Pages {
                 own: self.own.place_near(self.recent.own, group),
                 written,
             };
+        }
+        self.unwritten = unwritten_in(&self.base, &self.own, self.recent, number);
+    }
+
+    /// Looks for this page and for those near it first from now on.
+    pub fn turn_to(&mut self, number: u32)
+        ensures { self.new ≡ self.old }
+    {
+        match self.unwritten {
+            Some(page) if page.number == number => {}
+            _ => self.turn(number),
         }
     }
 
@@ -139,6 +191,7 @@ impl Pages {
             memory_flags self.new number ≡ memory_flags self.old number) }
         ensures err { OnErr result (self.new ≡ self.old) }
     {
+        self.unwritten = None;
         self.own.write_over(&self.base, address, byte)
     }
 
@@ -150,6 +203,7 @@ impl Pages {
             base: Arc::try_clone(&self.base)?,
             own: self.own.share()?,
             recent: self.recent,
+            unwritten: self.unwritten,
         })
     }
 }

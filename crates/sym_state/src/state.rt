@@ -156,10 +156,10 @@ impl State {
         ensures value { result ≡ memory_byte self.now.memory address }
         ensures is_byte { IsByte self.now.terms result }
     {
-        if self.memory.flags(address / PAGE).is_none() {
-            return Byte::Number(0);
+        match self.memory.page(address / PAGE) {
+            Some(page) => page.byte((address % PAGE) as u8),
+            None => Byte::Number(0),
         }
-        self.memory.read(address)
     }
 
     /// The four bytes from an address on that is a multiple of 4, 0 where no page is mapped.
