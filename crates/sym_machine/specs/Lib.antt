@@ -3,3 +3,4 @@ pub mod Stops
 pub mod Fetching
 pub mod Calls
 pub mod Advancing
+pub mod Shifts

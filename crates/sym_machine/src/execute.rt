@@ -16,13 +16,14 @@ ghost use Rattle.sym_machine.specs.Steps.{Carries, Comes, Steps};
 ghost use Rattle.sym_machine.specs.Stops.{DecidesBy, Stops};
 
 use crate::call::call;
+use crate::decoded::Decoded;
 use crate::fetch::fetch;
 use crate::going::{branch, go_on, go_on_with, jump_and_link, jump_to_register};
 use crate::halt::Halt;
 use crate::needs::{number_at, side_of};
 use crate::outcome::{Step, trapped};
 use crate::transfer::{load, store};
-use rv_decode::{ImmediateOp, Instr, Register, RegisterOp, ShiftOp, Test, Trap, decode};
+use rv_decode::{ImmediateOp, Instr, Register, RegisterOp, ShiftOp, Test, Trap};
 use std::alloc::AllocError as NoMemory;
 use sym_state::{State, Value};
 
@@ -165,14 +166,15 @@ fn execute(state: &mut State, instr: Instr) -> Result<Step, Halt>
 }
 
 /// One step, where all that it needs is known.
-pub(crate) fn step(state: &mut State) -> Result<Step, Halt>
+pub(crate) fn step(state: &mut State, decoded: &mut Decoded) -> Result<Step, Halt>
     requires ready { IsReady state.old }
     requires few { state.old.steps < most_steps }
     ensures ok { IfOk result (Steps state.old state.new) }
     ensures err { IfErr result (Stops state.old state.new) }
 {
+    let pc = state.pc();
     let step = match fetch(state)? {
-        Ok(word) => match decode(word) {
+        Ok(word) => match decoded.decode(pc, word) {
             Some(instr) => execute(state, instr)?,
             None => trapped(Trap::Illegal),
         },

@@ -4,6 +4,7 @@
 //! - `outcome`, `halt`: what an instruction leads to, and why it isn't carried out
 //! - `needs`: what has to be known
 //! - `fetch`: the instruction that comes next
+//! - `decoded`: instructions that were decoded lately
 //! - `going`: to the next instruction, or to another
 //! - `transfer`: loads and stores
 //! - `call`: the environment call
@@ -12,6 +13,7 @@
 #![tactic(auto)]
 
 mod call;
+mod decoded;
 mod execute;
 mod fetch;
 mod going;

@@ -5,6 +5,7 @@ ghost use Rattle.sym_state.specs.Runs.{IsReady};
 ghost use Rattle.sym_state.specs.Symbolic.{most_steps};
 ghost use Rattle.sym_machine.specs.Advancing.{Advances};
 
+use crate::decoded::Decoded;
 use crate::execute::step;
 use crate::halt::Halt;
 use crate::outcome::{RunEnd, Step};
@@ -39,8 +40,9 @@ fn go_on(state: &mut State, most: u32) -> Result<Stop, NoMemory>
     requires steps { most ≤ most_steps }
     ensures { IfOk result (Advances most state.old state.new) }
 {
+    let mut decoded = Decoded::new();
     while state.steps() < most {
-        match step(state) {
+        match step(state, &mut decoded) {
             Ok(Step::Running) => {}
             Ok(Step::Ended(end)) => return Ok(Stop::Ended(end)),
             Err(Halt::Side(term)) => return Ok(Stop::Branch { term }),

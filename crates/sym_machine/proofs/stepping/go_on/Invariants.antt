@@ -3,10 +3,10 @@ use Rattle.sym_machine.proofs.Runs.{IsOnward}
 use Rattle.sym_machine.proofs.stepping.go_on.Given as goal
 
 -- steps were made, and it is not further than it may be
-abbrev pub invariant-loop-state : goal.invariant-loop-state
-invariant-loop-state l = record {
+abbrev pub invariant-loop-decoded : goal.invariant-loop-decoded
+invariant-loop-decoded l = record {
   onward : IsOnward l.most l.fn.state l.state;
 }
 
-abbrev pub decreases-loop-state : goal.decreases-loop-state
-decreases-loop-state l = left_to_do l.state
+abbrev pub decreases-loop-decoded : goal.decreases-loop-decoded
+decreases-loop-decoded l = left_to_do l.state
