@@ -12,6 +12,7 @@ use smt_text::{print_leaf, read_leaf};
 use std::alloc::{AllocError as NoMemory, Global};
 use std::sync::Wait;
 use std::thread::Threads;
+use std::time::Clock;
 use tool_io::{Files, HostFiles};
 use tool_top::run_tool;
 use work_gate::OpenGate;
@@ -49,7 +50,7 @@ fn replay_words(alloc: Global, routine: &Routine, rank: u32) -> Result<Vec<Strin
 }
 
 // Runs the tool, which says its line and has to answer 0.
-fn run<R: Threads + Wait + Sync, F: Files>(
+fn run<R: Threads + Wait + Clock + Sync, F: Files>(
     rt: &R,
     alloc: Global,
     words: &[String],
@@ -77,7 +78,7 @@ fn read_back<F: Files>(alloc: Global, rank: u32, files: &mut F) -> Result<()> {
 }
 
 // Explores the program, and for each test that was written reads its leaf and replays it.
-fn explore_and_replay<R: Threads + Wait + Sync, F: Files>(
+fn explore_and_replay<R: Threads + Wait + Clock + Sync, F: Files>(
     rt: &R,
     alloc: Global,
     routine: &Routine,

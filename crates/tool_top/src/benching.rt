@@ -16,6 +16,7 @@ use prog_gen::{Generated, generate};
 use std::alloc::{AllocError as NoMemory, Global};
 use std::sync::Wait;
 use std::thread::Threads;
+use std::time::Clock;
 use sym_state::Program;
 use tool_io::Bytes;
 use tool_words::{CONFLICTS, STEPS, TARGETS};
@@ -46,7 +47,7 @@ fn load_whole(alloc: Global, bytes: &[u8]) -> Result<Image, NoMemory>
 }
 
 /// Makes the plan of a bench in full. Its program is generated, so nothing is read.
-pub(crate) fn plan_bench<R: Threads + Wait + Sync, G: Gate + Sync>(
+pub(crate) fn plan_bench<R: Threads + Wait + Clock + Sync, G: Gate + Sync>(
     rt: &R,
     alloc: Global,
     number: u32,

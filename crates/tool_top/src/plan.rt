@@ -14,6 +14,7 @@ use elf_load::{Refused, Unfit};
 use std::alloc::{AllocError as NoMemory, Global};
 use std::sync::Wait;
 use std::thread::Threads;
+use std::time::Clock;
 use tool_io::{Bytes, Files, NamedFile};
 use tool_words::{Job, WordsError, read_words};
 use work_gate::Gate;
@@ -67,7 +68,7 @@ pub(crate) fn refuse_input(alloc: Global, why: Unfit) -> Result<Plan, NoMemory>
 }
 
 /// Reads what the words' job reads, and makes its plan in full.
-pub fn make_plan<R: Threads + Wait + Sync, F: Files, G: Gate + Sync>(
+pub fn make_plan<R: Threads + Wait + Clock + Sync, F: Files, G: Gate + Sync>(
     rt: &R,
     alloc: Global,
     words: &[String],

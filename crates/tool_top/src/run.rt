@@ -16,10 +16,11 @@ use crate::verdict::{Ending, Verdict};
 use std::alloc::Global;
 use std::sync::Wait;
 use std::thread::Threads;
+use std::time::Clock;
 use tool_io::{Fault, Files};
 use work_gate::Gate;
 
-fn run_words<R: Threads + Wait + Sync, F: Files, G: Gate + Sync>(
+fn run_words<R: Threads + Wait + Clock + Sync, F: Files, G: Gate + Sync>(
     rt: &R,
     alloc: Global,
     words: &[String],
@@ -45,7 +46,7 @@ fn run_words<R: Threads + Wait + Sync, F: Files, G: Gate + Sync>(
 }
 
 /// Does all that the tool does, and answers its status.
-pub fn run_tool<R: Threads + Wait + Sync, F: Files, G: Gate + Sync>(
+pub fn run_tool<R: Threads + Wait + Clock + Sync, F: Files, G: Gate + Sync>(
     rt: &R,
     alloc: Global,
     words: &[String],

@@ -2,6 +2,7 @@
 #![tactic(auto)]
 
 mod lent;
+mod pauses;
 mod round;
 mod run;
 mod stopped;

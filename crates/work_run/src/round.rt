@@ -7,13 +7,14 @@ ghost use Rattle.turn_lock.specs.Passes.{IsPassOf, known};
 ghost use Rattle.work_run.specs.Causes.{HasCause, MayLeave};
 ghost use Rattle.work_run.specs.Seen.{CarriesOn, EndsAndClaims, EndsByTurns, GivesUp, HasClaim, HasResult, IsAtRest, IsClaimed, IsLater, StopsBehind};
 
+use crate::pauses::Pauses;
 use crate::stopped::Stopped;
 use crate::turn::{claim, enter_and_claim, release};
 use crate::turn_tree::TurnTree;
 use fork_tree::{Claim, Parts, Work};
 use std::alloc::Global;
 use std::sync::Wait;
-use std::thread;
+use std::time::Clock;
 use turn_lock::{Pass, TurnLock};
 use work_gate::{Gate, Next, Point};
 
@@ -26,13 +27,14 @@ fn leaves<G: Gate>(gate: &G, worker: u32, point: Point) -> bool
 
 /// Does what the worker's last claim asks for, and claims a free node: where it got a node, works its state outside the turn, and
 /// enters what came of it in the turn of the next claim; where it got none, waits. Where the worker stops, it holds no node.
-pub(crate) fn work_once<W: Work, R: Wait, G: Gate>(
+pub(crate) fn work_once<W: Work, R: Wait + Clock, G: Gate>(
     rt: &R,
     alloc: Global,
     lock: &TurnLock<TurnTree<W>>,
     pass: &mut Pass<TurnTree<W>>,
     worker: &W,
     gate: &G,
+    pauses: &mut Pauses,
     last: Claim<W::State>,
 ) -> Result<Claim<W::State>, Stopped>
     requires lock { IsPassOf lock.now pass.old }
@@ -47,20 +49,22 @@ pub(crate) fn work_once<W: Work, R: Wait, G: Gate>(
 {
     match last {
         Claim::Quiet => Err(Stopped::Quiet),
-        Claim::Nothing => claim_later(rt, lock, pass, gate),
+        Claim::Nothing => claim_later(rt, lock, pass, gate, pauses),
         // This share of the state is let go of here, once the turn is given back.
-        Claim::Claimed(node, state) => work_claim(
-            rt, alloc, lock, pass, worker, gate, node, &state,
-        ),
+        Claim::Claimed(node, state) => {
+            pauses.end();
+            work_claim(rt, alloc, lock, pass, worker, gate, node, &state)
+        }
     }
 }
 
 // Waits, and claims a free node.
-fn claim_later<W: Work, R: Wait, G: Gate>(
+fn claim_later<W: Work, R: Wait + Clock, G: Gate>(
     rt: &R,
     lock: &TurnLock<TurnTree<W>>,
     pass: &mut Pass<TurnTree<W>>,
     gate: &G,
+    pauses: &mut Pauses,
 ) -> Result<Claim<W::State>, Stopped>
     requires lock { IsPassOf lock.now pass.old }
     requires rest { IsAtRest (known pass.old) }
@@ -73,7 +77,7 @@ fn claim_later<W: Work, R: Wait, G: Gate>(
     if leaves(gate, pass.number(), Point::Idle) {
         return Err(Stopped::Left);
     }
-    thread::yield_now();
+    pauses.pause(rt);
     Ok(claim(rt, lock, pass)?)
 }
 

@@ -17,6 +17,7 @@ use fork_tree::{Tree, Work, drain};
 use std::alloc::{AllocError as NoMemory, Global};
 use std::sync::Wait;
 use std::thread::{Threads, join};
+use std::time::Clock;
 use turn_lock::{Pass, TurnLock};
 use work_gate::Gate;
 
@@ -24,7 +25,7 @@ use work_gate::Gate;
 const FIRST: u32 = 0;
 
 // The work of one worker, which has done nothing yet.
-fn work_alone<W: Work, R: Wait, G: Gate>(
+fn work_alone<W: Work, R: Wait + Clock, G: Gate>(
     rt: &R,
     alloc: Global,
     lock: &TurnLock<TurnTree<W>>,
@@ -57,7 +58,7 @@ where
     W: Work + Send + Sync,
     W::State: Send + Sync,
     W::Leaf: Send + Sync,
-    R: Threads + Wait + Sync,
+    R: Threads + Wait + Clock + Sync,
     G: Gate + Sync,
     requires lock { IsPassOf lock.now first }
     requires may { MayRun worker.now next (known first) }
@@ -98,7 +99,7 @@ where
     W: Work + Send + Sync,
     W::State: Send + Sync,
     W::Leaf: Send + Sync,
-    R: Threads + Wait + Sync,
+    R: Threads + Wait + Clock + Sync,
     G: Gate + Sync,
     requires some { 1 ≤ workers }
     requires worker { tree.worker ≡ worker.now }
@@ -127,7 +128,7 @@ where
     W: Work + Send + Sync,
     W::State: Send + Sync,
     W::Leaf: Send + Sync,
-    R: Threads + Wait + Sync,
+    R: Threads + Wait + Clock + Sync,
     G: Gate + Sync,
     requires some { 1 ≤ workers }
     requires worker { tree.worker ≡ worker.now }
@@ -158,7 +159,7 @@ where
     W: Work + Sync,
     W::State: Send + Sync,
     W::Leaf: Send + Sync,
-    R: Threads + Wait + Sync,
+    R: Threads + Wait + Clock + Sync,
     G: Gate + Sync,
     requires well { (W.rules worker.now).IsWell root }
     requires first { (W.State.place root).choices ≡ [] }

@@ -8,6 +8,7 @@ use std::process::Abort;
 use std::sync::Wait;
 use std::test::Fail;
 use std::thread::Threads;
+use std::time::Clock;
 use tool_io::NamedFile;
 
 /// A run of the tool on a program.
@@ -239,7 +240,7 @@ fn read_back<R: AllocGlobal + Abort>(rt: &R, puts: &[NamedFile]) -> Result<(), F
 }
 
 // What is put and said is as the row says.
-pub(crate) fn explores<R: Threads + Wait + Sync + AllocGlobal + Abort>(
+pub(crate) fn explores<R: Threads + Wait + Clock + Sync + AllocGlobal + Abort>(
     rt: &R,
     row: &Row,
 ) -> Result<(), Fail> {
@@ -263,7 +264,7 @@ fn test_names(alloc: Global, puts: &[NamedFile]) -> Result<Vec<String>, Fail> {
 }
 
 // Each test that is put is replayed, and is as its run.
-pub(crate) fn replays<R: Threads + Wait + Sync + AllocGlobal + Abort>(
+pub(crate) fn replays<R: Threads + Wait + Clock + Sync + AllocGlobal + Abort>(
     rt: &R,
     row: &Row,
 ) -> Result<(), Fail> {

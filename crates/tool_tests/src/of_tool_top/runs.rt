@@ -7,6 +7,7 @@ use std::fs;
 use std::sync::Wait;
 use std::test::Fail;
 use std::thread::Threads;
+use std::time::Clock;
 use tool_io::{Bytes, Files, HostFiles, MemFiles};
 use tool_top::run_tool;
 use work_gate::OpenGate;
@@ -79,7 +80,7 @@ pub(crate) fn no_program(alloc: Global, to_fail: &[u64]) -> Result<MemFiles, Fai
 }
 
 /// The status of the tool's run.
-pub(crate) fn run<R: Threads + Wait + Sync + AllocGlobal, F: Files>(
+pub(crate) fn run<R: Threads + Wait + Clock + Sync + AllocGlobal, F: Files>(
     rt: &R,
     words: &[&str],
     files: &mut F,

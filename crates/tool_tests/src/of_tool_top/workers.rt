@@ -9,6 +9,7 @@ use std::process::Abort;
 use std::sync::Wait;
 use std::test::Fail;
 use std::thread::Threads;
+use std::time::Clock;
 use tool_io::MemFiles;
 use tool_top::run_tool;
 use work_gate::{DropGate, Gate, MeetGate, OpenGate, Point};
@@ -39,7 +40,7 @@ fn by_workers(
     Ok(others)
 }
 
-fn run_at<R: Threads + Wait + Sync + AllocGlobal, G: Gate + Sync>(
+fn run_at<R: Threads + Wait + Clock + Sync + AllocGlobal, G: Gate + Sync>(
     rt: &R,
     words: &[&str],
     files: &mut MemFiles,
@@ -49,7 +50,7 @@ fn run_at<R: Threads + Wait + Sync + AllocGlobal, G: Gate + Sync>(
     Ok(run_tool(rt, rt.alloc(), words.as_slice(), files, gate))
 }
 
-fn say_the_same<R: Threads + Wait + Sync + AllocGlobal + Abort>(
+fn say_the_same<R: Threads + Wait + Clock + Sync + AllocGlobal + Abort>(
     rt: &R,
     rows: &[Row],
 ) -> Result<(), Fail> {
