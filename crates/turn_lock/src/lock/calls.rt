@@ -20,6 +20,10 @@ const TURN: usize = 0;
 // The word that is the number of events.
 const EVENTS: usize = 1;
 
+// How often a pass looks whether the turn is free before it lets other threads have the processor: for about a tenth of a
+// millisecond. A turn is far shorter, and who gives a processor away may have it back milliseconds later.
+const MOST_SPINS: u32 = 40;
+
 impl<V: Growing> TurnLock<V> {
     /// A lock on the value, and its first pass, of number 0. Where memory is refused the value is dropped.
     pub fn new(alloc: Global, value: V) -> Result<(TurnLock<V>, Pass<V>), NoMemory>
@@ -84,11 +88,17 @@ impl<V: Growing> TurnLock<V> {
         ensures follows { Follows V.fixed V.nodes V.events V.worker (known pass.old) result }
     {
         let backoff = Backoff::new();
+        let mut spins = 0;
         for _ in rt.forever() {
             if let Some(value) = self.try_take(pass) {
                 return value;
             }
-            backoff.snooze();
+            if spins < MOST_SPINS {
+                spins += 1;
+                backoff.spin();
+            } else {
+                backoff.snooze();
+            }
         }
         unreachable!()
     }
