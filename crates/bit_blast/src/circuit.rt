@@ -16,11 +16,21 @@ use std::alloc::{AllocError as NoMemory, Global};
 use std::marker::Model;
 
 /// A formula, the literals of each input byte that has occurred, and those of each term so far.
-#[derive(Debug, Drop)]
+#[derive(Debug)]
 pub struct Circuit {
     gates: Gates,
     inputs: Vec<Option<Row>>,
     rows: Vec<Row>,
+}
+
+impl Drop for Circuit {
+    fn drop(self) {
+        let Self {
+            gates: _gates,
+            inputs: _inputs,
+            rows: _rows,
+        } = self;
+    }
 }
 
 impl Model for Circuit {

@@ -12,10 +12,19 @@ use std::marker::Model;
 use tool_io::Bytes;
 
 /// The clauses of a condition, and the literals of each of its input bytes that occurs.
-#[derive(Debug, Drop)]
+#[derive(Debug)]
 pub struct Encoding {
     formula: Cnf,
     inputs: Vec<Option<Row>>,
+}
+
+impl Drop for Encoding {
+    fn drop(self) {
+        let Self {
+            formula: _formula,
+            inputs: _inputs,
+        } = self;
+    }
 }
 
 impl Model for Encoding {

@@ -26,11 +26,21 @@ pub fn constant(value: bool) -> Lit
 }
 
 /// A formula, and how many variables it has.
-#[derive(Debug, Drop)]
+#[derive(Debug)]
 pub struct Gates {
     alloc: Global,
     variables: u32,
     formula: Cnf,
+}
+
+impl Drop for Gates {
+    fn drop(self) {
+        let Self {
+            alloc: _alloc,
+            variables: _variables,
+            formula: _formula,
+        } = self;
+    }
 }
 
 impl Model for Gates {
@@ -64,7 +74,12 @@ impl Gates {
     pub fn into_formula(self) -> Cnf
         ensures { result ≡ self.clauses }
     {
-        self.formula
+        let Self {
+            alloc: _alloc,
+            variables: _variables,
+            formula,
+        } = self;
+        formula
     }
 
     /// A new variable.

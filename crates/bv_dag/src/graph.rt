@@ -24,11 +24,21 @@ fn words_of(alloc: Global, nodes: &[Node], input: &[u8]) -> Result<Vec<Word>, No
 }
 
 /// Terms over bit-vectors, each built of earlier ones.
-#[derive(Clone, Debug, Drop)]
+#[derive(Clone, Debug)]
 pub struct Dag {
     inputs: usize,
     nodes: Vec<Node>,
     widths: Vec<u32>,
+}
+
+impl Drop for Dag {
+    fn drop(self) {
+        let Self {
+            inputs: _inputs,
+            nodes: _nodes,
+            widths: _widths,
+        } = self;
+    }
 }
 
 impl Model for Dag {

@@ -10,10 +10,19 @@ use std::hash::{Hash, Hasher};
 use std::marker::Model;
 
 /// Terms of one bit, each of which is to be worth 1.
-#[derive(Clone, Debug, Drop)]
+#[derive(Clone, Debug)]
 pub struct Query {
     dag: Dag,
     asserted: Vec<usize>,
+}
+
+impl Drop for Query {
+    fn drop(self) {
+        let Self {
+            dag: _dag,
+            asserted: _asserted,
+        } = self;
+    }
 }
 
 impl Model for Query {

@@ -13,7 +13,7 @@ use std::alloc::{AllocError as NoMemory, Global};
 
 /// What an analysis has met. It is kept from one conflict to the next, and cleared by what it met, so that a conflict pays for
 /// nothing else.
-#[derive(Debug, Drop)]
+#[derive(Debug)]
 pub struct Analysis {
     /// Whether a variable was met, by its number.
     seen: Vec<bool>,
@@ -27,6 +27,19 @@ pub struct Analysis {
     pending: usize,
     /// The place of the last decision.
     last: usize,
+}
+
+impl Drop for Analysis {
+    fn drop(self) {
+        let Self {
+            seen: _seen,
+            met: _met,
+            literals: _literals,
+            hints: _hints,
+            pending: _pending,
+            last: _last,
+        } = self;
+    }
 }
 
 fn clause_of(clauses: &Clauses, number: usize) -> Option<&[Lit]> {

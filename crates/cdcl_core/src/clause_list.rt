@@ -86,10 +86,19 @@ impl Places {
 }
 
 /// Clauses in their order.
-#[derive(Debug, Drop)]
+#[derive(Debug)]
 pub struct ClauseList {
     checker: Checker,
     places: Places,
+}
+
+impl Drop for ClauseList {
+    fn drop(self) {
+        let Self {
+            checker: _checker,
+            places: _places,
+        } = self;
+    }
 }
 
 impl Model for ClauseList {

@@ -18,7 +18,7 @@ use cnf_form::Lit;
 use std::alloc::{AllocError as NoMemory, Global};
 
 /// Variables by their activity, that of the variable k at place k - 1 of each list.
-#[derive(Debug, Drop)]
+#[derive(Debug)]
 pub struct Order {
     /// The literal to choose for each variable.
     literals: Vec<Lit>,
@@ -26,6 +26,17 @@ pub struct Order {
     heap: Heap,
     /// What a variable gains that a conflict meets.
     gain: u64,
+}
+
+impl Drop for Order {
+    fn drop(self) {
+        let Self {
+            literals: _literals,
+            activities: _activities,
+            heap: _heap,
+            gain: _gain,
+        } = self;
+    }
 }
 
 // The gain at first, by which part of itself it grows, and up to where.

@@ -6,10 +6,19 @@ ghost use Rattle.std.specs.Prelude.{◌≡◌, ◌↔◌, ◌≤◌, ◌+◌, Is
 const FIRST: u32 = 100;
 
 /// The conflicts since the last restart, and after how many the next comes.
-#[derive(Debug, Drop)]
+#[derive(Debug)]
 pub struct Restarts {
     since: u32,
     limit: u32,
+}
+
+impl Drop for Restarts {
+    fn drop(self) {
+        let Self {
+            since: _since,
+            limit: _limit,
+        } = self;
+    }
 }
 
 impl Restarts {

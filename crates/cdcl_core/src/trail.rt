@@ -19,11 +19,21 @@ pub struct Entry {
 }
 
 /// Entries in their order, with the values of the variables and the numbers of their entries, by the variables' numbers.
-#[derive(Debug, Drop)]
+#[derive(Debug)]
 pub struct Trail {
     marks: Vec<Option<bool>>,
     numbers: Vec<usize>,
     entries: Vec<Entry>,
+}
+
+impl Drop for Trail {
+    fn drop(self) {
+        let Self {
+            marks: _marks,
+            numbers: _numbers,
+            entries: _entries,
+        } = self;
+    }
 }
 
 impl Model for Trail {

@@ -9,11 +9,20 @@ use std::alloc::{AllocError as NoMemory, Global};
 use std::marker::Model;
 
 /// Clauses, numbered from 1 in their order.
-#[derive(Debug, Drop)]
+#[derive(Debug)]
 pub struct Clauses {
     literals: Vec<Lit>,
     /// For each clause how many literals there are up to its end.
     ends: Vec<usize>,
+}
+
+impl Drop for Clauses {
+    fn drop(self) {
+        let Self {
+            literals: _literals,
+            ends: _ends,
+        } = self;
+    }
 }
 
 impl Model for Clauses {

@@ -12,11 +12,20 @@ use std::alloc::{AllocError as NoMemory, Global};
 use std::marker::Model;
 
 /// Clauses, numbered from 1 in their order.
-#[derive(Debug, Drop)]
+#[derive(Debug)]
 pub struct Cnf {
     clauses: Clauses,
     /// The greatest variable, and 0 where there is none.
     variables: u32,
+}
+
+impl Drop for Cnf {
+    fn drop(self) {
+        let Self {
+            clauses: _clauses,
+            variables: _variables,
+        } = self;
+    }
 }
 
 impl Model for Cnf {

@@ -8,10 +8,19 @@ use std::marker::Model;
 
 /// A clause, and the numbers of the clauses that are its hints: those of the formula have the numbers from 1 on, and
 /// those of the log the next ones.
-#[derive(Clone, Debug, Drop)]
+#[derive(Clone, Debug)]
 pub struct LogStep {
     clause: Clause,
     hints: Vec<usize>,
+}
+
+impl Drop for LogStep {
+    fn drop(self) {
+        let Self {
+            clause: _clause,
+            hints: _hints,
+        } = self;
+    }
 }
 
 impl Model for LogStep {

@@ -11,10 +11,19 @@ use std::marker::Model;
 pub(crate) const PAGE_SIZE: u32 = 256;
 
 /// A page of 256 bytes, and what may be done on it.
-#[derive(Debug, Drop)]
+#[derive(Debug)]
 pub struct Page {
     flags: u8,
     content: Content,
+}
+
+impl Drop for Page {
+    fn drop(self) {
+        let Self {
+            flags: _flags,
+            content: _content,
+        } = self;
+    }
 }
 
 /// The bytes of a page. They are bare numbers until a term is written among them.

@@ -20,7 +20,7 @@ use std::sync::Arc;
 /// what may be done on them, never changes.
 ///
 /// Copies share their pages until one of them writes there.
-#[derive(Debug, Drop)]
+#[derive(Debug)]
 pub struct Pages {
     /// The pages of the image, as they were before any was written. All copies share them.
     base: Arc<GroupList>,
@@ -30,6 +30,17 @@ pub struct Pages {
     recent: Recent,
     /// The page that was turned to last, if it wasn't written.
     unwritten: Option<Unwritten>,
+}
+
+impl Drop for Pages {
+    fn drop(self) {
+        let Self {
+            base: _base,
+            own: _own,
+            recent: _recent,
+            unwritten: _unwritten,
+        } = self;
+    }
 }
 
 /// At which places the group of pages that was turned to last stood, or would have stood. A page of

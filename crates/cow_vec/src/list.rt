@@ -8,11 +8,20 @@ use std::marker::Model;
 use std::sync::Arc;
 
 /// A list in chunks of 64 that its copies share.
-#[derive(Drop)]
 pub struct CowVec<T: Copy> {
     alloc: Global,
     chunks: Vec<Arc<Vec<T>>>,
     len: usize,
+}
+
+impl<T: Copy> Drop for CowVec<T> {
+    fn drop(self) {
+        let Self {
+            alloc: _alloc,
+            chunks: _chunks,
+            len: _len,
+        } = self;
+    }
 }
 
 impl<T: Copy> Model for CowVec<T> {

@@ -10,10 +10,19 @@ use std::collections::btree_map::Iter;
 use std::marker::Model;
 
 /// Where a program begins, and its memory.
-#[derive(Debug, Drop)]
+#[derive(Debug)]
 pub struct Image {
     entry: u32,
     pages: BTreeMap<u32, Page>,
+}
+
+impl Drop for Image {
+    fn drop(self) {
+        let Self {
+            entry: _entry,
+            pages: _pages,
+        } = self;
+    }
 }
 
 impl Model for Image {

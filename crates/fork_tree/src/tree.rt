@@ -38,12 +38,21 @@ const MOST_NODES: usize = u32::MAX as usize;
 /// A fork tree: nodes that hold states or leaves of a worker's program, and the events that made them.
 ///
 /// It has room for fewer than 2^32 nodes, so that each number of a node is below that.
-#[derive(Drop)]
 pub struct Tree<W: Work> {
     worker: W,
     core: Core<Content<W::State, W::Leaf>>,
     // The nodes that are free, with room for those that are held.
     free: Worklists,
+}
+
+impl<W: Work> Drop for Tree<W> {
+    fn drop(self) {
+        let Self {
+            worker: _worker,
+            core: _core,
+            free: _free,
+        } = self;
+    }
 }
 
 impl<W: Work> Model for Tree<W> {

@@ -11,13 +11,22 @@ use std::marker::Model;
 
 /// A list for each worker, of the nodes that it made free. A worker takes what it made free last, so that it goes on with states of
 /// its own; where its list is empty, it takes from another's what has been free longest, which mostly has most work under it.
-#[derive(Drop)]
 pub(crate) struct Worklists {
     lists: Vec<VecDeque<usize>>,
     /// How many nodes are listed.
     len: usize,
     /// Each list has room for so many.
     capacity: usize,
+}
+
+impl Drop for Worklists {
+    fn drop(self) {
+        let Self {
+            lists: _lists,
+            len: _len,
+            capacity: _capacity,
+        } = self;
+    }
 }
 
 impl Model for Worklists {

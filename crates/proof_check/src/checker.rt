@@ -16,10 +16,19 @@ use std::alloc::{AllocError as NoMemory, Global};
 use std::marker::Model;
 
 /// Clauses in their order, to which others may be added that follow and are new.
-#[derive(Debug, Drop)]
+#[derive(Debug)]
 pub struct Checker {
     clauses: FiledClauses,
     marks: Marks,
+}
+
+impl Drop for Checker {
+    fn drop(self) {
+        let Self {
+            clauses: _clauses,
+            marks: _marks,
+        } = self;
+    }
 }
 
 impl Model for Checker {

@@ -39,10 +39,19 @@ fn has_falsified(marks: &Marks, clauses: &Clauses, index: &Index, key: usize) ->
 }
 
 /// Clauses that are found by their keys.
-#[derive(Debug, Drop)]
+#[derive(Debug)]
 pub struct FiledClauses {
     clauses: Clauses,
     index: Index,
+}
+
+impl Drop for FiledClauses {
+    fn drop(self) {
+        let Self {
+            clauses: _clauses,
+            index: _index,
+        } = self;
+    }
 }
 
 impl Model for FiledClauses {

@@ -35,12 +35,21 @@ pub fn clause_key(clause: &[Lit]) -> usize
 }
 
 /// A chain for each key. A place has the next number after its own, and 0 ends a chain.
-#[derive(Debug, Drop)]
+#[derive(Debug)]
 pub struct Index {
     /// The number of the last place under each key.
     lasts: Vec<usize>,
     /// For each place the number of the one before it under the same key.
     earlier: Vec<usize>,
+}
+
+impl Drop for Index {
+    fn drop(self) {
+        let Self {
+            lasts: _lasts,
+            earlier: _earlier,
+        } = self;
+    }
 }
 
 impl Model for Index {

@@ -17,10 +17,19 @@ pub struct Mark {
 
 /// The value of each variable, by its number. A value counts in the round in which it was given, so that a new round
 /// begins without a walk over the marks. No value is given in round 0.
-#[derive(Debug, Drop)]
+#[derive(Debug)]
 pub struct Marks {
     marks: Vec<Mark>,
     round: usize,
+}
+
+impl Drop for Marks {
+    fn drop(self) {
+        let Self {
+            marks: _marks,
+            round: _round,
+        } = self;
+    }
 }
 
 impl Model for Marks {

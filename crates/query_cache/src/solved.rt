@@ -7,10 +7,19 @@ use bv_dag::Query;
 use std::marker::Model;
 
 /// A question with an answer that is true of it.
-#[derive(Debug, Drop)]
+#[derive(Debug)]
 pub struct Solved {
     query: Query,
     answer: Satisfiability,
+}
+
+impl Drop for Solved {
+    fn drop(self) {
+        let Self {
+            query: _query,
+            answer: _answer,
+        } = self;
+    }
 }
 
 impl Model for Solved {
@@ -52,6 +61,7 @@ impl Solved {
         ensures answer { result.1 ≡ self.answer }
         ensures right { IsAnswer result.0 result.1 }
     {
-        (self.query, self.answer)
+        let Self { query, answer } = self;
+        (query, answer)
     }
 }

@@ -26,7 +26,6 @@ pub struct Counts {
 }
 
 /// Answers, each true of its question, and samples. Threads look through them and add to them behind a `&`.
-#[derive(Drop)]
 pub struct Shared {
     answers: Mutex<Cache>,
     samples: Pool,
@@ -34,6 +33,19 @@ pub struct Shared {
     sampled: AtomicU64,
     decided: AtomicU64,
     spent: AtomicU64,
+}
+
+impl Drop for Shared {
+    fn drop(self) {
+        let Self {
+            answers: _answers,
+            samples: _samples,
+            cached: _cached,
+            sampled: _sampled,
+            decided: _decided,
+            spent: _spent,
+        } = self;
+    }
 }
 
 // Counts one more.

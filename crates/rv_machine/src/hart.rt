@@ -18,7 +18,7 @@ use std::marker::Model;
 const STACK_POINTER: u32 = 0x7FFF_FFF0;
 
 /// Registers, memory, what was written, and the path.
-#[derive(Debug, Drop)]
+#[derive(Debug)]
 pub struct Hart {
     pc: u32,
     /// x0 to x31.
@@ -28,6 +28,18 @@ pub struct Hart {
     output: Vec<u8>,
     /// What each conditional branch so far did, and where each JALR went.
     path: Vec<PathStep>,
+}
+
+impl Drop for Hart {
+    fn drop(self) {
+        let Self {
+            pc: _pc,
+            registers: _registers,
+            memory: _memory,
+            output: _output,
+            path: _path,
+        } = self;
+    }
 }
 
 impl Model for Hart {
@@ -215,6 +227,13 @@ impl Hart {
         ensures path { result.0.items ≡ self.path }
         ensures output { result.1.items ≡ self.output }
     {
-        (self.path, self.output)
+        let Self {
+            pc: _pc,
+            registers: _registers,
+            memory: _memory,
+            output,
+            path,
+        } = self;
+        (path, output)
     }
 }

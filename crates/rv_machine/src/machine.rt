@@ -21,10 +21,19 @@ use std::alloc::{AllocError as NoMemory, Global};
 use std::marker::Model;
 
 /// A run of a program on one assignment of the input bytes, at some step. Contracts see where it stands and its end.
-#[derive(Debug, Drop)]
+#[derive(Debug)]
 pub struct Machine {
     hart: Hart,
     end: Option<End>,
+}
+
+impl Drop for Machine {
+    fn drop(self) {
+        let Self {
+            hart: _hart,
+            end: _end,
+        } = self;
+    }
 }
 
 impl Model for Machine {
@@ -104,8 +113,8 @@ impl Machine {
     pub(crate) fn into_ran(self, steps: u32) -> Ran
         ensures { IsRanOf result self steps }
     {
-        let end = self.end;
-        let (path, output) = self.hart.into_parts();
+        let Self { hart, end } = self;
+        let (path, output) = hart.into_parts();
         Ran {
             end,
             steps,

@@ -24,7 +24,7 @@ const PAGE: u32 = 256;
 const EXECUTE: u8 = 1;
 
 /// The pages of a machine's memory. It keeps where the pages stand that were used last, since these are mostly used again.
-#[derive(Debug, Drop)]
+#[derive(Debug)]
 pub struct Memory {
     /// Pages with their numbers, which rise.
     pages: Vec<(u32, Page)>,
@@ -32,6 +32,16 @@ pub struct Memory {
     fetched: usize,
     /// The place of the page that was last read or written.
     touched: usize,
+}
+
+impl Drop for Memory {
+    fn drop(self) {
+        let Self {
+            pages: _pages,
+            fetched: _fetched,
+            touched: _touched,
+        } = self;
+    }
 }
 
 impl Model for Memory {

@@ -12,7 +12,7 @@ use rv_decode::{End, PathStep};
 use std::alloc::AllocError as NoMemory;
 
 /// What a run has come to.
-#[derive(Debug, Drop)]
+#[derive(Debug)]
 pub struct Ran {
     /// How it has ended, if it has.
     pub end: Option<End>,
@@ -22,6 +22,17 @@ pub struct Ran {
     pub path: Vec<PathStep>,
     /// The bytes that the program has written.
     pub output: Vec<u8>,
+}
+
+impl Drop for Ran {
+    fn drop(self) {
+        let Self {
+            end: _end,
+            steps: _steps,
+            path: _path,
+            output: _output,
+        } = self;
+    }
 }
 
 impl Machine {

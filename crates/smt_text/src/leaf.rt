@@ -7,7 +7,7 @@ use std::marker::Model;
 use tree_core::Choice;
 
 /// All runs that make the same decisions, and the condition under which a run is one of them.
-#[derive(Debug, Drop)]
+#[derive(Debug)]
 pub struct LeafText {
     /// The sides taken at the forks above it, from the root on.
     pub choices: Vec<Choice>,
@@ -20,6 +20,19 @@ pub struct LeafText {
     pub condition: Query,
     /// The terms of what its runs write, a byte each; so far, where they are cut.
     pub outputs: Vec<usize>,
+}
+
+impl Drop for LeafText {
+    fn drop(self) {
+        let Self {
+            choices: _choices,
+            path: _path,
+            steps: _steps,
+            end: _end,
+            condition: _condition,
+            outputs: _outputs,
+        } = self;
+    }
 }
 
 impl Model for LeafText {

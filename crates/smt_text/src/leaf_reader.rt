@@ -2,7 +2,7 @@
 
 ghost use Rattle.std.specs.Prelude.{◌≡◌, IfErr, IfOk, Ok, option_map};
 ghost use Rattle.fork_spec.specs.Leaves.{IsFull, Leaf};
-ghost use Rattle.smt_text.specs.Grammar.{leaf_of, start};
+ghost use Rattle.smt_text.specs.Grammar.{start};
 ghost use Rattle.smt_text.specs.LeafLines.{leaf_text};
 ghost use Rattle.smt_text.specs.Phases.{IsSound};
 ghost use Rattle.smt_text.specs.ReadingState.{IsNext, IsWhole, reading_of};
@@ -11,7 +11,6 @@ ghost use Rattle.smt_text.specs.Refusals.{IsRefusedAt};
 use crate::leaf::LeafText;
 use crate::leaf_reading::LeafReading;
 use crate::spot::Spot;
-use bv_dag::Query;
 use std::alloc::{AllocError as NoMemory, Global};
 
 /// Where a text is no leaf's.
@@ -47,21 +46,6 @@ impl LeafReading {
             Spot::AmongAssertions => self.take_assertion(text),
             Spot::AtExit => Ok(self.take_exit(text)),
             Spot::Closed => Ok(None),
-        }
-    }
-
-    /// The leaf that was read.
-    fn into_leaf(self) -> LeafText
-        requires { IsSound (reading_of self) }
-        ensures { result ≡ leaf_of (reading_of self) }
-    {
-        LeafText {
-            choices: self.choices,
-            path: self.path,
-            steps: self.steps,
-            end: self.end,
-            condition: Query::new(self.dag, self.asserted),
-            outputs: self.outputs,
         }
     }
 }

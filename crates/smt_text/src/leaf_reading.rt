@@ -2,17 +2,19 @@
 
 ghost use Rattle.std.specs.Prelude.{◌≡◌, ◌<◌, ℕ};
 ghost use Rattle.smt_text.specs.Grammar as spec;
+ghost use Rattle.smt_text.specs.Phases.{IsSound};
 ghost use Rattle.smt_text.specs.ReadingState.{reading_of};
 
+use crate::leaf::LeafText;
 use crate::spot::Spot;
-use bv_dag::Dag;
+use bv_dag::{Dag, Query};
 use fork_spec::LeafEnd;
 use rv_decode::PathStep;
 use std::alloc::Global;
 use tree_core::{Cause, Choice};
 
 /// What the lines so far say.
-#[derive(Debug, Drop)]
+#[derive(Debug)]
 pub struct LeafReading {
     pub place: Spot,
     /// The budget that was spent, where the runs were cut.
@@ -31,6 +33,25 @@ pub struct LeafReading {
     pub dag: Dag,
     pub outputs: Vec<usize>,
     pub asserted: Vec<usize>,
+}
+
+impl Drop for LeafReading {
+    fn drop(self) {
+        let Self {
+            place: _place,
+            kind: _kind,
+            choices: _choices,
+            path: _path,
+            steps: _steps,
+            end: _end,
+            node_count: _node_count,
+            output_count: _output_count,
+            declared: _declared,
+            dag: _dag,
+            outputs: _outputs,
+            asserted: _asserted,
+        } = self;
+    }
 }
 
 impl LeafReading {
@@ -95,5 +116,34 @@ impl LeafReading {
         ensures { result ≡ spec.is_wide (reading_of self.now) id width }
     {
         id < self.dag.len() && self.dag.width_of(id) == width
+    }
+
+    /// The leaf that was read.
+    pub fn into_leaf(self) -> LeafText
+        requires { IsSound (reading_of self) }
+        ensures { result ≡ spec.leaf_of (reading_of self) }
+    {
+        let Self {
+            place: _place,
+            kind: _kind,
+            choices,
+            path,
+            steps,
+            end,
+            node_count: _node_count,
+            output_count: _output_count,
+            declared: _declared,
+            dag,
+            outputs,
+            asserted,
+        } = self;
+        LeafText {
+            choices,
+            path,
+            steps,
+            end,
+            condition: Query::new(dag, asserted),
+            outputs,
+        }
     }
 }

@@ -19,10 +19,19 @@ pub enum BuildError {
 pub struct Term(usize);
 
 /// Terms, and those of them that are asserted.
-#[derive(Debug, Drop)]
+#[derive(Debug)]
 pub struct Builder {
     dag: Dag,
     asserted: Vec<Term>,
+}
+
+impl Drop for Builder {
+    fn drop(self) {
+        let Self {
+            dag: _dag,
+            asserted: _asserted,
+        } = self;
+    }
 }
 
 impl Builder {
@@ -155,8 +164,9 @@ impl Builder {
 
     /// The question whether all that was asserted can be true at once.
     pub fn finish(self, alloc: Global) -> Result<Query, BuildError> {
-        let mut query = Query::new(self.dag, Vec::new(alloc));
-        for Term(id) in &self.asserted {
+        let Self { dag, asserted } = self;
+        let mut query = Query::new(dag, Vec::new(alloc));
+        for Term(id) in &asserted {
             if *id >= query.dag().len() || query.dag().width_of(*id) != 1 {
                 return Err(BuildError::Misfit);
             }

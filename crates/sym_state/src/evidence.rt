@@ -6,11 +6,20 @@ use std::marker::Model;
 use tool_io::Bytes;
 
 /// A value, and an assignment on which a term has it.
-#[derive(Debug, Drop)]
+#[derive(Debug)]
 pub struct Found {
     pub value: u32,
     /// One byte for each input.
     pub input: Bytes,
+}
+
+impl Drop for Found {
+    fn drop(self) {
+        let Self {
+            value: _value,
+            input: _input,
+        } = self;
+    }
 }
 
 impl Model for Found {
@@ -22,11 +31,20 @@ impl Model for Found {
 }
 
 /// The values on which the budget of targets was spent, by increasing value.
-#[derive(Debug, Drop)]
+#[derive(Debug)]
 pub struct Spent {
     /// The term that takes them.
     pub term: usize,
     pub found: Vec<Found>,
+}
+
+impl Drop for Spent {
+    fn drop(self) {
+        let Self {
+            term: _term,
+            found: _found,
+        } = self;
+    }
 }
 
 impl Model for Spent {
@@ -38,11 +56,20 @@ impl Model for Spent {
 }
 
 /// A question on which the budget of conflicts was spent, and the clauses that were learnt for it.
-#[derive(Debug, Drop)]
+#[derive(Debug)]
 pub struct Learnt {
     /// The part of a leaf's condition that matters for its last assertion.
     pub question: Query,
     pub log: Log,
+}
+
+impl Drop for Learnt {
+    fn drop(self) {
+        let Self {
+            question: _question,
+            log: _log,
+        } = self;
+    }
 }
 
 impl Model for Learnt {

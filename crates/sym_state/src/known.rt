@@ -10,11 +10,20 @@ use std::marker::Model;
 const MOST_DECISIONS: usize = 5;
 
 /// What is known of the decisions of one step, by their places. A step of which nothing was known costs nothing to clear.
-#[derive(Debug, Drop)]
+#[derive(Debug)]
 pub(crate) struct Known {
     places: [Option<Decided>; MOST_DECISIONS],
     /// Whether anything is known.
     is_told: bool,
+}
+
+impl Drop for Known {
+    fn drop(self) {
+        let Self {
+            places: _places,
+            is_told: _is_told,
+        } = self;
+    }
 }
 
 impl Model for Known {

@@ -16,7 +16,7 @@ use tree_core::Choice;
 
 /// What a leaf part is made of. It stands in a place of its own: a tree moves leaf parts into its nodes and events while no other
 /// worker can go on, and moves a reference then.
-#[derive(Debug, Drop)]
+#[derive(Debug)]
 struct PartFields {
     choices: Vec<Choice>,
     path: Vec<PathStep>,
@@ -26,6 +26,21 @@ struct PartFields {
     outputs: Vec<usize>,
     sample: Option<Bytes>,
     evidence: Option<Evidence>,
+}
+
+impl Drop for PartFields {
+    fn drop(self) {
+        let Self {
+            choices: _choices,
+            path: _path,
+            steps: _steps,
+            end: _end,
+            condition: _condition,
+            outputs: _outputs,
+            sample: _sample,
+            evidence: _evidence,
+        } = self;
+    }
 }
 
 /// A leaf in full: its terms fit, its status and its outputs are bytes, and its numbers are below 2^32. With it an assignment

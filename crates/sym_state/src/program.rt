@@ -7,10 +7,19 @@ use elf_load::{Image, Regions};
 use std::marker::Model;
 
 /// A program, and where its input bytes stand: on mapped pages of it, each at an address of its own.
-#[derive(Debug, Drop)]
+#[derive(Debug)]
 pub struct Program {
     image: Image,
     regions: Regions,
+}
+
+impl Drop for Program {
+    fn drop(self) {
+        let Self {
+            image: _image,
+            regions: _regions,
+        } = self;
+    }
 }
 
 impl Model for Program {

@@ -24,7 +24,6 @@ use tree_core::Choice;
 pub(crate) const PAGE: u32 = 256;
 
 /// A symbolic run, somewhere before its end. Copies share what they hold until one of them changes.
-#[derive(Drop)]
 pub struct State {
     pub(crate) alloc: Global,
     pub(crate) pc: u32,
@@ -45,6 +44,25 @@ pub struct State {
     pub(crate) known: Known,
     /// An assignment that meets the condition.
     pub(crate) sample: Bytes,
+}
+
+impl Drop for State {
+    fn drop(self) {
+        let Self {
+            alloc: _alloc,
+            pc: _pc,
+            registers: _registers,
+            memory: _memory,
+            terms: _terms,
+            condition: _condition,
+            output: _output,
+            path: _path,
+            choices: _choices,
+            steps: _steps,
+            known: _known,
+            sample: _sample,
+        } = self;
+    }
 }
 
 impl Model for State {

@@ -11,10 +11,18 @@ use std::alloc::{AllocError as NoMemory, Global};
 use std::marker::Model;
 
 /// Terms over bit-vectors, each built of earlier ones, in chunks that copies share.
-#[derive(Drop)]
 pub struct Terms {
     inputs: usize,
     entries: CowVec<TableEntry>,
+}
+
+impl Drop for Terms {
+    fn drop(self) {
+        let Self {
+            inputs: _inputs,
+            entries: _entries,
+        } = self;
+    }
 }
 
 impl Model for Terms {

@@ -25,7 +25,6 @@ const MOST_LEAF: u64 = 1 << 53;
 const MOST_STEPS: u64 = 1_000_000;
 
 /// What the keys say. The input and the output are still in hexadecimal digits.
-#[derive(Drop)]
 pub(crate) struct Said<'a> {
     end: Option<End>,
     input: &'a str,
@@ -34,6 +33,20 @@ pub(crate) struct Said<'a> {
     path: Vec<PathStep>,
     regions: Vec<Region>,
     steps: u32,
+}
+
+impl<'a> Drop for Said<'a> {
+    fn drop(self) {
+        let Self {
+            end: _end,
+            input: _input,
+            leaf: _leaf,
+            output: _output,
+            path: _path,
+            regions: _regions,
+            steps: _steps,
+        } = self;
+    }
 }
 
 /// What the keys say, where each has a value of its form.
@@ -99,13 +112,22 @@ impl Said<'_> {
         if !have_bytes(&self.regions, input.len()) {
             return Err(TestRefused::Length.into());
         }
+        let Self {
+            end,
+            input: _input,
+            leaf,
+            output: _output,
+            path,
+            regions,
+            steps,
+        } = self;
         Ok(Test {
-            leaf: self.leaf,
-            regions: Regions::from_vec(self.regions),
+            leaf,
+            regions: Regions::from_vec(regions),
             input: Bytes::from_vec(input),
-            steps: self.steps,
-            path: self.path,
-            end: self.end,
+            steps,
+            path,
+            end,
             output: Bytes::from_vec(output),
         })
     }

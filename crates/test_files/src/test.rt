@@ -6,7 +6,7 @@ use std::marker::Model;
 use tool_io::Bytes;
 
 /// An assignment of the input bytes, and what the run of it does.
-#[derive(Debug, Drop)]
+#[derive(Debug)]
 pub struct Test {
     /// The rank of its leaf.
     pub leaf: usize,
@@ -20,6 +20,20 @@ pub struct Test {
     pub end: Option<End>,
     /// What the run writes.
     pub output: Bytes,
+}
+
+impl Drop for Test {
+    fn drop(self) {
+        let Self {
+            leaf: _leaf,
+            regions: _regions,
+            input: _input,
+            steps: _steps,
+            path: _path,
+            end: _end,
+            output: _output,
+        } = self;
+    }
 }
 
 impl Model for Test {

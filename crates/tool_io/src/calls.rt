@@ -6,10 +6,18 @@ ghost use Rattle.tool_io.specs.Calls.{counted, next_fails, next_number};
 use std::marker::Model;
 
 /// How many calls were made, and the numbers of those that fail, counted from 1.
-#[derive(Drop)]
 pub(crate) struct CallCount {
     made: u64,
     to_fail: Vec<u64>,
+}
+
+impl Drop for CallCount {
+    fn drop(self) {
+        let Self {
+            made: _made,
+            to_fail: _to_fail,
+        } = self;
+    }
 }
 
 impl Model for CallCount {

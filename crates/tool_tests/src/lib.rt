@@ -2,4 +2,6 @@
 #![tactic(auto)]
 
 #[cfg(test)]
+mod of_tool_io;
+#[cfg(test)]
 mod of_tool_top;

@@ -18,7 +18,6 @@ use std::marker::Model;
 
 /// A fork tree under its claim protocol. What a node holds is let go as the node is parted or becomes a leaf. Room is kept for
 /// the event that ends each claim, so that only claims and splits may find no memory.
-#[derive(Drop)]
 pub struct Core<R: Cover> {
     nodes: Vec<Node<R>>,
     events: Vec<Noted<R>>,
@@ -28,6 +27,18 @@ pub struct Core<R: Cover> {
     contents: Vec<Option<R>>,
     // How many nodes are held.
     held: usize,
+}
+
+impl<R: Cover> Drop for Core<R> {
+    fn drop(self) {
+        let Self {
+            nodes: _nodes,
+            events: _events,
+            latest: _latest,
+            contents: _contents,
+            held: _held,
+        } = self;
+    }
 }
 
 impl<R: Cover> Model for Core<R> {

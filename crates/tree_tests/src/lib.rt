@@ -8,6 +8,8 @@ mod of_tree_core;
 #[cfg(test)]
 mod of_turn_lock;
 #[cfg(test)]
+mod of_work_gate;
+#[cfg(test)]
 mod of_work_run;
 #[cfg(test)]
 mod tally;

@@ -9,7 +9,7 @@ use Rattle.query_slice.specs.Classes.{first_of, is_reached}
 use Rattle.query_slice.specs.Slices.{IsCut}
 use Rattle.query_slice.proofs.Asked.{asserted_bits, bits_there, kept_bits}
 use Rattle.query_slice.proofs.Reached.{cut, uncut}
-use Rattle.query_slice.proofs.slicing.slice.Goals.{After-drop-query-inside-4}
+use Rattle.query_slice.proofs.slicing.slice.Goals.{After-drop-query-2}
 use Rattle.query_slice.proofs.slicing.slice.Goals as goal
 
 pub classes_of-requires-clause-dag : goal.classes_of-requires-clause-dag
@@ -35,7 +35,7 @@ new-requires c =
     (kept_bits q.graph c.asserted.result.now c.in_ok-kept.kept.items (is_reached c.in_ok-classes.classes c.deref-2.result.now c.args.new) c.in_ok-kept.ensures
     (asserted_bits q.graph q.graph q.asserted c.asserted.result.now refl c.asserted.ensures.value c.asserted.ensures.bits)))
 
-is_cut : (c : After-drop-query-inside-4) → IsCut c.args.query c.args.new c.new.result
+is_cut : (c : After-drop-query-2) → IsCut c.args.query c.args.new c.new.result
 is_cut c =
     let q = c.args.query in
     let firsts = c.deref-2.result.now in

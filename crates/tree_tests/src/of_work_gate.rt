@@ -1,7 +1,7 @@
 //! Workers before a gate at which two meet.
 
-use crate::{Gate, MeetGate, Next, Point};
 use std::thread::join;
+use work_gate::{Gate, MeetGate, Next, Point};
 
 #[test]
 fn the_first_and_other_points_pass(rt: HostRuntime) {
