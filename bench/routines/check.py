@@ -17,7 +17,7 @@ import subprocess
 import sys
 import tempfile
 
-from runs import DATA, HERE, WIDE
+from runs import HERE, WIDE
 
 REGION = "00011000:1"
 
@@ -182,7 +182,7 @@ def compare(word, tool, folder, replays):
         wrong.append(line)
         print(f"{word}: {line}", flush=True)
 
-    table, program = Table(HERE / f"{word}.expected"), DATA / f"{word.split('.')[0]}.elf"
+    table, program = Table(HERE / f"{word}.expected"), HERE / f"{word.split('.')[0]}.elf"
     command = [tool, "explore", *table.options, program, folder, REGION]
     done = subprocess.run(command, stdout=subprocess.PIPE, stderr=subprocess.DEVNULL, text=True)
     if done.returncode != 0:

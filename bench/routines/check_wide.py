@@ -30,7 +30,7 @@ import z3
 from check import Report, compare_report
 from interpreter import Machine, load
 from leaf_text import LeafText, NoLeaf
-from runs import DATA, HERE, STEPS
+from runs import HERE, STEPS
 from wide import beside, decisions, tables
 
 # Of more disagreements of one routine only the number is said.
@@ -44,7 +44,7 @@ class Routine:
 
     def __init__(self, word, name, count, asked):
         self.word, self.count, self.conflicts, self.seconds = word, count, asked.conflicts, asked.seconds
-        self.program, self.region = DATA / f"{name}.elf", f"00011000:{count}"
+        self.program, self.region = HERE / f"{name}.elf", f"00011000:{count}"
         self.image, self.table = load(self.program), (HERE / f"{word}.expected").read_text().splitlines()
         self.wrong = self.asked = self.left = self.empty = 0
         self.leaves = []

@@ -3,7 +3,7 @@
 
     leaf_solvers.py [--tool PATH] [--seconds N] [REPORT ..]
 
-A REPORT is a folder that `explore` wrote. Where there is none, the routines of crates/routine_runs/data are explored, each by
+A REPORT is a folder that `explore` wrote. Where there is none, the routines of this folder are explored, each by
 the options and the input bytes of its tables. --tool is ./rvklee at the top where it isn't given; --seconds says how long a
 solver may look for one answer (20).
 
@@ -20,7 +20,7 @@ import subprocess
 import sys
 import tempfile
 
-from runs import DATA, HERE, WIDE
+from runs import HERE, WIDE
 
 SOLVERS = {
     "z3": lambda seconds, path: ["z3", "-smt2", f"-T:{seconds}", path],
@@ -96,7 +96,7 @@ def explored(tool, folder):
         count = 2 if ".bytes2." in table.name else WIDE.get(name, 1)
         out = pathlib.Path(folder, table.stem)
         out.mkdir()
-        command = [tool, "explore", *options, DATA / f"{name}.elf", out, f"00011000:{count}"]
+        command = [tool, "explore", *options, HERE / f"{name}.elf", out, f"00011000:{count}"]
         done = subprocess.run(command, stdout=subprocess.PIPE, stderr=subprocess.DEVNULL, text=True)
         if done.returncode != 0:
             sys.exit(f"{table.stem}: status {done.returncode}: {done.stdout.strip()}")

@@ -1,13 +1,11 @@
 #!/usr/bin/env python3
 """Runs each routine of one input byte on all 256 values, by interpreter.py, and says which runs decide alike.
 
-    runs.py            writes NAME.expected for each such NAME.elf of crates/routine_runs/data, NAME.WORD.expected for runs
-                       with small budgets, and crates/routine_runs/stdout
+    runs.py            writes NAME.expected for each such NAME.elf, and NAME.WORD.expected for runs with small budgets
     runs.py --check    writes nothing, and says which of them aren't as they would be written
     runs.py --qemu     compares status, signal and output of all runs with qemu-riscv32
 """
 import pathlib
-import re
 import struct
 import subprocess
 import sys
@@ -16,16 +14,10 @@ import tempfile
 from interpreter import INPUT, Machine, load
 
 HERE = pathlib.Path(__file__).resolve().parent
-# The program of the gate that explores the routines, with the files of all.
-GATE = HERE.parent.parent / "crates/routine_runs"
-DATA = GATE / "data"
 # The routines of more than one input byte, with their number. They are wide.py's.
 WIDE = {"base64": 4, "decimal": 4, "gcd": 2, "packet": 6, "pin": 4, "records": 8, "sort": 4}
 # Those of which the first two bytes alone are input, too.
 FIRST_TWO = ["decimal", "records"]
-# Tables that aren't in the gate: one of 256 leaves, so that its run stays short; and one of which some leaves are cut by
-# conflicts, which brute force doesn't foresee.
-NOT_IN_GATE = {"crc8.expected", "gcd.expected"}
 STEPS, TARGETS = 10_000, 16
 # Of this one a term has more values than there may be targets, so it has no run in which nothing is cut.
 ALWAYS_CUT = {"inside"}
@@ -67,7 +59,7 @@ def summary(tested, rest):
 
 def expected(name, steps, targets, spends):
     """The text of the table: a line for each leaf, and below it one for each end and output of its runs."""
-    image = load(DATA / f"{name}.elf")
+    image = load(HERE / f"{name}.elf")
     runs = [Machine(image, [value]).run(steps) for value in range(256)]
     decisions = [[number for decided, _, _ in run.log for number in decided] for run in runs]
     groups = grouped(map(tuple, decisions))
@@ -102,7 +94,7 @@ def expected(name, steps, targets, spends):
 
 def narrow():
     """The routines of one input byte."""
-    return sorted({path.stem for path in DATA.glob("*.elf")} - set(WIDE))
+    return sorted({path.stem for path in HERE.glob("*.elf")} - set(WIDE))
 
 
 def tables():
@@ -112,22 +104,6 @@ def tables():
             yield f"{name}.expected", expected(name, STEPS, TARGETS, False)
     for name, word, steps, targets in SMALL:
         yield f"{name}.{word}.expected", expected(name, steps, targets, targets != TARGETS)
-
-
-def wide_texts():
-    """The tables of wide.py as they are kept, by name."""
-    words = [*WIDE, *(f"{name}.bytes2" for name in FIRST_TWO)]
-    return {name: (HERE / name).read_text() for name in (f"{word}.expected" for word in words)}
-
-
-def stdout(texts):
-    """What the gate's program has to print: of each table with a summary that line, and `same` for the replay of each test."""
-    lines = []
-    for name, text in sorted((texts | wide_texts()).items()):
-        found = re.search(r"^summary (.* tests (\d+) .*)$", text, re.MULTILINE)
-        if found and name not in NOT_IN_GATE:
-            lines += [found[1]] + int(found[2]) * ["same"]
-    return "".join(f"{line}\n" for line in lines)
 
 
 def agrees_with_qemu(data, values, run, patched):
@@ -148,7 +124,7 @@ def compare_with_qemu(inputs):
     wrong = compared = skipped = 0
     with tempfile.TemporaryDirectory() as folder:
         for name, values in inputs:
-            path = DATA / f"{name}.elf"
+            path = HERE / f"{name}.elf"
             run = Machine(load(path), values).run(STEPS)
             if run.end.startswith("trap") and run.end.split()[1] not in {*SIGNALS, "FetchMisaligned"}:
                 skipped += 1
@@ -164,8 +140,9 @@ def compare_with_qemu(inputs):
 def main(words):
     if words == ["--qemu"]:
         return compare_with_qemu((name, [value]) for name in narrow() for value in range(256))
-    stale, texts = 0, dict(tables())
-    for path, text in [(GATE / "stdout", stdout(texts)), *((HERE / name, text) for name, text in texts.items())]:
+    stale = 0
+    for name, text in tables():
+        path = HERE / name
         if words == ["--check"]:
             if not path.exists() or path.read_text() != text:
                 print(f"{path} isn't what brute force says")

@@ -16,7 +16,7 @@ import random
 import sys
 
 from interpreter import Machine, load
-from runs import DATA, FIRST_TWO, HERE, STEPS, TARGETS, WIDE, compare_with_qemu, summary
+from runs import FIRST_TWO, HERE, STEPS, TARGETS, WIDE, compare_with_qemu, summary
 
 # How many random inputs a search begins with.
 RANDOM = 500
@@ -75,7 +75,7 @@ def counted(image):
 
 def expected(word, name, count):
     """The text of the table: a line for each leaf, in the order of their first inputs."""
-    image, counts = load(DATA / f"{name}.elf"), {}
+    image, counts = load(HERE / f"{name}.elf"), {}
     if count == 2:
         found, counts = counted(image)
         runs = 256**2
