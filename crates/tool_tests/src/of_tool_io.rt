@@ -1,17 +1,32 @@
 //! Real files.
 
-use std::fs;
-use std::test::Fail;
-use tool_io::{Files, HostFiles};
+use crate::of_tool_top::runs::{check, holds, remove};
+use std::process::Abort;
+use tool_io::{Fault, Files, HostFiles};
+
+fn put_and_read<F: Files>(rt: &impl Abort, files: &mut F) -> Result<(), Fault> {
+    files.put("a.txt", b"hello")?;
+    check(
+        rt,
+        holds(files, "a.txt", 100, "hello")?,
+        0,
+        "the whole file",
+    );
+    check(rt, holds(files, "a.txt", 2, "he")?, 0, "a part of it");
+    check(
+        rt,
+        files.read("b.txt", 2).is_err(),
+        0,
+        "a file that isn't there",
+    );
+    Ok(())
+}
 
 // A real file is put, and read back whole and in part.
 #[test]
-fn a_real_file_is_put_and_read(rt: HostRuntime) -> Result<(), Fail> {
+fn a_real_file_is_put_and_read(rt: HostRuntime) -> Result<(), Fault> {
     let mut files = HostFiles::new(&rt, rt.alloc());
-    files.put("a.txt", b"hello")?;
-    assert_eq!(rt; files.read("a.txt", 100)?.as_slice(), b"hello".as_slice());
-    assert_eq!(rt; files.read("a.txt", 2)?.as_slice(), b"he".as_slice());
-    assert!(rt; files.read("b.txt", 2).is_err());
-    fs::remove_file(&rt, "a.txt")?;
+    put_and_read(&rt, &mut files)?;
+    remove(&rt, &["a.txt"]);
     Ok(())
 }

@@ -5,5 +5,5 @@ mod instructions;
 mod refusals;
 mod replays;
 mod rows;
-mod runs;
+pub(crate) mod runs;
 mod workers;

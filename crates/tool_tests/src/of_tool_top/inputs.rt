@@ -1,11 +1,10 @@
 //! Programs whose input has more bytes than one: the line said, the names of the files, and how each of some of them begins.
 
-use crate::of_tool_top::rows::{Row, explores, replays};
-use crate::of_tool_top::runs::{files, run};
+use crate::of_tool_top::rows::{Row, check_rows, explored};
+use crate::of_tool_top::runs::check;
 use row_files::programs::STRAIGHT;
-use std::alloc::Global;
+use std::alloc::{AllocError as NoMemory, Global};
 use std::process::Abort;
-use std::test::Fail;
 use tool_io::NamedFile;
 
 // It exits with 1 where its input bytes have the sum 5 and the difference 2, which no bytes have, and else with 0: LUI x5, 0x11;
@@ -43,7 +42,7 @@ const WRITTEN: [u32; 9] = [
     0x0000_0073,
 ];
 
-const TWO_BYTES: [&str; 7] = [
+const TWO_BYTES: &[&str] = &[
     "rvklee",
     "explore",
     "--workers",
@@ -53,7 +52,7 @@ const TWO_BYTES: [&str; 7] = [
     "00011000:2",
 ];
 
-const MOST_BYTES: [&str; 7] = [
+const MOST_BYTES: &[&str] = &[
     "rvklee",
     "explore",
     "--workers",
@@ -63,7 +62,7 @@ const MOST_BYTES: [&str; 7] = [
     "00011000:256",
 ];
 
-const ONE_CONFLICT: [&str; 9] = [
+const ONE_CONFLICT: &[&str] = &[
     "rvklee",
     "explore",
     "--workers",
@@ -75,10 +74,10 @@ const ONE_CONFLICT: [&str; 9] = [
     "00011000:2",
 ];
 
-pub(crate) const ROWS: [Row; 4] = [
+const ROWS: &[Row] = &[
     Row {
         program: &STRAIGHT,
-        words: &MOST_BYTES,
+        words: MOST_BYTES,
         said: "leaves 1 finished 1 cut 0 tests 1 steps 3\n",
         puts: 4,
         files: &[],
@@ -86,7 +85,7 @@ pub(crate) const ROWS: [Row; 4] = [
     // The sum and the difference of two numbers are both even or both odd.
     Row {
         program: &BALANCED,
-        words: &TWO_BYTES,
+        words: TWO_BYTES,
         said: "leaves 1 finished 1 cut 0 tests 1 steps 11\n",
         puts: 4,
         files: &[(
@@ -98,7 +97,7 @@ pub(crate) const ROWS: [Row; 4] = [
     // That takes more than one conflict to find out.
     Row {
         program: &BALANCED,
-        words: &ONE_CONFLICT,
+        words: ONE_CONFLICT,
         said: "leaves 2 finished 1 cut 1 tests 1 steps 11\n",
         puts: 6,
         files: &[
@@ -127,7 +126,7 @@ pub(crate) const ROWS: [Row; 4] = [
     },
     Row {
         program: &WRITTEN,
-        words: &TWO_BYTES,
+        words: TWO_BYTES,
         said: "leaves 4 finished 4 cut 0 tests 4 steps 36\n",
         puts: 10,
         files: &[
@@ -161,19 +160,8 @@ pub(crate) const ROWS: [Row; 4] = [
 ];
 
 #[test]
-fn inputs_of_more_bytes_are_explored(rt: HostRuntime) -> Result<(), Fail> {
-    for row in &ROWS {
-        explores(&rt, row)?;
-    }
-    Ok(())
-}
-
-#[test]
-fn tests_of_more_bytes_are_as_their_runs(rt: HostRuntime) -> Result<(), Fail> {
-    for row in &ROWS {
-        replays(&rt, row)?;
-    }
-    Ok(())
+fn inputs_of_more_bytes_are_explored(rt: HostRuntime) -> Result<(), NoMemory> {
+    check_rows(&rt, ROWS)
 }
 
 // How many lines behind the first begin so.
@@ -187,67 +175,87 @@ fn count_lines(bytes: &[u8], beginning: &[u8]) -> usize {
     count
 }
 
+// One clause was spent before the second leaf was cut.
+fn check_spent(rt: &impl Abort, puts: &[NamedFile]) {
+    check(rt, puts.len() == 6, 0, "how many files are put");
+    match puts.get(4) {
+        Some(file) => {
+            check(
+                rt,
+                file.name() == "out/spent-000001.txt",
+                0,
+                "the name of the fifth",
+            );
+            check(
+                rt,
+                count_lines(file.bytes(), b"c ") == 1,
+                0,
+                "how many clauses are spent",
+            );
+        }
+        None => {}
+    }
+}
+
 #[test]
-fn one_conflict_is_one_clause(rt: HostRuntime) -> Result<(), Fail> {
-    let mut held = files(rt.alloc(), &BALANCED, &[])?;
-    assert_eq!(rt; run(&rt, &ONE_CONFLICT, &mut held)?, 0);
-    let puts = held.puts();
-    assert!(rt; puts.len() == 6);
-    assert!(rt; puts[4].name() == "out/spent-000001.txt");
-    assert_eq!(rt; count_lines(puts[4].bytes(), b"c "), 1);
+fn one_conflict_is_one_clause(rt: HostRuntime) -> Result<(), NoMemory> {
+    let held = explored(&rt, &BALANCED, ONE_CONFLICT, 0)?;
+    check_spent(&rt, held.puts());
     Ok(())
 }
+// The place of a test among the files, its rank, how many digits of its input are those of its output, and those behind them.
+const WRITES: &[(usize, &str, usize, &str)] = &[
+    (2, "0", 0, ""),
+    (4, "1", 2, ""),
+    (6, "2", 4, ""),
+    (8, "3", 4, "00"),
+];
 
-// The text of the test of this rank: the digits of its input, of which so many are those of its output, and more behind them.
-fn written(
-    alloc: Global,
-    rank: &str,
-    input: &[u8],
-    shown: &[u8],
-    more: &str,
-) -> Result<Vec<u8>, Fail> {
-    let mut text = Vec::new(alloc);
-    for part in [
-        b"{\"end\":\"exit ".as_slice(),
-        rank.as_bytes(),
-        b"\",\"format\":1,\"input\":\"".as_slice(),
-        input,
-        b"\",\"leaf\":".as_slice(),
-        rank.as_bytes(),
-        b",\"output\":\"".as_slice(),
-        shown,
-        more.as_bytes(),
-        b"\",\"path\":\"\",\"regions\":[\"00011000:2\"],\"steps\":9}\n".as_slice(),
-    ] {
-        text.extend_from_slice(part)?;
+// Whether the text is these parts, one behind the other.
+fn is_made_of(text: &[u8], parts: &[&[u8]]) -> bool {
+    let mut rest = text;
+    for part in parts {
+        match rest.strip_prefix(part) {
+            Some(others) => rest = others,
+            None => return false,
+        }
     }
-    Ok(text)
+    rest.is_empty()
 }
 
-// The digits of the input behind the place at which a test with a status of one digit has it.
-fn input_of<'a>(rt: &impl Abort, file: &'a NamedFile) -> &'a [u8] {
-    let text = file.bytes();
-    assert!(rt; text.len() > 40);
-    &text[36..40]
+// Whether the test of this rank, whose status has one digit, says as its output so many digits of its input, and more behind them.
+fn is_written(text: &[u8], rank: &str, digits: usize, more: &str) -> bool {
+    let Some(input) = text.get(36..40) else {
+        return false;
+    };
+    let parts = [
+        b"{\"end\":\"exit ".as_slice(),
+        rank.as_bytes(),
+        b"\",\"format\":1,\"input\":\"",
+        input,
+        b"\",\"leaf\":",
+        rank.as_bytes(),
+        b",\"output\":\"",
+        &input[..digits.min(4)],
+        more.as_bytes(),
+        b"\",\"path\":\"\",\"regions\":[\"00011000:2\"],\"steps\":9}\n",
+    ];
+    is_made_of(text, &parts)
+}
+
+fn check_writes(rt: &impl Abort, puts: &[NamedFile]) {
+    for &(at, rank, digits, more) in WRITES {
+        let is_right = puts
+            .get(at)
+            .is_some_and(|file| is_written(file.bytes(), rank, digits, more));
+        check(rt, is_right, at, "the test");
+    }
 }
 
 // What is written is the first of the input bytes, both, or both and the byte behind them, which is 0.
 #[test]
-fn bytes_of_the_input_are_written(rt: HostRuntime) -> Result<(), Fail> {
-    let mut held = files(rt.alloc(), &WRITTEN, &[])?;
-    assert_eq!(rt; run(&rt, &TWO_BYTES, &mut held)?, 0);
-    let puts = held.puts();
-    for (at, rank, digits, more) in [
-        (2, "0", 0, ""),
-        (4, "1", 2, ""),
-        (6, "2", 4, ""),
-        (8, "3", 4, "00"),
-    ] {
-        assert!(rt; at < puts.len());
-        let input = input_of(&rt, &puts[at]);
-        assert!(rt; digits <= input.len());
-        let text = written(rt.alloc(), rank, input, &input[..digits], more)?;
-        assert_eq!(rt; puts[at].bytes(), text.as_slice(), "rank {rank}");
-    }
+fn bytes_of_the_input_are_written(rt: HostRuntime) -> Result<(), NoMemory> {
+    let held = explored(&rt, &WRITTEN, TWO_BYTES, 0)?;
+    check_writes(&rt, held.puts());
     Ok(())
 }

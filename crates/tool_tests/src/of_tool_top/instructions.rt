@@ -1,9 +1,9 @@
 //! Programs of instructions that compute, load, store and jump: the line said, the names of the files, and how each of some of them begins.
 
-use crate::of_tool_top::rows::{FOUR_TARGETS, Row, explores, replays};
+use crate::of_tool_top::rows::{FOUR_TARGETS, Row, check_rows};
 use crate::of_tool_top::runs::EXPLORE;
 use row_files::programs::{DIVIDED, STORED};
-use std::test::Fail;
+use std::alloc::AllocError as NoMemory;
 
 // It exits with the low byte of 100 divided by its input byte, where both are unsigned: LUI x5, 0x11; LBU x7, 0(x5);
 // ADDI x6, x0, 100; DIVU x10, x6, x7; ADDI x17, x0, 93; ECALL. A quotient by 0 is all ones, so it exits with 255 then.
@@ -81,7 +81,7 @@ const TABLE: [u32; 22] = [
 // It exits with 0. The last byte of its first instruction, ADDI x10, x0, 0, is the input: the upper bits of the immediate.
 const CODE: [u32; 3] = [0x0000_0513, 0x05D0_0893, 0x0000_0073];
 
-const CODE_BYTE: [&str; 9] = [
+const CODE_BYTE: &[&str] = &[
     "rvklee",
     "explore",
     "--workers",
@@ -93,7 +93,7 @@ const CODE_BYTE: [&str; 9] = [
     "00010003:1",
 ];
 
-const SIX_TARGETS: [&str; 9] = [
+const SIX_TARGETS: &[&str] = &[
     "rvklee",
     "explore",
     "--workers",
@@ -105,11 +105,11 @@ const SIX_TARGETS: [&str; 9] = [
     "00011000:1",
 ];
 
-pub(crate) const ROWS: [Row; 8] = [
+const ROWS: &[Row] = &[
     // Nothing is decided by the input, so there is one leaf; its sample is zeros.
     Row {
         program: &QUOTIENT,
-        words: &EXPLORE,
+        words: EXPLORE,
         said: "leaves 1 finished 1 cut 0 tests 1 steps 6\n",
         puts: 4,
         files: &[
@@ -129,7 +129,7 @@ pub(crate) const ROWS: [Row; 8] = [
     // The branch decides, on the byte that was stored; zeros don't take it, and 'A' alone does.
     Row {
         program: &KEPT,
-        words: &EXPLORE,
+        words: EXPLORE,
         said: "leaves 2 finished 2 cut 0 tests 2 steps 17\n",
         puts: 6,
         files: &[
@@ -158,7 +158,7 @@ pub(crate) const ROWS: [Row; 8] = [
     // A quotient of -7 is never 1, since -7 divided by 0 is -1.
     Row {
         program: &DIVIDED,
-        words: &EXPLORE,
+        words: EXPLORE,
         said: "leaves 1 finished 1 cut 0 tests 1 steps 8\n",
         puts: 4,
         files: &[(
@@ -169,7 +169,7 @@ pub(crate) const ROWS: [Row; 8] = [
     },
     Row {
         program: &LEAST,
-        words: &EXPLORE,
+        words: EXPLORE,
         said: "leaves 2 finished 2 cut 0 tests 2 steps 17\n",
         puts: 6,
         files: &[
@@ -188,7 +188,7 @@ pub(crate) const ROWS: [Row; 8] = [
     },
     Row {
         program: &TABLE,
-        words: &SIX_TARGETS,
+        words: SIX_TARGETS,
         said: "leaves 6 finished 6 cut 0 tests 6 steps 72\n",
         puts: 14,
         files: &[
@@ -208,7 +208,7 @@ pub(crate) const ROWS: [Row; 8] = [
     },
     Row {
         program: &TABLE,
-        words: &FOUR_TARGETS,
+        words: FOUR_TARGETS,
         said: "leaves 5 finished 4 cut 1 tests 4 steps 48\n",
         puts: 12,
         files: &[
@@ -228,7 +228,7 @@ pub(crate) const ROWS: [Row; 8] = [
     // A byte other than 0 stores 9, and 0 reads what was there.
     Row {
         program: &STORED,
-        words: &EXPLORE,
+        words: EXPLORE,
         said: "leaves 2 finished 2 cut 0 tests 2 steps 15\n",
         puts: 6,
         files: &[
@@ -253,7 +253,7 @@ pub(crate) const ROWS: [Row; 8] = [
     // The word that is fetched first is what differs, so there is a leaf for each of four words, and the rest.
     Row {
         program: &CODE,
-        words: &CODE_BYTE,
+        words: CODE_BYTE,
         said: "leaves 5 finished 4 cut 1 tests 4 steps 12\n",
         puts: 12,
         files: &[
@@ -277,17 +277,6 @@ pub(crate) const ROWS: [Row; 8] = [
 ];
 
 #[test]
-fn instructions_are_explored(rt: HostRuntime) -> Result<(), Fail> {
-    for row in &ROWS {
-        explores(&rt, row)?;
-    }
-    Ok(())
-}
-
-#[test]
-fn tests_of_instructions_are_as_their_runs(rt: HostRuntime) -> Result<(), Fail> {
-    for row in &ROWS {
-        replays(&rt, row)?;
-    }
-    Ok(())
+fn instructions_are_explored(rt: HostRuntime) -> Result<(), NoMemory> {
+    check_rows(&rt, ROWS)
 }

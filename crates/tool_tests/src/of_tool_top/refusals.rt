@@ -1,67 +1,73 @@
 //! Programs and inputs that are refused, by the line that is said.
 
-use crate::of_tool_top::runs::{EXPLORE, program_file, run};
+use crate::of_tool_top::runs::{EXPLORE, answers, holding, program_file};
 use row_files::programs::STRAIGHT;
-use std::alloc::Global;
-use std::test::Fail;
-use tool_io::MemFiles;
+use std::alloc::AllocError as NoMemory;
+use std::process::Abort;
+use std::sync::Wait;
+use std::thread::Threads;
+use std::time::Clock;
+use work_gate::OpenGate;
 
-// Files that hold these bytes as p.elf.
-fn holding(alloc: Global, bytes: &[u8]) -> Result<MemFiles, Fail> {
-    let mut files = MemFiles::new(alloc, Vec::new(alloc));
-    files.hold("p.elf", bytes)?;
-    Ok(files)
-}
+const ONE_LEAF: &str = "leaves 1 finished 1 cut 0 tests 1 steps 3\n";
 
-// The file of a program that exits with 7: its length, bytes that are set at places, and what it is refused for.
-const FILES: [(usize, &[(usize, u8)], &str); 26] = [
-    (0, &[], "2 Short"),
-    (51, &[], "2 Short"),
-    (115, &[], "11 HeadersPastEnd"),
-    (127, &[], "14 BytesPastEnd"),
-    (1_048_577, &[], "1 TooBig"),
-    (128, &[(0, 0)], "3 Magic"),
-    (128, &[(4, 2)], "4 Class"),
-    (128, &[(5, 2)], "5 ByteOrder"),
-    (128, &[(6, 0)], "6 Version"),
-    (128, &[(20, 2)], "6 Version"),
-    (128, &[(16, 3)], "7 FileType"),
-    (128, &[(18, 0)], "8 Machine"),
-    (128, &[(36, 1)], "9 Flags"),
-    (128, &[(36, 8)], "9 Flags"),
-    (128, &[(40, 51)], "10 HeaderSize"),
-    (128, &[(42, 40)], "10 HeaderSize"),
-    (128, &[(44, 3)], "11 HeadersPastEnd"),
-    (128, &[(44, 0)], "18 Nothing"),
-    (128, &[(52, 3)], "12 Dynamic"),
-    (128, &[(68, 13)], "13 FileOverMemory"),
-    (128, &[(56, 117)], "14 BytesPastEnd"),
+// The file of a program that exits with 7: its length, bytes that are set at places, the status and what is said.
+const FILES: &[(usize, &[(usize, u8)], u8, &str)] = &[
+    (0, &[], 3, "program refused 2 Short\n"),
+    (51, &[], 3, "program refused 2 Short\n"),
+    (115, &[], 3, "program refused 11 HeadersPastEnd\n"),
+    (127, &[], 3, "program refused 14 BytesPastEnd\n"),
+    (1_048_577, &[], 3, "program refused 1 TooBig\n"),
+    (128, &[(0, 0)], 3, "program refused 3 Magic\n"),
+    (128, &[(4, 2)], 3, "program refused 4 Class\n"),
+    (128, &[(5, 2)], 3, "program refused 5 ByteOrder\n"),
+    (128, &[(6, 0)], 3, "program refused 6 Version\n"),
+    (128, &[(20, 2)], 3, "program refused 6 Version\n"),
+    (128, &[(16, 3)], 3, "program refused 7 FileType\n"),
+    (128, &[(18, 0)], 3, "program refused 8 Machine\n"),
+    (128, &[(36, 1)], 3, "program refused 9 Flags\n"),
+    (128, &[(36, 8)], 3, "program refused 9 Flags\n"),
+    (128, &[(40, 51)], 3, "program refused 10 HeaderSize\n"),
+    (128, &[(42, 40)], 3, "program refused 10 HeaderSize\n"),
+    (128, &[(44, 3)], 3, "program refused 11 HeadersPastEnd\n"),
+    (128, &[(44, 0)], 3, "program refused 18 Nothing\n"),
+    (128, &[(52, 3)], 3, "program refused 12 Dynamic\n"),
+    (128, &[(68, 13)], 3, "program refused 13 FileOverMemory\n"),
+    (128, &[(56, 117)], 3, "program refused 14 BytesPastEnd\n"),
     (
         128,
         &[(92, 0), (93, 255), (94, 255), (95, 255)],
-        "15 AddressRange",
+        3,
+        "program refused 15 AddressRange\n",
     ),
     (
         128,
         &[(92, 0), (93, 255), (94, 254), (95, 127)],
-        "15 AddressRange",
+        3,
+        "program refused 15 AddressRange\n",
     ),
-    (128, &[(92, 8), (93, 0)], "16 Overlap"),
-    (128, &[(104, 0), (105, 0), (106, 64)], "17 TooManyPages"),
-    (128, &[(52, 0), (84, 0)], "18 Nothing"),
-];
-
-// Such files that load: each has one leaf.
-const LOADED: [(usize, &[(usize, u8)]); 4] = [
-    (128, &[]),
-    (1_048_576, &[]),
-    (128, &[(36, 6)]),
-    (128, &[(104, 0), (105, 255), (106, 63)]),
+    (128, &[(92, 8), (93, 0)], 3, "program refused 16 Overlap\n"),
+    (
+        128,
+        &[(104, 0), (105, 0), (106, 64)],
+        3,
+        "program refused 17 TooManyPages\n",
+    ),
+    (128, &[(52, 0), (84, 0)], 3, "program refused 18 Nothing\n"),
+    // Such files that load: each has one leaf.
+    (128, &[], 0, ONE_LEAF),
+    (1_048_576, &[], 0, ONE_LEAF),
+    (128, &[(36, 6)], 0, ONE_LEAF),
+    (128, &[(104, 0), (105, 255), (106, 63)], 0, ONE_LEAF),
 ];
 
 // The file of the program of this length, with these bytes set.
-fn edited(alloc: Global, length: usize, edits: &[(usize, u8)]) -> Result<Vec<u8>, Fail> {
-    let mut bytes = program_file(alloc, &STRAIGHT)?.into_vec();
+fn edited<R: AllocGlobal + Abort>(
+    rt: &R,
+    length: usize,
+    edits: &[(usize, u8)],
+) -> Result<Vec<u8>, NoMemory> {
+    let mut bytes = program_file(rt, &STRAIGHT)?.into_vec();
     bytes.resize(length, 0)?;
     for &(at, value) in edits {
         if at < bytes.len() {
@@ -71,73 +77,71 @@ fn edited(alloc: Global, length: usize, edits: &[(usize, u8)]) -> Result<Vec<u8>
     Ok(bytes)
 }
 
+fn says<R: Threads + Wait + Clock + Sync + AllocGlobal + Abort>(
+    rt: &R,
+    bytes: &[u8],
+    words: &[&str],
+    outcome: (u8, &str),
+    row: usize,
+) -> Result<(), NoMemory> {
+    let mut files = holding(rt.alloc(), bytes, &[])?;
+    answers(rt, words, &mut files, &OpenGate, outcome, row)
+}
+
 #[test]
-fn files_that_are_refused(rt: HostRuntime) -> Result<(), Fail> {
-    let alloc = rt.alloc();
-    for &(length, edits, why) in &FILES {
-        let mut files = holding(alloc, edited(alloc, length, edits)?.as_slice())?;
-        assert_eq!(rt; run(&rt, &EXPLORE, &mut files)?, 3, "{why}");
-        let line = format!(in alloc; "program refused {why}\n")?;
-        assert_eq!(rt; files.said(), line.as_bytes(), "{why}");
+fn files_are_refused_or_load(rt: HostRuntime) -> Result<(), NoMemory> {
+    for (row, &(length, edits, status, said)) in FILES.iter().enumerate() {
+        let bytes = edited(&rt, length, edits)?;
+        says(&rt, bytes.as_slice(), EXPLORE, (status, said), row)?;
     }
     Ok(())
 }
 
-#[test]
-fn files_that_load(rt: HostRuntime) -> Result<(), Fail> {
-    let alloc = rt.alloc();
-    for &(length, edits) in &LOADED {
-        let mut files = holding(alloc, edited(alloc, length, edits)?.as_slice())?;
-        assert_eq!(rt; run(&rt, &EXPLORE, &mut files)?, 0);
-        assert_eq!(rt;
-            files.said(),
-            b"leaves 1 finished 1 cut 0 tests 1 steps 3\n".as_slice()
-        );
-    }
-    Ok(())
-}
+const NINE: &[&str] = &[
+    "rvklee",
+    "explore",
+    "p.elf",
+    "out",
+    "00011000:1",
+    "00011000:1",
+    "00011000:1",
+    "00011000:1",
+    "00011000:1",
+    "00011000:1",
+    "00011000:1",
+    "00011000:1",
+    "00011000:1",
+];
+
+const TWICE: &[&str] = &[
+    "rvklee",
+    "explore",
+    "p.elf",
+    "out",
+    "00011000:1",
+    "00011000:1",
+];
+
+const NONE: &[&str] = &["rvklee", "explore", "p.elf", "out", "00011000:0"];
+
+const LONG: &[&str] = &["rvklee", "explore", "p.elf", "out", "00011000:257"];
+
+const FAR: &[&str] = &["rvklee", "explore", "p.elf", "out", "00012000:1"];
 
 // Inputs for a program, and the line.
+const INPUTS: &[(&[&str], &str)] = &[
+    (NINE, "inputs refused 1 TooMany\n"),
+    (NONE, "inputs refused 2 Empty\n"),
+    (LONG, "inputs refused 3 TooLong\n"),
+    (FAR, "inputs refused 4 Unmapped\n"),
+    (TWICE, "inputs refused 5 Overlap\n"),
+];
+
 #[test]
-fn inputs_that_are_refused(rt: HostRuntime) -> Result<(), Fail> {
-    let alloc = rt.alloc();
-    let bytes = program_file(alloc, &STRAIGHT)?;
-    let nine = [
-        "rvklee",
-        "explore",
-        "p.elf",
-        "out",
-        "00011000:1",
-        "00011000:1",
-        "00011000:1",
-        "00011000:1",
-        "00011000:1",
-        "00011000:1",
-        "00011000:1",
-        "00011000:1",
-        "00011000:1",
-    ];
-    let twice = [
-        "rvklee",
-        "explore",
-        "p.elf",
-        "out",
-        "00011000:1",
-        "00011000:1",
-    ];
-    let none = ["rvklee", "explore", "p.elf", "out", "00011000:0"];
-    let long = ["rvklee", "explore", "p.elf", "out", "00011000:257"];
-    let far = ["rvklee", "explore", "p.elf", "out", "00012000:1"];
-    for (words, line) in [
-        (&nine[..], "inputs refused 1 TooMany\n"),
-        (&none[..], "inputs refused 2 Empty\n"),
-        (&long[..], "inputs refused 3 TooLong\n"),
-        (&far[..], "inputs refused 4 Unmapped\n"),
-        (&twice[..], "inputs refused 5 Overlap\n"),
-    ] {
-        let mut files = holding(alloc, bytes.as_slice())?;
-        assert_eq!(rt; run(&rt, words, &mut files)?, 4, "{line}");
-        assert_eq!(rt; files.said(), line.as_bytes(), "{line}");
+fn inputs_that_are_refused(rt: HostRuntime) -> Result<(), NoMemory> {
+    let bytes = program_file(&rt, &STRAIGHT)?;
+    for (row, &(words, line)) in INPUTS.iter().enumerate() {
+        says(&rt, bytes.as_slice(), words, (4, line), row)?;
     }
     Ok(())
 }

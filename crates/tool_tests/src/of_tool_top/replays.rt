@@ -1,21 +1,23 @@
 //! Tests that are replayed: the status, the line said, and how many names are read.
 
-use crate::of_tool_top::runs::{files, no_program, run};
+use crate::of_tool_top::runs::{FORKS, Held, answers, check, counts, files, files_of};
 use row_files::programs::{FORKED, STRAIGHT};
-use std::alloc::Global;
-use std::test::Fail;
+use std::alloc::{AllocError as NoMemory, Global};
+use std::process::Abort;
+use std::sync::Wait;
+use std::thread::Threads;
+use std::time::Clock;
 use tool_io::MemFiles;
+use work_gate::OpenGate;
 
-const REPLAY: [&str; 4] = ["rvklee", "replay", "p.elf", "t.json"];
+const REPLAY: &[&str] = &["rvklee", "replay", "p.elf", "t.json"];
 
-const FORKS: &[u32] = &FORKED;
+const GOES_STRAIGHT: Held = Held::Program(&STRAIGHT);
 
-const GOES_STRAIGHT: &[u32] = &STRAIGHT;
+// What p.elf is, the test's text, the status and what is said.
+type Row = (Held, &'static str, u8, &'static str);
 
-/// The program's words, the test's text, the status and what is said.
-type Row = (&'static [u32], &'static str, u8, &'static str);
-
-const ROWS: [Row; 13] = [
+const ROWS: &[Row] = &[
     (
         FORKS,
         r#"{"end":"exit 1","format":1,"input":"41","leaf":1,"output":"","path":"T","regions":["00011000:1"],"steps":7}"#,
@@ -83,53 +85,55 @@ const ROWS: [Row; 13] = [
         0,
         "same\n",
     ),
+    // The program is looked at first.
+    (Held::Empty, "[]", 3, "program refused 2 Short\n"),
 ];
 
-// Files that hold the program and the test.
-fn holding(alloc: Global, program: &[u32], test: &[u8]) -> Result<MemFiles, Fail> {
-    let mut files = files(alloc, program, &[])?;
-    files.hold("t.json", test)?;
-    Ok(files)
+fn replays<R: Threads + Wait + Clock + Sync + AllocGlobal + Abort>(
+    rt: &R,
+    &(ref held, test, status, said): &Row,
+    row: usize,
+) -> Result<(), NoMemory> {
+    let mut files = files_of(rt, held, &[])?;
+    files.hold("t.json", test.as_bytes())?;
+    answers(rt, REPLAY, &mut files, &OpenGate, (status, said), row)?;
+    counts(rt, &files, (2, 0), row);
+    Ok(())
 }
 
 #[test]
-fn tests_are_replayed(rt: HostRuntime) -> Result<(), Fail> {
-    for &(program, test, status, said) in &ROWS {
-        let mut files = holding(rt.alloc(), program, test.as_bytes())?;
-        assert_eq!(rt; run(&rt, &REPLAY, &mut files)?, status, "{test}");
-        assert_eq!(rt; files.said(), said.as_bytes(), "{test}");
-        assert_eq!(rt; files.names().len(), 2);
-        assert_eq!(rt; files.puts().len(), 0);
+fn tests_are_replayed(rt: HostRuntime) -> Result<(), NoMemory> {
+    for (at, row) in ROWS.iter().enumerate() {
+        replays(&rt, row, at)?;
     }
     Ok(())
 }
 
-#[test]
-fn the_program_is_looked_at_first(rt: HostRuntime) -> Result<(), Fail> {
-    let mut files = no_program(rt.alloc(), &[])?;
-    files.hold("t.json", b"[]")?;
-    assert_eq!(rt; run(&rt, &REPLAY, &mut files)?, 3);
-    assert_eq!(rt; files.said(), b"program refused 2 Short\n".as_slice());
-    assert_eq!(rt; files.names().len(), 2);
-    Ok(())
-}
-
-#[test]
-fn a_test_too_big_is_refused(rt: HostRuntime) -> Result<(), Fail> {
-    let alloc = rt.alloc();
+// Lets t.json be a text of one byte more than is read.
+fn hold_much(alloc: Global, files: &mut MemFiles) -> Result<(), NoMemory> {
     let mut text = Vec::new(alloc);
     text.resize(16_777_217, b' ')?;
-    let mut files = holding(alloc, &FORKED, text.as_slice())?;
-    assert_eq!(rt; run(&rt, &REPLAY, &mut files)?, 7);
-    assert_eq!(rt; files.said(), b"test refused 6 TooBig\n".as_slice());
-    Ok(())
+    files.hold("t.json", text.as_slice())
 }
 
 #[test]
-fn a_name_that_holds_nothing_is_a_read_fault(rt: HostRuntime) -> Result<(), Fail> {
-    let mut files = files(rt.alloc(), &FORKED, &[])?;
-    assert_eq!(rt; run(&rt, &REPLAY, &mut files)?, 5);
-    assert_eq!(rt; files.said(), b"read fault\n".as_slice());
-    assert_eq!(rt; files.names().len(), 2);
+fn a_test_too_big_is_refused(rt: HostRuntime) -> Result<(), NoMemory> {
+    let mut files = files(&rt, &FORKED, &[])?;
+    hold_much(rt.alloc(), &mut files)?;
+    answers(
+        &rt,
+        REPLAY,
+        &mut files,
+        &OpenGate,
+        (7, "test refused 6 TooBig\n"),
+        0,
+    )
+}
+
+#[test]
+fn a_name_that_holds_nothing_is_a_read_fault(rt: HostRuntime) -> Result<(), NoMemory> {
+    let mut files = files(&rt, &FORKED, &[])?;
+    answers(&rt, REPLAY, &mut files, &OpenGate, (5, "read fault\n"), 0)?;
+    check(&rt, files.names().len() == 2, 0, "how many names are read");
     Ok(())
 }

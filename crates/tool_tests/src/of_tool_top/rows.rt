@@ -1,15 +1,15 @@
 //! Programs that are explored: the line said, the names of the files, and how each of some of them begins.
 
-use crate::of_tool_top::runs::{EXPLORE, files, run};
+use crate::of_tool_top::runs::{EXPLORE, check, files, run};
 use row_files::programs::{CALLED, COMPARED, COUNTED, FORKED, STRAIGHT};
 use smt_text::{print_leaf, read_leaf};
-use std::alloc::Global;
+use std::alloc::{AllocError as NoMemory, Global};
 use std::process::Abort;
 use std::sync::Wait;
-use std::test::Fail;
 use std::thread::Threads;
 use std::time::Clock;
-use tool_io::NamedFile;
+use tool_io::{MemFiles, NamedFile};
+use work_gate::OpenGate;
 
 /// A run of the tool on a program.
 pub(crate) struct Row {
@@ -21,7 +21,7 @@ pub(crate) struct Row {
     pub files: &'static [(usize, &'static str, &'static str)],
 }
 
-const FIFTY_STEPS: [&str; 9] = [
+const FIFTY_STEPS: &[&str] = &[
     "rvklee",
     "explore",
     "--workers",
@@ -33,7 +33,7 @@ const FIFTY_STEPS: [&str; 9] = [
     "00011000:1",
 ];
 
-const FEWER_STEPS: [&str; 9] = [
+const FEWER_STEPS: &[&str] = &[
     "rvklee",
     "explore",
     "--workers",
@@ -45,7 +45,7 @@ const FEWER_STEPS: [&str; 9] = [
     "00011000:1",
 ];
 
-pub(crate) const FOUR_TARGETS: [&str; 9] = [
+pub(crate) const FOUR_TARGETS: &[&str] = &[
     "rvklee",
     "explore",
     "--workers",
@@ -57,10 +57,10 @@ pub(crate) const FOUR_TARGETS: [&str; 9] = [
     "00011000:1",
 ];
 
-pub(crate) const ROWS: [Row; 6] = [
+const ROWS: &[Row] = &[
     Row {
         program: &STRAIGHT,
-        words: &EXPLORE,
+        words: EXPLORE,
         said: "leaves 1 finished 1 cut 0 tests 1 steps 3\n",
         puts: 4,
         files: &[
@@ -84,7 +84,7 @@ pub(crate) const ROWS: [Row; 6] = [
     },
     Row {
         program: &FORKED,
-        words: &EXPLORE,
+        words: EXPLORE,
         said: "leaves 2 finished 2 cut 0 tests 2 steps 13\n",
         puts: 6,
         files: &[
@@ -117,7 +117,7 @@ pub(crate) const ROWS: [Row; 6] = [
     },
     Row {
         program: &COMPARED,
-        words: &EXPLORE,
+        words: EXPLORE,
         said: "leaves 3 finished 3 cut 0 tests 3 steps 26\n",
         puts: 8,
         files: &[
@@ -147,7 +147,7 @@ pub(crate) const ROWS: [Row; 6] = [
     },
     Row {
         program: &COUNTED,
-        words: &FIFTY_STEPS,
+        words: FIFTY_STEPS,
         said: "leaves 17 finished 16 cut 1 tests 17 steps 440\n",
         puts: 36,
         files: &[
@@ -175,7 +175,7 @@ pub(crate) const ROWS: [Row; 6] = [
     },
     Row {
         program: &COUNTED,
-        words: &FEWER_STEPS,
+        words: FEWER_STEPS,
         said: "leaves 17 finished 15 cut 2 tests 17 steps 390\n",
         puts: 36,
         files: &[
@@ -193,7 +193,7 @@ pub(crate) const ROWS: [Row; 6] = [
     },
     Row {
         program: &CALLED,
-        words: &FOUR_TARGETS,
+        words: FOUR_TARGETS,
         said: "leaves 5 finished 4 cut 1 tests 4 steps 12\n",
         puts: 12,
         files: &[
@@ -217,43 +217,78 @@ pub(crate) const ROWS: [Row; 6] = [
     },
 ];
 
-// Each of these files is the one put at its place, and begins so.
-fn check_files(rt: &impl Abort, puts: &[NamedFile], files: &[(usize, &str, &str)]) {
-    for &(at, name, beginning) in files {
-        assert!(rt; at < puts.len());
-        assert!(rt; puts[at].name() == name);
-        assert!(rt; puts[at].bytes().starts_with(beginning.as_bytes()));
+/// The files after a run on this program, which is done.
+pub(crate) fn explored<R: Threads + Wait + Clock + Sync + AllocGlobal + Abort>(
+    rt: &R,
+    program: &[u32],
+    words: &[&str],
+    row: usize,
+) -> Result<MemFiles, NoMemory> {
+    let mut held = files(rt, program, &[])?;
+    check(
+        rt,
+        run(rt, words, &mut held, &OpenGate)? == 0,
+        row,
+        "the status",
+    );
+    Ok(held)
+}
+
+// What is said is as the row says, and so many files are put.
+fn check_said(rt: &impl Abort, held: &MemFiles, row: &Row, at: usize) {
+    check(rt, held.said() == row.said.as_bytes(), at, "what is said");
+    check(
+        rt,
+        held.puts().len() == row.puts,
+        at,
+        "how many files are put",
+    );
+}
+
+// Whether the file at this place has this name, and begins so.
+fn begins(puts: &[NamedFile], at: usize, name: &str, beginning: &str) -> bool {
+    match puts.get(at) {
+        Some(file) => file.name() == name && file.bytes().starts_with(beginning.as_bytes()),
+        None => false,
     }
 }
 
-// Each leaf file is read as a leaf, which is printed to the same bytes.
-fn read_back<R: AllocGlobal + Abort>(rt: &R, puts: &[NamedFile]) -> Result<(), Fail> {
+// Each of these files is the one put at its place, and begins so.
+fn check_files(rt: &impl Abort, puts: &[NamedFile], files: &[(usize, &str, &str)], row: usize) {
+    for &(at, name, beginning) in files {
+        check(rt, begins(puts, at, name, beginning), row, name);
+    }
+}
+
+// Whether the text is read as a leaf, which is printed to the same bytes.
+fn is_read_back(alloc: Global, text: &[u8]) -> Result<bool, NoMemory> {
+    match read_leaf(alloc, text)? {
+        Ok(leaf) => Ok(print_leaf(alloc, &leaf)?.as_slice() == text),
+        Err(_) => Ok(false),
+    }
+}
+
+// Each leaf file is read back.
+fn read_back<R: AllocGlobal + Abort>(
+    rt: &R,
+    puts: &[NamedFile],
+    row: usize,
+) -> Result<(), NoMemory> {
     for file in puts {
         if file.name().starts_with("out/leaf-") {
-            let Ok(leaf) = read_leaf(rt.alloc(), file.bytes())? else {
-                return Err("a leaf".into());
-            };
-            assert!(rt; print_leaf(rt.alloc(), &leaf)?.as_slice() == file.bytes());
+            check(
+                rt,
+                is_read_back(rt.alloc(), file.bytes())?,
+                row,
+                file.name(),
+            );
         }
     }
     Ok(())
 }
 
-// What is put and said is as the row says.
-pub(crate) fn explores<R: Threads + Wait + Clock + Sync + AllocGlobal + Abort>(
-    rt: &R,
-    row: &Row,
-) -> Result<(), Fail> {
-    let mut held = files(rt.alloc(), row.program, &[])?;
-    assert_eq!(rt; run(rt, row.words, &mut held)?, 0);
-    assert_eq!(rt; held.said(), row.said.as_bytes());
-    assert_eq!(rt; held.puts().len(), row.puts);
-    check_files(rt, held.puts(), row.files);
-    read_back(rt, held.puts())
-}
-
 // The names of the tests among these files.
-fn test_names(alloc: Global, puts: &[NamedFile]) -> Result<Vec<String>, Fail> {
+fn test_names(alloc: Global, puts: &[NamedFile]) -> Result<Vec<String>, NoMemory> {
     let mut names = Vec::new(alloc);
     for file in puts {
         if file.name().starts_with("out/test-") {
@@ -263,36 +298,90 @@ fn test_names(alloc: Global, puts: &[NamedFile]) -> Result<Vec<String>, Fail> {
     Ok(names)
 }
 
-// Each test that is put is replayed, and is as its run.
-pub(crate) fn replays<R: Threads + Wait + Clock + Sync + AllocGlobal + Abort>(
+// Each of these tests is as its run, which is said.
+fn replay_each<R: Threads + Wait + Clock + Sync + AllocGlobal + Abort>(
+    rt: &R,
+    held: &mut MemFiles,
+    names: &[String],
+    row: usize,
+) -> Result<(), NoMemory> {
+    let mut said = held.said().len();
+    for name in names {
+        let words = ["rvklee", "replay", "p.elf", name.as_str()];
+        check(
+            rt,
+            run(rt, &words, held, &OpenGate)? == 0,
+            row,
+            name.as_str(),
+        );
+        said = said.saturating_add(5);
+    }
+    check(
+        rt,
+        held.said().len() == said,
+        row,
+        "what is said of its tests",
+    );
+    Ok(())
+}
+
+// Each test that was put is replayed, and is as its run.
+fn replay_tests<R: Threads + Wait + Clock + Sync + AllocGlobal + Abort>(
+    rt: &R,
+    held: &mut MemFiles,
+    row: usize,
+) -> Result<(), NoMemory> {
+    let names = test_names(rt.alloc(), held.puts())?;
+    check(rt, !names.is_empty(), row, "whether it has tests");
+    replay_each(rt, held, names.as_slice(), row)
+}
+
+fn explores<R: Threads + Wait + Clock + Sync + AllocGlobal + Abort>(
     rt: &R,
     row: &Row,
-) -> Result<(), Fail> {
-    let mut held = files(rt.alloc(), row.program, &[])?;
-    assert_eq!(rt; run(rt, row.words, &mut held)?, 0);
-    let names = test_names(rt.alloc(), held.puts())?;
-    let said = held.said().len();
-    for name in &names {
-        let words = ["rvklee", "replay", "p.elf", name.as_str()];
-        assert_eq!(rt; run(rt, &words, &mut held)?, 0);
+    at: usize,
+) -> Result<(), NoMemory> {
+    let mut held = explored(rt, row.program, row.words, at)?;
+    check_said(rt, &held, row, at);
+    check_files(rt, held.puts(), row.files, at);
+    read_back(rt, held.puts(), at)?;
+    replay_tests(rt, &mut held, at)
+}
+
+// The words with three workers in place of theirs, which stand behind the command.
+fn by_three(alloc: Global, words: &[&'static str]) -> Result<Vec<&'static str>, NoMemory> {
+    let mut others = Vec::from_slice(alloc, words)?;
+    if 3 < others.len() {
+        others[3] = "3";
     }
-    assert!(rt; !names.is_empty());
-    assert!(rt; held.said().len().checked_sub(said) == Some(5 * names.len()));
+    Ok(others)
+}
+
+// How many workers there are changes neither the leaves nor their number.
+fn says_the_same<R: Threads + Wait + Clock + Sync + AllocGlobal + Abort>(
+    rt: &R,
+    row: &Row,
+    at: usize,
+) -> Result<(), NoMemory> {
+    let words = by_three(rt.alloc(), row.words)?;
+    let held = explored(rt, row.program, words.as_slice(), at)?;
+    check_said(rt, &held, row, at);
+    Ok(())
+}
+
+/// What is put and said is as each row says, each test that is put is as its run, and three workers say what one does.
+pub(crate) fn check_rows<R: Threads + Wait + Clock + Sync + AllocGlobal + Abort>(
+    rt: &R,
+    rows: &[Row],
+) -> Result<(), NoMemory> {
+    for (at, row) in rows.iter().enumerate() {
+        explores(rt, row, at)?;
+        says_the_same(rt, row, at)?;
+    }
     Ok(())
 }
 
 #[test]
-fn programs_are_explored(rt: HostRuntime) -> Result<(), Fail> {
-    for row in &ROWS {
-        explores(&rt, row)?;
-    }
-    Ok(())
-}
-
-#[test]
-fn tests_that_were_put_are_as_their_runs(rt: HostRuntime) -> Result<(), Fail> {
-    for row in &ROWS {
-        replays(&rt, row)?;
-    }
-    Ok(())
+fn programs_are_explored(rt: HostRuntime) -> Result<(), NoMemory> {
+    check_rows(&rt, ROWS)
 }

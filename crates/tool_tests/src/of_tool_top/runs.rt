@@ -2,17 +2,26 @@
 
 use row_files::programs::FORKED;
 use row_files::row_file;
-use std::alloc::Global;
+use std::alloc::{AllocError as NoMemory, Global};
 use std::fs;
+use std::process::Abort;
 use std::sync::Wait;
-use std::test::Fail;
 use std::thread::Threads;
 use std::time::Clock;
-use tool_io::{Bytes, Files, HostFiles, MemFiles};
+use tool_io::{Bytes, Fault, Files, HostFiles, MemFiles, NamedFile};
 use tool_top::run_tool;
-use work_gate::OpenGate;
+use work_gate::{Gate, OpenGate};
 
 const SUMMARY: &str = "leaves 2 finished 2 cut 0 tests 2 steps 13\n";
+
+const USAGE: &str =
+    "usage: rvklee explore [--steps N] [--targets N] [--conflicts N] [--workers N] PROGRAM OUT INPUT..\n       rvklee replay PROGRAM TEST\n       rvklee bench NUMBER WORKERS OUT\n";
+
+const UNFIT: &str = "inputs refused 4 Unmapped\n";
+
+const FAULT: &str = "read fault\n";
+
+const REFUSED: &str = "program refused 2 Short\n";
 
 const TEST_0: &str =
     "{\"end\":\"exit 0\",\"format\":1,\"input\":\"00\",\"leaf\":0,\"output\":\"\",\"path\":\"N\",\"regions\":[\"00011000:1\"],\"steps\":6}\n";
@@ -20,7 +29,7 @@ const TEST_0: &str =
 const TEST_1: &str =
     "{\"end\":\"exit 1\",\"format\":1,\"input\":\"41\",\"leaf\":1,\"output\":\"\",\"path\":\"T\",\"regions\":[\"00011000:1\"],\"steps\":7}\n";
 
-pub(crate) const EXPLORE: [&str; 7] = [
+pub(crate) const EXPLORE: &[&str] = &[
     "rvklee",
     "explore",
     "--workers",
@@ -30,11 +39,15 @@ pub(crate) const EXPLORE: [&str; 7] = [
     "00011000:1",
 ];
 
-const OTHER_INPUT: [&str; 5] = ["rvklee", "explore", "p.elf", "out", "00012000:1"];
+const NO_COMMAND: &[&str] = &["rvklee"];
 
-const NO_INPUT: [&str; 5] = ["rvklee", "explore", "p.elf", "out", "00011000:10000"];
+const WITHOUT_INPUT: &[&str] = &["rvklee", "explore", "--workers", "1", "p.elf", "out"];
 
-const NO_STEPS: [&str; 7] = [
+const OTHER_INPUT: &[&str] = &["rvklee", "explore", "p.elf", "out", "00012000:1"];
+
+const NO_INPUT: &[&str] = &["rvklee", "explore", "p.elf", "out", "00011000:10000"];
+
+const NO_STEPS: &[&str] = &[
     "rvklee",
     "explore",
     "--steps",
@@ -44,7 +57,50 @@ const NO_STEPS: [&str; 7] = [
     "00011000:1",
 ];
 
-pub(crate) fn strings(alloc: Global, words: &[&str]) -> Result<Vec<String>, Fail> {
+const HERE: &[&str] = &["rvklee", "explore", "p.elf", ".", "00011000:1"];
+
+/// What p.elf is.
+pub(crate) enum Held {
+    Missing,
+    Empty,
+    Program(&'static [u32]),
+}
+
+pub(crate) const FORKS: Held = Held::Program(&FORKED);
+
+// The words, what p.elf is, the call that fails, the status, what is said, and how many names are read and files put.
+type Row = (
+    &'static [&'static str],
+    Held,
+    u64,
+    u8,
+    &'static str,
+    usize,
+    usize,
+);
+
+const ROWS: &[Row] = &[
+    (NO_COMMAND, FORKS, 9, 2, USAGE, 0, 0),
+    (WITHOUT_INPUT, FORKS, 9, 2, USAGE, 0, 0),
+    (NO_INPUT, FORKS, 9, 2, USAGE, 0, 0),
+    (NO_STEPS, FORKS, 9, 2, USAGE, 0, 0),
+    (OTHER_INPUT, FORKS, 9, 4, UNFIT, 1, 0),
+    (OTHER_INPUT, FORKS, 2, 4, "", 1, 0),
+    (NO_COMMAND, FORKS, 1, 2, "", 0, 0),
+    (EXPLORE, Held::Missing, 9, 5, FAULT, 1, 0),
+    (EXPLORE, FORKS, 1, 5, FAULT, 1, 0),
+    (EXPLORE, FORKS, 2, 6, "", 1, 0),
+    (EXPLORE, FORKS, 3, 6, "", 1, 1),
+    (EXPLORE, FORKS, 7, 6, "", 1, 5),
+    (EXPLORE, FORKS, 8, 6, "", 1, 6),
+    (EXPLORE, FORKS, 9, 0, SUMMARY, 1, 6),
+    // The program is looked at before the input, and its refusal stands where the line can't be said.
+    (EXPLORE, Held::Empty, 9, 3, REFUSED, 1, 0),
+    (OTHER_INPUT, Held::Empty, 9, 3, REFUSED, 1, 0),
+    (EXPLORE, Held::Empty, 2, 3, "", 1, 0),
+];
+
+fn strings(alloc: Global, words: &[&str]) -> Result<Vec<String>, NoMemory> {
     let mut strings = Vec::new(alloc);
     for word in words {
         strings.push(String::from_str(alloc, word)?)?;
@@ -52,149 +108,211 @@ pub(crate) fn strings(alloc: Global, words: &[&str]) -> Result<Vec<String>, Fail
     Ok(strings)
 }
 
-// No program.
-const NOTHING: [u32; 0] = [];
-
 /// The file of a program of these words.
-pub(crate) fn program_file(alloc: Global, words: &[u32]) -> Result<Bytes, Fail> {
-    if 0x4000_0000 <= words.len() {
-        return Err("a shorter program".into());
-    }
-    Ok(row_file(alloc, words)?)
+pub(crate) fn program_file<R: AllocGlobal + Abort>(
+    rt: &R,
+    words: &[u32],
+) -> Result<Bytes, NoMemory> {
+    assert!(rt; words.len() < 0x4000_0000);
+    row_file(rt.alloc(), words)
 }
 
-/// Files that hold the program of these words as p.elf, if there are any, and fail at these calls.
-pub(crate) fn files(alloc: Global, program: &[u32], to_fail: &[u64]) -> Result<MemFiles, Fail> {
+/// Files that hold these bytes as p.elf, and fail at these calls.
+pub(crate) fn holding(
+    alloc: Global,
+    program: &[u8],
+    to_fail: &[u64],
+) -> Result<MemFiles, NoMemory> {
     let mut files = MemFiles::new(alloc, Vec::from_slice(alloc, to_fail)?);
-    if !program.is_empty() {
-        files.hold("p.elf", program_file(alloc, program)?.as_slice())?;
-    }
+    files.hold("p.elf", program)?;
     Ok(files)
 }
 
-/// Files that hold no byte as p.elf, and fail at these calls.
-pub(crate) fn no_program(alloc: Global, to_fail: &[u64]) -> Result<MemFiles, Fail> {
-    let mut files = MemFiles::new(alloc, Vec::from_slice(alloc, to_fail)?);
-    files.hold("p.elf", b"")?;
-    Ok(files)
+/// Files that hold the program of these words as p.elf, and fail at these calls.
+pub(crate) fn files<R: AllocGlobal + Abort>(
+    rt: &R,
+    program: &[u32],
+    to_fail: &[u64],
+) -> Result<MemFiles, NoMemory> {
+    let file = program_file(rt, program)?;
+    holding(rt.alloc(), file.as_slice(), to_fail)
 }
 
-/// The status of the tool's run.
-pub(crate) fn run<R: Threads + Wait + Clock + Sync + AllocGlobal, F: Files>(
+/// Files of which p.elf is this, and which fail at these calls.
+pub(crate) fn files_of<R: AllocGlobal + Abort>(
+    rt: &R,
+    held: &Held,
+    to_fail: &[u64],
+) -> Result<MemFiles, NoMemory> {
+    match held {
+        Held::Missing => Ok(MemFiles::new(rt.alloc(), Vec::from_slice(rt.alloc(), to_fail)?)),
+        Held::Empty => holding(rt.alloc(), b"", to_fail),
+        Held::Program(words) => files(rt, words, to_fail),
+    }
+}
+
+/// The status of the tool's run at this gate.
+pub(crate) fn run<R: Threads + Wait + Clock + Sync + AllocGlobal, F: Files, G: Gate + Sync>(
     rt: &R,
     words: &[&str],
     files: &mut F,
-) -> Result<u8, Fail> {
+    gate: &G,
+) -> Result<u8, NoMemory> {
     let words = strings(rt.alloc(), words)?;
-    Ok(run_tool(rt, rt.alloc(), words.as_slice(), files, &OpenGate))
+    Ok(run_tool(rt, rt.alloc(), words.as_slice(), files, gate))
+}
+
+/// This holds of the row, or else the test fails and names both.
+pub(crate) fn check(rt: &impl Abort, holds: bool, row: usize, what: &str) {
+    assert!(rt; holds, "row {row}: {what}");
+}
+
+/// The tool's run at this gate answers this status and says this.
+pub(crate) fn answers<R: Threads + Wait + Clock + Sync + AllocGlobal + Abort, G: Gate + Sync>(
+    rt: &R,
+    words: &[&str],
+    files: &mut MemFiles,
+    gate: &G,
+    (status, said): (u8, &str),
+    row: usize,
+) -> Result<(), NoMemory> {
+    let answer = run(rt, words, files, gate)?;
+    check(rt, answer == status, row, "the status");
+    check(rt, files.said() == said.as_bytes(), row, "what is said");
+    Ok(())
+}
+
+/// So many names were read and files put.
+pub(crate) fn counts(rt: &impl Abort, files: &MemFiles, (names, puts): (usize, usize), row: usize) {
+    check(
+        rt,
+        files.names().len() == names,
+        row,
+        "how many names are read",
+    );
+    check(
+        rt,
+        files.puts().len() == puts,
+        row,
+        "how many files are put",
+    );
+}
+
+fn comes_to<R: Threads + Wait + Clock + Sync + AllocGlobal + Abort>(
+    rt: &R,
+    &(words, ref held, to_fail, status, said, names, puts): &Row,
+    row: usize,
+) -> Result<(), NoMemory> {
+    let mut files = files_of(rt, held, &[to_fail])?;
+    answers(rt, words, &mut files, &OpenGate, (status, said), row)?;
+    counts(rt, &files, (names, puts), row);
+    Ok(())
 }
 
 // What is said, and how many names are read and files put, where no report is put in whole.
 #[test]
-fn other_runs_say_one_line(rt: HostRuntime) -> Result<(), Fail> {
-    let usage =
-        "usage: rvklee explore [--steps N] [--targets N] [--conflicts N] [--workers N] PROGRAM OUT INPUT..\n       rvklee replay PROGRAM TEST\n       rvklee bench NUMBER WORKERS OUT\n";
-    let unfit = "inputs refused 4 Unmapped\n";
-    let fault = "read fault\n";
-    for (words, program, to_fail, status, said, names, puts) in [
-        (&EXPLORE[..1], &FORKED[..], 9, 2, usage, 0, 0),
-        (&EXPLORE[..6], &FORKED[..], 9, 2, usage, 0, 0),
-        (&NO_INPUT[..], &FORKED[..], 9, 2, usage, 0, 0),
-        (&NO_STEPS[..], &FORKED[..], 9, 2, usage, 0, 0),
-        (&OTHER_INPUT[..], &FORKED[..], 9, 4, unfit, 1, 0),
-        (&OTHER_INPUT[..], &FORKED[..], 2, 4, "", 1, 0),
-        (&EXPLORE[..1], &FORKED[..], 1, 2, "", 0, 0),
-        (&EXPLORE[..], &NOTHING[..], 9, 5, fault, 1, 0),
-        (&EXPLORE[..], &FORKED[..], 1, 5, fault, 1, 0),
-        (&EXPLORE[..], &FORKED[..], 2, 6, "", 1, 0),
-        (&EXPLORE[..], &FORKED[..], 3, 6, "", 1, 1),
-        (&EXPLORE[..], &FORKED[..], 7, 6, "", 1, 5),
-        (&EXPLORE[..], &FORKED[..], 8, 6, "", 1, 6),
-        (&EXPLORE[..], &FORKED[..], 9, 0, SUMMARY, 1, 6),
-    ] {
-        let mut files = files(rt.alloc(), program, &[to_fail])?;
-        assert_eq!(rt;
-            run(&rt, words, &mut files)?,
-            status,
-            "status {status}, call {to_fail}"
-        );
-        assert_eq!(rt;
-            files.said(),
-            said.as_bytes(),
-            "status {status}, call {to_fail}"
-        );
-        assert_eq!(rt;
-            files.names().len(),
-            names,
-            "status {status}, call {to_fail}"
-        );
-        assert_eq!(rt; files.puts().len(), puts, "status {status}, call {to_fail}");
+fn other_runs_say_one_line(rt: HostRuntime) -> Result<(), NoMemory> {
+    for (at, row) in ROWS.iter().enumerate() {
+        comes_to(&rt, row, at)?;
     }
     Ok(())
 }
 
-// The program is looked at before the input, and its refusal stands where the line can't be said.
-#[test]
-fn a_program_that_is_refused(rt: HostRuntime) -> Result<(), Fail> {
-    let refused = "program refused 2 Short\n";
-    for (words, to_fail, said) in [
-        (&EXPLORE[..], 9, refused),
-        (&OTHER_INPUT[..], 9, refused),
-        (&EXPLORE[..], 2, ""),
-    ] {
-        let mut files = no_program(rt.alloc(), &[to_fail])?;
-        assert_eq!(rt; run(&rt, words, &mut files)?, 3, "call {to_fail}");
-        assert_eq!(rt; files.said(), said.as_bytes(), "call {to_fail}");
-        assert_eq!(rt; files.names().len(), 1, "call {to_fail}");
-        assert_eq!(rt; files.puts().len(), 0, "call {to_fail}");
+// Whether a file that one run put at this place is of this name, and as another run put it there.
+fn is_same(all: &[NamedFile], first: &[NamedFile], at: usize, name: &str) -> bool {
+    match (all.get(at), first.get(at)) {
+        (Some(whole), Some(file)) => file.name() == name && file.bytes() == whole.bytes(),
+        _ => false,
     }
-    Ok(())
+}
+
+fn check_first(rt: &impl Abort, all: &[NamedFile], first: &[NamedFile]) {
+    check(rt, all.len() == 6, 0, "how many files are put");
+    check(rt, first.len() == 2, 1, "how many files are put");
+    check(
+        rt,
+        is_same(all, first, 0, "out/events.txt"),
+        1,
+        "the first file",
+    );
+    check(
+        rt,
+        is_same(all, first, 1, "out/leaf-000000.smt2"),
+        1,
+        "the second file",
+    );
 }
 
 // Where the third file fails, the two before stand whole.
 #[test]
-fn a_put_that_fails_leaves_those_before(rt: HostRuntime) -> Result<(), Fail> {
-    let alloc = rt.alloc();
-    let mut whole = files(alloc, &FORKED, &[])?;
-    assert_eq!(rt; run(&rt, &EXPLORE, &mut whole)?, 0);
-    let mut cut = files(alloc, &FORKED, &[4])?;
-    assert_eq!(rt; run(&rt, &EXPLORE, &mut cut)?, 6);
-    let (all, first) = (whole.puts(), cut.puts());
-    assert_eq!(rt; all.len(), 6);
-    assert_eq!(rt; first.len(), 2);
-    assert_eq!(rt; first[0].name(), "out/events.txt");
-    assert_eq!(rt; first[0].bytes(), all[0].bytes());
-    assert_eq!(rt; first[1].name(), "out/leaf-000000.smt2");
-    assert_eq!(rt; first[1].bytes(), all[1].bytes());
-    assert_eq!(rt; cut.said(), b"".as_slice());
+fn a_put_that_fails_leaves_those_before(rt: HostRuntime) -> Result<(), NoMemory> {
+    let mut whole = files(&rt, &FORKED, &[])?;
+    answers(&rt, EXPLORE, &mut whole, &OpenGate, (0, SUMMARY), 0)?;
+    let mut cut = files(&rt, &FORKED, &[4])?;
+    answers(&rt, EXPLORE, &mut cut, &OpenGate, (6, ""), 1)?;
+    check_first(&rt, whole.puts(), cut.puts());
+    Ok(())
+}
+
+// Puts the program as p.elf.
+fn put_program<R: AllocGlobal + Abort, F: Files>(rt: &R, files: &mut F) -> Result<(), Fault> {
+    let program = program_file(rt, &FORKED)?;
+    files.put("p.elf", program.as_slice())
+}
+
+/// Whether the name holds this text, as far as so many bytes.
+pub(crate) fn holds<F: Files>(
+    files: &mut F,
+    name: &str,
+    most: usize,
+    text: &str,
+) -> Result<bool, Fault> {
+    Ok(files.read(name, most)?.as_slice() == text.as_bytes())
+}
+
+/// Removes these files.
+pub(crate) fn remove<R: std::rt::Files + Abort>(rt: &R, names: &[&str]) {
+    for name in names {
+        check(rt, fs::remove_file(rt, name).is_ok(), 0, name);
+    }
+}
+
+const PUT_HERE: &[&str] = &[
+    "p.elf",
+    "events.txt",
+    "leaf-000000.smt2",
+    "test-000000.json",
+    "leaf-000001.smt2",
+    "test-000001.json",
+    "report.json",
+];
+
+// The program is explored, and its tests are put.
+fn explore_here<R: Threads + Wait + Clock + Sync + AllocGlobal + Abort, F: Files>(
+    rt: &R,
+    files: &mut F,
+) -> Result<(), Fault> {
+    put_program(rt, files)?;
+    check(rt, run(rt, HERE, files, &OpenGate)? == 0, 0, "the status");
+    check(
+        rt,
+        holds(files, "./test-000000.json", 1000, TEST_0)?,
+        0,
+        "the first test",
+    );
+    check(
+        rt,
+        holds(files, "./test-000001.json", 1000, TEST_1)?,
+        0,
+        "the second test",
+    );
     Ok(())
 }
 
 #[test]
-fn real_files_are_read_and_put(rt: HostRuntime) -> Result<(), Fail> {
-    let alloc = rt.alloc();
-    let mut files = HostFiles::new(&rt, alloc);
-    files.put("p.elf", program_file(alloc, &FORKED)?.as_slice())?;
-    let words = ["rvklee", "explore", "p.elf", ".", "00011000:1"];
-    assert_eq!(rt; run(&rt, &words, &mut files)?, 0);
-    assert_eq!(rt;
-        files.read("./test-000000.json", 1000)?.as_slice(),
-        TEST_0.as_bytes()
-    );
-    assert_eq!(rt;
-        files.read("./test-000001.json", 1000)?.as_slice(),
-        TEST_1.as_bytes()
-    );
-    for name in [
-        "p.elf",
-        "events.txt",
-        "leaf-000000.smt2",
-        "test-000000.json",
-        "leaf-000001.smt2",
-        "test-000001.json",
-        "report.json",
-    ] {
-        fs::remove_file(&rt, name)?;
-    }
+fn real_files_are_read_and_put(rt: HostRuntime) -> Result<(), Fault> {
+    let mut files = HostFiles::new(&rt, rt.alloc());
+    explore_here(&rt, &mut files)?;
+    remove(&rt, PUT_HERE);
     Ok(())
 }
