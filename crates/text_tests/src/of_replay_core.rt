@@ -7,7 +7,7 @@ use elf_load::{Image, Region, Regions, load};
 use replay_core::{Replayed, replay, write_difference};
 use row_files::{programs, row_file};
 use rv_decode::{End, PathStep};
-use std::alloc::Global;
+use std::alloc::{AllocError as NoMemory, Global};
 use std::process::Abort;
 use std::test::Fail;
 use test_files::Test;
@@ -17,12 +17,12 @@ use tool_io::Bytes;
 type Said = (u8, u32, PathStep, u8, &'static [u8]);
 
 // Of the program that exits with 1 where its input byte is 'A', and else with 0.
-const SAME: [Said; 2] = [
+static SAME: [Said; 2] = [
     (0x41, 7, PathStep::Taken, 1, &[]),
     (0, 6, PathStep::NotTaken, 0, &[]),
 ];
 
-const OTHER: [Said; 4] = [
+static OTHER: [Said; 4] = [
     (0x41, 8, PathStep::Taken, 1, &[]),
     (0x41, 7, PathStep::NotTaken, 1, &[]),
     (0x41, 7, PathStep::Taken, 0, &[]),
@@ -37,7 +37,7 @@ fn forked(alloc: Global) -> Result<Image, Fail> {
     Ok(image)
 }
 
-fn test(alloc: Global, said: &Said) -> Result<Test, Fail>
+fn test(alloc: Global, said: &Said) -> Result<Test, NoMemory>
     ensures { IfOk result (λ test. length test.input ≡ count_of test.regions) }
 {
     let (input, steps, path, status, output) = *said;
@@ -57,25 +57,46 @@ fn test(alloc: Global, said: &Said) -> Result<Test, Fail>
 }
 
 // The test is run, where its region fits.
-fn run(rt: &impl Abort, alloc: Global, said: &Said) -> Result<Replayed, Fail> {
-    let image = forked(alloc)?;
+fn run(rt: &impl Abort, alloc: Global, image: &Image, said: &Said) -> Result<Replayed, NoMemory> {
     let test = test(alloc, said)?;
-    assert!(rt; elf_load::fit(&image, &test.regions).is_ok());
-    Ok(replay(alloc, &image, &test)?)
+    assert!(rt; elf_load::fit(image, &test.regions).is_ok());
+    replay(alloc, image, &test)
+}
+
+// Whether the run is as the test says.
+fn is_same(rt: &impl Abort, alloc: Global, image: &Image, said: &Said) -> Result<bool, NoMemory> {
+    Ok(matches!(run(rt, alloc, image, said)?, Replayed::Same))
+}
+
+// Whether the run differs from the test, and is written so.
+fn differs(rt: &impl Abort, alloc: Global, image: &Image, said: &Said) -> Result<bool, NoMemory> {
+    match run(rt, alloc, image, said)? {
+        Replayed::Same => Ok(false),
+        Replayed::Differs(ran) => {
+            let lines = write_difference(alloc, &ran)?;
+            Ok(lines.as_slice() == LINES)
+        }
+    }
+}
+
+// Whether all tests are as they are meant to be.
+fn are_so(rt: &impl Abort, alloc: Global, image: &Image) -> Result<bool, NoMemory> {
+    for said in &SAME {
+        if !is_same(rt, alloc, image, said)? {
+            return Ok(false);
+        }
+    }
+    for said in &OTHER {
+        if !differs(rt, alloc, image, said)? {
+            return Ok(false);
+        }
+    }
+    Ok(true)
 }
 
 #[test]
 fn a_test_is_the_same_where_all_is(rt: HostRuntime) -> Result<(), Fail> {
-    let alloc = rt.alloc();
-    for said in &SAME {
-        assert!(rt; matches!(run(&rt, alloc, said)?, Replayed::Same));
-    }
-    for said in &OTHER {
-        let Replayed::Differs(ran) = run(&rt, alloc, said)? else {
-            return Err("it differs".into());
-        };
-        let lines = write_difference(alloc, &ran)?;
-        assert!(rt; lines.as_slice() == LINES);
-    }
+    let image = forked(rt.alloc())?;
+    assert!(rt; are_so(&rt, rt.alloc(), &image)?);
     Ok(())
 }

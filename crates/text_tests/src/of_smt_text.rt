@@ -1,2 +1,2 @@
-mod leaves;
+pub(crate) mod leaves;
 mod reads;

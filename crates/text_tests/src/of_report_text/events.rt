@@ -1,18 +1,20 @@
 //! The text of events, byte for byte.
 
-ghost use Rattle.std.specs.Prelude.{◌≡◌};
+ghost use Rattle.std.specs.Prelude.{◌≡◌, length};
+ghost use Rattle.fork_spec.specs.Written.{nodes_after};
 
 use report_text::{Marked, events_name, write_events};
+use std::alloc::{AllocError as NoMemory, Global};
 use std::test::Fail;
 use tree_core::{Cause, Choice, Deed, Event, Node, Noted, Origin};
 
 /// A program with one path.
-const ONE_LEAF: &str = "claim 0 0
+static ONE_LEAF: &str = "claim 0 0
 finish 0 0
 ";
 
 /// Each deed, and each sort of side.
-const EACH: &str = "claim 0 0
+static EACH: &str = "claim 0 0
 split 0 0 1 N Y!conflicts
 claim 3 1
 release 3 1
@@ -25,7 +27,7 @@ finish 0 4
 ";
 
 /// A content that says no more than why it was cut.
-#[derive(Drop)]
+#[derive(Clone, Copy)]
 struct Mark(Option<Cause>);
 
 impl Marked for Mark {
@@ -35,6 +37,74 @@ impl Marked for Mark {
         self.0
     }
 }
+
+/// What one worker does to a root that is a leaf.
+const TWO_EVENTS: [Noted<Mark>; 2] = [
+    Event {
+        by: 0,
+        node: 0,
+        deed: Deed::Claim,
+    },
+    Event {
+        by: 0,
+        node: 0,
+        deed: Deed::Finish(Mark(None)),
+    },
+];
+
+/// Each deed.
+const TEN_EVENTS: [Noted<Mark>; 10] = [
+    Event {
+        by: 0,
+        node: 0,
+        deed: Deed::Claim,
+    },
+    Event {
+        by: 0,
+        node: 0,
+        deed: Deed::Split(2),
+    },
+    Event {
+        by: 3,
+        node: 1,
+        deed: Deed::Claim,
+    },
+    Event {
+        by: 3,
+        node: 1,
+        deed: Deed::Release,
+    },
+    Event {
+        by: 11,
+        node: 1,
+        deed: Deed::Claim,
+    },
+    Event {
+        by: 11,
+        node: 1,
+        deed: Deed::Split(3),
+    },
+    Event {
+        by: 2,
+        node: 3,
+        deed: Deed::Claim,
+    },
+    Event {
+        by: 2,
+        node: 3,
+        deed: Deed::Cut(Mark(Some(Cause::Steps))),
+    },
+    Event {
+        by: 0,
+        node: 4,
+        deed: Deed::Claim,
+    },
+    Event {
+        by: 0,
+        node: 4,
+        deed: Deed::Finish(Mark(None)),
+    },
+];
 
 /// A side of the fork at a node; a leaf at once where it is cut.
 fn side(parent: usize, choice: Choice, cut: Option<Cause>) -> Node<Mark> {
@@ -51,26 +121,28 @@ fn root() -> Node<Mark> {
     Node::new_free(None, &Mark(None))
 }
 
-/// The event of a worker and a node.
-fn event(by: u32, node: usize, deed: Deed<Mark, usize>) -> Noted<Mark>
-    ensures { result ≡ record { by = by; node = node; deed = deed } }
+/// Whether the events have this text.
+fn are_written(
+    alloc: Global,
+    nodes: &[Node<Mark>],
+    events: &[Noted<Mark>],
+    want: &str,
+) -> Result<bool, NoMemory>
+    requires { nodes_after 1 events.now ≡ length nodes.now }
 {
-    Event { by, node, deed }
+    let text = write_events(alloc, nodes, events)?;
+    Ok(text.as_slice() == want.as_bytes())
 }
 
 #[test]
+#[tactic(auto, unfolding(fork_spec::specs::Written::nodes_after))]
 fn a_program_with_one_path_is_claimed_and_finished(rt: HostRuntime) -> Result<(), Fail> {
-    let nodes = [root()];
-    let events = [
-        event(0, 0, Deed::Claim),
-        event(0, 0, Deed::Finish(Mark(None))),
-    ];
-    let text = write_events(rt.alloc(), &nodes, &events)?;
-    assert_eq!(rt; text.as_slice(), ONE_LEAF.as_bytes());
+    assert!(rt; are_written(rt.alloc(), &[root()], &TWO_EVENTS, ONE_LEAF)?);
     Ok(())
 }
 
 #[test]
+#[tactic(auto, unfolding(fork_spec::specs::Written::nodes_after))]
 fn each_deed_has_its_line(rt: HostRuntime) -> Result<(), Fail> {
     let nodes = [
         root(),
@@ -80,20 +152,7 @@ fn each_deed_has_its_line(rt: HostRuntime) -> Result<(), Fail> {
         side(1, Choice::Value(0xffff_fff8), None),
         side(1, Choice::Rest, Some(Cause::Targets)),
     ];
-    let events = [
-        event(0, 0, Deed::Claim),
-        event(0, 0, Deed::Split(2)),
-        event(3, 1, Deed::Claim),
-        event(3, 1, Deed::Release),
-        event(11, 1, Deed::Claim),
-        event(11, 1, Deed::Split(3)),
-        event(2, 3, Deed::Claim),
-        event(2, 3, Deed::Cut(Mark(Some(Cause::Steps)))),
-        event(0, 4, Deed::Claim),
-        event(0, 4, Deed::Finish(Mark(None))),
-    ];
-    let text = write_events(rt.alloc(), &nodes, &events)?;
-    assert_eq!(rt; text.as_slice(), EACH.as_bytes());
+    assert!(rt; are_written(rt.alloc(), &nodes, &TEN_EVENTS, EACH)?);
     Ok(())
 }
 

@@ -1,6 +1,7 @@
 //! What was spent on a question, byte for byte.
 
-use bv_dag::{Comparison, Dag, Node, Query};
+use crate::of_smt_text::leaves::make_condition;
+use bv_dag::{Comparison, Node};
 use cnf_form::{Clause, Lit, Log, LogStep};
 use report_text::write_conflicts;
 use std::alloc::{AllocError as NoMemory, Global};
@@ -9,7 +10,7 @@ use std::test::Fail;
 use sym_state::Learnt;
 
 /// Whether two bytes are equal, and two clauses that follow from its own.
-const TWO_CLAUSES: &str = "; spent conflicts 2
+static TWO_CLAUSES: &str = "; spent conflicts 2
 ; inputs 2
 ; nodes 3
 (set-logic QF_ABV)
@@ -26,26 +27,11 @@ c -32 0 58 56 0
 c 9 -17 0 59 54 0
 ";
 
-const EQUAL_BYTES: [Node; 3] = [
+static EQUAL_BYTES: [Node; 3] = [
     Node::Input(0),
     Node::Input(1),
     Node::Compare(Comparison::Eq, 0, 1),
 ];
-
-/// The question whether the two bytes are equal.
-fn equal_bytes(rt: &impl Abort, alloc: Global) -> Result<Query, NoMemory> {
-    let mut dag = Dag::new(alloc, 2);
-    for node in &EQUAL_BYTES {
-        assert!(rt; dag.fits(node));
-        dag.push(*node)?;
-    }
-    let mut question = Query::new(dag, Vec::new(alloc));
-    let terms = question.dag();
-    assert!(rt; 2 < terms.len());
-    assert_eq!(rt; terms.width_of(2), 1);
-    question.assert(2)?;
-    Ok(question)
-}
 
 /// A clause of these literals, which follows by these clauses.
 fn step(
@@ -58,20 +44,43 @@ fn step(
     Ok(LogStep::new(clause, Vec::from_slice(alloc, hints)?))
 }
 
-#[test]
-fn clauses_are_written_behind_their_question(rt: HostRuntime) -> Result<(), Fail> {
+/// Puts such a clause behind the others.
+fn add(
+    rt: &impl Abort,
+    alloc: Global,
+    log: &mut Log,
+    literals: &[Lit],
+    hints: &[usize],
+) -> Result<(), NoMemory> {
+    log.push(step(rt, alloc, literals, hints)?)
+}
+
+/// The two clauses.
+fn two_clauses(rt: &impl Abort, alloc: Global) -> Result<Log, NoMemory> {
     let apart = Lit::new(32, false);
     let (one, other) = (Lit::new(9, true), Lit::new(17, false));
-    let mut log = Log::new(rt.alloc());
-    log.push(step(&rt, rt.alloc(), &[apart], &[58, 56])?)?;
-    log.push(step(&rt, rt.alloc(), &[one, other], &[59, 54])?)?;
-    let learnt = Learnt {
-        question: equal_bytes(&rt, rt.alloc())?,
-        log,
-    };
-    assert_eq!(rt;
-        write_conflicts(rt.alloc(), &learnt)?.as_slice(),
-        TWO_CLAUSES.as_bytes()
-    );
+    let mut log = Log::new(alloc);
+    add(rt, alloc, &mut log, &[apart], &[58, 56])?;
+    add(rt, alloc, &mut log, &[one, other], &[59, 54])?;
+    Ok(log)
+}
+
+/// The question whether the two bytes are equal, and these clauses.
+fn learnt(rt: &impl Abort, alloc: Global) -> Result<Learnt, NoMemory> {
+    let log = two_clauses(rt, alloc)?;
+    let question = make_condition(rt, alloc, 2, &EQUAL_BYTES, &[2])?;
+    Ok(Learnt { question, log })
+}
+
+/// Whether it has this text.
+fn is_written(alloc: Global, learnt: &Learnt, want: &str) -> Result<bool, NoMemory> {
+    let text = write_conflicts(alloc, learnt)?;
+    Ok(text.as_slice() == want.as_bytes())
+}
+
+#[test]
+fn clauses_are_written_behind_their_question(rt: HostRuntime) -> Result<(), Fail> {
+    let learnt = learnt(&rt, rt.alloc())?;
+    assert!(rt; is_written(rt.alloc(), &learnt, TWO_CLAUSES)?);
     Ok(())
 }

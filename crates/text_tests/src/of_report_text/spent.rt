@@ -7,33 +7,40 @@ use sym_state::{Found, Spent};
 use tool_io::Bytes;
 
 /// Two values of a term over two input bytes.
-const TWO: &str = "; spent targets 2
+static TWO: &str = "; spent targets 2
 ; term n12
 v 00010020 00ff
 v 00010028 070a
 ";
 
-/// A value, and an assignment on which the term has it.
-fn found(alloc: Global, value: u32, input: &[u8]) -> Result<Found, NoMemory> {
-    Ok(Found {
-        value,
-        input: Bytes::from_slice(alloc, input)?,
-    })
+/// The values, and an assignment for each on which the term has it.
+static VALUES: [(u32, &[u8]); 2] = [(0x0001_0020, &[0x00, 0xff]), (0x0001_0028, &[0x07, 0x0a])];
+
+/// Puts a value and its assignment behind the others.
+fn add(alloc: Global, values: &mut Vec<Found>, value: u32, input: &[u8]) -> Result<(), NoMemory> {
+    let input = Bytes::from_slice(alloc, input)?;
+    Ok(values.push(Found { value, input })?)
+}
+
+/// The two values.
+fn two_values(alloc: Global) -> Result<Spent, NoMemory> {
+    let mut found = Vec::new(alloc);
+    for (value, input) in &VALUES {
+        add(alloc, &mut found, *value, input)?;
+    }
+    Ok(Spent { term: 12, found })
+}
+
+/// Whether what was spent has this text.
+fn is_written(alloc: Global, spent: &Spent, want: &str) -> Result<bool, NoMemory> {
+    let text = write_targets(alloc, spent)?;
+    Ok(text.as_slice() == want.as_bytes())
 }
 
 #[test]
 fn values_are_written(rt: HostRuntime) -> Result<(), Fail> {
-    let mut values = Vec::new(rt.alloc());
-    values.push(found(rt.alloc(), 0x0001_0020, &[0x00, 0xff])?)?;
-    values.push(found(rt.alloc(), 0x0001_0028, &[0x07, 0x0a])?)?;
-    let spent = Spent {
-        term: 12,
-        found: values,
-    };
-    assert_eq!(rt;
-        write_targets(rt.alloc(), &spent)?.as_slice(),
-        TWO.as_bytes()
-    );
+    let spent = two_values(rt.alloc())?;
+    assert!(rt; is_written(rt.alloc(), &spent, TWO)?);
     Ok(())
 }
 

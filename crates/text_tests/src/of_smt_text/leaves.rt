@@ -7,10 +7,11 @@ use smt_text::{LeafText, print_leaf};
 use std::alloc::{AllocError as NoMemory, Global};
 use std::process::Abort;
 use std::test::Fail;
+use tool_io::Bytes;
 use tree_core::{Cause, Choice};
 
 /// The text of a leaf that is finished.
-pub const FINISHED: &str = "; rvklee leaf 1
+pub static FINISHED: &str = "; rvklee leaf 1
 ; kind finished
 ; choices Y.
 ; path T.
@@ -33,7 +34,7 @@ pub const FINISHED: &str = "; rvklee leaf 1
 ";
 
 /// The text of a leaf that was cut.
-pub const CUT: &str = "; rvklee leaf 1
+pub static CUT: &str = "; rvklee leaf 1
 ; kind targets
 ; choices N=00010028YR.
 ; path TN@0001002c.
@@ -77,62 +78,25 @@ pub const CUT: &str = "; rvklee leaf 1
 (exit)
 ";
 
-/// The terms of the leaf that is finished.
-pub const LETTER: [Node; 4] = [
-    Node::Input(0),
-    Node::Num {
-        width: 8,
-        value: 65,
-    },
-    Node::Compare(Comparison::Eq, 0, 1),
-    Node::Num { width: 8, value: 1 },
-];
+/// Puts these nodes behind the others.
+fn add_nodes(rt: &impl Abort, dag: &mut Dag, nodes: &[Node]) -> Result<(), NoMemory> {
+    for node in nodes {
+        assert!(rt; dag.fits(node));
+        dag.push(*node)?;
+    }
+    Ok(())
+}
 
-/// Each kind of node.
-pub const EACH: [Node; 23] = [
-    Node::Input(1),
-    Node::Num {
-        width: 8,
-        value: 200,
-    },
-    Node::Not(0),
-    Node::Neg(1),
-    Node::Binary(BinaryOp::Add, 0, 1),
-    Node::Binary(BinaryOp::Sub, 1, 0),
-    Node::Binary(BinaryOp::Mul, 0, 3),
-    Node::Binary(BinaryOp::Udiv, 0, 2),
-    Node::Binary(BinaryOp::Urem, 1, 0),
-    Node::Binary(BinaryOp::And, 0, 1),
-    Node::Binary(BinaryOp::Or, 0, 1),
-    Node::Binary(BinaryOp::Xor, 0, 1),
-    Node::Binary(BinaryOp::Shl, 0, 1),
-    Node::Binary(BinaryOp::Lshr, 0, 1),
-    Node::Binary(BinaryOp::Ashr, 0, 1),
-    Node::Compare(Comparison::Ult, 0, 1),
-    Node::Compare(Comparison::Slt, 1, 0),
-    Node::Compare(Comparison::Eq, 2, 3),
-    Node::Ite {
-        condition: 15,
-        yes: 4,
-        no: 5,
-    },
-    Node::Extract {
-        high: 6,
-        low: 2,
-        operand: 6,
-    },
-    Node::Extend {
-        by: 24,
-        signed: false,
-        operand: 7,
-    },
-    Node::Extend {
-        by: 8,
-        signed: true,
-        operand: 8,
-    },
-    Node::Concat { high: 9, low: 19 },
-];
+/// Asserts these terms.
+fn assert_terms(rt: &impl Abort, condition: &mut Query, ids: &[usize]) -> Result<(), NoMemory> {
+    for id in ids {
+        let terms = condition.dag();
+        assert!(rt; *id < terms.len());
+        assert_eq!(rt; terms.width_of(*id), 1);
+        condition.assert(*id)?;
+    }
+    Ok(())
+}
 
 /// The condition that these terms of these nodes are 1.
 pub fn make_condition(
@@ -143,57 +107,139 @@ pub fn make_condition(
     asserted: &[usize],
 ) -> Result<Query, NoMemory> {
     let mut dag = Dag::new(alloc, inputs);
-    for node in nodes {
-        assert!(rt; dag.fits(node));
-        dag.push(*node)?;
-    }
+    add_nodes(rt, &mut dag, nodes)?;
     let mut condition = Query::new(dag, Vec::new(alloc));
-    for id in asserted {
-        let terms = condition.dag();
-        assert!(rt; *id < terms.len());
-        assert_eq!(rt; terms.width_of(*id), 1);
-        condition.assert(*id)?;
-    }
+    assert_terms(rt, &mut condition, asserted)?;
     Ok(condition)
+}
+
+/// What a leaf says.
+struct Said {
+    choices: &'static [Choice],
+    path: &'static [PathStep],
+    steps: u32,
+    end: LeafEnd,
+    inputs: usize,
+    nodes: &'static [Node],
+    asserted: &'static [usize],
+    outputs: &'static [usize],
+}
+
+static FINISHED_LEAF: Said = Said {
+    choices: &[Choice::Yes],
+    path: &[PathStep::Taken],
+    steps: 7,
+    end: LeafEnd::Exits { status: 3 },
+    inputs: 1,
+    nodes: &[
+        Node::Input(0),
+        Node::Num {
+            width: 8,
+            value: 65,
+        },
+        Node::Compare(Comparison::Eq, 0, 1),
+        Node::Num { width: 8, value: 1 },
+    ],
+    asserted: &[2],
+    outputs: &[],
+};
+
+static CUT_LEAF: Said = Said {
+    choices: &[
+        Choice::No,
+        Choice::Value(0x0001_0028),
+        Choice::Yes,
+        Choice::Rest,
+    ],
+    path: &[
+        PathStep::Taken,
+        PathStep::NotTaken,
+        PathStep::Target(0x0001_002c),
+    ],
+    steps: 12,
+    end: LeafEnd::Cut(Cause::Targets),
+    inputs: 2,
+    // Each kind of node.
+    nodes: &[
+        Node::Input(1),
+        Node::Num {
+            width: 8,
+            value: 200,
+        },
+        Node::Not(0),
+        Node::Neg(1),
+        Node::Binary(BinaryOp::Add, 0, 1),
+        Node::Binary(BinaryOp::Sub, 1, 0),
+        Node::Binary(BinaryOp::Mul, 0, 3),
+        Node::Binary(BinaryOp::Udiv, 0, 2),
+        Node::Binary(BinaryOp::Urem, 1, 0),
+        Node::Binary(BinaryOp::And, 0, 1),
+        Node::Binary(BinaryOp::Or, 0, 1),
+        Node::Binary(BinaryOp::Xor, 0, 1),
+        Node::Binary(BinaryOp::Shl, 0, 1),
+        Node::Binary(BinaryOp::Lshr, 0, 1),
+        Node::Binary(BinaryOp::Ashr, 0, 1),
+        Node::Compare(Comparison::Ult, 0, 1),
+        Node::Compare(Comparison::Slt, 1, 0),
+        Node::Compare(Comparison::Eq, 2, 3),
+        Node::Ite {
+            condition: 15,
+            yes: 4,
+            no: 5,
+        },
+        Node::Extract {
+            high: 6,
+            low: 2,
+            operand: 6,
+        },
+        Node::Extend {
+            by: 24,
+            signed: false,
+            operand: 7,
+        },
+        Node::Extend {
+            by: 8,
+            signed: true,
+            operand: 8,
+        },
+        Node::Concat { high: 9, low: 19 },
+    ],
+    asserted: &[16, 17],
+    outputs: &[18, 0],
+};
+
+/// The leaf that says so.
+fn make_leaf(rt: &impl Abort, alloc: Global, said: &Said) -> Result<LeafText, NoMemory> {
+    let choices = Vec::from_slice(alloc, said.choices)?;
+    let path = Vec::from_slice(alloc, said.path)?;
+    let outputs = Vec::from_slice(alloc, said.outputs)?;
+    let condition = make_condition(rt, alloc, said.inputs, said.nodes, said.asserted)?;
+    Ok(LeafText {
+        choices,
+        path,
+        steps: said.steps,
+        end: said.end,
+        condition,
+        outputs,
+    })
+}
+
+/// Its text.
+fn printed(rt: &impl Abort, alloc: Global, said: &Said) -> Result<Bytes, NoMemory> {
+    let leaf = make_leaf(rt, alloc, said)?;
+    print_leaf(alloc, &leaf)
 }
 
 #[test]
 fn a_finished_leaf_is_printed(rt: HostRuntime) -> Result<(), Fail> {
-    let leaf = LeafText {
-        choices: Vec::from_slice(rt.alloc(), &[Choice::Yes])?,
-        path: Vec::from_slice(rt.alloc(), &[PathStep::Taken])?,
-        steps: 7,
-        end: LeafEnd::Exits { status: 3 },
-        condition: make_condition(&rt, rt.alloc(), 1, &LETTER, &[2])?,
-        outputs: Vec::new(rt.alloc()),
-    };
-    let text = print_leaf(rt.alloc(), &leaf)?;
+    let text = printed(&rt, rt.alloc(), &FINISHED_LEAF)?;
     assert_eq!(rt; text.as_slice(), FINISHED.as_bytes());
     Ok(())
 }
 
 #[test]
 fn a_cut_leaf_is_printed(rt: HostRuntime) -> Result<(), Fail> {
-    let choices = [
-        Choice::No,
-        Choice::Value(0x0001_0028),
-        Choice::Yes,
-        Choice::Rest,
-    ];
-    let path = [
-        PathStep::Taken,
-        PathStep::NotTaken,
-        PathStep::Target(0x0001_002c),
-    ];
-    let leaf = LeafText {
-        choices: Vec::from_slice(rt.alloc(), &choices)?,
-        path: Vec::from_slice(rt.alloc(), &path)?,
-        steps: 12,
-        end: LeafEnd::Cut(Cause::Targets),
-        condition: make_condition(&rt, rt.alloc(), 2, &EACH, &[16, 17])?,
-        outputs: Vec::from_slice(rt.alloc(), &[18, 0])?,
-    };
-    let text = print_leaf(rt.alloc(), &leaf)?;
+    let text = printed(&rt, rt.alloc(), &CUT_LEAF)?;
     assert_eq!(rt; text.as_slice(), CUT.as_bytes());
     Ok(())
 }

@@ -1,17 +1,12 @@
-//! Which texts are read, as what leaf, and at which line others are refused.
+//! Which texts are read, and at which line others are refused.
 
-use crate::of_smt_text::leaves::{CUT, EACH, FINISHED, LETTER, make_condition};
-use bv_dag::Query;
-use fork_spec::LeafEnd;
-use rv_decode::PathStep;
-use smt_text::{LeafText, print_leaf, read_leaf};
+use crate::of_smt_text::leaves::{CUT, FINISHED};
+use smt_text::{print_leaf, read_leaf};
 use std::alloc::{AllocError as NoMemory, Global};
-use std::process::Abort;
 use std::test::Fail;
-use tree_core::{Cause, Choice};
 
 /// The example of docs/FORMATS.md.
-const EXAMPLE: &str = "; rvklee leaf 1
+static EXAMPLE: &str = "; rvklee leaf 1
 ; kind finished
 ; choices Y.
 ; path T.
@@ -35,7 +30,7 @@ const EXAMPLE: &str = "; rvklee leaf 1
 ";
 
 /// What is put in place of what in the text of a leaf, and the line at which it is then refused.
-const CHANGES: [(&str, &str, usize); 31] = [
+static CHANGES: [(&str, &str, usize); 31] = [
     ("leaf 1", "leaf 2", 1),
     ("; rvklee", ";rvklee", 1),
     ("finished", "cut", 2),
@@ -115,17 +110,23 @@ fn no_text_is_refused_at_its_first_line(rt: HostRuntime) -> Result<(), Fail> {
     Ok(())
 }
 
+/// The head of a leaf up to its steps, of which there are so many digits that no number has as many.
+fn long_steps(alloc: Global) -> Result<String, NoMemory> {
+    let mut text = String::from_str(
+        alloc,
+        "; rvklee leaf 1\n; kind finished\n; choices .\n; path .\n; steps ",
+    )?;
+    for _ in 0..5000 {
+        text.push_str("9")?;
+    }
+    text.push_str("\n")?;
+    Ok(text)
+}
+
 #[test]
 fn a_number_of_many_digits_is_none(rt: HostRuntime) -> Result<(), Fail> {
-    let digits = vec![in rt.alloc(); b'9'; 5000]?;
-    let mut text = Vec::from_slice(
-        rt.alloc(),
-        b"; rvklee leaf 1\n; kind finished\n; choices .\n; path .\n; steps ",
-    )?;
-    text.extend_from_slice(&digits)?;
-    text.extend_from_slice(b"\n")?;
-    let read = read_leaf(rt.alloc(), &text)?;
-    assert_eq!(rt; read.err().map(|refused| refused.line), Some(5));
+    let text = long_steps(rt.alloc())?;
+    assert_eq!(rt; refused_line(rt.alloc(), &text)?, Some(5));
     Ok(())
 }
 
@@ -134,56 +135,5 @@ fn what_was_written_is_read_back(rt: HostRuntime) -> Result<(), Fail> {
     assert!(rt; is_written_back(rt.alloc(), EXAMPLE)?);
     assert!(rt; is_written_back(rt.alloc(), FINISHED)?);
     assert!(rt; is_written_back(rt.alloc(), CUT)?);
-    Ok(())
-}
-
-// What the text of a finished leaf says.
-fn check_finished(rt: &impl Abort, leaf: &LeafText, condition: &Query) {
-    assert_eq!(rt; leaf.choices.as_slice(), [Choice::Yes].as_slice());
-    assert_eq!(rt; leaf.path.as_slice(), [PathStep::Taken].as_slice());
-    assert_eq!(rt; leaf.steps, 7);
-    assert_eq!(rt; leaf.end, LeafEnd::Exits { status: 3 });
-    assert!(rt; leaf.condition == *condition);
-    assert!(rt; leaf.outputs.is_empty());
-}
-
-#[test]
-fn a_finished_leaf_is_read(rt: HostRuntime) -> Result<(), Fail> {
-    let condition = make_condition(&rt, rt.alloc(), 1, &LETTER, &[2])?;
-    match read_leaf(rt.alloc(), FINISHED.as_bytes())? {
-        Ok(leaf) => check_finished(&rt, &leaf, &condition),
-        Err(refused) => assert_eq!(rt; refused.line, 0),
-    }
-    Ok(())
-}
-
-// What the text of a cut leaf says.
-fn check_cut(rt: &impl Abort, leaf: &LeafText, condition: &Query) {
-    let choices = [
-        Choice::No,
-        Choice::Value(0x0001_0028),
-        Choice::Yes,
-        Choice::Rest,
-    ];
-    let path = [
-        PathStep::Taken,
-        PathStep::NotTaken,
-        PathStep::Target(0x0001_002c),
-    ];
-    assert_eq!(rt; leaf.choices.as_slice(), choices.as_slice());
-    assert_eq!(rt; leaf.path.as_slice(), path.as_slice());
-    assert_eq!(rt; leaf.steps, 12);
-    assert_eq!(rt; leaf.end, LeafEnd::Cut(Cause::Targets));
-    assert!(rt; leaf.condition == *condition);
-    assert_eq!(rt; leaf.outputs.as_slice(), [18, 0].as_slice());
-}
-
-#[test]
-fn a_cut_leaf_is_read(rt: HostRuntime) -> Result<(), Fail> {
-    let condition = make_condition(&rt, rt.alloc(), 2, &EACH, &[16, 17])?;
-    match read_leaf(rt.alloc(), CUT.as_bytes())? {
-        Ok(leaf) => check_cut(&rt, &leaf, &condition),
-        Err(refused) => assert_eq!(rt; refused.line, 0),
-    }
     Ok(())
 }

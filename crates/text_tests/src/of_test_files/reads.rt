@@ -7,7 +7,7 @@ use test_files::{TestError, TestRefused, read_test, write_test};
 use tool_io::Bytes;
 
 /// What is put in place of what in a test that is taken, and why the text is then refused.
-const CHANGES: [(&str, &str, TestRefused); 37] = [
+static CHANGES: [(&str, &str, TestRefused); 37] = [
     ("3}", "3", TestRefused::NotJson),
     ("3}", "3,}", TestRefused::NotJson),
     ("3}", "3}}", TestRefused::NotJson),
@@ -60,7 +60,7 @@ const CHANGES: [(&str, &str, TestRefused); 37] = [
 ];
 
 /// Texts that are no tests in any way, in place of `x`.
-const OTHERS: [(&str, &str, TestRefused); 5] = [
+static OTHERS: [(&str, &str, TestRefused); 5] = [
     ("x", "", TestRefused::NotJson),
     ("x", "{", TestRefused::NotJson),
     ("x", "[]", TestRefused::Kind),
@@ -69,12 +69,12 @@ const OTHERS: [(&str, &str, TestRefused); 5] = [
 ];
 
 /// Keys in another order, one twice and one that no test needs, and digits in upper case.
-const OTHERWISE: &str =
+static OTHERWISE: &str =
     "{\"steps\":0, \"path\":\"TN@00010028\",\"regions\":[\"00011000:2\"],\"more\":[{}],
     \"output\":\"0A\",\"leaf\":9007199254740992,\"input\":\"FFaB\",\"format\":1,\"end\":\"trap Break\",\"steps\":1000000}";
 
 /// The same as it is written.
-const WRITTEN: &str =
+static WRITTEN: &str =
     "{\"end\":\"trap Break\",\"format\":1,\"input\":\"ffab\",\"leaf\":9007199254740992,\"output\":\"0a\",\"path\":\"TN@00010028\",\"regions\":[\"00011000:2\"],\"steps\":1000000}\n";
 
 /// The first row for which the text, changed so, is not refused so.

@@ -7,58 +7,55 @@ use std::test::Fail;
 use test_files::{Test, write_test};
 use tool_io::Bytes;
 
-pub(super) const ENDED: &str =
+pub(super) static ENDED: &str =
     "{\"end\":\"exit 7\",\"format\":1,\"input\":\"00\",\"leaf\":0,\"output\":\"\",\"path\":\"\",\"regions\":[\"00011000:1\"],\"steps\":3}\n";
 
-pub(super) const TRAPPED: &str =
+pub(super) static TRAPPED: &str =
     "{\"end\":\"trap LoadAccess\",\"format\":1,\"input\":\"00ff41\",\"leaf\":12,\"output\":\"0a\",\"path\":\"TN@00010028\",\"regions\":[\"00011000:1\",\"fffffffe:2\"],\"steps\":4}\n";
 
-pub(super) const RUNNING: &str =
+pub(super) static RUNNING: &str =
     "{\"end\":\"running\",\"format\":1,\"input\":\"10\",\"leaf\":0,\"output\":\"\",\"path\":\"N\",\"regions\":[\"00011000:1\"],\"steps\":50}\n";
 
-/// A test of leaf 0 with one input byte and one step of a path at most.
-fn small_test(
-    alloc: Global,
-    input: u8,
+/// What a test says.
+struct Said {
+    leaf: usize,
+    regions: &'static [Region],
+    input: &'static [u8],
     steps: u32,
-    path: &[PathStep],
+    path: &'static [PathStep],
     end: Option<End>,
-) -> Result<Test, NoMemory> {
-    let region = Region {
+    output: &'static [u8],
+}
+
+static EXITS: Said = Said {
+    leaf: 0,
+    regions: &[Region {
         start: 0x0001_1000,
         count: 1,
-    };
-    Ok(Test {
-        leaf: 0,
-        regions: Regions::from_vec(Vec::from_slice(alloc, &[region])?),
-        input: Bytes::from_slice(alloc, &[input])?,
-        steps,
-        path: Vec::from_slice(alloc, path)?,
-        end,
-        output: Bytes::from_slice(alloc, &[])?,
-    })
-}
+    }],
+    input: &[0],
+    steps: 3,
+    path: &[],
+    end: Some(End::Exit(7)),
+    output: &[],
+};
 
-#[test]
-fn a_test_that_exits_is_written(rt: HostRuntime) -> Result<(), Fail> {
-    let test = small_test(rt.alloc(), 0, 3, &[], Some(End::Exit(7)))?;
-    assert_eq!(rt; write_test(rt.alloc(), &test)?.as_slice(), ENDED.as_bytes());
-    Ok(())
-}
+static RUNS: Said = Said {
+    leaf: 0,
+    regions: &[Region {
+        start: 0x0001_1000,
+        count: 1,
+    }],
+    input: &[0x10],
+    steps: 50,
+    path: &[PathStep::NotTaken],
+    end: None,
+    output: &[],
+};
 
-#[test]
-fn a_test_that_still_runs_is_written(rt: HostRuntime) -> Result<(), Fail> {
-    let test = small_test(rt.alloc(), 0x10, 50, &[PathStep::NotTaken], None)?;
-    assert_eq!(rt;
-        write_test(rt.alloc(), &test)?.as_slice(),
-        RUNNING.as_bytes()
-    );
-    Ok(())
-}
-
-#[test]
-fn a_test_that_traps_is_written(rt: HostRuntime) -> Result<(), Fail> {
-    let regions = [
+static TRAPS: Said = Said {
+    leaf: 12,
+    regions: &[
         Region {
             start: 0x0001_1000,
             count: 1,
@@ -67,24 +64,51 @@ fn a_test_that_traps_is_written(rt: HostRuntime) -> Result<(), Fail> {
             start: 0xffff_fffe,
             count: 2,
         },
-    ];
-    let path = [
+    ],
+    input: &[0x00, 0xff, 0x41],
+    steps: 4,
+    path: &[
         PathStep::Taken,
         PathStep::NotTaken,
         PathStep::Target(0x0001_0028),
-    ];
-    let test = Test {
-        leaf: 12,
-        regions: Regions::from_vec(Vec::from_slice(rt.alloc(), &regions)?),
-        input: Bytes::from_slice(rt.alloc(), &[0x00, 0xff, 0x41])?,
-        steps: 4,
-        path: Vec::from_slice(rt.alloc(), &path)?,
-        end: Some(End::Trapped(Trap::LoadAccess)),
-        output: Bytes::from_slice(rt.alloc(), &[0x0a])?,
-    };
-    assert_eq!(rt;
-        write_test(rt.alloc(), &test)?.as_slice(),
-        TRAPPED.as_bytes()
-    );
+    ],
+    end: Some(End::Trapped(Trap::LoadAccess)),
+    output: &[0x0a],
+};
+
+/// The test that says so.
+fn test(alloc: Global, said: &Said) -> Result<Test, NoMemory> {
+    Ok(Test {
+        leaf: said.leaf,
+        regions: Regions::from_vec(Vec::from_slice(alloc, said.regions)?),
+        input: Bytes::from_slice(alloc, said.input)?,
+        steps: said.steps,
+        path: Vec::from_slice(alloc, said.path)?,
+        end: said.end,
+        output: Bytes::from_slice(alloc, said.output)?,
+    })
+}
+
+/// Its text.
+fn text(alloc: Global, said: &Said) -> Result<Bytes, NoMemory> {
+    let test = test(alloc, said)?;
+    write_test(alloc, &test)
+}
+
+#[test]
+fn a_test_that_exits_is_written(rt: HostRuntime) -> Result<(), Fail> {
+    assert_eq!(rt; text(rt.alloc(), &EXITS)?.as_slice(), ENDED.as_bytes());
+    Ok(())
+}
+
+#[test]
+fn a_test_that_still_runs_is_written(rt: HostRuntime) -> Result<(), Fail> {
+    assert_eq!(rt; text(rt.alloc(), &RUNS)?.as_slice(), RUNNING.as_bytes());
+    Ok(())
+}
+
+#[test]
+fn a_test_that_traps_is_written(rt: HostRuntime) -> Result<(), Fail> {
+    assert_eq!(rt; text(rt.alloc(), &TRAPS)?.as_slice(), TRAPPED.as_bytes());
     Ok(())
 }
