@@ -138,11 +138,12 @@ static TAKEN: [(&[&str], Wanted); 15] = [
 ];
 
 /// Command lines that say too little, too much, or a number out of its form or its limit.
-static REFUSED: [&[&str]; 34] = [
+static REFUSED: [&[&str]; 35] = [
     &[],
     &["rvklee"],
     &["rvklee", "explore", "a.elf", "out"],
     &["rvklee", "explore", "a.elf", "out", "00011000:10000"],
+    &["rvklee", "explore", "a.elf", "out", "00011000:00001"],
     &["rvklee", "explore", "a.elf", "out", "00011000:"],
     &["rvklee", "explore", "a.elf", "out", "00011000"],
     &["rvklee", "explore", "a.elf", "out", "0011000:1"],
