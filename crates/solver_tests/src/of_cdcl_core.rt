@@ -32,36 +32,56 @@ fn clause(rt: &impl Abort, alloc: Global, numbers: &[i32]) -> Result<Clause, NoM
     Ok(Clause::from_literals(alloc, &literals)?.expect(rt, "no tautology"))
 }
 
+// Puts the clause of these numbers behind the others.
+fn push(
+    rt: &impl Abort,
+    alloc: Global,
+    formula: &mut Cnf,
+    numbers: &[i32],
+) -> Result<(), NoMemory> {
+    let clause = clause(rt, alloc, numbers)?;
+    formula.push(&clause)
+}
+
+// What an answer is, where it shows what it says.
+fn shown(
+    alloc: Global,
+    formula: &Cnf,
+    budget: usize,
+    answer: &Answer,
+) -> Result<Option<Kind>, NoMemory> {
+    let (shows, kind) = match answer {
+        Answer::Found(valuation) => (valuation.satisfies(formula), Kind::Found),
+        Answer::Refuted(log) => (
+            check(alloc, formula, log)? && ends_empty(log) && log.steps().len() <= budget,
+            Kind::Refuted,
+        ),
+        Answer::Spent(log) => (
+            check(alloc, formula, log)?
+                && fresh(alloc, formula, log)?
+                && log.steps().len() == budget,
+            Kind::Spent,
+        ),
+    };
+    Ok(if shows { Some(kind) } else { None })
+}
+
+// Searches, has the answer checked, and says what it is.
+fn answered(alloc: Global, formula: &Cnf, budget: u32) -> Result<Option<Kind>, NoMemory> {
+    let answer = search(alloc, formula, budget)?;
+    shown(alloc, formula, budget as usize, &answer)
+}
+
 fn formula(rt: &impl Abort, alloc: Global, clauses: &[&[i32]]) -> Result<Cnf, NoMemory> {
     let mut formula = Cnf::new(alloc);
     for numbers in clauses {
-        formula.push(&clause(rt, alloc, numbers)?)?;
+        push(rt, alloc, &mut formula, numbers)?;
     }
     Ok(formula)
 }
 
-// Searches, has the answer checked, and says what it is.
-fn answered(rt: &impl Abort, alloc: Global, formula: &Cnf, budget: u32) -> Result<Kind, NoMemory> {
-    match search(alloc, formula, budget)? {
-        Answer::Found(valuation) => {
-            assert!(rt; valuation.satisfies(formula));
-            Ok(Kind::Found)
-        }
-        Answer::Refuted(log) => {
-            assert!(rt; check(alloc, formula, &log)? && ends_empty(&log));
-            assert!(rt; log.steps().len() <= budget as usize);
-            Ok(Kind::Refuted)
-        }
-        Answer::Spent(log) => {
-            assert!(rt; check(alloc, formula, &log)? && fresh(alloc, formula, &log)?);
-            assert_eq!(rt; log.steps().len(), budget as usize);
-            Ok(Kind::Spent)
-        }
-    }
-}
-
 // Three pigeons, two holes: the variable 2 p + h - 2 says that the pigeon p sits in the hole h.
-const PIGEONS: [&[i32]; 9] = [
+const PIGEONS: &[&[i32]] = &[
     &[1, 2],
     &[3, 4],
     &[5, 6],
@@ -73,31 +93,8 @@ const PIGEONS: [&[i32]; 9] = [
     &[-4, -6],
 ];
 
-#[test]
-fn pigeons_do_not_fit(rt: HostRuntime) -> Result<(), Fail> {
-    let alloc = rt.alloc();
-    let pigeons = formula(&rt, alloc, &PIGEONS)?;
-    assert_eq!(rt; answered(&rt, alloc, &pigeons, 100)?, Kind::Refuted);
-    assert_eq!(rt; answered(&rt, alloc, &pigeons, 1)?, Kind::Spent);
-    assert_eq!(rt; answered(&rt, alloc, &pigeons, 0)?, Kind::Spent);
-    Ok(())
-}
-
-#[test]
-fn small_formulas(rt: HostRuntime) -> Result<(), Fail> {
-    let alloc = rt.alloc();
-    let none = formula(&rt, alloc, &[])?;
-    assert_eq!(rt; answered(&rt, alloc, &none, 0)?, Kind::Found);
-    let empty = formula(&rt, alloc, &[&[1], &[]])?;
-    assert_eq!(rt; answered(&rt, alloc, &empty, 1)?, Kind::Refuted);
-    assert_eq!(rt; answered(&rt, alloc, &empty, 0)?, Kind::Spent);
-    let units = formula(&rt, alloc, &[&[1], &[-1, 2], &[-2, -3]])?;
-    assert_eq!(rt; answered(&rt, alloc, &units, 0)?, Kind::Found);
-    Ok(())
-}
-
 // A cycle of five corners in three colours: the variable 3 k + c says that the corner k, from 0, has the colour c.
-const CYCLE: [&[i32]; 20] = [
+const CYCLE: &[&[i32]] = &[
     &[1, 2, 3],
     &[4, 5, 6],
     &[7, 8, 9],
@@ -120,32 +117,56 @@ const CYCLE: [&[i32]; 20] = [
     &[-15, -3],
 ];
 
-#[test]
-fn a_cycle_has_three_colours(rt: HostRuntime) -> Result<(), Fail> {
-    let alloc = rt.alloc();
-    let colours = formula(&rt, alloc, &CYCLE)?;
-    assert_eq!(rt; answered(&rt, alloc, &colours, 1000)?, Kind::Found);
-    Ok(())
-}
+const EMPTY_CLAUSE: &[&[i32]] = &[&[1], &[]];
 
 // Every clause over two variables, beside eight pairs that have nothing to do with them: two clauses of one literal or none
 // are enough where the choices among the pairs are left out of what is learnt.
+const WITH_PAIRS: &[&[i32]] = &[
+    &[1, 2],
+    &[1, -2],
+    &[-1, 2],
+    &[-1, -2],
+    &[3, 4],
+    &[5, 6],
+    &[7, 8],
+    &[9, 10],
+    &[11, 12],
+    &[13, 14],
+    &[15, 16],
+    &[17, 18],
+];
+
+/// Clauses, how many may be learnt, and what the answer is to be.
+type Row = (&'static [&'static [i32]], u32, Kind);
+
+const ROWS: &[Row] = &[
+    (PIGEONS, 100, Kind::Refuted),
+    (PIGEONS, 1, Kind::Spent),
+    (PIGEONS, 0, Kind::Spent),
+    (&[], 0, Kind::Found),
+    (EMPTY_CLAUSE, 1, Kind::Refuted),
+    (EMPTY_CLAUSE, 0, Kind::Spent),
+    (&[&[1], &[-1, 2], &[-2, -3]], 0, Kind::Found),
+    (CYCLE, 1000, Kind::Found),
+    (WITH_PAIRS, 2, Kind::Refuted),
+];
+
+// What is answered to these clauses.
+fn answered_to(
+    rt: &impl Abort,
+    alloc: Global,
+    clauses: &[&[i32]],
+    budget: u32,
+) -> Result<Option<Kind>, NoMemory> {
+    let formula = formula(rt, alloc, clauses)?;
+    answered(alloc, &formula, budget)
+}
+
 #[test]
-fn choices_that_do_not_matter_are_not_learnt(rt: HostRuntime) -> Result<(), Fail> {
-    let alloc = rt.alloc();
-    let mut with_pairs = formula(&rt, alloc, &[&[1, 2], &[1, -2], &[-1, 2], &[-1, -2]])?;
-    for pair in [
-        [3, 4],
-        [5, 6],
-        [7, 8],
-        [9, 10],
-        [11, 12],
-        [13, 14],
-        [15, 16],
-        [17, 18],
-    ] {
-        with_pairs.push(&clause(&rt, alloc, &pair)?)?;
+fn small_formulas(rt: HostRuntime) -> Result<(), Fail> {
+    for (at, (clauses, budget, kind)) in ROWS.iter().enumerate() {
+        let answer = answered_to(&rt, rt.alloc(), clauses, *budget)?;
+        assert_eq!(rt; answer, Some(*kind), "row {at}");
     }
-    assert_eq!(rt; answered(&rt, alloc, &with_pairs, 2)?, Kind::Refuted);
     Ok(())
 }

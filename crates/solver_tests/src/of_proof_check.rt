@@ -6,134 +6,209 @@ use std::alloc::{AllocError as NoMemory, Global};
 use std::process::Abort;
 use std::test::Fail;
 
-fn a() -> Lit {
-    Lit::new(1, true)
+// The variables 1 to 3, with a minus sign for a negation.
+fn literal(number: i32) -> Lit {
+    Lit::new(number.unsigned_abs().max(1), number > 0)
 }
 
-fn b() -> Lit {
-    Lit::new(2, true)
+fn clause(rt: &impl Abort, alloc: Global, numbers: &[i32]) -> Result<Clause, NoMemory> {
+    let literals: Vec<Lit> = numbers.iter().map(|n| literal(*n)).collect(alloc)?;
+    Ok(Clause::from_literals(alloc, &literals)?.expect(rt, "no tautology"))
 }
 
-fn clause(rt: &impl Abort, alloc: Global, literals: &[Lit]) -> Result<Clause, NoMemory> {
-    Ok(Clause::from_literals(alloc, literals)?.expect(rt, "no tautology"))
-}
-
-fn step(
+// Puts a clause behind the others.
+fn push(
     rt: &impl Abort,
     alloc: Global,
-    literals: &[Lit],
-    hints: &[usize],
-) -> Result<LogStep, NoMemory> {
-    Ok(LogStep::new(clause(rt, alloc, literals)?, Vec::from_slice(alloc, hints)?))
+    formula: &mut Cnf,
+    numbers: &[i32],
+) -> Result<(), NoMemory> {
+    let clause = clause(rt, alloc, numbers)?;
+    formula.push(&clause)
 }
 
-// (a)(-a b)(-b)
+// (1)(-1 2)(-2)
 fn formula(rt: &impl Abort, alloc: Global) -> Result<Cnf, NoMemory> {
     let mut formula = Cnf::new(alloc);
-    formula.push(&clause(rt, alloc, &[a()])?)?;
-    formula.push(&clause(rt, alloc, &[b(), a().negated()])?)?;
-    formula.push(&clause(rt, alloc, &[b().negated()])?)?;
+    push(rt, alloc, &mut formula, &[1])?;
+    push(rt, alloc, &mut formula, &[2, -1])?;
+    push(rt, alloc, &mut formula, &[-2])?;
     Ok(formula)
 }
 
-fn log_of(alloc: Global, first: LogStep, second: LogStep) -> Result<Log, NoMemory> {
+/// A clause with its hints.
+type Line = (&'static [i32], &'static [usize]);
+
+fn step(rt: &impl Abort, alloc: Global, line: &Line) -> Result<LogStep, NoMemory> {
+    let clause = clause(rt, alloc, line.0)?;
+    Ok(LogStep::new(clause, Vec::from_slice(alloc, line.1)?))
+}
+
+// Puts a line behind the others.
+fn note(rt: &impl Abort, alloc: Global, log: &mut Log, line: &Line) -> Result<(), NoMemory> {
+    log.push(step(rt, alloc, line)?)
+}
+
+fn log_of(rt: &impl Abort, alloc: Global, lines: &[Line]) -> Result<Log, NoMemory> {
     let mut log = Log::new(alloc);
-    log.push(first)?;
-    log.push(second)?;
+    for line in lines {
+        note(rt, alloc, &mut log, line)?;
+    }
     Ok(log)
 }
 
+const REFUTATION: &[Line] = &[(&[2], &[1, 2]), (&[], &[4, 3])];
+
+/// Logs, and whether each step follows.
+const FOLLOWING: &[(&[Line], bool)] = &[
+    (REFUTATION, true),
+    (&[(&[], &[1, 2, 3])], true),
+    (&[(&[], &[1, 2])], false),
+    (&[(&[], &[1, 2, 4])], false),
+    (&[(&[], &[2, 1, 3])], false),
+    (&[(&[], &[0])], false),
+    (&[(&[], &[])], false),
+    // Of a later clause.
+    (&[(&[], &[5, 3]), (&[2], &[1, 2])], false),
+];
+
+/// Logs, and whether no clause has all literals of an earlier one.
+const FRESH: &[(&[Line], bool)] = &[
+    (REFUTATION, true),
+    // Of the formula, and of the log.
+    (&[(&[2], &[1, 2]), (&[3, 1], &[1])], false),
+    (&[(&[2], &[1, 2]), (&[2, 3], &[4])], false),
+];
+
+/// Logs, and whether they end in the empty clause.
+const ENDED: &[(&[Line], bool)] = &[
+    (REFUTATION, true),
+    (&[(&[], &[5, 3]), (&[2], &[1, 2])], false),
+];
+
+fn is_checked(
+    rt: &impl Abort,
+    alloc: Global,
+    formula: &Cnf,
+    lines: &[Line],
+) -> Result<bool, NoMemory> {
+    let log = log_of(rt, alloc, lines)?;
+    check(alloc, formula, &log)
+}
+
 #[test]
-fn refutations_by_hand(rt: HostRuntime) -> Result<(), Fail> {
-    let alloc = rt.alloc();
-    let formula = formula(&rt, alloc)?;
-    let log = log_of(
-        alloc,
-        step(&rt, alloc, &[b()], &[1, 2])?,
-        step(&rt, alloc, &[], &[4, 3])?,
-    )?;
-    assert!(rt; check(alloc, &formula, &log)?);
-    assert!(rt; ends_empty(&log));
-    assert!(rt; fresh(alloc, &formula, &log)?);
-    let cases = [
-        ([1, 2, 3].as_slice(), true),
-        (&[1, 2], false),
-        (&[1, 2, 4], false),
-        (&[2, 1, 3], false),
-        (&[0], false),
-        (&[], false),
-    ];
-    for (hints, want) in cases {
-        let mut log = Log::new(alloc);
-        log.push(step(&rt, alloc, &[], hints)?)?;
-        assert_eq!(rt; check(alloc, &formula, &log)?, want);
+fn steps_follow_by_their_hints(rt: HostRuntime) -> Result<(), Fail> {
+    let formula = formula(&rt, rt.alloc())?;
+    for (at, (lines, want)) in FOLLOWING.iter().enumerate() {
+        assert_eq!(rt;
+            is_checked(&rt, rt.alloc(), &formula, lines)?,
+            *want,
+            "row {at}"
+        );
+    }
+    Ok(())
+}
+
+fn is_fresh(
+    rt: &impl Abort,
+    alloc: Global,
+    formula: &Cnf,
+    lines: &[Line],
+) -> Result<bool, NoMemory> {
+    let log = log_of(rt, alloc, lines)?;
+    fresh(alloc, formula, &log)
+}
+
+#[test]
+fn supersets_are_not_fresh(rt: HostRuntime) -> Result<(), Fail> {
+    let formula = formula(&rt, rt.alloc())?;
+    for (at, (lines, want)) in FRESH.iter().enumerate() {
+        assert_eq!(rt;
+            is_fresh(&rt, rt.alloc(), &formula, lines)?,
+            *want,
+            "row {at}"
+        );
     }
     Ok(())
 }
 
 #[test]
-fn hints_to_later_clauses_are_refused(rt: HostRuntime) -> Result<(), Fail> {
-    let alloc = rt.alloc();
-    let log = log_of(
-        alloc,
-        step(&rt, alloc, &[], &[5, 3])?,
-        step(&rt, alloc, &[b()], &[1, 2])?,
-    )?;
-    assert!(rt; !check(alloc, &formula(&rt, alloc)?, &log)?);
-    assert!(rt; !ends_empty(&log));
+fn a_refutation_ends_in_the_empty_clause(rt: HostRuntime) -> Result<(), Fail> {
+    for (at, (lines, want)) in ENDED.iter().enumerate() {
+        let log = log_of(&rt, rt.alloc(), lines)?;
+        assert_eq!(rt; ends_empty(&log), *want, "row {at}");
+    }
     Ok(())
 }
 
-#[test]
-fn supersets_are_not_fresh(rt: HostRuntime) -> Result<(), Fail> {
-    let alloc = rt.alloc();
-    let formula = formula(&rt, alloc)?;
-    let c = Lit::new(3, true);
-    let of_the_formula = log_of(
-        alloc,
-        step(&rt, alloc, &[b()], &[1, 2])?,
-        step(&rt, alloc, &[c, a()], &[1])?,
-    )?;
-    assert!(rt; !fresh(alloc, &formula, &of_the_formula)?);
-    let of_the_log = log_of(
-        alloc,
-        step(&rt, alloc, &[b()], &[1, 2])?,
-        step(&rt, alloc, &[b(), c], &[4])?,
-    )?;
-    assert!(rt; !fresh(alloc, &formula, &of_the_log)?);
-    Ok(())
+/// What is tried on a checker of the formula, in turn.
+enum Deed {
+    /// Whether this step may come next.
+    May(Line, bool),
+    /// This clause comes next.
+    Note(&'static [i32]),
 }
 
-// Whether a step of these literals and hints may come next.
+const DEEDS: &[Deed] = &[
+    Deed::May((&[2], &[1, 2]), true),
+    Deed::May((&[2], &[1]), false),
+    Deed::May((&[1], &[1]), false),
+    Deed::Note(&[2]),
+    Deed::May((&[2], &[1, 2]), false),
+    Deed::May((&[], &[4, 3]), true),
+    Deed::Note(&[]),
+];
+
+// Whether a step may come next.
 fn may_come(
     rt: &impl Abort,
     alloc: Global,
     checker: &mut Checker,
-    literals: &[Lit],
-    hints: &[usize],
+    line: &Line,
 ) -> Result<bool, NoMemory> {
-    let next = step(rt, alloc, literals, hints)?;
+    let next = step(rt, alloc, line)?;
     checker.may_come_next(&next)
 }
 
+fn note_next(
+    rt: &impl Abort,
+    alloc: Global,
+    checker: &mut Checker,
+    numbers: &[i32],
+) -> Result<(), NoMemory> {
+    let next = clause(rt, alloc, numbers)?;
+    checker.note(next.literals())
+}
+
+fn is_new(
+    rt: &impl Abort,
+    alloc: Global,
+    checker: &mut Checker,
+    numbers: &[i32],
+) -> Result<bool, NoMemory> {
+    let next = clause(rt, alloc, numbers)?;
+    checker.is_new(&next)
+}
+
 // What may come next to the formula, and to the two clauses that refute it.
-fn check_steps(rt: &impl Abort, alloc: Global, checker: &mut Checker) -> Result<(), NoMemory> {
-    assert!(rt; may_come(rt, alloc, checker, &[b()], &[1, 2])?);
-    assert!(rt; !may_come(rt, alloc, checker, &[b()], &[1])?);
-    assert!(rt; !may_come(rt, alloc, checker, &[a()], &[1])?);
-    checker.note(clause(rt, alloc, &[b()])?.literals())?;
-    assert!(rt; !may_come(rt, alloc, checker, &[b()], &[1, 2])?);
-    assert!(rt; may_come(rt, alloc, checker, &[], &[4, 3])?);
-    checker.note(clause(rt, alloc, &[])?.literals())?;
-    assert!(rt; !checker.is_new(&clause(rt, alloc, &[b()])?)?);
-    assert_eq!(rt; checker.clauses().len(), 5);
+fn check_deeds(rt: &impl Abort, alloc: Global, checker: &mut Checker) -> Result<(), NoMemory> {
+    for (at, deed) in DEEDS.iter().enumerate() {
+        match deed {
+            Deed::May(line, want) => {
+                assert_eq!(rt; may_come(rt, alloc, checker, line)?, *want, "deed {at}");
+            }
+            Deed::Note(numbers) => note_next(rt, alloc, checker, numbers)?,
+        }
+    }
+    assert!(rt; !is_new(rt, alloc, checker, &[2])?);
     Ok(())
 }
 
 #[test]
 fn steps_that_may_come_next(rt: HostRuntime) -> Result<(), Fail> {
-    let alloc = rt.alloc();
-    let mut checker = Checker::new(alloc, &formula(&rt, alloc)?)?;
-    check_steps(&rt, alloc, &mut checker)?;
+    let formula = formula(&rt, rt.alloc())?;
+    let mut checker = Checker::new(rt.alloc(), &formula)?;
+    check_deeds(&rt, rt.alloc(), &mut checker)?;
+    assert_eq!(rt; checker.clauses().len(), 5);
     Ok(())
 }

@@ -1,7 +1,7 @@
 //! People in a queue, each with another behind. No queue is so, since the last has nobody behind, and a search should see it
 //! soon.
 
-use crate::of_cdcl_core::{Kind, answered, clause};
+use crate::of_cdcl_core::{Kind, answered, push};
 use cnf_form::Cnf;
 use std::alloc::{AllocError as NoMemory, Global};
 use std::process::Abort;
@@ -30,9 +30,9 @@ fn push_circles(rt: &impl Abort, alloc: Global, formula: &mut Cnf) -> Result<(),
         );
         if a < b && b < c {
             let way = [is_ahead(a, b), is_ahead(b, c), is_ahead(c, a)];
-            formula.push(&clause(rt, alloc, &way)?)?;
+            push(rt, alloc, formula, &way)?;
             let other_way = [is_ahead(a, c), is_ahead(c, b), is_ahead(b, a)];
-            formula.push(&clause(rt, alloc, &other_way)?)?;
+            push(rt, alloc, formula, &other_way)?;
         }
     }
     Ok(())
@@ -45,7 +45,7 @@ fn push_neighbours(rt: &impl Abort, alloc: Global, formula: &mut Cnf) -> Result<
             .filter(|other| *other != one)
             .map(|other| is_ahead(one, other))
             .collect(alloc)?;
-        formula.push(&clause(rt, alloc, &numbers)?)?;
+        push(rt, alloc, formula, &numbers)?;
     }
     Ok(())
 }
@@ -54,9 +54,15 @@ fn push_neighbours(rt: &impl Abort, alloc: Global, formula: &mut Cnf) -> Result<
 fn push_pairs(rt: &impl Abort, alloc: Global, formula: &mut Cnf) -> Result<(), NoMemory> {
     for pair in 0..PAIRS {
         let first = 2 * i32::from(pair) + 1;
-        formula.push(&clause(rt, alloc, &[first, first + 1])?)?;
+        push(rt, alloc, formula, &[first, first + 1])?;
     }
     Ok(())
+}
+
+fn push_all(rt: &impl Abort, alloc: Global, formula: &mut Cnf) -> Result<(), NoMemory> {
+    push_pairs(rt, alloc, formula)?;
+    push_circles(rt, alloc, formula)?;
+    push_neighbours(rt, alloc, formula)
 }
 
 // Conflicts in the queue make its variables the most active, so the pairs have no part in the search, and it needs 83
@@ -66,9 +72,7 @@ fn push_pairs(rt: &impl Abort, alloc: Global, formula: &mut Cnf) -> Result<(), N
 fn each_queue_has_an_end(rt: HostRuntime) -> Result<(), Fail> {
     let alloc = rt.alloc();
     let mut queue = Cnf::new(alloc);
-    push_pairs(&rt, alloc, &mut queue)?;
-    push_circles(&rt, alloc, &mut queue)?;
-    push_neighbours(&rt, alloc, &mut queue)?;
-    assert_eq!(rt; answered(&rt, alloc, &queue, 160)?, Kind::Refuted);
+    push_all(&rt, alloc, &mut queue)?;
+    assert_eq!(rt; answered(alloc, &queue, 160)?, Some(Kind::Refuted));
     Ok(())
 }
