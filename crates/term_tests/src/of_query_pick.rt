@@ -7,14 +7,28 @@ use std::process::Abort;
 use std::test::Fail;
 use term_table::Terms;
 
-fn push(rt: &impl Abort, terms: &mut Terms, node: Node) -> Result<usize, NoMemory> {
-    assert!(rt; terms.fits(&node));
-    terms.push(node)
+// Puts these behind the others.
+fn push_all(rt: &impl Abort, terms: &mut Terms, nodes: &[Node]) -> Result<(), NoMemory> {
+    for node in nodes {
+        assert!(rt; terms.fits(node));
+        terms.push(*node)?;
+    }
+    Ok(())
 }
 
-fn byte(value: u64) -> Node {
-    Node::Num { width: 8, value }
-}
+/// Of the first of two bytes, at 4 that it is the letter, and at 6 that it isn't above it; and a product of the second.
+const TESTS: &[Node] = &[
+    Node::Input(0),
+    Node::Input(1),
+    Node::Num {
+        width: 8,
+        value: 65,
+    },
+    Node::Binary(BinaryOp::Mul, 1, 2),
+    Node::Compare(Comparison::Eq, 0, 2),
+    Node::Compare(Comparison::Ult, 2, 0),
+    Node::Not(5),
+];
 
 // A question of two terms of one bit, of which the first is asked twice.
 fn picked(
@@ -29,114 +43,93 @@ fn picked(
     pick(alloc, terms, &[first, second, first])
 }
 
-// Whether the question holds on these two bytes.
-fn holds(rt: &impl Abort, alloc: Global, query: &Query, input: [u8; 2]) -> Result<bool, NoMemory> {
-    assert!(rt; query.inputs() == 2);
-    query.holds(alloc, &input)
+// The question has the input byte, the letter, the two tests and the negation, and holds on the letter.
+fn is_of_tests(alloc: Global, query: &Query) -> Result<bool, NoMemory> {
+    Ok(
+        query.inputs() == 2
+            && query.dag().len() == 5
+            && query.asserted().len() == 3
+            && query.holds(alloc, &[65, 0])?
+            && !query.holds(alloc, &[64, 0])?
+            && !query.holds(alloc, &[66, 0])?,
+    )
 }
 
-// Of the first of two bytes, the terms that it isn't above the letter and that it is the letter; and a product of the second.
-fn push_tests(rt: &impl Abort, terms: &mut Terms) -> Result<(usize, usize), NoMemory> {
-    let first = push(rt, terms, Node::Input(0))?;
-    let other = push(rt, terms, Node::Input(1))?;
-    let letter = push(rt, terms, byte(65))?;
-    push(rt, terms, Node::Binary(BinaryOp::Mul, other, letter))?;
-    let is_letter = push(rt, terms, Node::Compare(Comparison::Eq, first, letter))?;
-    let above = push(rt, terms, Node::Compare(Comparison::Ult, letter, first))?;
-    let isnt_above = push(rt, terms, Node::Not(above))?;
-    Ok((isnt_above, is_letter))
+fn picks_tests(rt: &impl Abort, alloc: Global, terms: &Terms) -> Result<bool, NoMemory> {
+    let query = picked(rt, alloc, terms, 6, 4)?;
+    is_of_tests(alloc, &query)
 }
 
-// The question has the input byte, the letter, the two tests and the negation.
-fn check_tests(rt: &impl Abort, alloc: Global, query: &Query) -> Result<(), NoMemory> {
-    assert_eq!(rt; (query.dag().len(), query.asserted().len()), (5, 3));
-    for (input, want) in [([65, 0], true), ([64, 0], false), ([66, 0], false)] {
-        assert_eq!(rt; holds(rt, alloc, query, input)?, want);
-    }
-    Ok(())
+// Whether the question in which nothing is asked has no terms, and holds.
+fn picks_nothing(alloc: Global, terms: &Terms) -> Result<bool, NoMemory> {
+    let query = pick(alloc, terms, &[])?;
+    Ok(query.inputs() == 2 && query.dag().is_empty() && query.holds(alloc, &[7, 0])?)
 }
 
 #[test]
 fn only_what_is_asked_for_is_picked(rt: HostRuntime) -> Result<(), Fail> {
-    let alloc = rt.alloc();
-    let mut terms = Terms::new(alloc, 2);
-    let (isnt_above, is_letter) = push_tests(&rt, &mut terms)?;
-    let query = picked(&rt, alloc, &terms, isnt_above, is_letter)?;
-    check_tests(&rt, alloc, &query)?;
+    let mut terms = Terms::new(rt.alloc(), 2);
+    push_all(&rt, &mut terms, TESTS)?;
+    assert!(rt; picks_tests(&rt, rt.alloc(), &terms)? && picks_nothing(rt.alloc(), &terms)?);
     Ok(())
 }
 
-#[test]
-fn nothing_is_picked_where_nothing_is_asked(rt: HostRuntime) -> Result<(), Fail> {
-    let alloc = rt.alloc();
-    let mut terms = Terms::new(alloc, 2);
-    push(&rt, &mut terms, Node::Input(0))?;
-    let query = pick(alloc, &terms, &[])?;
-    assert!(rt; query.dag().is_empty());
-    assert!(rt; holds(&rt, alloc, &query, [7, 0])?);
-    Ok(())
-}
+/// Of the first of two bytes, at 3 the word that it is, and at 5 its sum with the letter; and the complement of the second.
+const WORDS: &[Node] = &[
+    Node::Input(1),
+    Node::Not(0),
+    Node::Input(0),
+    Node::Extend {
+        by: 24,
+        signed: true,
+        operand: 2,
+    },
+    Node::Num {
+        width: 8,
+        value: 65,
+    },
+    Node::Binary(BinaryOp::Add, 2, 4),
+];
 
-// Terms that are there, in a graph of their own.
-fn picked_terms(
-    rt: &impl Abort,
-    alloc: Global,
-    terms: &Terms,
-    first: usize,
-    second: usize,
-) -> Result<Picked, NoMemory> {
-    assert!(rt; first < terms.len() && second < terms.len());
-    pick_terms(alloc, terms, &[first, second])
-}
-
-// How wide a picked term is, and what it is worth on these two bytes.
-fn worth(
-    rt: &impl Abort,
+// Whether a picked term is so wide, and worth this on two bytes.
+fn is_worth(
     alloc: Global,
     picked: &Picked,
     index: usize,
-    input: [u8; 2],
-) -> Result<(u32, u64), NoMemory> {
-    assert!(rt; index < picked.ids.len() && picked.graph.inputs() == 2);
-    let id = picked.ids[index];
-    assert!(rt; id < picked.graph.len());
-    Ok((
-        picked.graph.width_of(id),
-        picked.graph.eval(alloc, id, &input)?,
-    ))
-}
-
-// Of the first of two bytes, its sum with the letter and the word that it is; and the complement of the second.
-fn push_words(rt: &impl Abort, terms: &mut Terms) -> Result<(usize, usize), NoMemory> {
-    let other = push(rt, terms, Node::Input(1))?;
-    push(rt, terms, Node::Not(other))?;
-    let first = push(rt, terms, Node::Input(0))?;
-    let extended = Node::Extend {
-        by: 24,
-        signed: true,
-        operand: first,
+    width: u32,
+    want: u64,
+) -> Result<bool, NoMemory> {
+    let Some(id) = picked.ids.get(index) else {
+        return Ok(false);
     };
-    let word = push(rt, terms, extended)?;
-    let letter = push(rt, terms, byte(65))?;
-    let sum = push(rt, terms, Node::Binary(BinaryOp::Add, first, letter))?;
-    Ok((sum, word))
+    let id = *id;
+    if id >= picked.graph.len() || picked.graph.inputs() != 2 {
+        return Ok(false);
+    }
+    let number = picked.graph.eval(alloc, id, &[0xc8, 7])?;
+    Ok(picked.graph.width_of(id) == width && number == want)
 }
 
 // The graph has the input byte, the word, the letter and the sum.
-fn check_words(rt: &impl Abort, alloc: Global, picked: &Picked) -> Result<(), NoMemory> {
-    assert_eq!(rt; (picked.graph.len(), picked.ids.len()), (4, 2));
-    let input = [0xc8, 7];
-    assert_eq!(rt; worth(rt, alloc, picked, 0, input)?, (8, 9));
-    assert_eq!(rt; worth(rt, alloc, picked, 1, input)?, (32, 0xffff_ffc8));
-    Ok(())
+fn is_of_words(alloc: Global, picked: &Picked) -> Result<bool, NoMemory> {
+    Ok(
+        picked.graph.len() == 4
+            && picked.ids.len() == 2
+            && is_worth(alloc, picked, 0, 8, 9)?
+            && is_worth(alloc, picked, 1, 32, 0xffff_ffc8)?,
+    )
+}
+
+fn picks_words(rt: &impl Abort, alloc: Global, terms: &Terms) -> Result<bool, NoMemory> {
+    assert!(rt; 5 < terms.len());
+    let picked = pick_terms(alloc, terms, &[5, 3])?;
+    is_of_words(alloc, &picked)
 }
 
 #[test]
 fn terms_of_other_widths_are_picked_together(rt: HostRuntime) -> Result<(), Fail> {
-    let alloc = rt.alloc();
-    let mut terms = Terms::new(alloc, 2);
-    let (sum, word) = push_words(&rt, &mut terms)?;
-    let picked = picked_terms(&rt, alloc, &terms, sum, word)?;
-    check_words(&rt, alloc, &picked)?;
+    let mut terms = Terms::new(rt.alloc(), 2);
+    push_all(&rt, &mut terms, WORDS)?;
+    assert!(rt; picks_words(&rt, rt.alloc(), &terms)?);
     Ok(())
 }

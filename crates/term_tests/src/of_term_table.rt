@@ -1,6 +1,4 @@
-//! Values from outside, and tables that share terms and go on differently.
-
-ghost use Rattle.std.specs.Prelude.{◌≡◌, ◌<◌, IfOk, OnOk, length};
+//! What terms of a table are worth: values from outside.
 
 use bv_dag::{BinaryOp, Node};
 use std::alloc::{AllocError as NoMemory, Global};
@@ -8,56 +6,42 @@ use std::process::Abort;
 use std::test::Fail;
 use term_table::Terms;
 
-fn push(rt: &impl Abort, terms: &mut Terms, node: Node) -> Result<usize, NoMemory>
-    ensures place { IfOk result (λ id. id < length terms.new.nodes) }
-    ensures inputs { OnOk result (terms.new.inputs ≡ terms.old.inputs) }
-{
-    assert!(rt; terms.fits(&node));
-    terms.push(node)
-}
+/// An input byte, a number, their sum and their difference.
+const TERMS: &[Node] = &[
+    Node::Input(0),
+    Node::Num { width: 8, value: 3 },
+    Node::Binary(BinaryOp::Add, 0, 1),
+    Node::Binary(BinaryOp::Sub, 1, 0),
+];
 
-// What workers share is `Send` and `Sync`.
-fn takes_shared<T: Send + Sync>(_value: &T) {}
-
-fn byte(value: u64) -> Node {
-    Node::Num { width: 8, value }
-}
-
-// One of two tables of an input byte and a number goes on with their sum, the other with their difference.
-fn go_on(
-    rt: &impl Abort,
-    alloc: Global,
-    one: &mut Terms,
-    other: &mut Terms,
-) -> Result<(), NoMemory> {
-    let sum = push(rt, one, Node::Binary(BinaryOp::Add, 0, 1))?;
-    let difference = push(rt, other, Node::Binary(BinaryOp::Sub, 1, 0))?;
-    assert_eq!(rt; (sum, difference), (2, 2));
-    assert_eq!(rt; (one.inputs(), other.inputs()), (1, 1));
-    assert_eq!(rt; one.value_of(alloc, sum, &[254])?, 1);
-    assert_eq!(rt; other.value_of(alloc, difference, &[5])?, 254);
-    assert_eq!(rt; one.width_of(sum), 8);
-    assert_eq!(rt; one.node(sum), Node::Binary(BinaryOp::Add, 0, 1));
+fn push_all(rt: &impl Abort, terms: &mut Terms) -> Result<(), NoMemory> {
+    for node in TERMS {
+        assert!(rt; terms.fits(node));
+        terms.push(*node)?;
+    }
     Ok(())
 }
 
-// One is cut, and the other has its three terms still.
-fn cut(rt: &impl Abort, one: &mut Terms, other: &Terms) {
-    assert_eq!(rt; one.len(), 3);
-    one.truncate(1);
-    assert!(rt; !one.fits(&Node::Not(1)));
-    assert_eq!(rt; other.len(), 3);
+// Whether a term is worth this on a byte.
+fn is_worth(
+    alloc: Global,
+    terms: &Terms,
+    id: usize,
+    input: u8,
+    want: u64,
+) -> Result<bool, NoMemory> {
+    if id >= terms.len() || terms.inputs() != 1 {
+        return Ok(false);
+    }
+    Ok(terms.value_of(alloc, id, &[input])? == want)
 }
 
 #[test]
-fn copies_go_on_differently(rt: HostRuntime) -> Result<(), Fail> {
-    let mut one = Terms::new(rt.alloc(), 1);
-    assert!(rt; one.is_empty());
-    push(&rt, &mut one, Node::Input(0))?;
-    push(&rt, &mut one, byte(3))?;
-    let mut other = one.share()?;
-    go_on(&rt, rt.alloc(), &mut one, &mut other)?;
-    cut(&rt, &mut one, &other);
-    takes_shared(&other);
+fn terms_are_worth_what_the_standard_says(rt: HostRuntime) -> Result<(), Fail> {
+    let mut terms = Terms::new(rt.alloc(), 1);
+    push_all(&rt, &mut terms)?;
+    assert!(rt;
+        is_worth(rt.alloc(), &terms, 2, 254, 1)? && is_worth(rt.alloc(), &terms, 3, 5, 254)?
+    );
     Ok(())
 }

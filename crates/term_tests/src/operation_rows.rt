@@ -1,7 +1,7 @@
 //! What the machine and the builder make of the same two numbers, in one table.
 
 use bv_dag::Node;
-use elf_load::{Region, Regions, fit, load};
+use elf_load::{Image, Region, Regions, fit, load};
 use row_files::row_file;
 use rv_decode::{Instr, RegisterOp, decode};
 use rv_machine::Machine;
@@ -14,8 +14,10 @@ use term_table::Terms;
 // Two pages of zeros.
 const DATA: u32 = 0x11000;
 
-// An instruction that makes x10 of x6 and x7, the two numbers, and the result.
-const ROWS: [(u32, u32, u32, u32); 27] = [
+/// An instruction that makes x10 of x6 and x7, the two numbers, and the result.
+type Row = (u32, u32, u32, u32);
+
+const ROWS: &[Row] = &[
     // MULHSU, MULHU, MULH
     (0x0273_2533, 0xFFFF_FFFF, 0xFFFF_FFFF, 0xFFFF_FFFF),
     (0x0273_3533, 0xFFFF_FFFF, 0xFFFF_FFFF, 0xFFFF_FFFE),
@@ -64,14 +66,8 @@ fn lower(number: u32) -> u32 {
     (number & 0xFFF) << 20 | 0x3_0313
 }
 
-// What the machine writes where it is to write the result's four bytes.
-fn on_machine(
-    rt: &impl Abort,
-    alloc: Global,
-    word: u32,
-    left: u32,
-    right: u32,
-) -> Result<Vec<u8>, Fail> {
+// The program that makes the numbers, x10 of them, and writes that.
+fn image_of(alloc: Global, word: u32, left: u32, right: u32) -> Result<Image, Fail> {
     let words = [
         upper(left),
         lower(left),
@@ -89,15 +85,27 @@ fn on_machine(
         0x0000_0073,
     ];
     let file = row_file(alloc, &words)?;
-    let image = load(alloc, file.as_slice())?;
+    Ok(load(alloc, file.as_slice())?)
+}
+
+// Whether a program writes these bytes in its twelve steps.
+fn writes(rt: &impl Abort, alloc: Global, image: &Image, want: &[u8]) -> Result<bool, NoMemory> {
     let region = Region {
         start: DATA + 16,
         count: 1,
     };
     let regions = Regions::from_vec(vec![in alloc; region]?);
-    assert!(rt; fit(&image, &regions).is_ok());
-    let ran = Machine::start(alloc, &image, &regions, &[0])?.run(12)?;
-    Ok(ran.output)
+    assert!(rt; fit(image, &regions).is_ok());
+    let ran = Machine::start(alloc, image, &regions, &[0])?.run(12)?;
+    Ok(ran.output.as_slice() == want)
+}
+
+// Whether the machine, where it is to write the result's four bytes, writes these.
+fn on_machine(rt: &impl Abort, alloc: Global, row: &Row) -> Result<bool, Fail> {
+    let (word, left, right, want) = *row;
+    let image = image_of(alloc, word, left, right)?;
+    let bytes = want.to_le_bytes();
+    Ok(writes(rt, alloc, &image, bytes.as_slice())?)
 }
 
 fn number(rt: &impl Abort, builder: &mut Builder, value: u32) -> Result<usize, NoMemory> {
@@ -109,6 +117,32 @@ fn number(rt: &impl Abort, builder: &mut Builder, value: u32) -> Result<usize, N
     builder.build(node)
 }
 
+// The place of what an operation makes of two numbers.
+fn combined(
+    rt: &impl Abort,
+    builder: &mut Builder,
+    op: RegisterOp,
+    left: u32,
+    right: u32,
+) -> Result<usize, NoMemory> {
+    let a = number(rt, builder, left)?;
+    let b = number(rt, builder, right)?;
+    assert!(rt; a < builder.len() && builder.terms().width_of(a) == 32);
+    assert!(rt; b < builder.len() && builder.terms().width_of(b) == 32);
+    builder.combined(op, a, b)
+}
+
+// The number at a place, if one stands there.
+fn number_at(builder: &Builder, id: usize) -> Option<u64> {
+    if id >= builder.len() {
+        return None;
+    }
+    match builder.terms().node(id) {
+        Node::Num { value, .. } => Some(value),
+        _ => None,
+    }
+}
+
 // The number that the builder makes of two.
 fn on_terms(
     rt: &impl Abort,
@@ -118,28 +152,16 @@ fn on_terms(
     right: u32,
 ) -> Result<Option<u64>, NoMemory> {
     let mut builder = Builder::new(Terms::new(alloc, 0));
-    let a = number(rt, &mut builder, left)?;
-    let b = number(rt, &mut builder, right)?;
-    assert!(rt; a < builder.len() && builder.terms().width_of(a) == 32);
-    assert!(rt; b < builder.len() && builder.terms().width_of(b) == 32);
-    let id = builder.combined(op, a, b)?;
-    assert!(rt; id < builder.len());
-    match builder.terms().node(id) {
-        Node::Num { value, .. } => Ok(Some(value)),
-        _ => Ok(None),
-    }
+    let id = combined(rt, &mut builder, op, left, right)?;
+    Ok(number_at(&builder, id))
 }
 
 #[test]
 fn the_machine_and_the_builder_compute_the_same(rt: HostRuntime) -> Result<(), Fail> {
     let alloc = rt.alloc();
-    for (i, &(word, left, right, want)) in ROWS.iter().enumerate() {
-        let written = on_machine(&rt, alloc, word, left, right)?;
-        assert_eq!(rt;
-            written.as_slice(),
-            want.to_le_bytes().as_slice(),
-            "in row {i}"
-        );
+    for (i, row) in ROWS.iter().enumerate() {
+        let (word, left, right, want) = *row;
+        assert!(rt; on_machine(&rt, alloc, row)?, "in row {i}");
         let Some(Instr::Binary { op, .. }) = decode(word) else {
             panic!(rt; "row {i} has no operation of two registers")
         };
