@@ -8,26 +8,60 @@ use std::sync::Wait;
 use std::test::Fail;
 use tool_io::Bytes;
 
-fn push(rt: &impl Abort, dag: &mut Dag, node: Node) -> Result<usize, NoMemory> {
-    assert!(rt; dag.fits(&node));
-    dag.push(node)
+/// Whether the one input byte is 65.
+const IS_65: &[Node] = &[
+    Node::Input(0),
+    Node::Num {
+        width: 8,
+        value: 65,
+    },
+    Node::Compare(Comparison::Eq, 0, 1),
+];
+
+fn push_all(rt: &impl Abort, dag: &mut Dag, nodes: &[Node]) -> Result<(), NoMemory> {
+    for node in nodes {
+        assert!(rt; dag.fits(node));
+        dag.push(*node)?;
+    }
+    Ok(())
 }
 
-// Whether the one input byte is this number.
-fn is_byte(rt: &impl Abort, alloc: Global, value: u64) -> Result<Query, NoMemory> {
+// Asks for a term to be 1.
+fn ask(rt: &impl Abort, query: &mut Query, id: usize) -> Result<(), NoMemory> {
+    assert!(rt; id < query.dag().len() && query.dag().width_of(id) == 1);
+    query.assert(id)
+}
+
+fn is_65(rt: &impl Abort, alloc: Global) -> Result<Query, NoMemory> {
     let mut dag = Dag::new(alloc, 1);
-    let input = push(rt, &mut dag, Node::Input(0))?;
-    let number = push(rt, &mut dag, Node::Num { width: 8, value })?;
-    let same = push(rt, &mut dag, Node::Compare(Comparison::Eq, input, number))?;
-    assert!(rt; same < dag.len());
-    assert_eq!(rt; dag.width_of(same), 1);
-    let mut query = Query::new(dag, vec![in alloc]?);
-    query.assert(same)?;
+    push_all(rt, &mut dag, IS_65)?;
+    let mut query = Query::new(dag, Vec::new(alloc));
+    ask(rt, &mut query, 2)?;
     Ok(query)
 }
 
 // What workers share is `Send` and `Sync`.
 fn takes_shared<T: Send + Sync>(_value: &T) {}
+
+fn offer(rt: &impl Wait, alloc: Global, pool: &Pool, byte: u8) -> Result<(), NoMemory> {
+    let sample = Bytes::from_slice(alloc, &[byte])?;
+    pool.offer(rt, sample)
+}
+
+// Whether just this is found.
+fn is_found(
+    alloc: Global,
+    pool: &Pool,
+    query: &Query,
+    want: Option<&[u8]>,
+) -> Result<bool, NoMemory> {
+    let found = pool.find(alloc, query)?;
+    let bytes = match &found {
+        Some(sample) => Some(sample.as_slice()),
+        None => None,
+    };
+    Ok(bytes == want)
+}
 
 // Of two samples that are offered, the one that meets a question is found.
 fn check_pool(
@@ -35,23 +69,20 @@ fn check_pool(
     alloc: Global,
     pool: &Pool,
     query: &Query,
-) -> Result<(), Fail> {
-    assert!(rt; pool.find(alloc, query)?.is_none());
-    pool.offer(rt, Bytes::from_slice(alloc, &[66])?)?;
-    assert!(rt; pool.find(alloc, query)?.is_none());
-    pool.offer(rt, Bytes::from_slice(alloc, &[65])?)?;
-    let Some(found) = pool.find(alloc, query)? else {
-        return Err(Fail::from("nothing is found"));
-    };
-    assert_eq!(rt; found.as_slice(), [65].as_slice());
+) -> Result<(), NoMemory> {
+    assert!(rt; is_found(alloc, pool, query, None)?);
+    offer(rt, alloc, pool, 66)?;
+    assert!(rt; is_found(alloc, pool, query, None)?);
+    offer(rt, alloc, pool, 65)?;
+    assert!(rt; is_found(alloc, pool, query, Some(&[65]))?);
     Ok(())
 }
 
 #[test]
 fn a_sample_is_offered_and_found(rt: HostRuntime) -> Result<(), Fail> {
-    let alloc = rt.alloc();
-    let pool = Pool::new(alloc)?;
+    let query = is_65(&rt, rt.alloc())?;
+    let pool = Pool::new(rt.alloc())?;
     takes_shared(&pool);
-    let query = is_byte(&rt, alloc, 65)?;
-    check_pool(&rt, alloc, &pool, &query)
+    check_pool(&rt, rt.alloc(), &pool, &query)?;
+    Ok(())
 }

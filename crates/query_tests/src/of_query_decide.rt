@@ -93,41 +93,60 @@ const DIFFERENCE: Row = Row {
     known: Known::Sat,
 };
 
-fn question(rt: &impl Abort, alloc: Global, row: &Row) -> Result<Query, NoMemory> {
-    let mut dag = Dag::new(alloc, 2);
-    for node in row.terms {
+const ROWS: &[Row] = &[TWO_SUMS, SQUARE, PARITIES, DIFFERENCE];
+
+// Puts these terms behind the others.
+fn push_all(rt: &impl Abort, dag: &mut Dag, nodes: &[Node]) -> Result<(), NoMemory> {
+    for node in nodes {
         assert!(rt; dag.fits(node));
         dag.push(*node)?;
     }
-    let mut query = Query::new(dag, Vec::new(alloc));
-    for place in row.asserted {
-        assert!(rt; *place < query.dag().len());
-        assert!(rt; query.dag().width_of(*place) == 1);
+    Ok(())
+}
+
+// Asks for these terms to be 1.
+fn ask_all(rt: &impl Abort, query: &mut Query, places: &[usize]) -> Result<(), NoMemory> {
+    for place in places {
+        assert!(rt; *place < query.dag().len() && query.dag().width_of(*place) == 1);
         query.assert(*place)?;
     }
+    Ok(())
+}
+
+fn question(rt: &impl Abort, alloc: Global, row: &Row) -> Result<Query, NoMemory> {
+    let mut dag = Dag::new(alloc, 2);
+    push_all(rt, &mut dag, row.terms)?;
+    let mut query = Query::new(dag, Vec::new(alloc));
+    ask_all(rt, &mut query, row.asserted)?;
     Ok(query)
 }
 
-// What is answered. What is found is tried.
-fn answered(rt: &impl Abort, alloc: Global, query: &Query, budget: u32) -> Result<Known, NoMemory> {
-    match decide(alloc, query, &[0x80], budget)? {
-        Decision::Sat(input) => {
-            assert!(rt; query.holds(alloc, input.as_slice())?);
-            Ok(Known::Sat)
-        }
-        Decision::Unsat => Ok(Known::Unsat),
-        Decision::Spent(log) => {
-            assert_eq!(rt; log.steps().len(), budget as usize);
-            Ok(Known::Spent)
-        }
-    }
+// What a decision says, where it shows it. What is found is tried.
+fn shown(
+    alloc: Global,
+    query: &Query,
+    budget: u32,
+    decision: &Decision,
+) -> Result<Option<Known>, NoMemory> {
+    let (shows, known) = match decision {
+        Decision::Sat(input) => (query.holds(alloc, input.as_slice())?, Known::Sat),
+        Decision::Unsat => (true, Known::Unsat),
+        Decision::Spent(log) => (log.steps().len() == budget as usize, Known::Spent),
+    };
+    Ok(if shows { Some(known) } else { None })
+}
+
+// What is decided of a row's question.
+fn answered(rt: &impl Abort, alloc: Global, row: &Row) -> Result<Option<Known>, NoMemory> {
+    let query = question(rt, alloc, row)?;
+    let decision = decide(alloc, &query, &[0x80], row.budget)?;
+    shown(alloc, &query, row.budget, &decision)
 }
 
 #[test]
 fn questions_have_the_known_answers(rt: HostRuntime) -> Result<(), Fail> {
-    for row in &[TWO_SUMS, SQUARE, PARITIES, DIFFERENCE] {
-        let query = question(&rt, rt.alloc(), row)?;
-        assert_eq!(rt; answered(&rt, rt.alloc(), &query, row.budget)?, row.known);
+    for row in ROWS {
+        assert_eq!(rt; answered(&rt, rt.alloc(), row)?, Some(row.known));
     }
     Ok(())
 }

@@ -4,7 +4,7 @@ ghost use Rattle.std.specs.Prelude.{◌≡◌, true, IsTrue, IfOk};
 ghost use Rattle.bv_dag.specs.Queries.{holds};
 ghost use Rattle.sym_state.specs.Symbolic.{condition_of};
 
-use elf_load::{Region, Regions, fit, load};
+use elf_load::{Image, Region, Regions, fit, load};
 use query_front::{Asked, Counts, Shared, ask};
 use query_pick::pick;
 use row_files::row_file;
@@ -28,13 +28,24 @@ const THIRD: u32 = 0x11002;
 /// Where the last of them does.
 const FOURTH: u32 = 0x11003;
 
-// The run of all assignments of a program of one ECALL.
-fn first(rt: &impl Abort, alloc: Global) -> Result<State, Fail> {
+// A program of one ECALL.
+fn image_of(alloc: Global) -> Result<Image, Fail> {
     let file = row_file(alloc, &[0x0000_0073])?;
-    let image = load(alloc, file.as_slice())?;
+    Ok(load(alloc, file.as_slice())?)
+}
+
+// The program, with the four bytes as its input.
+fn program(rt: &impl Abort, alloc: Global) -> Result<Program, Fail> {
+    let image = image_of(alloc)?;
     let regions = Regions::from_vec(Vec::from_slice(alloc, &[PLACES])?);
     assert!(rt; fit(&image, &regions).is_ok());
-    Ok(State::first(alloc, &Program::new(image, regions))?)
+    Ok(Program::new(image, regions))
+}
+
+// The run of all its assignments.
+fn first(rt: &impl Abort, alloc: Global) -> Result<State, Fail> {
+    let program = program(rt, alloc)?;
+    Ok(State::first(alloc, &program)?)
 }
 
 // The term that the last two bytes, the third lowest, pass a test against a number.
@@ -87,12 +98,28 @@ fn asked(
 
 /// Each question, and whether some bytes answer it: always 0, 0, 5 and 0. The first and the last are decided, the second was
 /// asked before, and the third is met by what the first found.
-const QUESTIONS: [(Test, u32, bool); 4] = [
+const QUESTIONS: &[(Test, u32, bool)] = &[
     (Test::Beq, 5, true),
     (Test::Beq, 5, true),
     (Test::Bne, 0, true),
     (Test::Bgeu, 65536, false),
 ];
+
+// Whether some bytes answer a question. They are always the same.
+fn is_met(
+    rt: &(impl Abort + Wait),
+    alloc: Global,
+    shared: &Shared,
+    state: &State,
+    test: Test,
+    number: u32,
+) -> Result<bool, Fail> {
+    let Some(bytes) = asked(rt, alloc, shared, state, test, number)? else {
+        return Ok(false);
+    };
+    assert_eq!(rt; bytes.as_slice(), [0, 0, 5, 0].as_slice());
+    Ok(true)
+}
 
 // What the questions find, asked of one run after the other.
 fn check_questions(
@@ -101,12 +128,8 @@ fn check_questions(
     shared: &Shared,
     state: &State,
 ) -> Result<(), Fail> {
-    for (test, number, is_met) in QUESTIONS {
-        let found = asked(rt, alloc, shared, state, test, number)?;
-        assert_eq!(rt; found.is_some(), is_met);
-        if let Some(bytes) = found {
-            assert_eq!(rt; bytes.as_slice(), [0, 0, 5, 0].as_slice());
-        }
+    for (test, number, want) in QUESTIONS {
+        assert_eq!(rt; is_met(rt, alloc, shared, state, *test, *number)?, *want);
     }
     Ok(())
 }

@@ -48,7 +48,7 @@ const DIFFERENCE: Term = Of(Sub, &B0, &B1);
 
 const SUM_WITH_SIGN: Term = Of(Add, &SIGNED_0, &SIGNED_1);
 
-pub const SUMS: [Row; 6] = [
+pub const SUMS: &[Row] = &[
     (
         Unsat,
         "a sum and a difference are both even or both odd",
@@ -104,7 +104,7 @@ const SQUARE_2: Term = Of(Mul, &Longer(12, &Low(3, &B2)), &Longer(12, &Low(3, &B
 
 const SQUARES: Term = Of(Add, &SQUARE_0, &SQUARE_1);
 
-pub const PRODUCTS: [Row; 8] = [
+pub const PRODUCTS: &[Row] = &[
     (
         Unsat,
         "251 is a prime",
@@ -165,7 +165,7 @@ const QUOTIENT: Term = Of(Udiv, &B0, &B1);
 
 const REMAINDER: Term = Of(Urem, &B0, &B1);
 
-pub const QUOTIENTS: [Row; 7] = [
+pub const QUOTIENTS: &[Row] = &[
     (
         Unsat,
         "30 by more than 9, and 9, is over 255",
@@ -217,7 +217,7 @@ const RIGHT: Term = Of(Lshr, &B0, &B1);
 
 const WITH_SIGN: Term = Of(Ashr, &B0, &B1);
 
-pub const SHIFTS: [Row; 7] = [
+pub const SHIFTS: &[Row] = &[
     (
         Unsat,
         "what was shifted up is even",
@@ -274,7 +274,7 @@ const GREATER: Term = If(&Is(Ult, &B0, &B1), &B1, &B0);
 
 const GREATEST: Term = If(&Is(Ult, &GREATER, &B2), &B2, &GREATER);
 
-pub const COMPARISONS: [Row; 8] = [
+pub const COMPARISONS: &[Row] = &[
     (
         Sat,
         "1 and 128, which is negative",

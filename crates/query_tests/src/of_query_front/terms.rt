@@ -29,8 +29,8 @@ pub enum Term {
     Join(&'static Term, &'static Term),
 }
 
-// The place of a term's node, behind those of its parts.
-fn push_term(rt: &impl Abort, dag: &mut Dag, term: &Term) -> Result<usize, NoMemory> {
+/// The place of a term's node, behind those of its parts.
+pub fn push_term(rt: &impl Abort, dag: &mut Dag, term: &Term) -> Result<usize, NoMemory> {
     let node = match *term {
         Term::Byte(place) => Node::Input(place),
         Term::Num(value) => Node::Num { width: 8, value },
@@ -67,6 +67,20 @@ fn push_term(rt: &impl Abort, dag: &mut Dag, term: &Term) -> Result<usize, NoMem
     dag.push(node)
 }
 
+// Puts these terms behind the others, and notes their places.
+fn push_terms(
+    rt: &impl Abort,
+    dag: &mut Dag,
+    places: &mut Vec<usize>,
+    terms: &[Term],
+) -> Result<(), NoMemory> {
+    for term in terms {
+        let place = push_term(rt, dag, term)?;
+        places.push(place)?;
+    }
+    Ok(())
+}
+
 /// A graph over so many input bytes that has these terms, and the places where they stand.
 pub fn graph_of(
     rt: &impl Abort,
@@ -76,8 +90,6 @@ pub fn graph_of(
 ) -> Result<(Dag, Vec<usize>), NoMemory> {
     let mut dag = Dag::new(alloc, inputs);
     let mut places = Vec::new(alloc);
-    for term in terms {
-        places.push(push_term(rt, &mut dag, term)?)?;
-    }
+    push_terms(rt, &mut dag, &mut places, terms)?;
     Ok((dag, places))
 }
