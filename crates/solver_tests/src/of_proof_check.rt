@@ -141,23 +141,15 @@ fn a_refutation_ends_in_the_empty_clause(rt: HostRuntime) -> Result<(), Fail> {
     Ok(())
 }
 
-/// What is tried on a checker of the formula, in turn.
-enum Deed {
-    /// Whether this step may come next.
-    May(Line, bool),
-    /// This clause comes next.
-    Note(&'static [i32]),
-}
-
-const DEEDS: &[Deed] = &[
-    Deed::May((&[2], &[1, 2]), true),
-    Deed::May((&[2], &[1]), false),
-    Deed::May((&[1], &[1]), false),
-    Deed::Note(&[2]),
-    Deed::May((&[2], &[1, 2]), false),
-    Deed::May((&[], &[4, 3]), true),
-    Deed::Note(&[]),
+/// Steps, and whether they may come next to the formula.
+const FIRST: &[(Line, bool)] = &[
+    ((&[2], &[1, 2]), true),
+    ((&[2], &[1]), false),
+    ((&[1], &[1]), false),
 ];
+
+/// The same with (2) behind it.
+const SECOND: &[(Line, bool)] = &[((&[2], &[1, 2]), false), ((&[], &[4, 3]), true)];
 
 // Whether a step may come next.
 fn may_come(
@@ -190,16 +182,27 @@ fn is_new(
     checker.is_new(&next)
 }
 
-// What may come next to the formula, and to the two clauses that refute it.
-fn check_deeds(rt: &impl Abort, alloc: Global, checker: &mut Checker) -> Result<(), NoMemory> {
-    for (at, deed) in DEEDS.iter().enumerate() {
-        match deed {
-            Deed::May(line, want) => {
-                assert_eq!(rt; may_come(rt, alloc, checker, line)?, *want, "deed {at}");
-            }
-            Deed::Note(numbers) => note_next(rt, alloc, checker, numbers)?,
+// Whether each step may come next just where its row says so.
+fn are_so(
+    rt: &impl Abort,
+    alloc: Global,
+    checker: &mut Checker,
+    rows: &[(Line, bool)],
+) -> Result<bool, NoMemory> {
+    for (line, want) in rows {
+        if may_come(rt, alloc, checker, line)? != *want {
+            return Ok(false);
         }
     }
+    Ok(true)
+}
+
+// What may come next to the formula, and to the clauses that refute it.
+fn check_steps(rt: &impl Abort, alloc: Global, checker: &mut Checker) -> Result<(), NoMemory> {
+    assert!(rt; are_so(rt, alloc, checker, FIRST)?);
+    note_next(rt, alloc, checker, &[2])?;
+    assert!(rt; are_so(rt, alloc, checker, SECOND)?);
+    note_next(rt, alloc, checker, &[])?;
     assert!(rt; !is_new(rt, alloc, checker, &[2])?);
     Ok(())
 }
@@ -208,7 +211,7 @@ fn check_deeds(rt: &impl Abort, alloc: Global, checker: &mut Checker) -> Result<
 fn steps_that_may_come_next(rt: HostRuntime) -> Result<(), Fail> {
     let formula = formula(&rt, rt.alloc())?;
     let mut checker = Checker::new(rt.alloc(), &formula)?;
-    check_deeds(&rt, rt.alloc(), &mut checker)?;
+    check_steps(&rt, rt.alloc(), &mut checker)?;
     assert_eq!(rt; checker.clauses().len(), 5);
     Ok(())
 }
