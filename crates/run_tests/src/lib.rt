@@ -7,3 +7,5 @@ mod of_node_split;
 mod of_sym_machine;
 #[cfg(test)]
 mod of_sym_state;
+#[cfg(test)]
+mod programs;

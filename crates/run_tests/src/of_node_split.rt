@@ -1,23 +1,16 @@
 //! What comes of the run of all assignments of some programs.
 
-use elf_load::{Region, Regions, fit, load};
+use crate::programs::program_of;
 use fork_tree::{Content, Parts, Work};
 use node_split::Worker;
 use query_front::Counts;
 use row_files::programs::{CALLED, DIVIDED, FORKED, STRAIGHT};
-use row_files::row_file;
 use std::alloc::Global;
 use std::process::Abort;
 use std::sync::Wait;
 use std::test::Fail;
-use sym_state::{LeafPart, Program, State};
+use sym_state::{LeafPart, State};
 use tree_core::{Budgets, Choice, Kid};
-
-/// The input byte of all of them.
-const INPUT: Region = Region {
-    start: 0x11000,
-    count: 1,
-};
 
 // It loads from an address to which it adds the low bit of twice its input byte, and exits: LUI x5, 0x11; LBU x7, 0(x5);
 // ADD x8, x7, x7; ANDI x8, x8, 1; ADD x5, x5, x8; LBU x6, 0(x5); ADDI x17, x0, 93; ECALL.
@@ -67,13 +60,9 @@ const ROWS: [(&[u32], u32, u32, Comes); 7] = [
 
 // The worker of the program of these words.
 fn made(rt: &impl Abort, alloc: Global, words: &[u32], budgets: Budgets) -> Result<Worker, Fail> {
-    assert!(rt; words.len() < 1000);
     assert!(rt; budgets.steps <= 1_000_000 && 1 <= budgets.targets);
-    let file = row_file(alloc, words)?;
-    let image = load(alloc, file.as_slice())?;
-    let regions = Regions::from_vec(Vec::from_slice(alloc, &[INPUT])?);
-    assert!(rt; fit(&image, &regions).is_ok());
-    Ok(Worker::new(alloc, Program::new(image, regions), budgets)?)
+    let program = program_of(rt, alloc, words)?;
+    Ok(Worker::new(alloc, program, budgets)?)
 }
 
 // What comes of the run of all assignments.
@@ -105,6 +94,29 @@ fn are(parts: &Parts<State, LeafPart>, comes: Comes) -> bool {
     }
 }
 
+// Whether this is what comes of the run of all assignments.
+fn comes_so(
+    rt: &(impl Abort + Wait),
+    alloc: Global,
+    worker: &Worker,
+    comes: Comes,
+) -> Result<bool, Fail> {
+    let parts = worked(rt, alloc, worker)?;
+    Ok(are(&parts, comes))
+}
+
+// Whether this is what comes of the run of all assignments of these words.
+fn words_come_so(
+    rt: &(impl Abort + Wait),
+    alloc: Global,
+    words: &[u32],
+    budgets: Budgets,
+    comes: Comes,
+) -> Result<bool, Fail> {
+    let worker = made(rt, alloc, words, budgets)?;
+    comes_so(rt, alloc, &worker, comes)
+}
+
 #[test]
 fn runs_go_on_until_they_fork_or_end(rt: HostRuntime) -> Result<(), Fail> {
     for (at, &(words, steps, targets, comes)) in ROWS.iter().enumerate() {
@@ -113,11 +125,18 @@ fn runs_go_on_until_they_fork_or_end(rt: HostRuntime) -> Result<(), Fail> {
             targets,
             conflicts: 0,
         };
-        let worker = made(&rt, rt.alloc(), words, budgets)?;
-        let parts = worked(&rt, rt.alloc(), &worker)?;
-        assert!(rt; are(&parts, comes), "row {at}");
+        let are = words_come_so(&rt, rt.alloc(), words, budgets, comes)?;
+        assert!(rt; are, "row {at}");
     }
     Ok(())
+}
+
+// What is counted of the questions of a run that is made three times.
+fn counted(rt: &(impl Abort + Wait), alloc: Global, worker: &Worker) -> Result<Counts, Fail> {
+    for _ in 0..3 {
+        drop(worked(rt, alloc, worker)?);
+    }
+    Ok(worker.counts())
 }
 
 // A branch asks about the side on which the sample isn't.
@@ -129,15 +148,12 @@ fn a_question_that_comes_again_is_counted_so(rt: HostRuntime) -> Result<(), Fail
         conflicts: 0,
     };
     let worker = made(&rt, rt.alloc(), &FORKED, budgets)?;
-    for _ in 0..3 {
-        drop(worked(&rt, rt.alloc(), &worker)?);
-    }
     let counts = Counts {
         cached: 2,
         sampled: 0,
         decided: 1,
         spent: 0,
     };
-    assert_eq!(rt; worker.counts(), counts);
+    assert!(rt; counted(&rt, rt.alloc(), &worker)? == counts);
     Ok(())
 }

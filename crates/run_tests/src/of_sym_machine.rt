@@ -1,29 +1,24 @@
 //! Where the run of all assignments of some programs stops first.
 
-use elf_load::{Region, Regions, fit, load};
+use crate::programs::program_of;
 use row_files::programs::{ADDED, CALLED, COUNTED, DIVIDED, FORKED, STORED, STRAIGHT};
-use row_files::row_file;
 use rv_decode::Trap;
 use std::alloc::Global;
 use std::process::Abort;
 use std::test::Fail;
-use sym_machine::{Advanced, RunEnd, Stop, advance};
-use sym_state::{Program, State};
+use sym_machine::{RunEnd, Stop, advance};
+use sym_state::State;
 
-/// The input byte of all of them.
-const INPUT: Region = Region {
-    start: 0x11000,
-    count: 1,
-};
-
-// A program of these words.
-fn program_of(rt: &impl Abort, alloc: Global, words: &[u32]) -> Result<Program, Fail> {
-    assert!(rt; words.len() < 1000);
-    let file = row_file(alloc, words)?;
-    let image = load(alloc, file.as_slice())?;
-    let regions = Regions::from_vec(Vec::from_slice(alloc, &[INPUT])?);
-    assert!(rt; fit(&image, &regions).is_ok());
-    Ok(Program::new(image, regions))
+fn name_of(stop: &Stop) -> &'static str {
+    match stop {
+        Stop::Branch { .. } => "branch",
+        Stop::Pin { place: 1, .. } => "pin",
+        Stop::Pin { .. } => "another pin",
+        Stop::Ended(RunEnd::Exits) => "exit",
+        Stop::Ended(RunEnd::Traps(Trap::Illegal)) => "illegal",
+        Stop::Ended(RunEnd::Traps(_)) => "trap",
+        Stop::Steps => "steps",
+    }
 }
 
 // A stop of the run of all assignments in words, and how many steps were made.
@@ -36,17 +31,8 @@ fn stops(
     let program = program_of(rt, alloc, words)?;
     let state = State::first(alloc, &program)?;
     assert!(rt; state.steps() <= most && most <= 1_000_000);
-    let Advanced { run, stop } = advance(&state, most)?;
-    let stop = match stop {
-        Stop::Branch { .. } => "branch",
-        Stop::Pin { place: 1, .. } => "pin",
-        Stop::Pin { .. } => "another pin",
-        Stop::Ended(RunEnd::Exits) => "exit",
-        Stop::Ended(RunEnd::Traps(Trap::Illegal)) => "illegal",
-        Stop::Ended(RunEnd::Traps(_)) => "trap",
-        Stop::Steps => "steps",
-    };
-    Ok((stop, run.steps()))
+    let advanced = advance(&state, most)?;
+    Ok((name_of(&advanced.stop), advanced.run.steps()))
 }
 
 /// Each row: a program, how many steps it may make, where it stops, and after how many. A branch on the input, its quotient or a
@@ -66,8 +52,9 @@ const ROWS: [(&[u32], u32, &str, u32); 10] = [
 
 #[test]
 fn a_run_stops_where_it_has_to_know(rt: HostRuntime) -> Result<(), Fail> {
-    for (words, most, stop, steps) in ROWS {
-        assert_eq!(rt; stops(&rt, rt.alloc(), words, most)?, (stop, steps));
+    for &(words, most, stop, steps) in &ROWS {
+        let (found, made) = stops(&rt, rt.alloc(), words, most)?;
+        assert!(rt; found == stop && made == steps, "{stop} after {steps}");
     }
     Ok(())
 }

@@ -1,9 +1,9 @@
 //! Where the run of all assignments has its input bytes.
 
+use crate::programs::image_of;
 use bv_dag::Node;
 use cow_pages::Byte;
-use elf_load::{Region, Regions, fit, load};
-use row_files::row_file;
+use elf_load::{Region, Regions, fit};
 use std::alloc::Global;
 use std::process::Abort;
 use std::test::Fail;
@@ -26,11 +26,11 @@ const REGIONS: [Region; 2] = [
 
 // The run of all assignments of a program of one ECALL.
 fn first(rt: &impl Abort, alloc: Global) -> Result<State, Fail> {
-    let file = row_file(alloc, &[0x0000_0073])?;
-    let image = load(alloc, file.as_slice())?;
     let regions = Regions::from_vec(Vec::from_slice(alloc, &REGIONS)?);
+    let image = image_of(rt, alloc, &[0x0000_0073])?;
     assert!(rt; fit(&image, &regions).is_ok());
-    Ok(State::first(alloc, &Program::new(image, regions))?)
+    let program = Program::new(image, regions);
+    Ok(State::first(alloc, &program)?)
 }
 
 // The input byte that memory has at an address, if it has one.
@@ -58,11 +58,15 @@ const INPUTS: [(u32, Option<usize>); 9] = [
     (0x11101, None),
 ];
 
+fn check_inputs(rt: &impl Abort, state: &State) {
+    for &(address, input) in &INPUTS {
+        assert!(rt; input_at(rt, state, address) == input, "at {address:x}");
+    }
+}
+
 #[test]
 fn inputs_stand_in_their_regions(rt: HostRuntime) -> Result<(), Fail> {
     let state = first(&rt, rt.alloc())?;
-    for (address, input) in INPUTS {
-        assert!(rt; input_at(&rt, &state, address) == input, "at {address:x}");
-    }
+    check_inputs(&rt, &state);
     Ok(())
 }
