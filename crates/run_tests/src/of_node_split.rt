@@ -29,7 +29,7 @@ const ALIKE: [u32; 8] = [
 const PARITY: [u32; 4] = [0x0001_12B7, 0x0002_C383, 0x0013_F893, 0x0000_0073];
 
 /// What comes of a run: a leaf after so many steps, or kids of these choices.
-#[derive(Clone, Copy, Debug)]
+#[derive(Clone, Copy)]
 enum Comes {
     Finished(u32),
     CutSteps(u32),
