@@ -1,17 +1,20 @@
 //! A worker of rungs, which climbs to a top, and the trees that it makes.
 
-ghost use Rattle.std.specs.Prelude.{◌≡◌, ℕ, ◌+◌, ◌-◌, ◌^◌, ◌<◌, ◌≤◌, ◌==◌, ◌++◌, ◌∷◌, [], IfOk, IsTrue, None, Some, if◌then◌else◌, true, false, length, nat_le, replicate};
+ghost use Rattle.std.specs.Prelude.{◌≡◌, ℕ, ◌+◌, ◌-◌, ◌^◌, ◌<◌, ◌≤◌, ◌==◌, ◌++◌, ◌∷◌, [], IfOk, IsTrue, None, OnOk, Some, if◌then◌else◌, true, false, length, nat_le, replicate};
 ghost use Rattle.rv_spec.specs.Decisions.{Side};
 ghost use Rattle.tree_core.specs.declared.cause.Cause.TheVariants.{Conflicts};
 ghost use Rattle.tree_core.specs.declared.choice.Choice.TheVariants.{No, Yes};
+ghost use Rattle.tree_core.specs.Cores.{held_count};
 ghost use Rattle.fork_spec.specs.Walks.{is_one_cut_at_most};
 ghost use Rattle.fork_spec.specs.Written.{side_of_kid};
+ghost use Rattle.fork_tree.specs.Calls.{IsOpening};
 ghost use Rattle.fork_tree.specs.Contents.{cut_in, place_in};
 ghost use Rattle.fork_tree.specs.Nodes.{StateIs};
 ghost use Rattle.fork_tree.specs.Works.{IsPart};
 
 use fork_tree::{Claim, Content, Parts, Placed, Tree, Work, drain};
 use std::alloc::{AllocError as NoMemory, Global};
+use std::process::Abort;
 use std::sync::{Arc, Wait};
 use std::test::Fail;
 use tree_core::{Cause, Choice, Kid, Status};
@@ -127,26 +130,37 @@ const GROUND: Rung = Rung {
     just: false,
 };
 
+// Whether this node is a leaf that was cut so.
+fn is_cut(tree: &Tree<Climber>, node: usize, cause: Option<Cause>) -> bool {
+    node < tree.len() && tree.status(node) == Status::Leaf && tree.leaf(node).cut == cause
+}
+
+// Three splits make six nodes. They, two finishes and a cut end six claims. The first side of the second rung is node 3, the
+// rung at the top node 6.
+fn has_three_rungs(tree: &Tree<Climber>) -> bool {
+    tree.len() == 7
+        && tree.nodes().len() == 7
+        && tree.events().len() == 12
+        && tree.worker().top == 3
+        && is_cut(tree, 1, None)
+        && is_cut(tree, 3, Some(Cause::Conflicts))
+        && is_cut(tree, 6, Some(Cause::Steps))
+}
+
+// Whether the tree is quiet once it's drained, and not before.
+fn comes_to_rest(rt: &impl Wait, alloc: Global, tree: &mut Tree<Climber>) -> Result<bool, NoMemory>
+    requires opening { IsOpening (record { from = 0; just = false }) tree.old.story }
+{
+    let early = tree.quiet();
+    drain(rt, alloc, tree, 0)?;
+    Ok(!early && tree.quiet())
+}
+
 #[test]
 fn drains(rt: HostRuntime) -> Result<(), Fail> {
     let mut tree = Tree::new(rt.alloc(), Climber { top: 3 }, GROUND, 1)?;
-    assert!(rt; !tree.quiet());
-    drain(&rt, rt.alloc(), &mut tree, 0)?;
-    assert!(rt; tree.quiet());
-    // Three splits make six nodes. They, two finishes and a cut end six claims.
-    assert_eq!(rt; tree.len(), 7);
-    assert_eq!(rt; tree.nodes().len(), 7);
-    assert_eq!(rt; tree.events().len(), 12);
-    assert_eq!(rt; tree.worker().top, 3);
-    // The first side of the second rung is node 3, the rung at the top node 6.
-    for (node, want) in [
-        (1, None),
-        (3, Some(Cause::Conflicts)),
-        (6, Some(Cause::Steps)),
-    ] {
-        assert!(rt; node < tree.len() && tree.status(node) == Status::Leaf);
-        assert_eq!(rt; tree.leaf(node).cut, want);
-    }
+    let rests = comes_to_rest(&rt, rt.alloc(), &mut tree)?;
+    assert!(rt; rests && has_three_rungs(&tree));
     Ok(())
 }
 
@@ -158,26 +172,57 @@ fn a_fork_into_65_sides_has_room(rt: HostRuntime) -> Result<(), Fail> {
     Ok(())
 }
 
-#[test]
-fn two_workers_take_turns(rt: HostRuntime) -> Result<(), Fail> {
-    let mut tree = Tree::new(rt.alloc(), Climber { top: 3 }, GROUND, 2)?;
+// The first worker claims the ground, and gives it back. Meanwhile the second finds nothing.
+fn claim_and_release(rt: &impl Abort, tree: &mut Tree<Climber>) -> Result<(), NoMemory>
+    requires opening { IsOpening (record { from = 0; just = false }) tree.old.story }
+    ensures none_held { OnOk result (held_count tree.new.story ≡ 0) }
+{
     tree.reserve(0)?;
     let Claim::Claimed(node, state) = tree.claim(0)? else {
         panic!(rt; "no node is free");
     };
-    assert_eq!(rt; *state, GROUND);
+    assert!(rt; *state == GROUND);
     tree.reserve(0)?;
     assert!(rt; matches!(tree.claim(1)?, Claim::Nothing));
     assert!(rt; !tree.quiet());
     tree.release(0, node);
-    assert_eq!(rt; tree.status(node), Status::Free);
-    // Where memory was refused, the next try goes on from what was entered.
-    if drain(&rt, rt.alloc(), &mut tree, 1).is_err() {
-        drain(&rt, rt.alloc(), &mut tree, 1)?;
+    assert!(rt; tree.status(node) == Status::Free);
+    Ok(())
+}
+
+// Where memory was refused, the next try goes on from what was entered.
+fn drain_twice(rt: &impl Wait, alloc: Global, tree: &mut Tree<Climber>) -> Result<(), NoMemory>
+    requires none_held { held_count tree.old.story ≡ 0 }
+{
+    if drain(rt, alloc, tree, 1).is_err() {
+        drain(rt, alloc, tree, 1)?;
     }
-    assert_eq!(rt; tree.len(), 7);
+    Ok(())
+}
+
+// Whether the first worker finds no node that is free or held.
+fn finds_quiet(tree: &mut Tree<Climber>) -> Result<bool, NoMemory> {
     tree.reserve(0)?;
-    assert!(rt; matches!(tree.claim(0)?, Claim::Quiet));
+    Ok(matches!(tree.claim(0)?, Claim::Quiet))
+}
+
+// Whether the tree is whole once the second worker has drained what the first gave back.
+fn are_turns_taken(
+    rt: &(impl Abort + Wait),
+    alloc: Global,
+    tree: &mut Tree<Climber>,
+) -> Result<bool, NoMemory>
+    requires opening { IsOpening (record { from = 0; just = false }) tree.old.story }
+{
+    claim_and_release(rt, tree)?;
+    drain_twice(rt, alloc, tree)?;
+    Ok(tree.len() == 7 && finds_quiet(tree)?)
+}
+
+#[test]
+fn two_workers_take_turns(rt: HostRuntime) -> Result<(), Fail> {
+    let mut tree = Tree::new(rt.alloc(), Climber { top: 3 }, GROUND, 2)?;
+    assert!(rt; are_turns_taken(&rt, rt.alloc(), &mut tree)?);
     Ok(())
 }
 
@@ -216,14 +261,23 @@ fn claimed(tree: &mut Tree<Beginner>, by: u32) -> Result<Option<usize>, NoMemory
     }
 }
 
+// The first worker frees both sides of the ground, and gives the first of them back.
+fn goes_on(rt: &impl Wait, alloc: Global, tree: &mut Tree<Beginner>) -> Result<bool, NoMemory>
+    requires opening { IsOpening (record { from = 0; just = false }) tree.old.story }
+{
+    let failed = drain(rt, alloc, tree, 0).is_err();
+    Ok(
+        failed
+            && claimed(tree, 1)? == Some(2)
+            && claimed(tree, 0)? == Some(1)
+            && claimed(tree, 1)? == None,
+    )
+}
+
 #[test]
 fn a_worker_goes_on_with_its_own(rt: HostRuntime) -> Result<(), Fail> {
     let climber = Climber { top: 3 };
     let mut tree = Tree::new(rt.alloc(), Beginner { climber }, GROUND, 2)?;
-    assert!(rt; drain(&rt, rt.alloc(), &mut tree, 0).is_err());
-    // The first worker freed both sides of the ground, and gave the first of them back.
-    assert_eq!(rt; claimed(&mut tree, 1)?, Some(2));
-    assert_eq!(rt; claimed(&mut tree, 0)?, Some(1));
-    assert_eq!(rt; claimed(&mut tree, 1)?, None);
+    assert!(rt; goes_on(&rt, rt.alloc(), &mut tree)?);
     Ok(())
 }

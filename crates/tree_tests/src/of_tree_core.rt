@@ -123,27 +123,97 @@ fn split(
 // What workers share is `Send` and `Sync`.
 fn takes_shared<T: Send + Sync>(_value: &T) {}
 
-fn not_now(node: usize, status: Status) -> Result<(), Refusal> {
-    Err(Refusal::NotNow { node, status })
+/// What a worker does with a node.
+#[derive(Clone, Copy)]
+enum Does {
+    Claim,
+    Release,
+    Finish,
+    Cut,
+    Split,
 }
+
+fn enter(
+    rt: &impl Abort,
+    alloc: Global,
+    core: &mut Core<Band>,
+    (by, node, does): (u32, usize, Does),
+) -> Result<(), Refusal> {
+    match does {
+        Does::Claim => claim(rt, core, by, node),
+        Does::Release => release(rt, core, by, node),
+        Does::Finish => finish(rt, core, by, node),
+        Does::Cut => cut(rt, core, by, node),
+        Does::Split => split(rt, alloc, core, by, node),
+    }
+}
+
+/// A worker, a node, what the one does with the other, and the status by which it's refused, if it is.
+type Row = (u32, usize, Does, Option<Status>);
+
+// Enters all rows, and says whether each is answered so.
+fn are_answered(rt: &impl Abort, alloc: Global, core: &mut Core<Band>, rows: &[Row]) -> bool {
+    let mut are = true;
+    for &(by, node, does, refuses) in rows {
+        let answer = enter(rt, alloc, core, (by, node, does));
+        are = are
+            && match refuses {
+                Some(status) => answer == Err(Refusal::NotNow { node, status }),
+                None => answer == Ok(()),
+            };
+    }
+    are
+}
+
+// Enters all rows, after which there are so many nodes and events.
+fn check_rows(
+    rt: &impl Abort,
+    alloc: Global,
+    core: &mut Core<Band>,
+    rows: &[Row],
+    counts: (usize, usize),
+) {
+    assert!(rt; are_answered(rt, alloc, core, rows));
+    assert_eq!(rt; (core.len(), core.events().len()), counts);
+}
+
+const CLAIMED: [Row; 2] = [
+    (1, 0, Does::Claim, None),
+    (2, 0, Does::Claim, Some(Status::Held(1))),
+];
+
+const HANDED_ON: [Row; 3] = [
+    (1, 0, Does::Release, None),
+    (2, 0, Does::Claim, None),
+    (1, 0, Does::Finish, Some(Status::Held(2))),
+];
+
+const ENDED: [Row; 2] = [
+    (2, 0, Does::Finish, None),
+    (1, 0, Does::Claim, Some(Status::Leaf)),
+];
 
 #[test]
 fn a_claim_is_one_workers(rt: HostRuntime) -> Result<(), Fail> {
     let mut core = Core::new(rt.alloc(), ALL, false)?;
     takes_shared(&core);
     core.reserve(2)?;
-    assert_eq!(rt; claim(&rt, &mut core, 1, 0), Ok(()));
-    assert_eq!(rt; claim(&rt, &mut core, 2, 0), not_now(0, Status::Held(1)));
-    assert_eq!(rt; core.events().len(), 1);
-    assert_eq!(rt; release(&rt, &mut core, 1, 0), Ok(()));
-    assert_eq!(rt; claim(&rt, &mut core, 2, 0), Ok(()));
-    assert_eq!(rt; finish(&rt, &mut core, 1, 0), not_now(0, Status::Held(2)));
-    assert_eq!(rt; core.events().len(), 3);
-    assert_eq!(rt; finish(&rt, &mut core, 2, 0), Ok(()));
-    assert_eq!(rt; claim(&rt, &mut core, 1, 0), not_now(0, Status::Leaf));
-    assert_eq!(rt; (core.len(), core.events().len()), (1, 4));
+    check_rows(&rt, rt.alloc(), &mut core, &CLAIMED, (1, 1));
+    check_rows(&rt, rt.alloc(), &mut core, &HANDED_ON, (1, 3));
+    check_rows(&rt, rt.alloc(), &mut core, &ENDED, (1, 4));
     Ok(())
 }
+
+const TOO_EARLY: [Row; 1] = [(7, 0, Does::Split, Some(Status::Free))];
+
+const PARTED: [Row; 4] = [
+    (7, 0, Does::Claim, None),
+    (7, 0, Does::Split, None),
+    (7, 0, Does::Claim, Some(Status::Parted)),
+    (7, 2, Does::Claim, Some(Status::Leaf)),
+];
+
+const CUT_AFTER: [Row; 2] = [(8, 1, Does::Claim, None), (8, 1, Does::Cut, None)];
 
 type Seen = (Status, Option<usize>, Option<Choice>, Option<Band>);
 
@@ -157,32 +227,30 @@ fn seen(rt: &impl Abort, core: &Core<Band>, node: usize) -> Seen {
     )
 }
 
+const LOW: Band = Band { low: 0, high: 4 };
+
+const HIGH: Band = Band { low: 4, high: 9 };
+
+const NODES: [Seen; 3] = [
+    (Status::Parted, None, None, None),
+    (Status::Leaf, Some(0), Some(Choice::No), Some(LOW)),
+    (Status::Leaf, Some(0), Some(Choice::Yes), Some(HIGH)),
+];
+
+// What is seen of each node.
+fn check_seen(rt: &impl Abort, core: &Core<Band>) {
+    for (node, &want) in NODES.iter().enumerate() {
+        assert!(rt; seen(rt, core, node) == want, "node {node}");
+    }
+}
+
 #[test]
 fn kids_stand_for_what_was_split(rt: HostRuntime) -> Result<(), Fail> {
-    let alloc = rt.alloc();
-    let mut core = Core::new(alloc, ALL, false)?;
-    assert_eq!(rt;
-        split(&rt, alloc, &mut core, 7, 0),
-        not_now(0, Status::Free)
-    );
-    assert_eq!(rt; core.len(), 1);
-    assert_eq!(rt; claim(&rt, &mut core, 7, 0), Ok(()));
-    assert_eq!(rt; split(&rt, alloc, &mut core, 7, 0), Ok(()));
-
-    assert_eq!(rt; claim(&rt, &mut core, 7, 0), not_now(0, Status::Parted));
-    assert_eq!(rt; claim(&rt, &mut core, 7, 2), not_now(2, Status::Leaf));
-    assert_eq!(rt; (core.len(), core.events().len()), (3, 2));
-    assert_eq!(rt; claim(&rt, &mut core, 8, 1), Ok(()));
-    assert_eq!(rt; cut(&rt, &mut core, 8, 1), Ok(()));
-
-    let (low, high) = (Band { low: 0, high: 4 }, Band { low: 4, high: 9 });
-    for (node, want) in [
-        (0, (Status::Parted, None, None, None)),
-        (1, (Status::Leaf, Some(0), Some(Choice::No), Some(low))),
-        (2, (Status::Leaf, Some(0), Some(Choice::Yes), Some(high))),
-    ] {
-        assert_eq!(rt; seen(&rt, &core, node), want);
-    }
+    let mut core = Core::new(rt.alloc(), ALL, false)?;
+    check_rows(&rt, rt.alloc(), &mut core, &TOO_EARLY, (1, 0));
+    check_rows(&rt, rt.alloc(), &mut core, &PARTED, (3, 2));
+    check_rows(&rt, rt.alloc(), &mut core, &CUT_AFTER, (3, 4));
+    check_seen(&rt, &core);
     Ok(())
 }
 
@@ -251,29 +319,54 @@ fn end(
     })
 }
 
+// The root holds a share of the first state. Once it's parted its share is gone, and its kid holds one of the second.
+fn part_root(
+    rt: &impl Abort,
+    alloc: Global,
+    core: &mut Core<Share>,
+    first: &Arc<u32, Global>,
+    second: &Arc<u32, Global>,
+) {
+    assert!(rt; claim(rt, core, 0, 0) == Ok(()));
+    assert!(rt; Arc::strong_count(first) == 2);
+    assert!(rt; pass_on(rt, alloc, core, 0, second) == Ok(()));
+    assert!(rt; Arc::strong_count(first) == 1 && Arc::strong_count(second) == 2);
+}
+
+// The kid holds its share until it's a leaf: then the share of its birth is gone, and that of the leaf is kept.
+fn end_kid(
+    rt: &impl Abort,
+    core: &mut Core<Share>,
+    second: &Arc<u32, Global>,
+    last: &Arc<u32, Global>,
+) {
+    assert!(rt; claim(rt, core, 0, 1) == Ok(()));
+    assert!(rt; release(rt, core, 0, 1) == Ok(()));
+    assert!(rt; claim(rt, core, 0, 1) == Ok(()));
+    assert!(rt; Arc::strong_count(second) == 2);
+    assert!(rt; end(rt, core, 1, last) == Ok(()));
+    assert!(rt; Arc::strong_count(second) == 1 && Arc::strong_count(last) == 2);
+}
+
+fn share_in_turn(
+    rt: &impl Abort,
+    alloc: Global,
+    first: &Arc<u32, Global>,
+    second: &Arc<u32, Global>,
+    last: &Arc<u32, Global>,
+) -> Result<(), Fail> {
+    let root = Share(Arc::try_clone(first)?);
+    let mut core = Core::new(alloc, root, false)?;
+    part_root(rt, alloc, &mut core, first, second);
+    end_kid(rt, &mut core, second, last);
+    Ok(())
+}
+
 #[test]
 fn what_a_node_held_is_let_go(rt: HostRuntime) -> Result<(), Fail> {
     let alloc = rt.alloc();
-    let (first, second, last) = (state(alloc)?, state(alloc)?, state(alloc)?);
-    let root = Share(Arc::try_clone(&first)?);
-    let mut core = Core::new(alloc, root, false)?;
-    assert_eq!(rt; claim(&rt, &mut core, 0, 0), Ok(()));
-    assert_eq!(rt; Arc::strong_count(&first), 2);
-    assert_eq!(rt; pass_on(&rt, alloc, &mut core, 0, &second), Ok(()));
-    // The root is parted: its share is gone.
-    assert_eq!(rt;
-        (Arc::strong_count(&first), Arc::strong_count(&second)),
-        (1, 2)
-    );
-    assert_eq!(rt; claim(&rt, &mut core, 0, 1), Ok(()));
-    assert_eq!(rt; release(&rt, &mut core, 0, 1), Ok(()));
-    assert_eq!(rt; claim(&rt, &mut core, 0, 1), Ok(()));
-    assert_eq!(rt; Arc::strong_count(&second), 2);
-    assert_eq!(rt; end(&rt, &mut core, 1, &last), Ok(()));
-    // The kid is a leaf: the share of its birth is gone, and that of the leaf is kept.
-    assert_eq!(rt;
-        (Arc::strong_count(&second), Arc::strong_count(&last)),
-        (1, 2)
-    );
-    Ok(())
+    let first = state(alloc)?;
+    let second = state(alloc)?;
+    let last = state(alloc)?;
+    share_in_turn(&rt, alloc, &first, &second, &last)
 }

@@ -116,12 +116,11 @@ fn note_by_two<R: Threads + Wait + Sync>(
     Ok((end_two(lock, first, second), a, b))
 }
 
-#[test]
-fn two_threads_note_in_turns(rt: HostRuntime) -> Result<(), Fail> {
-    let (tally, a, b) = note_by_two(&rt, rt.alloc(), 7, 100, 0)?;
+// Whether the notes of each of two threads are the numbers below 100, in order.
+fn are_in_order(notes: &[Note]) -> bool {
     let mut next = [0u32; 2];
     let mut in_order = true;
-    for note in tally.notes() {
+    for note in notes {
         if note.by == 0 {
             in_order = in_order && note.value == next[0];
             next[0] = next[0].wrapping_add(1);
@@ -130,18 +129,21 @@ fn two_threads_note_in_turns(rt: HostRuntime) -> Result<(), Fail> {
             next[1] = next[1].wrapping_add(1);
         }
     }
-    assert!(rt; in_order);
-    assert_eq!(rt; next, [100, 100]);
-    assert_eq!(rt;
-        (tally.title(), a, b, tally.notes().len()),
-        (7, 100, 100, 200)
-    );
+    in_order && next == [100, 100]
+}
+
+#[test]
+fn two_threads_note_in_turns(rt: HostRuntime) -> Result<(), Fail> {
+    let (tally, a, b) = note_by_two(&rt, rt.alloc(), 7, 100, 0)?;
+    let is_titled = tally.title() == 7;
+    let is_full = a == 100 && b == 100 && tally.notes().len() == 200;
+    assert!(rt; is_titled && is_full && are_in_order(tally.notes()));
     Ok(())
 }
 
 #[test]
 fn long_turns_are_waited_for(rt: HostRuntime) -> Result<(), Fail> {
     let (tally, a, b) = note_by_two(&rt, rt.alloc(), 7, 3, 100_000)?;
-    assert_eq!(rt; (a, b, tally.notes().len()), (3, 3, 6));
+    assert!(rt; a == 3 && b == 3 && tally.notes().len() == 6);
     Ok(())
 }

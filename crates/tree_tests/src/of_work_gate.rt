@@ -3,14 +3,21 @@
 use std::thread::join;
 use work_gate::{Gate, MeetGate, Next, Point};
 
+fn goes(gate: &MeetGate, worker: u32, point: Point) -> bool {
+    gate.reached(worker, point) == Next::Go
+}
+
+fn all_go(gate: &MeetGate) -> bool {
+    goes(gate, 0, Point::AfterClaim)
+        && goes(gate, 0, Point::Working)
+        && goes(gate, 0, Point::BeforeGive)
+        && goes(gate, 1, Point::Idle)
+}
+
 #[test]
 fn the_first_and_other_points_pass(rt: HostRuntime) {
     let gate = MeetGate::new();
-    assert_eq!(rt; gate.reached(0, Point::AfterClaim), Next::Go);
-    assert_eq!(rt; gate.reached(0, Point::Working), Next::Go);
-    assert_eq!(rt; gate.reached(0, Point::BeforeGive), Next::Go);
-    assert_eq!(rt; gate.reached(1, Point::Idle), Next::Go);
-    assert!(rt; !gate.have_met() && !gate.was_limit_reached());
+    assert!(rt; all_go(&gate) && !gate.have_met() && !gate.was_limit_reached());
 }
 
 #[test]

@@ -1,6 +1,6 @@
 //! A card that is drawn once, of three, and the trees that several workers make of it.
 
-ghost use Rattle.std.specs.Prelude.{◌≡◌, ◌==◌, ◌∷◌, [], IfOk, None, Some, false, if◌then◌else◌, length, min, true};
+ghost use Rattle.std.specs.Prelude.{◌≡◌, ◌≤◌, ◌==◌, ◌∷◌, [], IfOk, None, Some, false, if◌then◌else◌, length, min, true};
 ghost use Rattle.rv_spec.specs.Decisions.{Number};
 ghost use Rattle.tree_core.specs.declared.choice.Choice.TheVariants.{Value};
 ghost use Rattle.fork_tree.specs.Nodes.{StateIs};
@@ -9,6 +9,8 @@ use fork_tree::{Content, Parts, Placed, Tree, Work};
 use std::alloc::{AllocError as NoMemory, Global};
 use std::sync::{Arc, Wait};
 use std::test::Fail;
+use std::thread::Threads;
+use std::time::Clock;
 use tree_core::{Choice, Deed, Kid, Status};
 use work_gate::{DropGate, Gate, Next, OpenGate, Point};
 use work_run::{Lent, explore};
@@ -131,21 +133,28 @@ fn has_each_leaf(tree: &Tree<Lent<'_, Dealer>>) -> bool {
 #[test]
 fn four_workers_make_each_leaf(rt: HostRuntime) -> Result<(), Fail> {
     let tree = explore(&rt, rt.alloc(), &Dealer, WHOLE, 4, &OpenGate)?;
-    assert!(rt; has_each_leaf(&tree));
     // A claim and its end for each node.
-    assert_eq!(rt; tree.events().len(), 8);
-    assert_eq!(rt; releases(&tree), 0);
+    let events = tree.events().len();
+    assert!(rt; has_each_leaf(&tree) && events == 8 && releases(&tree) == 0);
     Ok(())
+}
+
+// Whether so many workers, each of which leaves once, make each leaf and release what they left.
+fn is_left_worked<R: Threads + Wait + Clock + Sync>(
+    rt: &R,
+    alloc: Global,
+    workers: u32,
+) -> Result<bool, NoMemory>
+    requires { 1 ≤ workers }
+{
+    let tree = explore(rt, alloc, &Dealer, WHOLE, workers, &Leaving)?;
+    Ok(has_each_leaf(&tree) && releases(&tree) == workers as usize)
 }
 
 #[test]
 fn what_workers_leave_is_worked(rt: HostRuntime) -> Result<(), Fail> {
-    let one = explore(&rt, rt.alloc(), &Dealer, WHOLE, 1, &Leaving)?;
-    assert!(rt; has_each_leaf(&one));
-    assert_eq!(rt; releases(&one), 1);
-    let all = explore(&rt, rt.alloc(), &Dealer, WHOLE, 4, &Leaving)?;
-    assert!(rt; has_each_leaf(&all));
-    assert_eq!(rt; releases(&all), 4);
+    assert!(rt; is_left_worked(&rt, rt.alloc(), 1)?);
+    assert!(rt; is_left_worked(&rt, rt.alloc(), 4)?);
     Ok(())
 }
 
@@ -156,8 +165,7 @@ fn a_worker_may_leave_behind_its_claim(rt: HostRuntime) -> Result<(), Fail> {
         point: Point::AfterClaim,
     };
     let tree = explore(&rt, rt.alloc(), &Dealer, WHOLE, 1, &gate)?;
-    assert!(rt; has_each_leaf(&tree));
-    assert_eq!(rt; releases(&tree), 1);
+    assert!(rt; has_each_leaf(&tree) && releases(&tree) == 1);
     Ok(())
 }
 
@@ -168,8 +176,7 @@ fn a_worker_may_leave_behind_a_give(rt: HostRuntime) -> Result<(), Fail> {
         point: Point::AfterGive,
     };
     let tree = explore(&rt, rt.alloc(), &Dealer, WHOLE, 1, &gate)?;
-    assert!(rt; has_each_leaf(&tree));
-    // Of the card that it claimed in the same turn.
-    assert_eq!(rt; releases(&tree), 1);
+    // The card that it claimed in the same turn is released.
+    assert!(rt; has_each_leaf(&tree) && releases(&tree) == 1);
     Ok(())
 }
