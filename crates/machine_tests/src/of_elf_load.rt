@@ -2,6 +2,7 @@
 
 use elf_load::*;
 use std::alloc::Global;
+use std::process::Abort;
 use std::test::Fail;
 
 // The header, a program header for the code, one for 512 bytes of data, and the code.
@@ -115,8 +116,14 @@ fn file(alloc: Global, length: usize, edits: &[(usize, u8)]) -> Result<Vec<u8>, 
     Ok(bytes)
 }
 
-fn answer(alloc: Global, bytes: &[u8]) -> Result<Option<Refused>, Fail> {
-    match load(alloc, bytes) {
+fn image_of(alloc: Global, edits: &[(usize, u8)]) -> Result<Image, Fail> {
+    let bytes = file(alloc, WHOLE, edits)?;
+    Ok(load(alloc, &bytes)?)
+}
+
+fn answer(alloc: Global, length: usize, edits: &[(usize, u8)]) -> Result<Option<Refused>, Fail> {
+    let bytes = file(alloc, length, edits)?;
+    match load(alloc, &bytes) {
         Ok(_) => Ok(None),
         Err(LoadError::Refused(refused)) => Ok(Some(refused)),
         Err(LoadError::NoMemory) => Err(Fail::from("no memory")),
@@ -126,8 +133,8 @@ fn answer(alloc: Global, bytes: &[u8]) -> Result<Option<Refused>, Fail> {
 #[test]
 fn answers(rt: HostRuntime) -> Result<(), Fail> {
     for (i, &(length, edits, wanted)) in ROWS.iter().enumerate() {
-        let bytes = file(rt.alloc(), length, edits)?;
-        assert_eq!(rt; answer(rt.alloc(), &bytes)?, wanted, "in row {i}");
+        let found = answer(rt.alloc(), length, edits)?;
+        assert!(rt; found == wanted, "in row {i}");
     }
     Ok(())
 }
@@ -152,63 +159,76 @@ const BYTES: [(u32, Option<u8>); 8] = [
     (0x7FFF_FFFF, Some(0)),
 ];
 
+fn check_pages(rt: &impl Abort, image: &Image, pages: &[(u32, Option<u8>)]) {
+    for &(page, wanted) in pages {
+        assert!(rt; image.flags(page) == wanted, "on page {page}");
+    }
+}
+
+fn check_bytes(rt: &impl Abort, image: &Image, bytes: &[(u32, Option<u8>)]) {
+    for &(address, wanted) in bytes {
+        assert!(rt; image.byte(address) == wanted, "at {address}");
+    }
+}
+
 #[test]
 fn an_image(rt: HostRuntime) -> Result<(), Fail> {
-    let bytes = file(rt.alloc(), WHOLE, &[])?;
-    let image = load(rt.alloc(), &bytes).ok().ok_or("the file loads")?;
-    assert_eq!(rt; image.entry(), 0x10000);
-    for (page, wanted) in PAGES {
-        assert_eq!(rt; image.flags(page), wanted, "on page {page}");
-    }
-    for (address, wanted) in BYTES {
-        assert_eq!(rt; image.byte(address), wanted, "at {address}");
-    }
+    let image = image_of(rt.alloc(), &[])?;
+    assert!(rt; image.entry() == 0x10000);
+    check_pages(&rt, &image, &PAGES);
+    check_bytes(&rt, &image, &BYTES);
     Ok(())
 }
 
 // The second segment begins on the first's page, and the first has bits set that say nothing.
+const SHARED: [(usize, u8); 4] = [(92, 12), (93, 0), (76, 0xFC), (108, 2)];
+
+const SHARED_PAGES: [(u32, Option<u8>); 3] = [(0x100, Some(6)), (0x102, Some(2)), (0x103, None)];
+
+const SHARED_BYTES: [(u32, Option<u8>); 2] = [(0x10008, Some(0x73)), (0x1000C, Some(0))];
+
 #[test]
 fn a_shared_page(rt: HostRuntime) -> Result<(), Fail> {
-    let edits = [(92, 12), (93, 0), (76, 0xFC), (108, 2)];
-    let bytes = file(rt.alloc(), WHOLE, &edits)?;
-    let image = load(rt.alloc(), &bytes).ok().ok_or("the file loads")?;
-    for (page, wanted) in [(0x100, Some(6)), (0x102, Some(2)), (0x103, None)] {
-        assert_eq!(rt; image.flags(page), wanted, "on page {page}");
+    let image = image_of(rt.alloc(), &SHARED)?;
+    check_pages(&rt, &image, &SHARED_PAGES);
+    check_bytes(&rt, &image, &SHARED_BYTES);
+    Ok(())
+}
+
+// Starts and counts of regions, and whether they fit.
+const REGION_ROWS: [(&[(u32, u32)], Result<(), Unfit>); 10] = [
+    (&[], Ok(())),
+    (&[(0x11000, 256)], Ok(())),
+    (&[(0x11000, 1), (0x11001, 1), (0x110FF, 2)], Ok(())),
+    (&[(0x11000, 1); 9], Err(Unfit::TooMany)),
+    (&[(0x11000, 0)], Err(Unfit::Empty)),
+    (&[(0x11000, 257)], Err(Unfit::TooLong)),
+    (&[(0x12000, 1)], Err(Unfit::Unmapped)),
+    (&[(0x111FF, 2)], Err(Unfit::Unmapped)),
+    (&[(0xFFFF_FFFF, 2)], Err(Unfit::Unmapped)),
+    (&[(0x11000, 1), (0x11000, 1)], Err(Unfit::Overlap)),
+];
+
+fn regions_of(alloc: Global, pairs: &[(u32, u32)]) -> Result<Regions, Fail> {
+    let mut items = Vec::new(alloc);
+    for &(start, count) in pairs {
+        items.push(Region { start, count })?;
     }
-    for (address, wanted) in [(0x10008, Some(0x73)), (0x1000C, Some(0))] {
-        assert_eq!(rt; image.byte(address), wanted, "at {address}");
+    Ok(Regions::from_vec(items))
+}
+
+fn check_regions(rt: &impl Abort, alloc: Global, image: &Image) -> Result<(), Fail> {
+    for (i, &(pairs, wanted)) in REGION_ROWS.iter().enumerate() {
+        let regions = regions_of(alloc, pairs)?;
+        assert!(rt; fit(image, &regions) == wanted, "in row {i}");
     }
     Ok(())
 }
 
 #[test]
 fn regions(rt: HostRuntime) -> Result<(), Fail> {
-    let rows: [(&[(u32, u32)], Result<(), Unfit>); 10] = [
-        (&[], Ok(())),
-        (&[(0x11000, 256)], Ok(())),
-        (&[(0x11000, 1), (0x11001, 1), (0x110FF, 2)], Ok(())),
-        (&[(0x11000, 1); 9], Err(Unfit::TooMany)),
-        (&[(0x11000, 0)], Err(Unfit::Empty)),
-        (&[(0x11000, 257)], Err(Unfit::TooLong)),
-        (&[(0x12000, 1)], Err(Unfit::Unmapped)),
-        (&[(0x111FF, 2)], Err(Unfit::Unmapped)),
-        (&[(0xFFFF_FFFF, 2)], Err(Unfit::Unmapped)),
-        (&[(0x11000, 1), (0x11000, 1)], Err(Unfit::Overlap)),
-    ];
-    let bytes = file(rt.alloc(), WHOLE, &[])?;
-    let image = load(rt.alloc(), &bytes).ok().ok_or("the file loads")?;
-    for (i, &(pairs, wanted)) in rows.iter().enumerate() {
-        let mut items = Vec::new(rt.alloc());
-        for &(start, count) in pairs {
-            items.push(Region { start, count })?;
-        }
-        assert_eq!(rt;
-            fit(&image, &Regions::from_vec(items)),
-            wanted,
-            "in row {i}"
-        );
-    }
-    Ok(())
+    let image = image_of(rt.alloc(), &[])?;
+    check_regions(&rt, rt.alloc(), &image)
 }
 
 #[test]

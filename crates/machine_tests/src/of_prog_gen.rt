@@ -1,7 +1,10 @@
 //! The program of number 1, word by word, and whether all load.
 
+ghost use Rattle.std.specs.Prelude.{◌≤◌};
+
 use elf_load::{fit, load};
-use prog_gen::generate;
+use prog_gen::{Generated, generate};
+use std::alloc::{AllocError as NoMemory, Global};
 use std::test::Fail;
 
 // Of number 1, whose only byte has the bound 1 + 11.
@@ -23,30 +26,49 @@ const FIRST: [u32; 15] = [
     0x0000_0073,
 ];
 
-#[test]
-fn the_first_program(rt: HostRuntime) -> Result<(), Fail> {
-    let generated = generate(rt.alloc(), 1)?;
-    let file = generated.file.as_slice();
-    let mut code = Vec::new(rt.alloc());
+fn code(alloc: Global) -> Result<Vec<u8>, NoMemory> {
+    let mut code = Vec::new(alloc);
     for word in &FIRST {
         code.extend_from_slice(&word.to_le_bytes())?;
     }
-    assert_eq!(rt; file.len(), 116 + 4 * 15);
-    assert!(rt; file.ends_with(&code));
+    Ok(code)
+}
+
+// Whether a file of this length ends with the code of number 1.
+fn is_first(alloc: Global, file: &[u8]) -> Result<bool, NoMemory> {
+    let code = code(alloc)?;
+    Ok(file.len() == 116 + 4 * 15 && file.ends_with(&code))
+}
+
+#[test]
+fn the_first_program(rt: HostRuntime) -> Result<(), Fail> {
+    let generated = generate(rt.alloc(), 1)?;
+    assert!(rt; is_first(rt.alloc(), generated.file.as_slice())?);
     Ok(())
+}
+
+// Whether it loads, its regions fit, and it has the last byte of its data, and not the one behind.
+fn is_fit(alloc: Global, generated: &Generated) -> Result<bool, Fail> {
+    let image = load(alloc, generated.file.as_slice())?;
+    Ok(
+        fit(&image, &generated.regions).is_ok()
+            && image.byte(0x0011_0FFF) == Some(0)
+            && image.byte(0x0011_1000) == None,
+    )
+}
+
+fn is_number_fit(alloc: Global, number: u32) -> Result<bool, Fail>
+    requires least { 1 ≤ number }
+    requires most { number ≤ 12 }
+{
+    let generated = generate(alloc, number)?;
+    is_fit(alloc, &generated)
 }
 
 #[test]
 fn each_program_loads(rt: HostRuntime) -> Result<(), Fail> {
     for number in 1..13 {
-        let generated = generate(rt.alloc(), number)?;
-        let image = load(rt.alloc(), generated.file.as_slice())
-            .ok()
-            .ok_or("the file loads")?;
-        assert_eq!(rt; fit(&image, &generated.regions), Ok(()), "number {number}");
-        // The last byte of its data, and the one behind.
-        assert_eq!(rt; image.byte(0x0011_0FFF), Some(0));
-        assert_eq!(rt; image.byte(0x0011_1000), None);
+        assert!(rt; is_number_fit(rt.alloc(), number)?, "number {number}");
     }
     Ok(())
 }

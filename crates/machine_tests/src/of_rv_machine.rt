@@ -3,8 +3,8 @@
 use elf_load::{Image, Region, Regions, fit, load};
 use row_files::row_file;
 use rv_decode::{End, PathStep, Trap};
-use rv_machine::{Machine, Step};
-use std::alloc::Global;
+use rv_machine::{Machine, Ran, Step};
+use std::alloc::{AllocError as NoMemory, Global};
 use std::process::Abort;
 use std::test::Fail;
 
@@ -364,7 +364,18 @@ fn image(alloc: Global, entry: u32, words: &[u32]) -> Result<Image, Fail> {
     Ok(image)
 }
 
-// The machine before its first step, at this entry, with the input byte at 0x11000.
+// The machine before its first step, with the input byte at 0x11000.
+fn started(rt: &impl Abort, alloc: Global, image: &Image, input: u8) -> Result<Machine, Fail> {
+    let region = Region {
+        start: DATA,
+        count: 1,
+    };
+    let regions = Regions::from_vec(vec![in alloc; region]?);
+    assert!(rt; fit(image, &regions).is_ok());
+    Ok(Machine::start(alloc, image, &regions, &[input])?)
+}
+
+// The machine before its first step, at this entry.
 fn machine_at(
     rt: &impl Abort,
     alloc: Global,
@@ -373,61 +384,81 @@ fn machine_at(
     input: u8,
 ) -> Result<Machine, Fail> {
     let image = image(alloc, entry, words)?;
-    let region = Region {
-        start: DATA,
-        count: 1,
-    };
-    let regions = Regions::from_vec(vec![in alloc; region]?);
-    assert!(rt; fit(&image, &regions).is_ok());
-    Ok(Machine::start(alloc, &image, &regions, &[input])?)
+    started(rt, alloc, &image, input)
 }
 
-fn machine(rt: &impl Abort, alloc: Global, words: &[u32], input: u8) -> Result<Machine, Fail> {
-    machine_at(rt, alloc, CODE, words, input)
+// The account of a run of so many steps at most.
+fn run(rt: &impl Abort, alloc: Global, words: &[u32], input: u8, most: u32) -> Result<Ran, Fail> {
+    let machine = machine_at(rt, alloc, CODE, words, input)?;
+    Ok(machine.run(most)?)
+}
+
+// Whether a program runs as its row has it.
+fn runs_so(rt: &impl Abort, alloc: Global, row: &Row) -> Result<bool, Fail> {
+    let &(words, input, end, steps, path, output) = row;
+    let ran = run(rt, alloc, words, input, 100)?;
+    Ok(
+        ran.end == end
+            && ran.steps == steps
+            && ran.path.as_slice() == path
+            && ran.output.as_slice() == output,
+    )
 }
 
 #[test]
 fn programs_run_to_their_ends(rt: HostRuntime) -> Result<(), Fail> {
-    let alloc = rt.alloc();
-    for (i, &(words, input, end, steps, path, output)) in ROWS.iter().enumerate() {
-        let ran = machine(&rt, alloc, words, input)?.run(100)?;
-        assert_eq!(rt; (ran.end, ran.steps), (end, steps), "in row {i}");
-        assert_eq!(rt; ran.path.as_slice(), path, "in row {i}");
-        assert_eq!(rt; ran.output.as_slice(), output, "in row {i}");
+    for (i, row) in ROWS.iter().enumerate() {
+        assert!(rt; runs_so(&rt, rt.alloc(), row)?, "in row {i}");
     }
     Ok(())
+}
+
+// How the program ends that does this operation on -7 and 2, and exits with what comes of it.
+fn end_of(rt: &impl Abort, alloc: Global, word: u32) -> Result<Option<End>, Fail> {
+    let words = [0xFF90_0313, 0x0020_0393, word, 0x05D0_0893, 0x0000_0073];
+    let ran = run(rt, alloc, &words, 0, 5)?;
+    Ok(ran.end)
 }
 
 #[test]
 fn operations_compute(rt: HostRuntime) -> Result<(), Fail> {
-    let alloc = rt.alloc();
     for (i, &(word, status)) in OPERATIONS.iter().enumerate() {
-        let words = [0xFF90_0313, 0x0020_0393, word, 0x05D0_0893, 0x0000_0073];
-        let ran = machine(&rt, alloc, &words, 0)?.run(5)?;
-        assert_eq!(rt; ran.end, Some(End::Exit(status)), "in row {i}");
+        let end = end_of(&rt, rt.alloc(), word)?;
+        assert!(rt; end == Some(End::Exit(status)), "in row {i}");
     }
     Ok(())
+}
+
+// Whether this branch on -7 and 2 is the third step, and does this.
+fn branches_so(rt: &impl Abort, alloc: Global, word: u32, step: PathStep) -> Result<bool, Fail> {
+    let words = [0xFF90_0313, 0x0020_0393, word];
+    let ran = run(rt, alloc, &words, 0, 3)?;
+    Ok(ran.path.as_slice() == [step].as_slice() && ran.end == None && ran.steps == 3)
 }
 
 #[test]
 fn branches_compare(rt: HostRuntime) -> Result<(), Fail> {
-    let alloc = rt.alloc();
     for (i, &(word, step)) in BRANCHES.iter().enumerate() {
-        let ran = machine(&rt, alloc, &[0xFF90_0313, 0x0020_0393, word], 0)?.run(3)?;
-        assert_eq!(rt; ran.path.as_slice(), [step].as_slice(), "in row {i}");
-        assert_eq!(rt; (ran.end, ran.steps), (None, 3), "in row {i}");
+        assert!(rt; branches_so(&rt, rt.alloc(), word, step)?, "in row {i}");
     }
     Ok(())
 }
 
+// Whether a machine that hasn't ended ends so, and answers it again.
+fn ends_so(machine: &mut Machine, end: End) -> Result<bool, NoMemory> {
+    Ok(
+        machine.end() == None
+            && machine.step()? == Step::Ended(end)
+            && machine.step()? == Step::Ended(end),
+    )
+}
+
 #[test]
 fn an_end_is_answered_again(rt: HostRuntime) -> Result<(), Fail> {
-    let mut machine = machine_at(&rt, rt.alloc(), CODE + 2, &[0, 0], 0)?;
     let end = End::Trapped(Trap::FetchMisaligned);
-    assert_eq!(rt; machine.end(), None);
-    assert_eq!(rt; machine.step()?, Step::Ended(end));
-    assert_eq!(rt; machine.step()?, Step::Ended(end));
+    let mut machine = machine_at(&rt, rt.alloc(), CODE + 2, &[0, 0], 0)?;
+    let ends = ends_so(&mut machine, end)?;
     let ran = machine.run(100)?;
-    assert_eq!(rt; (ran.end, ran.steps), (Some(end), 0));
+    assert!(rt; ends && ran.end == Some(end) && ran.steps == 0);
     Ok(())
 }
