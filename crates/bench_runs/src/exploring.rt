@@ -1,38 +1,25 @@
-//! What an exploration comes to: how many leaves there are, how many of them each budget cut, and by what the questions of the
-//! runs were answered. It makes no report, and writes no file. On standard error it says how long its call of `explore` took.
-//!
-//! - `words`: the words of the command line
-//! - `ends`: how the leaves end
-#![tactic(auto)]
-
-mod ends;
-mod words;
+//! Explorations: how many leaves there are, how many of them each budget cut, and by what the questions of the runs were answered. No
+//! report is made, and no file is written. On standard error it is said how long the call of `explore` took.
 
 ghost use Rattle.std.specs.Prelude.{◌≤◌, IfOk};
 ghost use Rattle.tool_words.specs.Limits.{IsBudgets};
 
 use crate::ends::{count_cut, ends_of};
-use crate::words::{Job, read_job};
+use crate::files::read_file;
+use crate::limits::read_exploration;
 use anyhow::{Result, bail};
 use elf_load::{Region, Regions, fit, load};
 use fork_spec::LeafEnd;
 use node_split::{Counts, Worker};
 use std::alloc::Global;
-use std::rt::Env;
+use std::rt;
 use std::sync::Wait;
 use std::thread::Threads;
 use std::time::{Clock, Duration, Instant};
-use std::{env, io};
 use sym_state::{Program, State};
-use tool_io::{Files, HostFiles};
 use tree_core::{Budgets, Cause};
 use work_gate::OpenGate;
 use work_run::explore;
-
-const USAGE: &str = "PROGRAM ADDRESS:COUNT STEPS TARGETS CONFLICTS WORKERS";
-
-// The most bytes of a program's file that are read, which is one more than it may have.
-const MOST_BYTES: usize = 1_048_577;
 
 // The worker of the program in these bytes.
 fn worker_of(alloc: Global, bytes: &[u8], input: Region, budgets: Budgets) -> Result<Worker>
@@ -79,26 +66,18 @@ fn print_line(rt: &impl Print, ends: &[LeafEnd], counts: Counts) -> Result<()> {
     Ok(())
 }
 
-// The words behind the name of the program.
-fn gather<R: Env + AllocGlobal>(rt: &R) -> io::Result<Vec<String>> {
-    let mut words = Vec::new(rt.alloc());
-    for word in env::args(rt)?.skip(1) {
-        words.push(word)?;
-    }
-    Ok(words)
-}
-
-fn main(rt: HostRuntime) -> Result<()> {
+/// What the exploration of these words comes to.
+pub fn print_explored<R: rt::Files + Print + Eprint + AllocGlobal + Threads + Wait + Clock + Sync>(
+    rt: &R,
+    words: &[String],
+) -> Result<()> {
     let alloc = rt.alloc();
-    let words = gather(&rt)?;
-    let Some(job) = read_job(&words) else {
-        bail!("the words are: {USAGE}");
+    let Some(job) = read_exploration(words) else {
+        bail!("these words explore nothing");
     };
-    let Ok(bytes) = HostFiles::new(&rt, alloc).read(job.program, MOST_BYTES) else {
-        bail!("{} can't be read", job.program);
-    };
+    let bytes = read_file(rt, job.program)?;
     let worker = worker_of(alloc, bytes.as_slice(), job.input, job.budgets)?;
-    let (ends, time) = explored(&rt, alloc, &worker, job.workers)?;
+    let (ends, time) = explored(rt, alloc, &worker, job.workers)?;
     eprintln!(rt; "explored in {} microseconds", time.as_micros())?;
-    print_line(&rt, &ends, worker.counts())
+    print_line(rt, &ends, worker.counts())
 }

@@ -1,4 +1,4 @@
-//! The words of the command line.
+//! The words of an exploration.
 
 ghost use Rattle.std.specs.Prelude.{IfSome};
 ghost use Rattle.tool_words.specs.Limits.{IsBudgets, IsWithin, workers_limit};
@@ -9,7 +9,7 @@ use tree_core::Budgets;
 
 /// What is to be explored.
 #[derive(Clone, Copy, Debug)]
-pub struct Job<'a> {
+pub struct Exploration<'a> {
     /// The name of the program's file.
     pub program: &'a str,
     /// Where its input bytes stand.
@@ -49,15 +49,15 @@ fn read_budgets(steps: &str, targets: &str, conflicts: &str) -> Option<Budgets>
     })
 }
 
-/// The job of the words, or none.
-pub fn read_job(words: &[String]) -> Option<Job<'_>>
+/// The exploration of the words, or none.
+pub fn read_exploration(words: &[String]) -> Option<Exploration<'_>>
     ensures budgets { IfSome result (λ job. IsBudgets job.budgets) }
     ensures workers { IfSome result (λ job. IsWithin workers_limit job.workers) }
 {
     let [program, input, steps, targets, conflicts, workers] = words else {
         return None;
     };
-    Some(Job {
+    Some(Exploration {
         program,
         input: read_region(input)?,
         budgets: read_budgets(steps, targets, conflicts)?,

@@ -1,0 +1,53 @@
+; rvklee leaf 1
+; kind steps
+; choices .
+; path .
+; steps 0
+; end running
+; inputs 6
+; nodes 33
+; outputs 0
+(set-logic QF_ABV)
+(declare-fun b0 () (_ BitVec 8))
+(declare-fun b1 () (_ BitVec 8))
+(declare-fun b2 () (_ BitVec 8))
+(declare-fun b3 () (_ BitVec 8))
+(declare-fun b4 () (_ BitVec 8))
+(declare-fun b5 () (_ BitVec 8))
+(declare-fun base () (Array (_ BitVec 8) (_ BitVec 8)))
+(define-fun n0 () (_ BitVec 32) (_ bv2166136261 32))
+(define-fun n1 () (_ BitVec 8) b0)
+(define-fun n2 () (_ BitVec 32) ((_ zero_extend 24) n1))
+(define-fun n3 () (_ BitVec 32) (bvxor n0 n2))
+(define-fun n4 () (_ BitVec 32) (_ bv16777619 32))
+(define-fun n5 () (_ BitVec 32) (bvmul n3 n4))
+(define-fun n6 () (_ BitVec 8) b1)
+(define-fun n7 () (_ BitVec 32) ((_ zero_extend 24) n6))
+(define-fun n8 () (_ BitVec 32) (bvxor n5 n7))
+(define-fun n9 () (_ BitVec 32) (_ bv16777619 32))
+(define-fun n10 () (_ BitVec 32) (bvmul n8 n9))
+(define-fun n11 () (_ BitVec 8) b2)
+(define-fun n12 () (_ BitVec 32) ((_ zero_extend 24) n11))
+(define-fun n13 () (_ BitVec 32) (bvxor n10 n12))
+(define-fun n14 () (_ BitVec 32) (_ bv16777619 32))
+(define-fun n15 () (_ BitVec 32) (bvmul n13 n14))
+(define-fun n16 () (_ BitVec 8) b3)
+(define-fun n17 () (_ BitVec 32) ((_ zero_extend 24) n16))
+(define-fun n18 () (_ BitVec 32) (bvxor n15 n17))
+(define-fun n19 () (_ BitVec 32) (_ bv16777619 32))
+(define-fun n20 () (_ BitVec 32) (bvmul n18 n19))
+(define-fun n21 () (_ BitVec 8) b4)
+(define-fun n22 () (_ BitVec 32) ((_ zero_extend 24) n21))
+(define-fun n23 () (_ BitVec 32) (bvxor n20 n22))
+(define-fun n24 () (_ BitVec 32) (_ bv16777619 32))
+(define-fun n25 () (_ BitVec 32) (bvmul n23 n24))
+(define-fun n26 () (_ BitVec 8) b5)
+(define-fun n27 () (_ BitVec 32) ((_ zero_extend 24) n26))
+(define-fun n28 () (_ BitVec 32) (bvxor n25 n27))
+(define-fun n29 () (_ BitVec 32) (_ bv16777619 32))
+(define-fun n30 () (_ BitVec 32) (bvmul n28 n29))
+(define-fun n31 () (_ BitVec 32) (_ bv3214735720 32))
+(define-fun n32 () (_ BitVec 1) (ite (= n30 n31) (_ bv1 1) (_ bv0 1)))
+(assert (= n32 (_ bv1 1)))
+(check-sat)
+(exit)

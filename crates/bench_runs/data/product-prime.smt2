@@ -1,0 +1,23 @@
+; rvklee leaf 1
+; kind steps
+; choices .
+; path .
+; steps 0
+; end running
+; inputs 2
+; nodes 7
+; outputs 0
+(set-logic QF_ABV)
+(declare-fun b0 () (_ BitVec 8))
+(declare-fun b1 () (_ BitVec 8))
+(declare-fun base () (Array (_ BitVec 8) (_ BitVec 8)))
+(define-fun n0 () (_ BitVec 8) b0)
+(define-fun n1 () (_ BitVec 32) ((_ zero_extend 24) n0))
+(define-fun n2 () (_ BitVec 8) b1)
+(define-fun n3 () (_ BitVec 32) ((_ zero_extend 24) n2))
+(define-fun n4 () (_ BitVec 32) (bvmul n1 n3))
+(define-fun n5 () (_ BitVec 32) (_ bv65011 32))
+(define-fun n6 () (_ BitVec 1) (ite (= n4 n5) (_ bv1 1) (_ bv0 1)))
+(assert (= n6 (_ bv1 1)))
+(check-sat)
+(exit)
