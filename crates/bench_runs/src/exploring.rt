@@ -6,7 +6,7 @@ ghost use Rattle.tool_words.specs.Limits.{IsBudgets};
 
 use crate::ends::{count_cut, ends_of};
 use crate::files::read_file;
-use crate::limits::read_exploration;
+use crate::limits::{Exploration, read_exploration};
 use anyhow::{Result, bail};
 use elf_load::{Region, Regions, fit, load};
 use fork_spec::LeafEnd;
@@ -66,18 +66,37 @@ fn print_line(rt: &impl Print, ends: &[LeafEnd], counts: Counts) -> Result<()> {
     Ok(())
 }
 
+// The worker of the program that is to be explored.
+fn worker_for<R: rt::Files + Print + AllocGlobal>(rt: &R, job: Exploration<'_>) -> Result<Worker>
+    requires { IsBudgets job.budgets }
+    ensures { IfOk result (λ worker. IsBudgets worker.budgets) }
+{
+    let bytes = read_file(rt, job.program)?;
+    worker_of(rt.alloc(), bytes.as_slice(), job.input, job.budgets)
+}
+
+// Explores by so many workers, and prints what it comes to.
+fn print_run<R: Print + Eprint + AllocGlobal + Threads + Wait + Clock + Sync>(
+    rt: &R,
+    worker: &Worker,
+    workers: u32,
+) -> Result<()>
+    requires within { IsBudgets worker.now.budgets }
+    requires some { 1 ≤ workers }
+{
+    let (ends, time) = explored(rt, rt.alloc(), worker, workers)?;
+    eprintln!(rt; "explored in {} microseconds", time.as_micros())?;
+    print_line(rt, &ends, worker.counts())
+}
+
 /// What the exploration of these words comes to.
 pub fn print_explored<R: rt::Files + Print + Eprint + AllocGlobal + Threads + Wait + Clock + Sync>(
     rt: &R,
     words: &[String],
 ) -> Result<()> {
-    let alloc = rt.alloc();
     let Some(job) = read_exploration(words) else {
         bail!("these words explore nothing");
     };
-    let bytes = read_file(rt, job.program)?;
-    let worker = worker_of(alloc, bytes.as_slice(), job.input, job.budgets)?;
-    let (ends, time) = explored(rt, alloc, &worker, job.workers)?;
-    eprintln!(rt; "explored in {} microseconds", time.as_micros())?;
-    print_line(rt, &ends, worker.counts())
+    let worker = worker_for(rt, job)?;
+    print_run(rt, &worker, job.workers)
 }
