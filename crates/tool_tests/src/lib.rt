@@ -1,7 +1,17 @@
-//! Tests over whole runs of the tool.
+//! Tests of the texts that are read and written, and over whole runs of the tool.
 #![tactic(auto)]
 
+#[cfg(test)]
+mod of_replay_core;
+#[cfg(test)]
+mod of_report_text;
+#[cfg(test)]
+mod of_smt_text;
+#[cfg(test)]
+mod of_test_files;
 #[cfg(test)]
 mod of_tool_io;
 #[cfg(test)]
 mod of_tool_top;
+#[cfg(test)]
+mod of_tool_words;

@@ -1,6 +1,6 @@
 use Rattle.std.proofs.Common.{◌≡◌, ◌≤◌, ◌+◌, false, length}
 use Rattle.turn_lock.specs.Passes.{known, IsPassOf, IsSamePass}
-use Rattle.tree_tests.proofs.of_turn_lock.note_all.Given as goal
+use Rattle.run_tests.proofs.of_turn_lock.note_all.Given as goal
 
 abbrev pub invariant-loop-value : goal.invariant-loop-value
 invariant-loop-value g l = record {

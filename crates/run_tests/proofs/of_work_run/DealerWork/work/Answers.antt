@@ -17,8 +17,8 @@ use Rattle.fork_tree.specs.Nodes.{StateIs}
 use Rattle.fork_tree.specs.Works.{IsPart, IsSplit, Rules}
 use Rattle.fork_tree.specs.declared.content.Content.{Content}
 use Rattle.fork_tree.specs.declared.content.Content.TheVariants.{Open, Shut}
-use Rattle.tree_tests.specs.declared.of_work_run.Draw.{Draw}
-use Rattle.tree_tests.proofs.of_work_run.DealerWork.work.Goals as goal
+use Rattle.run_tests.specs.declared.of_work_run.Draw.{Draw}
+use Rattle.run_tests.proofs.of_work_run.DealerWork.work.Goals as goal
 
 abbrev draw_place : Draw → Place
 draw_place d = record {

@@ -1,10 +1,10 @@
 use Rattle.std.proofs.Common.{ℕ, List, ◌≤◌, sym, ap, subst, ◌∙◌}
 use Rattle.turn_lock.specs.declared.known.Known.{Known}
-use Rattle.tree_tests.specs.declared.tally.Note.{Note}
+use Rattle.run_tests.specs.declared.tally.Note.{Note}
 use Rattle.turn_lock.specs.Growth.{by_number}
 use Rattle.turn_lock.specs.Passes.{known, AllEnded, AreOf}
 use Rattle.turn_lock.proofs.Ends.{two_ended, second_list, no_list}
-use Rattle.tree_tests.proofs.of_turn_lock.end_two.Goals as goal
+use Rattle.run_tests.proofs.of_turn_lock.end_two.Goals as goal
 
 pub close-requires-clause-ended : goal.close-requires-clause-ended
 close-requires-clause-ended c = let r = c.requires in

@@ -19,9 +19,9 @@ use Rattle.fork_tree.specs.Nodes.{StateIs}
 use Rattle.fork_tree.specs.Works.{IsPart, IsSplit, Rules}
 use Rattle.fork_tree.specs.declared.content.Content.{Content}
 use Rattle.fork_tree.specs.declared.content.Content.TheVariants.{Open, Shut}
-use Rattle.tree_tests.specs.declared.of_fork_tree.Rung.{Rung}
-use Rattle.tree_tests.specs.declared.of_fork_tree.End.{End}
-use Rattle.tree_tests.proofs.of_fork_tree.ClimberWork.work.Goals as goal
+use Rattle.run_tests.specs.declared.of_fork_tree.Rung.{Rung}
+use Rattle.run_tests.specs.declared.of_fork_tree.End.{End}
+use Rattle.run_tests.proofs.of_fork_tree.ClimberWork.work.Goals as goal
 
 abbrev rung_place : Rung → Place
 rung_place r =

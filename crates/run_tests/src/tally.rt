@@ -23,7 +23,7 @@ pub struct Tally {
 
 impl Model for Tally {
     ghost use Rattle.std.specs.Prelude.{ℕ, List};
-    ghost use Rattle.tree_tests.specs.declared.tally.Note.{Note};
+    ghost use Rattle.run_tests.specs.declared.tally.Note.{Note};
 
     ghost Value = { ℕ × List ℕ × List Note };
 
