@@ -69,11 +69,11 @@ fn extension_of(signed: bool, row: &[Lit]) -> Lit
 }
 
 // The places from `low` to `high`.
-fn extracted(alloc: Global, high: usize, low: usize, row: &[Lit]) -> Result<Vec<Lit>, NoMemory>
+fn extracted(alloc: Global, high: u32, low: u32, row: &[Lit]) -> Result<Vec<Lit>, NoMemory>
     ensures { IfOk result (λ r. r.items ≡ drop low (take (high + 1) row.now)) }
 {
-    let count = high.checked_add(1).ok_or(NoMemory)?;
-    row.iter().take(count).skip(low).copied().collect(alloc)
+    let places = row.iter().take(high as usize + 1);
+    places.skip(low as usize).copied().collect(alloc)
 }
 
 #[tactic(auto, unfolding(crate::specs::Circuits::binary_row))]
@@ -212,7 +212,7 @@ impl Circuit {
             }
             Node::Extract { high, low, operand } => {
                 let operand = row_at(&self.rows, operand);
-                let row = extracted(alloc, high as usize, low as usize, operand)?;
+                let row = extracted(alloc, high, low, operand)?;
                 self.push(row)
             }
             Node::Extend {

@@ -27,15 +27,11 @@ impl Pool {
         })
     }
 
-    /// Puts the sample into the pool, or lets it go where the last place is filled. Nothing is said of which samples a
-    /// pool keeps: whoever looks for one tests it.
-    pub fn offer(&self, rt: &impl Wait, sample: Bytes) -> Result<(), NoMemory> {
-        if self.samples.get(PLACES - 1).is_some() {
-            return Ok(());
-        }
-        match self.samples.push(rt, sample) {
-            Ok(_) => Ok(()),
-            Err(_) => Err(NoMemory),
+    /// Puts the sample into the pool, or lets it go where the last place is filled or there is no memory. Nothing is said of
+    /// which samples a pool keeps: whoever looks for one tests it.
+    pub fn offer(&self, rt: &impl Wait, sample: Bytes) {
+        if self.samples.get(PLACES - 1).is_none() {
+            let _ = self.samples.push(rt, sample);
         }
     }
 

@@ -95,7 +95,7 @@ fn hint_is_falsified(marks: &Marks, formula: &Clauses, earlier: &[LogStep], hint
 pub fn falsify(marks: &mut Marks, clause: &[Lit]) -> Result<(), NoMemory>
     ensures { OnOk result (marked marks.new ≡ falsify clause.now) }
 {
-    marks.clear()?;
+    marks.clear();
     for literal in clause {
         marks.assign(literal.negated())?;
     }

@@ -1,6 +1,6 @@
 //! The values of variables while a clause is checked.
 
-ghost use Rattle.std.specs.Prelude.{◌≡◌, ◌<◌, ◌+◌, ◌-◌, ◌^◌, ◌++◌, [], IfOk, OnOk, OnErr, replicate, vec_len};
+ghost use Rattle.std.specs.Prelude.{◌≡◌, ◌<◌, ◌+◌, ◌-◌, ◌^◌, ◌++◌, [], OnOk, OnErr, replicate, vec_len};
 ghost use Rattle.cnf_form.specs.Propagation.{unassigned, assign};
 ghost use Rattle.proof_check.specs.Marking.{marked};
 
@@ -61,13 +61,6 @@ fn reach(marks: &mut Vec<Mark>, place: usize) -> Result<(), NoMemory>
     Ok(())
 }
 
-// The round after this one.
-fn next_round(round: usize) -> Result<usize, NoMemory>
-    ensures { IfOk result (λ next. next ≡ round + 1) }
-{
-    round.checked_add(1).ok_or(NoMemory)
-}
-
 impl Marks {
     /// No variable has a value.
     pub fn new(alloc: Global) -> Marks
@@ -79,13 +72,17 @@ impl Marks {
         }
     }
 
-    /// Takes every value away.
-    pub fn clear(&mut self) -> Result<(), NoMemory>
-        ensures ok { OnOk result (marked self.new ≡ unassigned) }
-        ensures err { OnErr result (self.new ≡ self.old) }
+    /// Takes every value away. Behind the last round that can be counted the marks themselves go.
+    pub fn clear(&mut self)
+        ensures { marked self.new ≡ unassigned }
     {
-        self.round = next_round(self.round)?;
-        Ok(())
+        match self.round.checked_add(1) {
+            Some(next) => self.round = next,
+            None => {
+                self.marks.clear();
+                self.round = 1;
+            }
+        }
     }
 
     /// Makes a literal true.

@@ -63,16 +63,19 @@ fn decided(
     match decide(alloc, &part, sample.as_slice(), budget)? {
         Decision::Sat(input) => {
             let merged = merge(alloc, sample, &input, &part)?;
-            shared.offer(rt, alloc, &merged)?;
-            shared.keep(rt, Solved::new(part, Satisfiability::Sat(input)))?;
+            shared.offer(rt, alloc, &merged);
+            shared.keep(rt, Solved::new(part, Satisfiability::Sat(input)));
             Ok(Asked::Sat(merged))
         }
         Decision::Unsat => {
-            shared.keep(rt, Solved::new(part, Satisfiability::Unsat))?;
+            shared.keep(rt, Solved::new(part, Satisfiability::Unsat));
             Ok(Asked::Unsat)
         }
         Decision::Spent(log) => {
             shared.count_spent();
+            // That its graph fits and its assertions are bits is known of its parts.
+            let _ = part.dag().nodes();
+            let _ = part.asserted();
             Ok(Asked::Spent(part, log))
         }
     }

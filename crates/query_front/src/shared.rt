@@ -125,20 +125,16 @@ impl Shared {
         count(&self.spent);
     }
 
-    /// Keeps an answer for when its question is asked again.
-    pub(crate) fn keep(&self, rt: &impl Wait, solved: Solved) -> Result<(), NoMemory> {
+    /// Keeps an answer for when its question is asked again, unless there is no memory for it.
+    pub(crate) fn keep(&self, rt: &impl Wait, solved: Solved) {
         let mut answers = self.answers.lock(rt);
-        answers.put(solved)
+        let _ = answers.put(solved);
     }
 
-    /// Offers a copy of a sample to the pool.
-    pub(crate) fn offer(
-        &self,
-        rt: &impl Wait,
-        alloc: Global,
-        sample: &Bytes,
-    ) -> Result<(), NoMemory> {
-        let copy = Bytes::from_slice(alloc, sample.as_slice())?;
-        self.samples.offer(rt, copy)
+    /// Offers a copy of a sample to the pool, unless there is no memory for it.
+    pub(crate) fn offer(&self, rt: &impl Wait, alloc: Global, sample: &Bytes) {
+        if let Ok(copy) = Bytes::from_slice(alloc, sample.as_slice()) {
+            self.samples.offer(rt, copy);
+        }
     }
 }

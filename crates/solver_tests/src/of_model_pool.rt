@@ -45,7 +45,8 @@ fn takes_shared<T: Send + Sync>(_value: &T) {}
 
 fn offer(rt: &impl Wait, alloc: Global, pool: &Pool, byte: u8) -> Result<(), NoMemory> {
     let sample = Bytes::from_slice(alloc, &[byte])?;
-    pool.offer(rt, sample)
+    pool.offer(rt, sample);
+    Ok(())
 }
 
 // Whether just this is found.

@@ -3,7 +3,7 @@ use Rattle.proof_check.proofs.Walks.{falsify_none, falsify_more}
 use Rattle.proof_check.proofs.checking.falsify.Goals as goal
 
 pub loop-literal-init : goal.loop-literal-init
-loop-literal-init c = c.in_ok-clear.ensures.ok ∙ sym falsify_none
+loop-literal-init c = c.clear.ensures ∙ sym falsify_none
 
 pub loop-literal-preserved : goal.loop-literal-preserved
 loop-literal-preserved c =

@@ -1,5 +1,5 @@
 use Rattle.proof_check.proofs.Assigning.{cleared}
 use Rattle.proof_check.proofs.marks.Marks.clear.Goals as goal
 
-pub returns-clause-ok : goal.returns-clause-ok
-returns-clause-ok c = cleared c.self.inside.round c.in_ok-self-inside.field-0 c.self.inside.marks.items c.in_ok-self-inside.ensures c.self.invariant
+pub returns-in-Some : goal.returns-in-Some
+returns-in-Some c = cleared c.self.inside.round c.in-Some.next c.self.inside.marks.items c.in-Some.ensures.1 c.self.invariant
