@@ -7,7 +7,7 @@ use Rattle.std.proofs.lemmas.List.{get_or_default}
 use Rattle.std.proofs.Math.ListN.{length-set}
 use Rattle.cnf_form.specs.Literals.{Literal}
 use Rattle.cnf_form.specs.Propagation.{unassigned, is_falsified, unit_literal, numbered, unit_of_hint, hint_is_falsified}
-use Rattle.cnf_form.specs.Variables.{is_below}
+use Rattle.cnf_form.specs.Variables.{is_below, occurs}
 use Rattle.cdcl_core.specs.declared.trail.Entry.{Entry}
 use Rattle.cdcl_core.specs.declared.propagation.State.TheVariants.{Forces}
 use Rattle.cdcl_core.specs.Trails.{Assignment, with_entry, values_of, IsTrail, AreCalm, free_count}
@@ -39,10 +39,10 @@ unfolding values_of
 trail_forced clauses es e l k h is free forced =
     subst (λ (d : Entry). IsTrail clauses (es ++ d ∷ [])) (sym is) (trail_more clauses es unassigned (record { literal = l; reason = Some k }) h free forced)
 
-pub trail_decided : (clauses : List (List Literal)) (es : List Entry) (l : Literal) → IsTrail clauses es → values_of es l.variable ≡ None → AreCalm (values_of es) clauses → IsTrail clauses (es ++ record { literal = l; reason = None } ∷ [])
+pub trail_decided : (clauses : List (List Literal)) (es : List Entry) (l : Literal) → IsTrail clauses es → values_of es l.variable ≡ None → AreCalm (values_of es) clauses → occurs clauses l.variable ≡ true → IsTrail clauses (es ++ record { literal = l; reason = None } ∷ [])
 unfolding values_of
-trail_decided clauses es l h free calm =
-    trail_more clauses es unassigned (record { literal = l; reason = None }) h free calm
+trail_decided clauses es l h free calm occurring =
+    trail_more clauses es unassigned (record { literal = l; reason = None }) h free (calm, occurring)
 
 -- a literal that one clause forces
 pub followed_forced : (clauses : List (List Literal)) (old after : Assignment) (i : ℕ) (c : List Literal) (l : Literal) → IsTrail clauses old.entries → i < length clauses → c ≡ get_or clauses i c → IsState (values_of old.entries) (length old.marks) c (Forces l)

@@ -4,6 +4,7 @@ use Rattle.std.specs.List.{list_any}
 use Rattle.std.proofs.lemmas.Bool.{cases_eq}
 use Rattle.cnf_form.specs.Literals.{Literal}
 use Rattle.cnf_form.specs.Propagation.{assign, is_falsified, numbered, unit_of_hint, hint_is_falsified, and_then_holds, reaches_conflict}
+use Rattle.cnf_form.specs.Variables.{occurs}
 use Rattle.cdcl_core.specs.declared.trail.Entry.{Entry}
 use Rattle.cdcl_core.specs.Trails.{assigned, IsMadeTrue, IsTrailFrom, if_decided, decisions, if_forced, reasons}
 use Rattle.cdcl_core.proofs.Lists.{none_from}
@@ -80,7 +81,7 @@ HasCalm clauses a = (b : ℕ → Option Bool) × (list_any (is_falsified b) clau
 calm_by : (clauses : List (List Literal)) (es : List Entry) (a : ℕ → Option Bool) (l : Literal) (o : Option ℕ) (ls : List Literal) → decisions es ≡ ls → a l.variable ≡ None → IsMadeTrue clauses a l o → IsTrailFrom clauses (assign a l) es
     → ((decisions es ≡ [] → ⊥) → HasCalm clauses (with_decisions (assign a l) es))
     → (if_decided o l (decisions es) ≡ [] → ⊥) → HasCalm clauses (fold assign a (if_decided o l (decisions es)))
-calm_by clauses es a l None [] is free made h rest some = (assign a l, none_from (is_falsified (assign a l)) clauses (λ k c at. made k c at l free), λ x t has. sym (ap (λ ks. fold assign (assign a l) ks x) is) ∙ has)
+calm_by clauses es a l None [] is free made h rest some = (assign a l, none_from (is_falsified (assign a l)) clauses (λ k c at. made.0 k c at l free), λ x t has. sym (ap (λ ks. fold assign (assign a l) ks x) is) ∙ has)
 calm_by clauses es a l None (d ∷ ds) is free made h rest some = rest (λ none. cc)
 calm_by clauses es a l (Some n) ls is free made h rest some =
     let calm : HasCalm clauses (with_decisions (assign a l) es) = rest some in
@@ -92,15 +93,26 @@ last_decision clauses [] a h some = absurd (some refl)
 last_decision clauses (e ∷ es) a h some =
     calm_by clauses es a e.literal e.reason (decisions es) refl h.0 h.1 h.2 (last_decision clauses es (assign a e.literal) h.2) some
 
--- the decisions are among the values of the trail
-decisions_kept_by : (clauses : List (List Literal)) (es : List Entry) (a : ℕ → Option Bool) (l : Literal) (o : Option ℕ) → a l.variable ≡ None → IsTrailFrom clauses (assign a l) es → Extends (with_decisions (assign a l) es) (assigned (assign a l) es) → Extends (fold assign a (if_decided o l (decisions es))) (assigned (assign a l) es)
-decisions_kept_by clauses es a l None free h rest = rest
-decisions_kept_by clauses es a l (Some n) free h rest = λ x t has. rest x t (decisions_extend clauses es a l free h x t has)
+-- each decision is of a variable that occurs
+abbrev HasOccurring : List (List Literal) → (ℕ → Option Bool) → Type 0
+HasOccurring clauses b = (x : ℕ) (t : Bool) → b x ≡ Some t → occurs clauses x ≡ true
 
-pub decisions_kept : (clauses : List (List Literal)) (es : List Entry) (a : ℕ → Option Bool) → IsTrailFrom clauses a es → Extends (with_decisions a es) (assigned a es)
+occurring_more : (clauses : List (List Literal)) (b : ℕ → Option Bool) (l : Literal) → HasOccurring clauses b → occurs clauses l.variable ≡ true → HasOccurring clauses (assign b l)
+occurring_more clauses b l before here x t has =
+    elim (cases_eq x l.variable) [
+      | inl same ↦ ap (occurs clauses) same ∙ here
+      | inr other ↦ before x t (sym (assign-other b l x other) ∙ has)
+    ]
+
+occurring_by : (clauses : List (List Literal)) (a b : ℕ → Option Bool) (l : Literal) (o : Option ℕ) (ls : List Literal) → IsMadeTrue clauses a l o → HasOccurring clauses b → ((c : ℕ → Option Bool) → HasOccurring clauses c → HasOccurring clauses (fold assign c ls)) → HasOccurring clauses (fold assign b (if_decided o l ls))
+occurring_by clauses a b l None ls made before rest = rest (assign b l) (occurring_more clauses b l before made.1)
+occurring_by clauses a b l (Some n) ls made before rest = rest b before
+
+pub decisions_occur : (clauses : List (List Literal)) (es : List Entry) (a b : ℕ → Option Bool) → IsTrailFrom clauses a es → HasOccurring clauses b → HasOccurring clauses (with_decisions b es)
 unfolding IsTrailFrom decisions
-decisions_kept clauses [] a h = λ x t has. has
-decisions_kept clauses (e ∷ es) a h = decisions_kept_by clauses es a e.literal e.reason h.0 h.2 (decisions_kept clauses es (assign a e.literal) h.2)
+decisions_occur clauses [] a b h before = before
+decisions_occur clauses (e ∷ es) a b h before =
+    occurring_by clauses a b e.literal e.reason (decisions es) h.1 before (λ c still. decisions_occur clauses es (assign a e.literal) c h.2 still)
 
 -- each decision is of a variable that had no value
 abbrev pub AreFresh : (ℕ → Option Bool) → List Literal → Type 0

@@ -7,7 +7,8 @@ use Rattle.cnf_form.specs.Literals.{Literal}
 use Rattle.cnf_form.specs.Propagation.{unassigned, is_true, follows}
 use Rattle.cnf_form.specs.Refutations.{has_no_empty, Step, clauses_of, follows_all, is_new, is_fresh, is_empty_clause, ends_empty, refutes}
 use Rattle.cnf_form.specs.Valuations.{literal_value, satisfies_clause, satisfies}
-use Rattle.cnf_form.specs.Variables.{is_below}
+use Rattle.cnf_form.specs.Variables.{is_below, is_over}
+use Rattle.cnf_form.proofs.Occurs.{below_if_over, over_before}
 use Rattle.proof_check.proofs.Chains.{at_more}
 use Rattle.cdcl_core.specs.Trails.{Assignment, values_of, IsTrail, AreCalmFirst}
 use Rattle.cdcl_core.specs.Passes.{has_true}
@@ -47,6 +48,11 @@ ends_with [] s = refl
 ends_with (t ∷ []) s = refl
 ends_with (t ∷ u ∷ us) s = ends_with (u ∷ us) s
 
+over_more : (f clauses : List (List Literal)) (log : List Step) (s : Step) → clauses ≡ f ++ clauses_of log → list_all (is_over f) (clauses_of log) ≡ true → is_over clauses s.clause ≡ true → list_all (is_over f) (clauses_of (log ++ s ∷ [])) ≡ true
+over_more f clauses log s all over here =
+    ap (list_all (is_over f)) (clauses_more log s) ∙ list_all-append (is_over f) (clauses_of log) (s.clause ∷ [])
+    ∙ and_from _ _ over (and_from _ _ (over_before f (clauses_of log) s.clause over (ap (λ (cs : List (List Literal)). is_over cs s.clause) (sym all) ∙ here)) refl)
+
 -- the search as it begins
 no_log_follows : (f : List (List Literal)) → follows_all f [] ≡ true
 unfolding follows_all
@@ -67,6 +73,7 @@ begins f clauses log now n k same none is below first =
       follows = no_log_follows f;
       fresh = no_log_fresh f;
       no_empty = no_log_empty;
+      over = refl;
       below = rw (length-replicate {A = Option Bool} n None) below;
       trail = no_trail f unassigned;
       calm = λ i c early. absurd (omega (arith, early));
@@ -80,7 +87,7 @@ calm_more clauses a c n within calm k d early at =
       | inr last ↦ absurd (omega (arith, early, within, last.0))
     ]
 
-pub learns : (f clauses more : List (List Literal)) (log longer : List Step) (old now : Assignment) (s : Step) (m n : ℕ) → IsSearch f clauses log old m → IsLesson clauses (length old.marks) s → is_empty_clause s.clause ≡ false
+pub learns : (f clauses more : List (List Literal)) (log longer : List Step) (old now : Assignment) (s : Step) (m n : ℕ) → IsSearch f clauses log old m → IsLesson clauses s → is_empty_clause s.clause ≡ false
     → IsTrail (clauses ++ s.clause ∷ []) now.entries → length now.marks ≡ length old.marks → n ≤ length clauses → AreCalmFirst n (values_of now.entries) clauses → more ≡ clauses ++ s.clause ∷ [] → longer ≡ log ++ s ∷ [] → IsSearch f more longer now n
 learns f clauses more log longer old now s m n h lesson some trail size count calm made put =
     rw (made, put) record {
@@ -88,14 +95,18 @@ learns f clauses more log longer old now s m n h lesson some trail size count ca
       follows = follows_more f log s h.follows (ap (λ (cs : List (List Literal)). follows cs s.clause s.hints) (sym h.all) ∙ lesson.follows);
       fresh = fresh_more f log s h.fresh (ap (λ (cs : List (List Literal)). is_new cs s.clause) (sym h.all) ∙ lesson.is_new some);
       no_empty = no_empty_more log s h.no_empty some;
-      below = list_all-append (is_below (length now.marks)) clauses (s.clause ∷ []) ∙ and_from _ _ (rw size h.below) (and_from _ _ (rw size lesson.below) refl);
+      over = over_more f clauses log s h.all h.over lesson.over;
+      below = list_all-append (is_below (length now.marks)) clauses (s.clause ∷ []) ∙ and_from _ _ (rw size h.below) (and_from _ _ (rw size (below_if_over (length old.marks) clauses s.clause h.below lesson.over)) refl);
       trail = trail;
       calm = calm_more clauses (values_of now.entries) s.clause n count calm;
     }
 
-pub ends : (f clauses : List (List Literal)) (log longer : List Step) (now : Assignment) (n : ℕ) (s : Step) → IsSearch f clauses log now n → IsLesson clauses (length now.marks) s → is_empty_clause s.clause ≡ true → longer ≡ log ++ s ∷ [] → refutes f longer ≡ true
+pub ends : (f clauses : List (List Literal)) (log longer : List Step) (now : Assignment) (n : ℕ) (s : Step) → IsSearch f clauses log now n → IsLesson clauses s → is_empty_clause s.clause ≡ true → longer ≡ log ++ s ∷ [] → refutes f longer ≡ true
 ends f clauses log longer now n s h lesson none put =
     rw put (and_from _ _ (follows_more f log s h.follows (ap (λ (cs : List (List Literal)). follows cs s.clause s.hints) (sym h.all) ∙ lesson.follows)) (ends_with log s ∙ none))
+
+pub ends_over : (f clauses : List (List Literal)) (log longer : List Step) (now : Assignment) (n : ℕ) (s : Step) → IsSearch f clauses log now n → IsLesson clauses s → longer ≡ log ++ s ∷ [] → list_all (is_over f) (clauses_of longer) ≡ true
+ends_over f clauses log longer now n s h lesson put = rw put (over_more f clauses log s h.all h.over lesson.over)
 
 -- where each clause has a literal that is true, a valuation with these literals satisfies all
 any_true_by : (q r : Literal → Bool) (c : List Literal) → ((l : Literal) → q l ≡ true → r l ≡ true) → list_any q c ≡ true → list_any r c ≡ true

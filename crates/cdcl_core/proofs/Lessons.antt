@@ -1,15 +1,14 @@
-use Rattle.std.proofs.Common.{◌≡◌, ℕ, ◌<◌, nat_lt, Bool, true, false, not, cond, List, [], ◌∷◌, ◌++◌, map, filter, Option, Some, None, is_none, refl, ap, sym, ◌∙◌, IsSome}
-use Rattle.std.specs.List.{list_all, filter_map, cons_option}
-use Rattle.std.proofs.lemmas.Bool.{and_parts, and_from, lt-ltb, true≢false, false≢true}
+use Rattle.std.proofs.Common.{◌≡◌, ℕ, true, false, cond, List, [], ◌∷◌, ◌++◌, map, filter, Option, Some, None, is_none, refl, ap, sym, ◌∙◌, IsSome}
+use Rattle.std.specs.List.{filter_map, cons_option}
+use Rattle.std.proofs.lemmas.Bool.{true≢false}
 use Rattle.cnf_form.specs.Literals.{Literal, negation}
 use Rattle.cnf_form.specs.Clauses.{clause_of}
-use Rattle.cnf_form.specs.Propagation.{has_value, is_false, numbered, hint_is_falsified, follows}
+use Rattle.cnf_form.specs.Propagation.{numbered, hint_is_falsified, follows}
 use Rattle.cnf_form.specs.Refutations.{is_empty_clause}
-use Rattle.cnf_form.specs.Variables.{is_below}
 use Rattle.cdcl_core.specs.declared.trail.Entry.{Entry}
 use Rattle.cdcl_core.specs.Trails.{values_of, IsTrail, decisions, reasons, if_decided, if_forced}
 use Rattle.cdcl_core.specs.Searches.{IsLesson}
-use Rattle.cdcl_core.proofs.Negating.{IsNegation, is_negation, is_some_clause, negation_follows, negation_is_new, negation_false_now}
+use Rattle.cdcl_core.proofs.Negating.{IsNegation, is_negation, is_some_clause, negation_follows, negation_is_new, negation_is_over}
 
 denied_by : (e : Entry) (o : Option ℕ) (ks : List Literal) (kept : List Entry) → map (λ (d : Entry). negation d.literal) kept ≡ map negation ks → map (λ (d : Entry). negation d.literal) (cond (is_none o) (e ∷ kept) kept) ≡ map negation (if_decided o e.literal ks)
 denied_by e None ks kept h = ap (λ ls. negation e.literal ∷ ls) h
@@ -29,17 +28,6 @@ unfolding reasons
 forced [] = refl
 forced (e ∷ es) = forced_by e.reason (filter_map (λ (d : Entry). d.reason) es) (reasons es) (forced es)
 
-false_has : (o : Option Bool) (p : Bool) → has_value o p ≡ true → (t : Bool) × (o ≡ Some t)
-false_has None p h = absurd (false≢true h)
-false_has (Some t) p h = (t, refl)
-
-below_if_false : (a : ℕ → Option Bool) (n : ℕ) (c : List Literal) → ((v : ℕ) (b : Bool) → a v ≡ Some b → v < n) → list_all (is_false a) c ≡ true → list_all (λ l. nat_lt l.variable n) c ≡ true
-below_if_false a n [] within h = refl
-below_if_false a n (l ∷ ls) within h =
-    let parts : (is_false a l ≡ true) × (list_all (is_false a) ls ≡ true) = and_parts _ _ h in
-    let has : (t : Bool) × (a l.variable ≡ Some t) = false_has (a l.variable) (not l.positive) parts.0 in
-    and_from _ _ (lt-ltb _ _ (within l.variable has.0 has.1)) (below_if_false a n ls within parts.1)
-
 none_decided : (es : List Entry) (s : List Literal) → clause_of (map negation (decisions es)) ≡ Some s → is_empty_clause s ≡ false → decisions es ≡ [] → ⊥
 unfolding clause_of
 none_decided es s is some none =
@@ -55,13 +43,12 @@ pub some_by : (clauses : List (List Literal)) (es : List Entry) (o : Option (Lis
 some_by clauses es None h is = absurd (is_some_clause clauses es h is)
 some_by clauses es (Some s) h is = refl
 
-pub is_lesson : (clauses : List (List Literal)) (n : ℕ) (es seen : List Entry) (s : List Literal) (hints given : List ℕ) (k : ℕ) → IsTrail clauses es → clause_of (map negation (decisions es)) ≡ Some s → seen ≡ es → given ≡ filter_map (λ (e : Entry). e.reason) seen → hints ≡ given ++ k ∷ []
-    → hint_is_falsified (values_of es) (numbered clauses k) ≡ true → ((v : ℕ) (b : Bool) → values_of es v ≡ Some b → v < n) → IsLesson clauses n (record { clause = s; hints = hints })
-unfolding is_below
-is_lesson clauses n es seen s hints given k h is same from all fails within =
+pub is_lesson : (clauses : List (List Literal)) (es seen : List Entry) (s : List Literal) (hints given : List ℕ) (k : ℕ) → IsTrail clauses es → clause_of (map negation (decisions es)) ≡ Some s → seen ≡ es → given ≡ filter_map (λ (e : Entry). e.reason) seen → hints ≡ given ++ k ∷ []
+    → hint_is_falsified (values_of es) (numbered clauses k) ≡ true → IsLesson clauses (record { clause = s; hints = hints })
+is_lesson clauses es seen s hints given k h is same from all fails =
     let negates : IsNegation es s = is_negation clauses es s h is in
     record {
       follows = ap (follows clauses s) (all ∙ ap (λ ns. ns ++ k ∷ []) (from ∙ forced seen ∙ ap reasons same)) ∙ negation_follows clauses es s k h negates fails;
       is_new = λ some. negation_is_new clauses es s h negates (none_decided es s is some);
-      below = below_if_false (values_of es) n s within (negation_false_now clauses es s h negates);
+      over = negation_is_over clauses es s h negates;
     }

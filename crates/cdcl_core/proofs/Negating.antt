@@ -1,17 +1,18 @@
 use Rattle.std.proofs.Common.{◌≡◌, ℕ, ◌<◌, ◌==◌, nat_lt, Bool, true, false, not, ◌&&◌, if◌then◌else◌, List, [], ◌∷◌, ◌++◌, Option, Some, None, option_map, fold, map, refl, ap, sym, ◌∙◌, subst, arith, inl, inr}
 use Rattle.std.proofs.Math.Path.{fun_ext}
 use Rattle.std.specs.List.{list_all, list_any}
-use Rattle.std.proofs.lemmas.Bool.{and_parts, and_from, or_parts, or_from, or_cases, ltb-true, ltb-false, lt-ltb, eqb-true, eqb-false, cases_eq, true≢false, false_from_ne_true}
+use Rattle.std.proofs.lemmas.Bool.{and_parts, and_from, or_parts, or_from, or_cases, ltb-true, ltb-false, lt-ltb, eqb-true, eqb-false, cases_eq, true≢false, false≢true, false_from_ne_true}
 use Rattle.cnf_form.specs.Literals.{Literal, negation, same_truth, same_literal}
 use Rattle.cnf_form.specs.Clauses.{are_increasing, insert_literal, with_literal, clause_of, is_subset}
 use Rattle.cnf_form.specs.Propagation.{unassigned, assign, has_value, is_false, falsify, is_falsified, numbered, hint_is_falsified, reaches_conflict, follows}
 use Rattle.cnf_form.specs.Refutations.{is_new}
+use Rattle.cnf_form.specs.Variables.{occurs, is_over}
 use Rattle.cnf_form.proofs.Inserting.{mapped, all_above, above_later, increasing-insert}
 use Rattle.cnf_form.proofs.Meaning.{truths}
 use Rattle.cdcl_core.specs.declared.trail.Entry.{Entry}
-use Rattle.cdcl_core.specs.Trails.{assigned, values_of, IsTrail, decisions, reasons}
+use Rattle.cdcl_core.specs.Trails.{values_of, IsTrail, decisions, reasons}
 use Rattle.cdcl_core.proofs.Values.{Extends, assign-same, assign-other, all_false_kept}
-use Rattle.cdcl_core.proofs.Leading.{with_decisions, conflict, last_decision, decisions_kept, AreFresh, fresh_decisions}
+use Rattle.cdcl_core.proofs.Leading.{with_decisions, conflict, last_decision, decisions_occur, AreFresh, fresh_decisions}
 
 abbrev falsify_one : (ℕ → Option Bool) → Literal → ℕ → Option Bool
 falsify_one a l = assign a (negation l)
@@ -228,7 +229,19 @@ negation_is_new clauses es s h is some =
     let calm : (b : ℕ → Option Bool) × (list_any (is_falsified b) clauses ≡ false) × Extends (with_decisions unassigned es) b = last_decision clauses es unassigned h some in
     ap not (no_subset calm.0 clauses s (all_false_kept (with_decisions unassigned es) calm.0 s calm.2 (negation_is_false es s is)) calm.1)
 
--- its literals are false under the trail
-pub negation_false_now : (clauses : List (List Literal)) (es : List Entry) (s : List Literal) → IsTrail clauses es → IsNegation es s → list_all (is_false (values_of es)) s ≡ true
-unfolding values_of
-negation_false_now clauses es s h is = all_false_kept (with_decisions unassigned es) (assigned unassigned es) s (decisions_kept clauses es unassigned h) (negation_is_false es s is)
+-- its variables are those of decisions, and so occur
+false_has : (o : Option Bool) (p : Bool) → has_value o p ≡ true → (t : Bool) × (o ≡ Some t)
+false_has None p h = absurd (false≢true h)
+false_has (Some t) p h = (t, refl)
+
+over_if_false : (clauses : List (List Literal)) (a : ℕ → Option Bool) (c : List Literal) → ((x : ℕ) (t : Bool) → a x ≡ Some t → occurs clauses x ≡ true) → list_all (is_false a) c ≡ true → list_all (λ l. occurs clauses l.variable) c ≡ true
+over_if_false clauses a [] occurring h = refl
+over_if_false clauses a (l ∷ ls) occurring h =
+    let parts : (is_false a l ≡ true) × (list_all (is_false a) ls ≡ true) = and_parts _ _ h in
+    let has : (t : Bool) × (a l.variable ≡ Some t) = false_has (a l.variable) (not l.positive) parts.0 in
+    and_from _ _ (occurring l.variable has.0 has.1) (over_if_false clauses a ls occurring parts.1)
+
+pub negation_is_over : (clauses : List (List Literal)) (es : List Entry) (s : List Literal) → IsTrail clauses es → IsNegation es s → is_over clauses s ≡ true
+unfolding is_over
+negation_is_over clauses es s h is =
+    over_if_false clauses (with_decisions unassigned es) s (decisions_occur clauses es unassigned unassigned h (λ x t has. let none : None ≡ Some t = has in cc)) (negation_is_false es s is)

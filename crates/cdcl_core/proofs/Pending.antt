@@ -14,7 +14,7 @@ use Rattle.cdcl_core.specs.Passes.{has_true, IsLiteralAt, IsTouched, ArePending}
 use Rattle.cdcl_core.proofs.Lists.{got_more, got_last}
 use Rattle.cdcl_core.proofs.Values.{assign-same, assign-other}
 use Rattle.cdcl_core.proofs.Marks.{values_more}
-use Rattle.cdcl_core.proofs.Scanning.{open_all, calm_satisfied}
+use Rattle.cdcl_core.proofs.Scanning.{same_itself, open_all, calm_satisfied}
 
 either : (b : Bool) → (b ≡ true) ⊎ (b ≡ false)
 either true = inl refl
@@ -77,10 +77,6 @@ only_one a (k ∷ m ∷ ms) l is = cc
 none_true : (q : Literal → Bool) (c : List Literal) → list_any q c ≡ false → list_all (λ m. not (q m)) c ≡ true
 none_true q [] h = refl
 none_true q (m ∷ c) h = let parts : (q m ≡ false) × (list_any q c ≡ false) = or_parts _ _ h in and_from _ _ (not_from_false _ parts.0) (none_true q c parts.1)
-
-same_itself : (b : Bool) → same_truth b b ≡ true
-same_itself true = refl
-same_itself false = refl
 
 now_true : (a : ℕ → Option Bool) (l : Literal) → is_true (assign a l) l ≡ true
 now_true a l = ap (λ (o : Option Bool). has_value o l.positive) (assign-same a l l.variable refl) ∙ same_itself l.positive

@@ -1,11 +1,11 @@
 -- The state of a clause, read up to its first literal that is true or its second without a value.
 use Rattle.std.proofs.Common.{◌≡◌, ℕ, zero, suc, ◌+◌, ◌<◌, ◌≤◌, ◌==◌, nat_lt, Bool, true, false, not, ◌&&◌, cond, List, [], ◌∷◌, ◌++◌, length, get_or, take, drop, Option, Some, None, filter, is_none, refl, ap, sym, ◌∙◌, subst, arith, inl, inr}
 use Rattle.std.specs.List.{list_all, list_any}
-use Rattle.std.proofs.lemmas.Bool.{and_parts, and_from, or_left, or_right, or_cases, and_left, and_right, ltb-true, ne_eqb, not_from_false, not-true, cases_eq, false≢true, eqb-false}
+use Rattle.std.proofs.lemmas.Bool.{and_parts, and_from, or_left, or_right, or_cases, and_left, and_right, ltb-true, eq-eqb, ne_eqb, not_from_false, not-true, cases_eq, false≢true, eqb-false}
 use Rattle.std.proofs.lemmas.List.{take_more, take_all, take-append-drop}
 use Rattle.std.proofs.lemmas.List.Elements.{filter-append}
 use Rattle.std.proofs.lemmas.List.Folds.{list_any-append}
-use Rattle.cnf_form.specs.Literals.{Literal, same_truth}
+use Rattle.cnf_form.specs.Literals.{Literal, same_truth, same_literal}
 use Rattle.cnf_form.specs.Clauses.{are_increasing}
 use Rattle.cnf_form.specs.Propagation.{assign, has_value, is_true, is_false, is_falsified, open_literals, only_literal, unit_literal}
 use Rattle.cnf_form.proofs.Inserting.{all_above}
@@ -21,7 +21,7 @@ is_beside a x k = is_none (a k.variable) && not (k.variable == x)
 -- what is known of a clause of which the literals p were seen, none of them true and at most one without a value
 abbrev pub IsScan : (ℕ → Option Bool) → ℕ → List Literal → Option Literal → Type 0
 IsScan a n p None = open_literals a p ≡ []
-IsScan a n p (Some l) = (open_literals a p ≡ l ∷ []) × IsFree a n l × ((x : ℕ) → (x ≡ l.variable → ⊥) → list_any (is_beside a x) p ≡ true)
+IsScan a n p (Some l) = (open_literals a p ≡ l ∷ []) × IsFree a n l × ((x : ℕ) → (x ≡ l.variable → ⊥) → list_any (is_beside a x) p ≡ true) × (list_any (same_literal l) p ≡ true)
 
 pub any_more : (q : Literal → Bool) (p : List Literal) (k : Literal) → list_any q p ≡ true → list_any q (p ++ k ∷ []) ≡ true
 any_more q p k h = list_any-append q p (k ∷ []) ∙ or_left _ _ h
@@ -59,11 +59,16 @@ unfolding open_literals
 open_all q a p l is h =
     (and_parts (q l) true (sym (ap (list_all q) is) ∙ kept_all q (λ k. not (is_false a k)) p h)).0
 
+pub same_itself : (b : Bool) → same_truth b b ≡ true
+same_itself true = refl
+same_itself false = refl
+
 scan_first : (a : ℕ → Option Bool) (n : ℕ) (p : List Literal) (k : Literal) → IsScan a n p None → IsFree a n k → IsScan a n (p ++ k ∷ []) (Some k)
 scan_first a n p k h free = (
   open_more a p k false (has_none (a k.variable) (not k.positive) free.1) ∙ ap (λ ls. ls ++ k ∷ []) h,
   free,
   λ x other. any_last (is_beside a x) p k (beside a x k free.1 (λ e. other (sym e))),
+  any_last (same_literal k) p k (and_from _ _ (eq-eqb k.variable k.variable refl) (same_itself k.positive)),
 )
 
 -- two literals without a value, the variable of the one below that of the other
@@ -77,7 +82,7 @@ scan_second a n p k l h free below x =
 
 scan_false : (a : ℕ → Option Bool) (n : ℕ) (p : List Literal) (k : Literal) (o : Option Literal) → IsScan a n p o → is_false a k ≡ true → IsScan a n (p ++ k ∷ []) o
 scan_false a n p k None h fails = open_more a p k true fails ∙ append_none (open_literals a p) ∙ h
-scan_false a n p k (Some l) h fails = (open_more a p k true fails ∙ append_none (open_literals a p) ∙ h.0, h.1, λ x other. any_more (is_beside a x) p k (h.2 x other))
+scan_false a n p k (Some l) h fails = (open_more a p k true fails ∙ append_none (open_literals a p) ∙ h.0, h.1, λ x other. any_more (is_beside a x) p k (h.2 x other), any_more (same_literal l) p k h.3)
 
 -- the end of the walk
 none_open_by : (a : ℕ → Option Bool) (l : Literal) (ls kept : List Literal) (t : Bool) → is_false a l ≡ t → (kept ≡ [] → list_all (is_false a) ls ≡ true) → cond (not t) (l ∷ kept) kept ≡ [] → list_all (is_false a) (l ∷ ls) ≡ true
@@ -186,7 +191,7 @@ walk_first a n c seen i l o after t f same below within at is_t not_t is_f not_f
     (scan_first a n (take i seen) l (subst (λ (u : Option Literal). IsScan a n (take i seen) u) none h) free))
 
 pub walk_second : (a : ℕ → Option Bool) (n : ℕ) (c seen : List Literal) (i : ℕ) (l first : Literal) (o : Option Literal) (t f : Bool) → seen ≡ c → are_increasing c ≡ true → is_below n c ≡ true → i < length seen → l ≡ get_or seen i l → t ≡ is_true a l → t ≡ false → f ≡ is_false a l → f ≡ false
-    → IsScan a n (take i seen) o → o ≡ Some first → IsCalm a c × IsFree a n first
+    → IsScan a n (take i seen) o → o ≡ Some first → IsCalm a c × IsFree a n first × (list_any (same_literal first) c ≡ true)
 walk_second a n c seen i l first o t f same order below within at is_t not_t is_f not_f h some =
     let free : IsFree a n l = free_at a n c seen i l t f same below within at is_t not_t is_f not_f in
     let scan : IsScan a n (take i seen) (Some first) = subst (λ (u : Option Literal). IsScan a n (take i seen) u) some h in
@@ -196,6 +201,7 @@ walk_second a n c seen i l first o t f same order below within at is_t not_t is_
           ap (list_any (is_beside a x)) (sym same)
           ∙ any_of_first (is_beside a x) seen (i + 1) (ap (list_any (is_beside a x)) (sym (ap (λ k. take i seen ++ k ∷ []) at ∙ sym (take_more seen i l within))) ∙ scan_second a n (take i seen) l first scan free.1 front x)),
       scan.1,
+      ap (list_any (same_literal first)) (sym same) ∙ any_of_first (same_literal first) seen i scan.3,
     )
 
 pub walk_false : (a : ℕ → Option Bool) (n : ℕ) (seen : List Literal) (i : ℕ) (l : Literal) (o after : Option Literal) (f : Bool) → i < length seen → l ≡ get_or seen i l → f ≡ is_false a l → f ≡ true
@@ -212,10 +218,10 @@ scan_of_all a n c seen i o u same past h is =
 pub walk_none : (a : ℕ → Option Bool) (n : ℕ) (c seen : List Literal) (i : ℕ) (o : Option Literal) → seen ≡ c → length seen ≤ i → IsScan a n (take i seen) o → o ≡ None → is_falsified a c ≡ true
 walk_none a n c seen i o same past h none = falsified_end a c (scan_of_all a n c seen i o None same past h none)
 
-pub walk_one : (a : ℕ → Option Bool) (n : ℕ) (c seen : List Literal) (i : ℕ) (l : Literal) (o : Option Literal) → seen ≡ c → length seen ≤ i → IsScan a n (take i seen) o → o ≡ Some l → (unit_literal a c ≡ Some l) × IsFree a n l
+pub walk_one : (a : ℕ → Option Bool) (n : ℕ) (c seen : List Literal) (i : ℕ) (l : Literal) (o : Option Literal) → seen ≡ c → length seen ≤ i → IsScan a n (take i seen) o → o ≡ Some l → (unit_literal a c ≡ Some l) × IsFree a n l × (list_any (same_literal l) c ≡ true)
 walk_one a n c seen i l o same past h some =
     let scan : IsScan a n c (Some l) = scan_of_all a n c seen i o (Some l) same past h some in
-    (ap (only_literal a) scan.0 ∙ rw (has_none (a l.variable) l.positive scan.1.1) refl, scan.1)
+    (ap (only_literal a) scan.0 ∙ rw (has_none (a l.variable) l.positive scan.1.1) refl, scan.1, scan.3)
 
 pub walk_begin : (a : ℕ → Option Bool) (n : ℕ) → IsScan a n [] None
 unfolding open_literals

@@ -4,6 +4,7 @@ use Rattle.std.proofs.lemmas.Bool.{eq-eqb, ne_eqb, and_parts, and_from, false≢
 use Rattle.std.proofs.lemmas.List.{take-append-drop}
 use Rattle.cnf_form.specs.Literals.{Literal}
 use Rattle.cnf_form.specs.Propagation.{assign, has_value, is_true, is_false, is_falsified, open_literals, only_literal, unit_literal, numbered, unit_of_hint, hint_is_falsified}
+use Rattle.cnf_form.proofs.Occurs.{occurs_more}
 use Rattle.cdcl_core.specs.declared.trail.Entry.{Entry}
 use Rattle.proof_check.proofs.Chains.{at_more}
 use Rattle.cdcl_core.specs.Trails.{assigned, IsCalm, AreCalm, IsMadeTrue, IsTrailFrom, IsDecisionAt}
@@ -118,7 +119,7 @@ calm_with clauses a c calm here k d at =
     ]
 
 made_with : (clauses : List (List Literal)) (a : ℕ → Option Bool) (l : Literal) (o : Option ℕ) (c : List Literal) → IsMadeTrue clauses a l o → (o ≡ None → IsCalm a c) → IsMadeTrue (clauses ++ c ∷ []) a l o
-made_with clauses a l None c made calm = calm_with clauses a c made (calm refl)
+made_with clauses a l None c made calm = (calm_with clauses a c made.0 (calm refl), occurs_more clauses (c ∷ []) l.variable made.1)
 made_with clauses a l (Some n) c made calm = hint_more clauses (c ∷ []) n a l made
 
 pub trail_with : (clauses : List (List Literal)) (es : List Entry) (a : ℕ → Option Bool) (c : List Literal) → IsTrailFrom clauses a es → ((p : ℕ) → IsDecisionAt es p → IsCalm (assigned a (take p es)) c) → IsTrailFrom (clauses ++ c ∷ []) a es
@@ -129,7 +130,7 @@ trail_with clauses (e ∷ es) a c h calm =
 
 -- before a decision each clause is calm
 decided_calm : (clauses : List (List Literal)) (a : ℕ → Option Bool) (l : Literal) (o : Option ℕ) → o ≡ None → IsMadeTrue clauses a l o → AreCalm a clauses
-decided_calm clauses a l None none made = made
+decided_calm clauses a l None none made = made.0
 decided_calm clauses a l (Some n) none made = cc
 
 pub calm_before : (clauses : List (List Literal)) (es : List Entry) (a : ℕ → Option Bool) (p : ℕ) → IsTrailFrom clauses a es → IsDecisionAt es p → AreCalm (assigned a (take p es)) clauses

@@ -3,6 +3,7 @@ use Rattle.std.specs.Prelude.{◌≡◌, ℕ, ◌+◌, ◌<◌, ◌≤◌, ◌�
 use Rattle.std.specs.List.{list_any, list_all}
 use Rattle.cnf_form.specs.Literals.{Literal, negation, same_literal}
 use Rattle.cnf_form.specs.Propagation.{is_true, is_falsified, unit_literal, numbered, hint_is_falsified}
+use Rattle.cnf_form.specs.Variables.{occurs}
 use Rattle.cdcl_core.specs.declared.trail.Entry.{Entry}
 use Rattle.cdcl_core.specs.declared.propagation.State.{State}
 use Rattle.cdcl_core.specs.declared.propagation.State.TheVariants.{Falsified, Forces, Open, Satisfied}
@@ -21,8 +22,8 @@ has_true a c = list_any (is_true a) c
 -- what a clause is under a partial assignment of variables below n
 abbrev pub IsState : (ℕ → Option Bool) → ℕ → List Literal → State → Type 0
 IsState a n c Falsified = is_falsified a c ≡ true
-IsState a n c (Forces l) = (unit_literal a c ≡ Some l) × IsFree a n l
-IsState a n c (Open l) = IsCalm a c × IsFree a n l
+IsState a n c (Forces l) = (unit_literal a c ≡ Some l) × IsFree a n l × (list_any (same_literal l) c ≡ true)
+IsState a n c (Open l) = IsCalm a c × IsFree a n l × (list_any (same_literal l) c ≡ true)
 IsState a n c Satisfied = has_true a c ≡ true
 
 -- the entry at this place makes the literal true
@@ -41,10 +42,11 @@ pub record IsTouched (entries : List Entry) (first : ℕ) (c : List Literal) : T
 abbrev pub ArePending : List (List Literal) → List Entry → (first : ℕ) → (to_come : ℕ → Bool) → Type 0
 ArePending clauses entries first to_come = (k : ℕ) (c : List Literal) → slice_get clauses k ≡ Some c → IsCalm (values_of entries) c ⊎ IsTouched entries first c ⊎ (to_come k ≡ true)
 
--- where unit propagation ends: at a clause that is false, at a choice with each clause calm, or with each satisfied
+-- where unit propagation ends: at a clause that is false, at a choice of a variable that occurs, with each clause calm, or
+-- with each satisfied
 abbrev pub IsSettled : List (List Literal) → ℕ → (ℕ → Option Bool) → Settled → Type 0
 IsSettled clauses n a (AtConflict k) = hint_is_falsified a (numbered clauses k) ≡ true
-IsSettled clauses n a (AtChoice l) = AreCalm a clauses × IsFree a n l
+IsSettled clauses n a (AtChoice l) = AreCalm a clauses × IsFree a n l × (occurs clauses l.variable ≡ true)
 IsSettled clauses n a AtEnd = list_all (has_true a) clauses ≡ true
 
 -- a trail went on from another: it is a trail still, and each further entry gave a variable a value

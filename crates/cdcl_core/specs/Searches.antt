@@ -4,7 +4,7 @@ use Rattle.std.specs.List.{list_all}
 use Rattle.cnf_form.specs.Literals.{Literal}
 use Rattle.cnf_form.specs.Propagation.{numbered, hint_is_falsified, follows}
 use Rattle.cnf_form.specs.Refutations.{Step, clauses_of, follows_all, has_no_empty, is_new, is_fresh, is_empty_clause}
-use Rattle.cnf_form.specs.Variables.{is_below}
+use Rattle.cnf_form.specs.Variables.{is_below, is_over}
 use Rattle.cdcl_core.specs.declared.solver.Answer.{Answer}
 use Rattle.cdcl_core.specs.declared.solver.Answer.TheVariants.{Found, Refuted, Spent}
 use Rattle.cdcl_core.specs.Trails.{Assignment, values_of, IsTrail, AreCalmFirst}
@@ -28,13 +28,20 @@ IfSpent (Found values) P = Unit {0}
 IfSpent (Refuted log) P = Unit {0}
 IfSpent (Spent log) P = P log
 
--- what a search keeps: its clauses are the formula's and those learnt, each of which follows and was new, the trail is one
--- over these clauses, and the first n of them are calm
+-- what holds of every log
+abbrev pub IfLog : Answer → (List Step → Type 0) → Type 0
+IfLog (Found values) P = Unit {0}
+IfLog (Refuted log) P = P log
+IfLog (Spent log) P = P log
+
+-- what a search keeps: its clauses are the formula's and those learnt, each of which follows, was new and has no variable
+-- but the formula's, the trail is one over these clauses, and the first n of them are calm
 pub record IsSearch (formula : List (List Literal)) (clauses : List (List Literal)) (log : List Step) (now : Assignment) (n : ℕ) : Type 0 where
   pub all : clauses ≡ formula ++ clauses_of log
   pub follows : follows_all formula log ≡ true
   pub fresh : is_fresh formula log ≡ true
   pub no_empty : has_no_empty log ≡ true
+  pub over : list_all (is_over formula) (clauses_of log) ≡ true
   pub below : list_all (is_below (length now.marks)) clauses ≡ true
   pub trail : IsTrail clauses now.entries
   pub calm : AreCalmFirst n (values_of now.entries) clauses
@@ -44,8 +51,8 @@ abbrev pub IsDescent : List (List Literal) → (ℕ → Option Bool) → Option 
 IsDescent clauses a (Some k) = hint_is_falsified a (numbered clauses k) ≡ true
 IsDescent clauses a None = list_all (has_true a) clauses ≡ true
 
--- a step that may be learnt: its clause follows, has no variable from n on, and is new unless it is empty
-pub record IsLesson (clauses : List (List Literal)) (n : ℕ) (step : Step) : Type 0 where
+-- a step that may be learnt: its clause follows, has no variable but those of the clauses, and is new unless it is empty
+pub record IsLesson (clauses : List (List Literal)) (step : Step) : Type 0 where
   pub follows : follows clauses step.clause step.hints ≡ true
   pub is_new : is_empty_clause step.clause ≡ false → is_new clauses step.clause ≡ true
-  pub below : is_below n step.clause ≡ true
+  pub over : is_over clauses step.clause ≡ true

@@ -1,7 +1,8 @@
 -- Trails: the literals that are true, in their order, each decided or forced by a clause.
-use Rattle.std.specs.Prelude.{◌≡◌, ℕ, ◌+◌, ◌<◌, Bool, false, ◌++◌, List, [], ◌∷◌, Option, Some, None, fold, take, length, slice_get, slice_set, slice_index_or}
+use Rattle.std.specs.Prelude.{◌≡◌, ℕ, ◌+◌, ◌<◌, Bool, true, false, ◌++◌, List, [], ◌∷◌, Option, Some, None, fold, take, length, slice_get, slice_set, slice_index_or}
 use Rattle.cnf_form.specs.Literals.{Literal}
 use Rattle.cnf_form.specs.Propagation.{unassigned, assign, is_falsified, numbered, unit_of_hint}
+use Rattle.cnf_form.specs.Variables.{occurs}
 use Rattle.proof_check.specs.Marking.{marked}
 use Rattle.cdcl_core.specs.declared.trail.Entry.{Entry}
 
@@ -40,10 +41,10 @@ AreCalmFirst n a clauses = (k : ℕ) (c : List Literal) → k < n → slice_get 
 abbrev pub AreCalm : (ℕ → Option Bool) → List (List Literal) → Type 0
 AreCalm a clauses = (k : ℕ) (c : List Literal) → slice_get clauses k ≡ Some c → IsCalm a c
 
--- what a literal is made true by, after the values `a`: right before a decision each clause is calm, and else the clause
--- of the entry's number forces it
+-- what a literal is made true by, after the values `a`: right before a decision each clause is calm, and its variable stands
+-- in one of them; else the clause of the entry's number forces it
 abbrev pub IsMadeTrue : List (List Literal) → (ℕ → Option Bool) → Literal → Option ℕ → Type 0
-IsMadeTrue clauses a l None = AreCalm a clauses
+IsMadeTrue clauses a l None = AreCalm a clauses × (occurs clauses l.variable ≡ true)
 IsMadeTrue clauses a l (Some n) = unit_of_hint a (numbered clauses n) ≡ Some l
 
 -- each entry's variable has no value before it, and each literal is made true by a decision or by its clause

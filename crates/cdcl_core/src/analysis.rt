@@ -110,7 +110,7 @@ impl Analysis {
     fn meet(&mut self, literal: Lit, trail: &Trail) -> Result<(), NoMemory> {
         self.see(literal)?;
         if trail.number(literal) > self.last {
-            self.pending = self.pending.checked_add(1).ok_or(NoMemory)?;
+            self.pending = self.pending.saturating_add(1);
         } else {
             self.literals.push(literal)?;
         }

@@ -1,12 +1,13 @@
 //! Clauses, with the places in which each literal stands, so that only those are looked at where it becomes false, and with
 //! a checker of those that come next.
 
-ghost use Rattle.std.specs.Prelude.{◌≡◌, ℕ, ◌+◌, ◌*◌, ◌<◌, ◌++◌, ◌∷◌, ◌&&◌, [], List, Some, true, OnOk, OnErr, IfOk, slice_get, length};
+ghost use Rattle.std.specs.Prelude.{◌≡◌, ℕ, ◌+◌, ◌*◌, ◌<◌, ◌==◌, ◌++◌, ◌∷◌, ◌&&◌, [], List, Some, true, OnOk, OnErr, IfOk, IsTrue, slice_get, length};
 ghost use Rattle.std.specs.List.{list_any};
 ghost use Rattle.cnf_form.specs.Literals.{Literal, same_literal};
 ghost use Rattle.cnf_form.specs.Clauses.{are_increasing};
 ghost use Rattle.cnf_form.specs.Propagation.{follows};
 ghost use Rattle.cnf_form.specs.Refutations.{is_new};
+ghost use Rattle.cnf_form.specs.Variables.{occurs};
 ghost use Rattle.cdcl_core.specs.Places.{index_of, is_among, places_of, AreKept};
 
 use cnf_form::{Clauses, Lit, LogStep};
@@ -85,6 +86,12 @@ impl Places {
     }
 }
 
+fn has_variable(clause: &[Lit], variable: u32) -> bool
+    ensures { result ≡ list_any (λ l. l.variable == variable) clause.now }
+{
+    clause.iter().any(|l| l.variable() == variable)
+}
+
 /// Clauses in their order.
 #[derive(Debug)]
 pub struct ClauseList {
@@ -156,6 +163,27 @@ impl ClauseList {
         ensures { (k : ℕ) (c : List Literal) → slice_get self.now k ≡ Some c → list_any (same_literal literal) c ≡ true → is_among result.now k ≡ true }
     {
         self.places.of(literal)
+    }
+
+    // Whether the first clause in which the literal is noted has its variable. The clause is read, since a note stays where want
+    // of memory kept its clause from being put.
+    fn shows(&self, literal: Lit) -> bool
+        ensures { IsTrue result → occurs self.now literal.variable ≡ true }
+    {
+        let Some(place) = self.places(literal).first() else {
+            return false;
+        };
+        match self.list().get(*place) {
+            Some(clause) => has_variable(clause, literal.variable()),
+            None => false,
+        }
+    }
+
+    /// Whether the literal's variable is seen in a clause: the first one in which the literal or its negation is noted.
+    pub fn mentions(&self, literal: Lit) -> bool
+        ensures { IsTrue result → occurs self.now literal.variable ≡ true }
+    {
+        self.shows(literal) || self.shows(literal.negated())
     }
 }
 

@@ -5,7 +5,7 @@
 ghost use Rattle.std.specs.Prelude.{◌≡◌, ◌<◌, true, length, IfOk, IfSome, OnOk, None};
 ghost use Rattle.std.specs.List.{list_all};
 ghost use Rattle.cnf_form.specs.Propagation.{numbered, hint_is_falsified};
-ghost use Rattle.cnf_form.specs.Variables.{is_below};
+ghost use Rattle.cnf_form.specs.Variables.{is_below, occurs};
 ghost use Rattle.cdcl_core.specs.Trails.{values_of, IsTrail, AreCalm, AreCalmFirst, free_count};
 ghost use Rattle.cdcl_core.specs.Passes.{IsFree, IsSettled};
 ghost use Rattle.cdcl_core.specs.Searches.{IsDescent};
@@ -24,7 +24,7 @@ use std::alloc::AllocError as NoMemory;
 pub enum Settled {
     /// The clause of this number is false.
     AtConflict(usize),
-    /// Each clause is calm, and this literal has no value.
+    /// Each clause is calm, and this literal's variable has no value and occurs in a clause.
     AtChoice(Lit),
     /// Each clause is satisfied.
     AtEnd,
@@ -55,7 +55,7 @@ fn next_choice(trail: &Trail, clauses: &ClauseList, order: &mut Order) -> Settle
     requires calm { AreCalm (values_of trail.now.entries) clauses.now }
     ensures { IsSettled clauses.now (length trail.now.marks) (values_of trail.now.entries) result }
 {
-    match order.pick(trail) {
+    match order.pick(trail, clauses) {
         Some(literal) => Settled::AtChoice(literal),
         None => open_literal(trail, clauses.list()),
     }
@@ -73,6 +73,7 @@ fn choose(
     requires trail { IsTrail clauses.now trail.old.entries }
     requires calm { AreCalm (values_of trail.old.entries) clauses.now }
     requires free { IsFree (values_of trail.old.entries) (length trail.old.marks) literal }
+    requires occurs { occurs clauses.now literal.variable ≡ true }
     ensures trail { OnOk result (IsTrail clauses.now trail.new.entries) }
     ensures size { OnOk result (length trail.new.marks ≡ length trail.old.marks) }
     ensures fewer { OnOk result (free_count trail.new.marks < free_count trail.old.marks) }

@@ -6,12 +6,14 @@
 //! entries leave the trail, their variables are put back, and the values that they had are kept as those to try next.
 //!
 //! What the order says is no more than a wish: whichever literal is chosen, the answers are as sure, and where the heap is
-//! empty the search looks for a literal itself.
+//! empty the search looks for a literal itself. A variable that occurs in no clause is taken out and never chosen.
 
-ghost use Rattle.std.specs.Prelude.{Contains, IfSome, length};
+ghost use Rattle.std.specs.Prelude.{◌≡◌, true, Contains, IfSome, IsTrue, length};
+ghost use Rattle.cnf_form.specs.Variables.{occurs};
 ghost use Rattle.cdcl_core.specs.Trails.{values_of};
 ghost use Rattle.cdcl_core.specs.Passes.{IsFree};
 
+use crate::clause_list::ClauseList;
 use crate::heap::Heap;
 use crate::trail::{Entry, Trail};
 use cnf_form::Lit;
@@ -64,6 +66,14 @@ fn negations(alloc: Global, last: u32) -> Result<Vec<Lit>, NoMemory> {
     Ok(literals)
 }
 
+// Whether the literal may be chosen: its variable has no value, and occurs in a clause.
+fn may_be_chosen(trail: &Trail, clauses: &ClauseList, literal: Lit) -> bool
+    ensures free { IsTrue result → IsFree (values_of trail.now.entries) (length trail.now.marks) literal }
+    ensures occurs { IsTrue result → occurs clauses.now literal.variable ≡ true }
+{
+    trail.is_free(literal) && clauses.mentions(literal)
+}
+
 impl Order {
     /// The variables up to this one, each false first.
     pub fn new(alloc: Global, last: u32) -> Result<Order, NoMemory> {
@@ -75,14 +85,15 @@ impl Order {
         })
     }
 
-    /// Takes out variables until one has no value, and answers the literal to choose for that one.
-    pub fn pick(&mut self, trail: &Trail) -> Option<Lit>
+    /// Takes out variables until one has no value and occurs in a clause, and answers the literal to choose for that one.
+    pub fn pick(&mut self, trail: &Trail, clauses: &ClauseList) -> Option<Lit>
         ensures free { IfSome result (IsFree (values_of trail.now.entries) (length trail.now.marks)) }
+        ensures occurs { IfSome result (λ l. occurs clauses.now l.variable ≡ true) }
         ensures listed { IfSome result (Contains self.old.literals.items) }
     {
         while let Some(place) = self.heap.pop(&self.activities) {
             if let Some(literal) = self.literals.get(place) {
-                if trail.is_free(*literal) {
+                if may_be_chosen(trail, clauses, *literal) {
                     return Some(*literal);
                 }
             }

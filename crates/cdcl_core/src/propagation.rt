@@ -16,9 +16,9 @@ use cnf_form::Lit;
 pub enum State {
     /// Each literal is false.
     Falsified,
-    /// Each literal but this one is false.
+    /// Each of its literals but this one is false.
     Forces(Lit),
-    /// This literal and another have no value.
+    /// This one of its literals and another have no value.
     Open(Lit),
     /// A literal is true.
     Satisfied,

@@ -1,6 +1,6 @@
 //! The trail: the literals that are true, in the order in which they became so.
 
-ghost use Rattle.std.specs.Prelude.{◌≡◌, ℕ, ◌-◌, ◌<◌, ◌↔◌, Bool, [], ◌++◌, IfOk, OnOk, OnErr, None, true, false, replicate, length, map, take, unwrap_or, option_to_list, slice_index_or, IsTrue};
+ghost use Rattle.std.specs.Prelude.{◌≡◌, ℕ, ◌-◌, ◌<◌, ◌↔◌, [], ◌++◌, IfOk, OnOk, OnErr, None, true, false, replicate, length, map, take, unwrap_or, option_to_list, slice_index_or, IsTrue};
 ghost use Rattle.cnf_form.specs.Literals.{Literal};
 ghost use Rattle.cnf_form.specs.Valuations.{literal_value, valuation};
 ghost use Rattle.cnf_form.specs.Propagation.{is_true, is_false};
@@ -60,7 +60,6 @@ impl Trail {
 
     pub fn entries(&self) -> &[Entry]
         ensures value { result.now ≡ self.now.entries }
-        ensures in_size { (v : ℕ) (b : Bool) → values_of self.now.entries v ≡ Some b → v < length self.now.marks }
     {
         self.entries.as_slice()
     }

@@ -3,3 +3,4 @@ pub mod Inserting
 pub mod Meaning
 pub mod Pieces
 pub mod Variables
+pub mod Occurs

@@ -1,10 +1,12 @@
 //! Logs: clauses, each with hints by which it follows from those before it.
 
-ghost use Rattle.std.specs.Prelude.{◌≡◌, ◌++◌, ◌∷◌, [], OnOk, OnErr};
+ghost use Rattle.std.specs.Prelude.{◌≡◌, ◌++◌, ◌∷◌, [], All, OnOk, OnErr};
+ghost use Rattle.cnf_form.specs.Clauses.{IsClause};
 
 use crate::clause::Clause;
 use std::alloc::{AllocError as NoMemory, Global};
 use std::marker::Model;
+use std::mem;
 
 /// A clause, and the numbers of the clauses that are its hints: those of the formula have the numbers from 1 on, and
 /// those of the log the next ones.
@@ -58,12 +60,15 @@ pub struct Log {
 }
 
 impl Model for Log {
-    ghost use Rattle.std.specs.Prelude.{List};
+    ghost use Rattle.std.specs.Prelude.{All, List};
+    ghost use Rattle.cnf_form.specs.Clauses.{IsClause};
     ghost use Rattle.cnf_form.specs.Refutations.{Step};
 
     ghost Value = { List Step };
 
     ghost view = { λ l. l.steps.items };
+
+    ghost invariant = { λ l. All (λ s. IsClause s.clause) l.steps.items };
 }
 
 impl Log {
@@ -81,8 +86,21 @@ impl Log {
         ensures ok { OnOk result (self.new ≡ self.old ++ step ∷ []) }
         ensures err { OnErr result (self.new ≡ self.old) }
     {
+        // That it is a clause as texts have it is known of its literals.
+        let _ = step.clause().literals();
         self.steps.push(step)?;
         Ok(())
+    }
+
+    /// Takes the steps out, so that none is left.
+    pub fn take(&mut self, alloc: Global) -> Log
+        ensures value { result ≡ self.old }
+        ensures left { self.new ≡ [] }
+        ensures formed { All (λ s. IsClause s.clause) result }
+    {
+        Log {
+            steps: mem::replace(&mut self.steps, Vec::new(alloc)),
+        }
     }
 
     pub fn steps(&self) -> &[LogStep]

@@ -9,7 +9,7 @@ use Rattle.cdcl_core.proofs.descent.choose.Goals as goal
 pub follow-requires-clause-trail : goal.follow-requires-clause-trail
 follow-requires-clause-trail c =
     subst (λ (t : Assignment). IsTrail c.args.clauses.now t.entries) (sym c.in_ok-push.ensures.ok)
-    (trail_decided c.args.clauses.now c.args.trail.now.entries c.args.literal c.requires.trail c.requires.free.1 c.requires.calm)
+    (trail_decided c.args.clauses.now c.args.trail.now.entries c.args.literal c.requires.trail c.requires.free.1 c.requires.calm c.requires.occurs)
 
 pub returns-clause-calm : goal.returns-clause-calm
 returns-clause-calm c =

@@ -3,6 +3,7 @@ use Rattle.std.specs.List.{list_all}
 use Rattle.std.proofs.lemmas.Bool.{and_from}
 use Rattle.std.proofs.lemmas.List.{take_all}
 use Rattle.std.proofs.lemmas.List.Folds.{list_all_more}
+use Rattle.cnf_form.proofs.Occurs.{has_its_variable, occurs_at}
 use Rattle.cdcl_core.specs.Trails.{values_of}
 use Rattle.cdcl_core.specs.Passes.{has_true}
 use Rattle.cdcl_core.proofs.Reading.{got_at}
@@ -20,10 +21,12 @@ returns-in-Falsified c =
     false_clause c.args.clauses.now (values_of c.args.trail.now.entries) c.loop-i.i c.at.result.now at.0 at.1 c.in-Falsified.ensures
 
 pub returns-in-Forces : goal.returns-in-Forces
-returns-in-Forces c = (c.requires.calm, c.in-Forces.ensures.1)
+returns-in-Forces c =
+    (c.requires.calm, c.in-Forces.ensures.1, occurs_at c.args.clauses.now c.loop-i.i c.at.result.now _ c.at.ensures.value (has_its_variable c.in-Forces.literal c.at.result.now c.in-Forces.ensures.2))
 
 pub returns-in-Open : goal.returns-in-Open
-returns-in-Open c = (c.requires.calm, c.in-Open.ensures.1)
+returns-in-Open c =
+    (c.requires.calm, c.in-Open.ensures.1, occurs_at c.args.clauses.now c.loop-i.i c.at.result.now _ c.at.ensures.value (has_its_variable c.in-Open.literal c.at.result.now c.in-Open.ensures.2))
 
 pub loop-i-preserved : goal.loop-i-preserved
 loop-i-preserved c =

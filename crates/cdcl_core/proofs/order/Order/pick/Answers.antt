@@ -1,8 +1,8 @@
 use Rattle.std.proofs.Common.{◌∙◌, Contains, subst, sym}
 use Rattle.cdcl_core.proofs.order.Order.pick.Goals as goal
 
-pub returns-then-is_free-clause-listed : goal.returns-then-is_free-clause-listed
-returns-then-is_free-clause-listed c =
+pub returns-then-may_be_chosen-clause-listed : goal.returns-then-may_be_chosen-clause-listed
+returns-then-may_be_chosen-clause-listed c =
     subst (λ xs. Contains xs c.in-Some-get.literal.now)
     (c.deref-in-Some.ensures.value ∙ c.loop-place.invariant) (
       c.in-Some.place,

@@ -3,7 +3,7 @@ use Rattle.cnf_form.specs.Literals.{Literal}
 use Rattle.cnf_form.specs.Refutations.{is_empty_clause}
 use Rattle.proof_check.proofs.Turns.{empty_by_length}
 use Rattle.cdcl_core.specs.Trails.{values_of, IsTrail, AreCalmFirst}
-use Rattle.cdcl_core.proofs.Learning.{ends, learns}
+use Rattle.cdcl_core.proofs.Learning.{ends, ends_over, learns}
 use Rattle.cdcl_core.proofs.solver.Solver.learn.Goals as goal
 
 pub returns-then-is_empty-clause-refuted : goal.returns-then-is_empty-clause-refuted
@@ -11,6 +11,10 @@ returns-then-is_empty-clause-refuted c =
     let empty : is_empty_clause c.in_ok-step.step.clause ≡ true =
     empty_by_length c.in_ok-step.step.clause ∙ ap (λ (ls : List Literal). length ls == 0) (sym (c.literals.ensures.value ∙ c.clause.ensures)) ∙ sym c.is_empty.ensures ∙ c.if-is_empty.true in
     ends c.args.formula.now c.lesson.new.self.clauses c.lesson.new.self.log c.push.new.self c.lesson.new.self.trail c.lesson.new.self.calm c.in_ok-step.step c.in_ok-step.ensures.search c.in_ok-step.ensures.lesson empty c.in_ok-push.ensures.ok
+
+pub returns-then-is_empty-clause-over : goal.returns-then-is_empty-clause-over
+returns-then-is_empty-clause-over c =
+    ends_over c.args.formula.now c.lesson.new.self.clauses c.lesson.new.self.log c.push.new.self c.lesson.new.self.trail c.lesson.new.self.calm c.in_ok-step.step c.in_ok-step.ensures.search c.in_ok-step.ensures.lesson c.in_ok-push.ensures.ok
 
 pub go_back-calm-requires : goal.go_back-calm-requires
 go_back-calm-requires c = subst (λ (cs : List (List Literal)). IsTrail cs c.lesson.new.self.trail.entries) (sym c.list.ensures) c.in_ok-step.ensures.search.trail
