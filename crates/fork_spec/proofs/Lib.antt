@@ -5,3 +5,4 @@ pub mod Lines
 pub mod Walked
 pub mod Apart
 pub mod Quiet
+pub mod Releases

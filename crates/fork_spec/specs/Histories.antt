@@ -1,9 +1,10 @@
 -- The history of the leaves of a program: events that make a tree of which they are the leaves, and the split of which a leaf is a side.
-use Rattle.std.specs.Prelude.{◌≡◌, ℕ, ◌+◌, ◌<◌, ◌≤◌, Bool, true, false, List, [], ◌∷◌, All, length, map, Option, None, Some, count_by, slice_get}
+use Rattle.std.specs.Prelude.{◌≡◌, ℕ, ◌+◌, ◌<◌, ◌≤◌, ◌==◌, ◌&&◌, Bool, true, false, List, [], ◌∷◌, All, length, map, Option, None, Some, count_by, slice_get}
 use Rattle.tree_core.specs.declared.cause.Cause.{Cause}
 use Rattle.tree_core.specs.declared.choice.Choice.{Choice}
+use Rattle.tree_core.specs.declared.event.Event.{Event}
 use Rattle.tree_core.specs.declared.event.Deed.{Deed}
-use Rattle.tree_core.specs.declared.event.Deed.TheVariants.{Split}
+use Rattle.tree_core.specs.declared.event.Deed.TheVariants.{Release, Split}
 use Rattle.tree_core.specs.declared.node.Status.{Status}
 use Rattle.tree_core.specs.declared.node.Status.TheVariants.{Leaf as IsLeaf}
 use Rattle.fork_spec.specs.Leaves.{Leaf}
@@ -64,3 +65,15 @@ pub record IsSideOf (lines : List Line) (node : ℕ) (choices : List Choice) : T
 abbrev pub IsOwnSplit : List Line → ℕ → List Choice → Type 0
 IsOwnSplit lines node [] = Unit {0}
 IsOwnSplit lines node (c ∷ cs) = IsSideOf lines node (c ∷ cs)
+
+abbrev pub is_release : {R K : Type 0} → Deed R K → Bool
+is_release Release = true
+is_release _ = false
+
+-- how many nodes the worker gave up
+abbrev pub releases_by : {R K : Type 0} → (by : ℕ) → List (Event R K) → ℕ
+releases_by by events = count_by (λ e. (e.by == by) && is_release e.deed) events
+
+-- each worker gave up one node at most: one does so where memory is refused to it, or where it leaves
+abbrev pub ReleaseOnce : {R K : Type 0} → List (Event R K) → Type 0
+ReleaseOnce events = (by : ℕ) → releases_by by events ≤ 1

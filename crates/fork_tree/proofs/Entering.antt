@@ -1,5 +1,6 @@
 -- What an end of a claim does to a tree.
 use Rattle.std.proofs.Common.{◌≡◌, ℕ, ◌+◌, ◌^◌, ◌<◌, ◌≤◌, ◌++◌, ◌∷◌, List, [], length, sym, refl, ap, ◌∙◌, subst, arith, append_assoc, Option}
+use Rattle.std.specs.Prelude.{Result, Ok, Err, OnErr}
 use Rattle.std.specs.List.{All, sum_by}
 use Rattle.std.proofs.Math.Nat.{one-le-pow}
 use Rattle.std.proofs.lemmas.List.{append-nil}
@@ -23,6 +24,11 @@ use Rattle.fork_tree.specs.declared.content.Content.{Content}
 use Rattle.fork_tree.proofs.Standings.{AreThere, Coming, content-here, status-here}
 use Rattle.fork_tree.proofs.Listing.{held-allows, allowed-claim}
 use Rattle.fork_tree.proofs.Fuel.{kid_heft, fuel-end, fuel-claim, kids_light}
+
+-- what holds in any case holds where there is an error
+pub on_err : {T E P : Type 0} (r : Result T E) → P → OnErr r P
+on_err (Ok x) p = _
+on_err (Err e) p = p
 
 module _ {R : Type 0} where
   -- one node less is held

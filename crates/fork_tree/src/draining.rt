@@ -1,9 +1,10 @@
 //! The loop of one worker.
 
-ghost use Rattle.std.specs.Prelude.{◌≡◌, ◌+◌, ◌<◌, ◌^◌, Ok, true, false, OnOk, length};
+ghost use Rattle.std.specs.Prelude.{◌≡◌, ◌+◌, ◌<◌, ◌≤◌, ◌^◌, ℕ, Ok, true, false, OnErr, OnOk, length};
 ghost use Rattle.tree_core.specs.declared.node.Status.TheVariants.{Held};
 ghost use Rattle.tree_core.specs.Cores.{held_count};
 ghost use Rattle.tree_core.specs.Stories.{content, status};
+ghost use Rattle.fork_spec.specs.Histories.{releases_by};
 ghost use Rattle.fork_tree.specs.Calls.{IsQuiet};
 ghost use Rattle.fork_tree.specs.Drains.{GrowsBy, IsDrained, fuel};
 ghost use Rattle.fork_tree.specs.Nodes.{StateIs};
@@ -12,8 +13,10 @@ use crate::tree::{Claim, Tree};
 use crate::work::{Parts, Work};
 use std::alloc::{AllocError as NoMemory, Global};
 use std::sync::Wait;
+use work_gate::OpenGate;
 
-/// Works the tree until no node is free or held. Where memory is refused no node is held, and what was entered stays.
+/// Works the tree until no node is free or held. Where memory is refused no node is held, and what was entered stays: a node that
+/// was being worked then is given up, and no other ever is.
 pub fn drain<W: Work>(
     rt: &impl Wait,
     alloc: Global,
@@ -24,6 +27,8 @@ pub fn drain<W: Work>(
     ensures worker { tree.new.worker ≡ tree.old.worker }
     ensures drained { OnOk result (IsDrained (W.rules tree.old.worker) W.State.place W.Leaf.place tree.new.story) }
     ensures grows { GrowsBy by tree.old.story tree.new.story }
+    ensures none_given_up { OnOk result ((k : ℕ) → releases_by k tree.new.story.events ≡ releases_by k tree.old.story.events) }
+    ensures one_given_up { OnErr result ((k : ℕ) → releases_by k tree.new.story.events ≤ releases_by k tree.old.story.events + 1) }
     ensures none_held { held_count tree.new.story ≡ 0 }
 {
     while work_next(rt, alloc, tree, by)? {}
@@ -42,6 +47,8 @@ fn work_next<W: Work>(
     ensures worker { tree.new.worker ≡ tree.old.worker }
     ensures none_held { held_count tree.new.story ≡ 0 }
     ensures grows { GrowsBy by tree.old.story tree.new.story }
+    ensures none_given_up { OnOk result ((k : ℕ) → releases_by k tree.new.story.events ≡ releases_by k tree.old.story.events) }
+    ensures one_given_up { OnErr result ((k : ℕ) → releases_by k tree.new.story.events ≤ releases_by k tree.old.story.events + 1) }
     ensures less { result ≡ Ok true → fuel (W.rules tree.old.worker) tree.new.story < fuel (W.rules tree.old.worker) tree.old.story }
     ensures quiet { result ≡ Ok false → IsQuiet tree.new.story }
 {
@@ -73,10 +80,12 @@ fn enter<W: Work>(
     ensures worker { tree.new.worker ≡ tree.old.worker }
     ensures held { held_count tree.new.story + 1 ≡ held_count tree.old.story }
     ensures grows { GrowsBy by tree.old.story tree.new.story }
+    ensures none_given_up { OnOk result ((k : ℕ) → releases_by k tree.new.story.events ≡ releases_by k tree.old.story.events) }
+    ensures one_given_up { OnErr result ((k : ℕ) → releases_by k tree.new.story.events ≤ releases_by k tree.old.story.events + 1) }
     ensures less { OnOk result (fuel (W.rules tree.old.worker) tree.new.story < fuel (W.rules tree.old.worker) tree.old.story + ((W.rules tree.old.worker).targets + 2) ^ (W.rules tree.old.worker).left state.now) }
 {
     tree.is_whole();
-    match tree.worker().work(rt, alloc, state) {
+    match tree.worker().work(rt, alloc, &OpenGate, by, state) {
         Err(NoMemory) => {
             tree.release(by, node);
             Err(NoMemory)

@@ -7,6 +7,7 @@ use crate::content::{Content, Placed};
 use std::alloc::{AllocError as NoMemory, Global};
 use std::sync::Wait;
 use tree_core::Kid;
+use work_gate::Gate;
 
 /// What comes of a state: a leaf whose runs have all ended, one that has spent its steps, or kids that share out what it stands for.
 #[derive(Drop)]
@@ -26,11 +27,14 @@ pub trait Work: Drop {
     // What is asked of its states and leaves.
     ghost rules: { Self → Rules Self.State Self.Leaf };
 
-    /// Works a state, up to the next fork or the end of all its runs.
+    /// Works a state, up to the next fork or the end of all its runs. Once its parts are made, this worker reaches `Working` at the
+    /// gate; what the gate answers there isn't heeded.
     fn work(
         &self,
         rt: &impl Wait,
         alloc: Global,
+        gate: &impl Gate,
+        by: u32,
         state: &Self::State,
     ) -> Result<Parts<Self::State, Self::Leaf>, NoMemory>
         requires well { (rules self.now).IsWell state.now }

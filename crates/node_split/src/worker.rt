@@ -22,14 +22,24 @@ use std::sync::Wait;
 use sym_machine::{Advanced, Stop, advance};
 use sym_state::{LeafPart, Program, State};
 use tree_core::Budgets;
+use work_gate::{Gate, Point};
 
 /// Works the runs of a program, within budgets, and keeps the answers to the questions that it asks. A run may make 1,000,000
 /// steps at most, and one value of a term at least becomes a side of its own.
-#[derive(Drop)]
 pub struct Worker {
     program: Program,
     budgets: Budgets,
     shared: Shared,
+}
+
+impl Drop for Worker {
+    fn drop(self) {
+        let Self {
+            program: _program,
+            budgets: _budgets,
+            shared: _shared,
+        } = self;
+    }
 }
 
 impl Model for Worker {
@@ -143,9 +153,14 @@ impl Work for Worker {
         &self,
         rt: &impl Wait,
         alloc: Global,
+        gate: &impl Gate,
+        by: u32,
         state: &State,
     ) -> Result<Parts<State, LeafPart>, NoMemory> {
         let Advanced { mut run, stop } = advance(state, self.budgets.steps)?;
-        self.follow(rt, alloc, &mut run, stop)
+        let parts = self.follow(rt, alloc, &mut run, stop);
+        // Whoever may leave is asked again before the parts are entered.
+        let _ = gate.reached(by, Point::Working);
+        parts
     }
 }

@@ -18,6 +18,7 @@ use std::process::Abort;
 use std::sync::{Arc, Wait};
 use std::test::Fail;
 use tree_core::{Cause, Choice, Kid, Status};
+use work_gate::Gate;
 
 /// The assignments of just so many numbers, or of so many or more. Runs take the branch once for each number.
 #[derive(Clone, Copy, Debug, PartialEq, Eq)]
@@ -65,6 +66,8 @@ impl Work for Climber {
         &self,
         _rt: &impl Wait,
         alloc: Global,
+        _gate: &impl Gate,
+        _by: u32,
         state: &Rung,
     ) -> Result<Parts<Rung, End>, NoMemory> {
         let rung = *state;
@@ -243,12 +246,14 @@ impl Work for Beginner {
         &self,
         rt: &impl Wait,
         alloc: Global,
+        gate: &impl Gate,
+        by: u32,
         state: &Rung,
     ) -> Result<Parts<Rung, End>, NoMemory> {
         if *state != GROUND {
             return Err(NoMemory);
         }
-        self.climber.work(rt, alloc, state)
+        self.climber.work(rt, alloc, gate, by, state)
     }
 }
 

@@ -11,6 +11,7 @@ use std::sync::Wait;
 use std::test::Fail;
 use sym_state::{LeafPart, State};
 use tree_core::{Budgets, Choice, Kid};
+use work_gate::OpenGate;
 
 // It loads from an address to which it adds the low bit of twice its input byte, and exits: LUI x5, 0x11; LBU x7, 0(x5);
 // ADD x8, x7, x7; ANDI x8, x8, 1; ADD x5, x5, x8; LBU x6, 0(x5); ADDI x17, x0, 93; ECALL.
@@ -73,7 +74,7 @@ fn worked(
 ) -> Result<Parts<State, LeafPart>, Fail> {
     assert!(rt; 1 <= worker.budgets().steps);
     let state = State::first(alloc, worker.program())?;
-    Ok(worker.work(rt, alloc, &state)?)
+    Ok(worker.work(rt, alloc, &OpenGate, 0, &state)?)
 }
 
 // Whether kids have these choices, and only what is left beside values is a leaf.

@@ -10,9 +10,8 @@ use std::alloc::{AllocError as NoMemory, Global};
 use std::sync::{Arc, Wait};
 use std::test::Fail;
 use std::thread::Threads;
-use std::time::Clock;
 use tree_core::{Choice, Deed, Kid, Status};
-use work_gate::{DropGate, Gate, Next, OpenGate, Point};
+use work_gate::{DropGate, Gate, MeetGate, Next, OpenGate, Point};
 use work_run::{Lent, explore};
 
 /// All assignments, or those of one card: those with so many numbers, where 2 is for two and more.
@@ -51,10 +50,13 @@ impl Work for Dealer {
         &self,
         _rt: &impl Wait,
         alloc: Global,
+        gate: &impl Gate,
+        by: u32,
         state: &Draw,
     ) -> Result<Parts<Draw, Draw>, NoMemory> {
         let draw = *state;
         if draw.drawn {
+            let _ = gate.reached(by, Point::Working);
             return Ok(Parts::Finished(draw));
         }
         let none = side(alloc, 0)?;
@@ -64,6 +66,7 @@ impl Work for Dealer {
         kids.push_reserved(none);
         kids.push_reserved(one);
         kids.push_reserved(more);
+        let _ = gate.reached(by, Point::Working);
         Ok(Parts::Kids(kids))
     }
 }
@@ -139,8 +142,17 @@ fn four_workers_make_each_leaf(rt: HostRuntime) -> Result<(), Fail> {
     Ok(())
 }
 
+// Two workers work one card each at the same time: one alone would be held up to the limit.
+#[test]
+fn two_workers_work_at_once(rt: HostRuntime) -> Result<(), Fail> {
+    let gate = MeetGate::new();
+    let tree = explore(&rt, rt.alloc(), &Dealer, WHOLE, 2, &gate)?;
+    assert!(rt; has_each_leaf(&tree) && gate.have_met() && !gate.was_limit_reached());
+    Ok(())
+}
+
 // Whether so many workers, each of which leaves once, make each leaf and release what they left.
-fn is_left_worked<R: Threads + Wait + Clock + Sync>(
+fn is_left_worked<R: Threads + Wait + Sync>(
     rt: &R,
     alloc: Global,
     workers: u32,

@@ -6,6 +6,8 @@ use Rattle.std.proofs.lemmas.List.Elements.{All-append, All-weaker}
 use Rattle.tree_core.specs.Cores.{held_count}
 use Rattle.tree_core.specs.Stories.{Story}
 use Rattle.tree_core.specs.declared.event.Event.{Event}
+use Rattle.fork_spec.proofs.Releases.{releases-own}
+use Rattle.fork_spec.specs.Histories.{ReleaseOnce}
 use Rattle.fork_tree.specs.Calls.{IsOpening}
 use Rattle.fork_tree.specs.Drains.{GrowsBy}
 use Rattle.fork_tree.specs.declared.content.Content.{Content}
@@ -17,6 +19,7 @@ use Rattle.work_run.specs.Seen.{KnownOf}
 use Rattle.work_run.proofs.Claims.{none_held}
 use Rattle.work_run.proofs.Numbers.{all-below}
 use Rattle.work_run.proofs.Running.{all_turns}
+use Rattle.work_run.proofs.Turning.{one_release}
 
 module _ {F R : Type 0} where
   -- what the first pass knows of a lock that was made on this tree
@@ -65,6 +68,13 @@ module _ {F R : Type 0} where
     closed_none are =
         none_held t
         (all_turns w t.events run.number run.opened run.own run.each all_ended are)
+
+    -- each worker gave up one node at most
+    pub closed_releases : AreOf (λ (e : Event R ℕ). e.by) w t.events → ReleaseOnce t.events
+    closed_releases are k =
+        subst (λ n. n ≤ 1) (sym (releases-own k t.events))
+        (one_release (by_number (λ (e : Event R ℕ). e.by) k t.events)
+        (all_turns w t.events run.number run.opened run.own run.each all_ended are k))
 
     pub closed_few : (workers : ℕ) → last ≡ workers →
         AreOf (λ (e : Event R ℕ). e.by) w t.events →

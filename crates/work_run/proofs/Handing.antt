@@ -8,6 +8,7 @@ use Rattle.tree_core.specs.declared.event.Event.{Event}
 use Rattle.tree_core.specs.declared.event.Kid.{Kid}
 use Rattle.tree_core.specs.Nodes.{Node}
 use Rattle.tree_core.specs.declared.node.Status.TheVariants.{Held}
+use Rattle.fork_spec.specs.Histories.{is_release}
 use Rattle.fork_spec.specs.Partings.{Place}
 use Rattle.fork_tree.specs.Calls.{IsClaim}
 use Rattle.fork_tree.specs.Drains.{GrowsBy}
@@ -21,7 +22,7 @@ use Rattle.turn_lock.specs.Growth.{GoesOnBy, StartsWith, by_number}
 use Rattle.turn_lock.specs.Views.{Follows, given, looked}
 use Rattle.work_run.specs.Entering.{IsClaimEnded, IsNextClaim, IsResult}
 use Rattle.work_run.specs.Seen.{EndsAndClaims, EndsClaim, HasResult, HoldsNode, IsClaimed, IsLater, KnownOf, story_of}
-use Rattle.work_run.specs.Turns.{is_claim, is_release}
+use Rattle.work_run.specs.Turns.{is_claim}
 use Rattle.work_run.proofs.Passing.{IsHanded, all-passed, claimed-passed, ends-passed, held-handed, later-passed, own-passed, passed, same-passed}
 use Rattle.work_run.proofs.Entries.{made-grows}
 use Rattle.turn_lock.proofs.Growths.{drop_seam, starts_refl}

@@ -7,6 +7,7 @@ use Rattle.tree_core.specs.Stories.{Story, content, status}
 use Rattle.tree_core.specs.declared.event.Event.{Event}
 use Rattle.tree_core.specs.declared.event.Kid.{Kid}
 use Rattle.tree_core.specs.declared.node.Status.TheVariants.{Held}
+use Rattle.fork_spec.specs.Histories.{is_release}
 use Rattle.fork_tree.specs.Calls.{IsClaim, IsQuiet, claim_event}
 use Rattle.fork_tree.specs.Drains.{GrowsBy}
 use Rattle.fork_tree.specs.Works.{Rules}
@@ -19,7 +20,7 @@ use Rattle.turn_lock.proofs.Growths.{by_same, drop_seam, drop_whole, starts_tran
 use Rattle.std.proofs.lemmas.List.{append-nil}
 use Rattle.std.proofs.lemmas.List.Elements.{filter-append}
 use Rattle.work_run.specs.Seen.{KnownOf, EndsClaim, HoldsNode, IsClaimed, IsLater, story_of}
-use Rattle.work_run.specs.Turns.{is_claim, is_release}
+use Rattle.work_run.specs.Turns.{is_claim}
 use Rattle.work_run.proofs.Claims.{stays_held}
 use Rattle.work_run.proofs.Numbers.{events_by}
 

@@ -6,6 +6,7 @@ use Rattle.std.specs.declared.sync.Arc.{Arc}
 use Rattle.std.proofs.lemmas.List.Elements.{All-cons, All-nil}
 use Rattle.tree_core.specs.Replays.{kept}
 use Rattle.tree_core.specs.declared.event.Event.{Event}
+use Rattle.fork_spec.specs.Histories.{is_release}
 use Rattle.fork_tree.specs.Calls.{claim_event}
 use Rattle.fork_tree.specs.Works.{Rules}
 use Rattle.fork_tree.specs.declared.content.Content.{Content}
@@ -13,7 +14,7 @@ use Rattle.fork_tree.specs.declared.tree.Claim.{Claim}
 use Rattle.fork_tree.specs.declared.tree.Claim.TheVariants.{Claimed}
 use Rattle.turn_lock.proofs.Growths.{starts_refl, starts_trans}
 use Rattle.work_run.specs.Seen.{CarriesOn, EndsAndClaims, EndsByTurns, EndsClaim, GoesOnToClaim, IsClaimed, IsLater, KnownOf, SeesMore, StopsBehind}
-use Rattle.work_run.specs.Turns.{GoesOnByEntered, GoesOnByTurns, is_release, is_turn}
+use Rattle.work_run.specs.Turns.{GoesOnByEntered, GoesOnByTurns, is_turn}
 use Rattle.work_run.proofs.Turning.{goes-entered, goes-turns, one_turn}
 
 module _ {F R : Type 0} where

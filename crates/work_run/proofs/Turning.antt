@@ -1,11 +1,15 @@
 -- Lists of turns of work.
-use Rattle.std.proofs.Common.{◌≡◌, ℕ, eqb, Bool, true, false, not, ◌&&◌, ◌||◌, cond, Option, Some, None, List, [], ◌∷◌, ◌++◌, refl, sym, ap, ◌∙◌, subst, append_assoc}
+use Rattle.std.proofs.Common.{◌≡◌, ℕ, ◌+◌, ◌≤◌, eqb, Bool, true, false, not, ◌&&◌, ◌||◌, cond, Option, Some, None, List, [], ◌∷◌, ◌++◌, count_by, refl, sym, ap, ◌∙◌, subst, append_assoc, arith}
 use Rattle.std.proofs.lemmas.Bool.{false≢true, eqb-true}
 use Rattle.std.proofs.lemmas.List.{append-nil}
 use Rattle.std.proofs.lemmas.List.Elements.{All-head, All-tail, All-append, All-nil}
+use Rattle.std.proofs.lemmas.List.Sums.{sum_by-cons}
 use Rattle.tree_core.specs.declared.event.Event.{Event}
+use Rattle.tree_core.specs.declared.event.Deed.{Deed}
+use Rattle.tree_core.specs.declared.event.Deed.TheVariants.{Claim, Split, Finish, Cut, Release}
 use Rattle.tree_core.specs.Stories.{last_on, or_later}
-use Rattle.work_run.specs.Turns.{is_claim, is_release, is_last, is_turn, are_turns, AreEntered, GoesOnByTurns, GoesOnByEntered}
+use Rattle.fork_spec.specs.Histories.{is_release}
+use Rattle.work_run.specs.Turns.{is_claim, is_last, is_turn, are_turns, AreEntered, GoesOnByTurns, GoesOnByEntered}
 
 pub left_of : (a b : Bool) → a && b ≡ true → a ≡ true
 left_of true b e = refl
@@ -26,6 +30,13 @@ kept_on : (a b : Bool) → a ≡ false → not a || b ≡ true
 kept_on a b p = ap (λ x. not x || b) p
 
 module _ {R : Type 0} where
+  abbrev counted : Event R ℕ → ℕ
+  counted e = cond (is_release e.deed) 1 0
+
+  -- how many of the events are releases
+  abbrev pub releases : List (Event R ℕ) → ℕ
+  releases es = count_by (λ (e : Event R ℕ). is_release e.deed) es
+
   turn_of : (a b : Event R ℕ) (es : List (Event R ℕ)) → are_turns (a ∷ b ∷ es) ≡ true →
       is_turn a b ≡ true
   turn_of a b es t =
@@ -120,3 +131,46 @@ module _ {R : Type 0} where
       by_later (Some x) later got = let one : x ≡ e = cc in
           subst (λ (z : Event R ℕ). is_claim z.deed ≡ false) one (later x refl)
       by_later None later got = by_node (eqb b.node m) refl got
+
+  -- in a list of turns there is one release at most
+  pub one_release : (es : List (Event R ℕ)) → are_turns es ≡ true → releases es ≤ 1
+  one_release [] t = omega arith
+  one_release (a ∷ []) t = absurd (false≢true t)
+  one_release (a ∷ b ∷ es) t =
+      let first : releases (a ∷ b ∷ es) ≡ cond (is_release a.deed) 1 0 + releases (b ∷ es) =
+      sum_by-cons counted a (b ∷ es) in
+      let second : releases (b ∷ es) ≡ cond (is_release b.deed) 1 0 + releases es =
+      sum_by-cons counted b es in
+      let none : cond (is_release a.deed) 1 0 ≡ 0 =
+      ap (λ c. cond c 1 0) (claims_not a.deed (left_of (is_claim a.deed)
+      (not (is_claim b.deed) && eqb a.node b.node) (turn_of a b es t))) in
+      summed (releases (a ∷ b ∷ es)) (releases (b ∷ es)) (cond (is_release a.deed) 1 0)
+      (cond (is_release b.deed) 1 0) (releases es) first second none
+      (ended (is_release b.deed) (left_of (not (is_release b.deed) || is_last es) (are_turns es)
+      (right_of (is_turn a b) ((not (is_release b.deed) || is_last es) && are_turns es) t))
+      (one_release es (later_of a b es t)))
+    where
+      claims_not : (d : Deed R ℕ) → is_claim d ≡ true → is_release d ≡ false
+      claims_not Claim is = refl
+      claims_not (Split kids) is = refl
+      claims_not (Finish leaf) is = refl
+      claims_not (Cut leaf) is = refl
+      claims_not Release is = absurd (false≢true is)
+
+      last : (fs : List (Event R ℕ)) → is_last fs ≡ true → releases fs ≡ 0
+      last [] is = refl
+      last (f ∷ fs) is = absurd (false≢true is)
+
+      ended : (c : Bool) → not c || is_last es ≡ true → releases es ≤ 1 →
+          cond c 1 0 + releases es ≤ 1
+      ended true is le = one_and (releases es) (last es is)
+        where
+          one_and : (n : ℕ) → n ≡ 0 → 1 + n ≤ 1
+          one_and n none = omega arith
+      ended false is le = zero_and (releases es) le
+        where
+          zero_and : (n : ℕ) → n ≤ 1 → 0 + n ≤ 1
+          zero_and n le = omega arith
+
+      summed : (all more a b n : ℕ) → all ≡ a + more → more ≡ b + n → a ≡ 0 → b + n ≤ 1 → all ≤ 1
+      summed all more a b n x y z le = omega arith

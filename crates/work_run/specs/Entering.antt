@@ -5,6 +5,7 @@ use Rattle.tree_core.specs.Replays.{kept, noted}
 use Rattle.tree_core.specs.Stories.{Story, content}
 use Rattle.tree_core.specs.declared.event.Event.{Event}
 use Rattle.tree_core.specs.declared.event.Kid.{Kid}
+use Rattle.fork_spec.specs.Histories.{is_release}
 use Rattle.fork_spec.specs.Partings.{Place}
 use Rattle.fork_tree.specs.Calls.{IsClaim}
 use Rattle.fork_tree.specs.Nodes.{StateIs}
@@ -12,7 +13,7 @@ use Rattle.fork_tree.specs.Works.{IsWorked, Rules}
 use Rattle.fork_tree.specs.declared.content.Content.{Content}
 use Rattle.fork_tree.specs.declared.tree.Claim.{Claim}
 use Rattle.fork_tree.specs.declared.work.Parts.{Parts}
-use Rattle.work_run.specs.Turns.{is_claim, is_release}
+use Rattle.work_run.specs.Turns.{is_claim}
 
 -- The story has one event more, by which the worker ends its claim of the node: by a release, or
 -- not.

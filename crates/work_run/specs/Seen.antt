@@ -6,6 +6,7 @@ use Rattle.tree_core.specs.Stories.{Story, content, status}
 use Rattle.tree_core.specs.declared.event.Event.{Event}
 use Rattle.tree_core.specs.Nodes.{Node}
 use Rattle.tree_core.specs.declared.node.Status.TheVariants.{Held}
+use Rattle.fork_spec.specs.Histories.{is_release}
 use Rattle.fork_spec.specs.Partings.{Place}
 use Rattle.fork_tree.specs.Calls.{IsQuiet, claim_event}
 use Rattle.fork_tree.specs.Nodes.{StateIs}
@@ -18,7 +19,7 @@ use Rattle.turn_lock.specs.Growth.{StartsWith, by_number}
 use Rattle.turn_lock.specs.Passes.{IsSamePass}
 use Rattle.turn_lock.specs.declared.known.Known.{Known}
 use Rattle.work_run.specs.Entering.{IsResult}
-use Rattle.work_run.specs.Turns.{GoesOnByEntered, GoesOnByTurns, are_turns, is_claim, is_release}
+use Rattle.work_run.specs.Turns.{GoesOnByEntered, GoesOnByTurns, are_turns, is_claim}
 
 -- what a pass knows of a tree whose nodes have such contents
 abbrev pub KnownOf : Type 0 → Type 0 → Type 0

@@ -2,15 +2,12 @@
 use Rattle.std.specs.Prelude.{◌≡◌, ◌==◌, ◌&&◌, ◌||◌, ◌++◌, ℕ, Bool, true, false, not, List, [], ◌∷◌, All}
 use Rattle.tree_core.specs.declared.event.Event.{Event}
 use Rattle.tree_core.specs.declared.event.Deed.{Deed}
-use Rattle.tree_core.specs.declared.event.Deed.TheVariants.{Claim, Release}
+use Rattle.tree_core.specs.declared.event.Deed.TheVariants.{Claim}
+use Rattle.fork_spec.specs.Histories.{is_release}
 
 abbrev pub is_claim : {R K : Type 0} → Deed R K → Bool
 is_claim Claim = true
 is_claim _ = false
-
-abbrev pub is_release : {R K : Type 0} → Deed R K → Bool
-is_release Release = true
-is_release _ = false
 
 abbrev pub is_last : {X : Type 0} → List X → Bool
 is_last [] = true

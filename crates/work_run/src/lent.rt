@@ -3,6 +3,7 @@
 use fork_tree::{Parts, Work};
 use std::alloc::{AllocError as NoMemory, Global};
 use std::sync::Wait;
+use work_gate::Gate;
 
 /// A worker that is lent, so that a tree and several threads use one.
 #[derive(Drop)]
@@ -21,8 +22,10 @@ impl<'a, W: Work> Work for Lent<'a, W> {
         &self,
         rt: &impl Wait,
         alloc: Global,
+        gate: &impl Gate,
+        by: u32,
         state: &W::State,
     ) -> Result<Parts<W::State, W::Leaf>, NoMemory> {
-        self.worker.work(rt, alloc, state)
+        self.worker.work(rt, alloc, gate, by, state)
     }
 }

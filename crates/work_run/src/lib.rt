@@ -2,7 +2,6 @@
 #![tactic(auto)]
 
 mod lent;
-mod pauses;
 mod round;
 mod run;
 mod stopped;

@@ -7,14 +7,12 @@ ghost use Rattle.turn_lock.specs.Passes.{IsPassOf, known};
 ghost use Rattle.work_run.specs.Causes.{HasCause, MayLeave};
 ghost use Rattle.work_run.specs.Seen.{CarriesOn, EndsAndClaims, EndsByTurns, GivesUp, HasClaim, HasResult, IsAtRest, IsClaimed, IsLater, StopsBehind};
 
-use crate::pauses::Pauses;
 use crate::stopped::Stopped;
 use crate::turn::{claim, enter_and_claim, release};
 use crate::turn_tree::TurnTree;
 use fork_tree::{Claim, Parts, Work};
 use std::alloc::Global;
 use std::sync::Wait;
-use std::time::Clock;
 use turn_lock::{Pass, TurnLock};
 use work_gate::{Gate, Next, Point};
 
@@ -27,14 +25,13 @@ fn leaves<G: Gate>(gate: &G, worker: u32, point: Point) -> bool
 
 /// Does what the worker's last claim asks for, and claims a free node: where it got a node, works its state outside the turn, and
 /// enters what came of it in the turn of the next claim; where it got none, waits. Where the worker stops, it holds no node.
-pub(crate) fn work_once<W: Work, R: Wait + Clock, G: Gate>(
+pub(crate) fn work_once<W: Work, R: Wait, G: Gate>(
     rt: &R,
     alloc: Global,
     lock: &TurnLock<TurnTree<W>>,
     pass: &mut Pass<TurnTree<W>>,
     worker: &W,
     gate: &G,
-    pauses: &mut Pauses,
     last: Claim<W::State>,
 ) -> Result<Claim<W::State>, Stopped>
     requires lock { IsPassOf lock.now pass.old }
@@ -49,22 +46,20 @@ pub(crate) fn work_once<W: Work, R: Wait + Clock, G: Gate>(
 {
     match last {
         Claim::Quiet => Err(Stopped::Quiet),
-        Claim::Nothing => claim_later(rt, lock, pass, gate, pauses),
+        Claim::Nothing => claim_later(rt, lock, pass, gate),
         // This share of the state is let go of here, once the turn is given back.
         Claim::Claimed(node, state) => {
-            pauses.end();
             work_claim(rt, alloc, lock, pass, worker, gate, node, &state)
         }
     }
 }
 
 // Waits, and claims a free node.
-fn claim_later<W: Work, R: Wait + Clock, G: Gate>(
+fn claim_later<W: Work, R: Wait, G: Gate>(
     rt: &R,
     lock: &TurnLock<TurnTree<W>>,
     pass: &mut Pass<TurnTree<W>>,
     gate: &G,
-    pauses: &mut Pauses,
 ) -> Result<Claim<W::State>, Stopped>
     requires lock { IsPassOf lock.now pass.old }
     requires rest { IsAtRest (known pass.old) }
@@ -77,7 +72,7 @@ fn claim_later<W: Work, R: Wait + Clock, G: Gate>(
     if leaves(gate, pass.number(), Point::Idle) {
         return Err(Stopped::Left);
     }
-    pauses.pause(rt);
+    lock.wait(rt, pass);
     Ok(claim(rt, lock, pass)?)
 }
 
@@ -107,10 +102,7 @@ fn work_claim<W: Work, R: Wait, G: Gate>(
         release(rt, lock, pass, node);
         return Err(Stopped::Left);
     }
-    let parts = worker.work(rt, alloc, state);
-    // Whoever leaves here can do so just before the turn.
-    let _ = gate.reached(by, Point::Working);
-    match parts {
+    match worker.work(rt, alloc, gate, by, state) {
         Ok(parts) => hand_in(rt, lock, pass, gate, node, parts),
         Err(_) => {
             release(rt, lock, pass, node);

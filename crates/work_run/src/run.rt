@@ -4,6 +4,7 @@ ghost use Rattle.std.specs.Prelude.{◌≡◌, ◌+◌, ◌-◌, ◌^◌, ◌<�
 ghost use Rattle.std.specs.Thread.{IsSync};
 ghost use Rattle.tree_core.specs.Cores.{held_count};
 ghost use Rattle.tree_core.specs.Stories.{Story};
+ghost use Rattle.fork_spec.specs.Histories.{ReleaseOnce};
 ghost use Rattle.fork_tree.specs.Calls.{IsOpening};
 ghost use Rattle.fork_tree.specs.Drains.{IsDrained};
 ghost use Rattle.fork_tree.specs.declared.content.Content.{Content};
@@ -17,7 +18,6 @@ use fork_tree::{Tree, Work, drain};
 use std::alloc::{AllocError as NoMemory, Global};
 use std::sync::Wait;
 use std::thread::{Threads, join};
-use std::time::Clock;
 use turn_lock::{Pass, TurnLock};
 use work_gate::Gate;
 
@@ -25,7 +25,7 @@ use work_gate::Gate;
 const FIRST: u32 = 0;
 
 // The work of one worker, which has done nothing yet.
-fn work_alone<W: Work, R: Wait + Clock, G: Gate>(
+fn work_alone<W: Work, R: Wait, G: Gate>(
     rt: &R,
     alloc: Global,
     lock: &TurnLock<TurnTree<W>>,
@@ -58,7 +58,7 @@ where
     W: Work + Send + Sync,
     W::State: Send + Sync,
     W::Leaf: Send + Sync,
-    R: Threads + Wait + Clock + Sync,
+    R: Threads + Wait + Sync,
     G: Gate + Sync,
     requires lock { IsPassOf lock.now first }
     requires may { MayRun worker.now next (known first) }
@@ -99,7 +99,7 @@ where
     W: Work + Send + Sync,
     W::State: Send + Sync,
     W::Leaf: Send + Sync,
-    R: Threads + Wait + Clock + Sync,
+    R: Threads + Wait + Sync,
     G: Gate + Sync,
     requires some { 1 ≤ workers }
     requires worker { tree.worker ≡ worker.now }
@@ -107,6 +107,7 @@ where
     ensures worker { IfOk result (λ t. t.worker ≡ tree.worker) }
     ensures goes { IfOk result (λ t. GoesOn tree.story t.story) }
     ensures few { IfOk result (λ t. All (λ e. e.by < workers) t.story.events) }
+    ensures releases { IfOk result (λ t. ReleaseOnce t.story.events) }
     ensures none_held { IfOk result (λ t. held_count t.story ≡ 0) }
 {
     let (lock, first) = TurnLock::new(alloc, TurnTree { tree })?;
@@ -128,7 +129,7 @@ where
     W: Work + Send + Sync,
     W::State: Send + Sync,
     W::Leaf: Send + Sync,
-    R: Threads + Wait + Clock + Sync,
+    R: Threads + Wait + Sync,
     G: Gate + Sync,
     requires some { 1 ≤ workers }
     requires worker { tree.worker ≡ worker.now }
@@ -137,6 +138,7 @@ where
     ensures drained { IfOk result (λ t. IsDrained (W.rules tree.worker) W.State.place W.Leaf.place t.story) }
     ensures goes { IfOk result (λ t. GoesOn tree.story t.story) }
     ensures few { IfOk result (λ t. All (λ e. e.by < workers) t.story.events) }
+    ensures releases { IfOk result (λ t. ReleaseOnce t.story.events) }
 {
     let mut tree = run_all(rt, alloc, tree, worker, workers, gate)?;
     drain(rt, alloc, &mut tree, FIRST)?;
@@ -159,7 +161,7 @@ where
     W: Work + Sync,
     W::State: Send + Sync,
     W::Leaf: Send + Sync,
-    R: Threads + Wait + Clock + Sync,
+    R: Threads + Wait + Sync,
     G: Gate + Sync,
     requires well { (W.rules worker.now).IsWell root }
     requires first { (W.State.place root).choices ≡ [] }
@@ -168,6 +170,7 @@ where
     ensures drained { IfOk result (λ t. IsDrained (W.rules worker.now) W.State.place W.Leaf.place t.story) }
     ensures opening { IfOk result (λ t. (old : Story (Content W.State W.Leaf)) × IsOpening root old × GoesOn old t.story) }
     ensures few { IfOk result (λ t. All (λ e. e.by < workers) t.story.events) }
+    ensures releases { IfOk result (λ t. ReleaseOnce t.story.events) }
 {
     let tree = Tree::new(alloc, Lent { worker }, root, workers)?;
     run_to_end(rt, alloc, tree, &Lent { worker }, workers, gate)

@@ -1,4 +1,5 @@
-//! What a worker does in one turn at a lock: it takes the tree, does one thing to it, and gives it back.
+//! What a worker does in one turn at a lock: it takes the tree, does one thing to it, gives it back, and wakes those who wait for
+//! what it left.
 
 ghost use Rattle.std.specs.Prelude.{◌≡◌, Bool, IfOk, OnErr, false, true};
 ghost use Rattle.turn_lock.specs.Passes.{IsPassOf, known};
@@ -9,6 +10,28 @@ use fork_tree::{Claim, Parts, Work};
 use std::alloc::AllocError as NoMemory;
 use std::sync::Wait;
 use turn_lock::{Pass, TurnLock};
+
+// How many of the kids are free.
+fn free_kids<W: Work>(parts: &Parts<W::State, W::Leaf>) -> usize {
+    match parts {
+        Parts::Kids(kids) => kids.iter().filter(|kid| !kid.is_leaf).count(),
+        Parts::Finished(_) | Parts::CutSteps(_) => 0,
+    }
+}
+
+// Wakes a worker that waits for each node that a turn freed, but for the one that its own worker has claimed. Where nothing is
+// left to be done all are woken, and where memory is refused, since a worker that stops leaves what it was woken for.
+fn wake<W: Work>(
+    lock: &TurnLock<TurnTree<W>>,
+    freed: usize,
+    claimed: &Result<Claim<W::State>, NoMemory>,
+) {
+    match claimed {
+        Ok(Claim::Claimed(_, _)) => lock.wake(freed.saturating_sub(1)),
+        Ok(Claim::Nothing) => {}
+        Ok(Claim::Quiet) | Err(_) => lock.wake_all(),
+    }
+}
 
 /// Claims a free node.
 pub(crate) fn claim<W: Work, R: Wait>(
@@ -27,6 +50,7 @@ pub(crate) fn claim<W: Work, R: Wait>(
     let mut tree = lock.take(rt, pass);
     let claimed = tree.claim(by);
     lock.give(pass, tree);
+    wake(lock, 0, &claimed);
     claimed
 }
 
@@ -48,10 +72,12 @@ pub(crate) fn enter_and_claim<W: Work, R: Wait>(
     ensures err { OnErr result ((released : Bool) × EndsClaim released node (known pass.old).own (known pass.new).own) }
 {
     let by = pass.number();
+    let freed = free_kids::<W>(&parts);
     let mut tree = lock.take(rt, pass);
     tree.tree.is_whole();
     let claimed = tree.enter_and_claim(by, node, parts);
     lock.give(pass, tree);
+    wake(lock, freed, &claimed);
     claimed
 }
 
@@ -74,4 +100,5 @@ pub(crate) fn release<W: Work, R: Wait>(
     tree.tree.is_whole();
     tree.release(by, node);
     lock.give(pass, tree);
+    lock.wake(1);
 }

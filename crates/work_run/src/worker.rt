@@ -8,7 +8,6 @@ ghost use Rattle.work_run.specs.Seen.{SeesMore, story_of};
 ghost use Rattle.work_run.specs.Turns.{GoesOnByTurns};
 ghost use Rattle.work_run.specs.declared.stopped.Stopped.TheVariants.{Left, Quiet};
 
-use crate::pauses::Pauses;
 use crate::round::work_once;
 use crate::stopped::Stopped;
 use crate::turn::claim;
@@ -16,7 +15,6 @@ use crate::turn_tree::TurnTree;
 use fork_tree::Work;
 use std::alloc::Global;
 use std::sync::Wait;
-use std::time::Clock;
 use turn_lock::{Pass, TurnLock};
 use work_gate::Gate;
 
@@ -24,7 +22,7 @@ use work_gate::Gate;
 /// refused. Other workers may have any turns in between. It holds no node then.
 ///
 /// The tree came to its lock with no event.
-pub fn work<W: Work, R: Wait + Clock, G: Gate>(
+pub fn work<W: Work, R: Wait, G: Gate>(
     rt: &R,
     alloc: Global,
     lock: &TurnLock<TurnTree<W>>,
@@ -48,9 +46,8 @@ pub fn work<W: Work, R: Wait + Clock, G: Gate>(
         Ok(first) => first,
         Err(refused) => return Stopped::from(refused),
     };
-    let mut pauses = Pauses::new();
     for _ in rt.forever() {
-        match work_once(rt, alloc, lock, pass, worker, gate, &mut pauses, last) {
+        match work_once(rt, alloc, lock, pass, worker, gate, last) {
             Ok(next) => last = next,
             Err(stopped) => return stopped,
         }

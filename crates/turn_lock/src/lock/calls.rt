@@ -13,12 +13,13 @@ use crossbeam_utils::Backoff;
 use std::alloc::{AllocError as NoMemory, Global};
 use std::snapshot::Snapshot;
 use std::sync::Wait;
+use std::sync::atomic::AtomicU32;
 
 // The word that is 1 while a pass has the turn.
 const TURN: usize = 0;
 
 // The word that is the number of events.
-const EVENTS: usize = 1;
+pub(super) const EVENTS: usize = 1;
 
 // How often a pass looks whether the turn is free before it lets other threads have the processor: for about a tenth of a
 // millisecond. A turn is far shorter, and who gives a processor away may have it back milliseconds later.
@@ -35,7 +36,15 @@ impl<V: Growing> TurnLock<V> {
         let mut slots = Vec::with_capacity(alloc, 1)?;
         slots.push(Some(value))?;
         match Table::new(alloc, &[0, count], slots, &key) {
-            Ok((table, seat)) => Ok((TurnLock { table }, Pass { number: 0, seat })),
+            Ok((table, seat)) => {
+                let waiting = AtomicU32::new(0);
+                let first = Pass {
+                    number: 0,
+                    seen: count,
+                    seat,
+                };
+                Ok((TurnLock { table, waiting }, first))
+            }
             Err(_) => Err(NoMemory),
         }
     }
@@ -53,7 +62,11 @@ impl<V: Growing> TurnLock<V> {
         ensures new { known result ≡ child (known pass.old) }
     {
         let seat = self.table.shared.split_seat::<Next>(&mut pass.seat);
-        Pass { number, seat }
+        Pass {
+            number,
+            seen: pass.seen,
+            seat,
+        }
     }
 
     // Takes the turn, and the value, if nobody has it.
@@ -122,6 +135,7 @@ impl<V: Growing> TurnLock<V> {
         };
         shared.store::<Enter>(&mut pass.seat, EVENTS, count);
         shared.store::<Leave>(&mut pass.seat, TURN, 0);
+        pass.seen = count;
     }
 
     /// Takes in a pass that has ended: what it has seen, and the events that it gave.
@@ -134,7 +148,11 @@ impl<V: Growing> TurnLock<V> {
         ensures lock { IsPassOf self.now pass.new }
         ensures pass { known pass.new ≡ merged (known pass.old) (known other) }
     {
-        let Pass { number: _, seat } = other;
+        let Pass {
+            number: _,
+            seen: _,
+            seat,
+        } = other;
         self.table.shared.join_seat::<Ended>(&mut pass.seat, seat);
     }
 
@@ -150,8 +168,15 @@ impl<V: Growing> TurnLock<V> {
         ensures seen_events { StartsWith (V.events result) (known pass).events }
         ensures events { AreOf V.worker (known pass) (V.events result) }
     {
-        let TurnLock { table } = self;
-        let Pass { number: _, seat } = pass;
+        let TurnLock {
+            table,
+            waiting: _waiting,
+        } = self;
+        let Pass {
+            number: _,
+            seen: _,
+            seat,
+        } = pass;
         let mut closed = table.close_with(seat);
         let Some(value) = closed.take(0) else {
             unreachable!()

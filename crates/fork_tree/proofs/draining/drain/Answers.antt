@@ -1,7 +1,8 @@
 use Rattle.std.proofs.Common.{Ok, refl, ap, subst, ◌∙◌}
+use Rattle.fork_spec.proofs.Releases.{none_then_one}
 use Rattle.fork_tree.specs.Calls.{IsQuiet}
 use Rattle.fork_tree.specs.Drains.{IsDrained}
-use Rattle.fork_tree.proofs.Entering.{grows-none, grows-both}
+use Rattle.fork_tree.proofs.Entering.{grows-none, grows-both, on_err}
 use Rattle.fork_tree.proofs.Drained.{drained}
 use Rattle.fork_tree.proofs.draining.drain.Goals as goal
 
@@ -10,6 +11,7 @@ loop-init g c = record {
   worker = refl;
   none_held = c.requires.none_held;
   grows = grows-none c.args.by c.args.tree.now.story c.args.tree.now.story refl;
+  none_given_up = λ k. refl;
 }
 
 pub loop-preserved : goal.loop-preserved
@@ -18,12 +20,23 @@ loop-preserved g c = record {
   none_held = c.work_next.ensures.none_held;
   grows = grows-both c.args.by c.args.tree.now.story c.loop.tree.story c.work_next.new.tree.story
       c.loop.invariant.grows c.work_next.ensures.grows;
+  none_given_up = λ k. c.in_ok-work_next.ensures.none_given_up k ∙ c.loop.invariant.none_given_up k;
 }
 
 pub returns-in_err-work_next-clause-grows : goal.returns-in_err-work_next-clause-grows
 returns-in_err-work_next-clause-grows g c =
     grows-both c.args.by c.args.tree.now.story c.loop.tree.story c.work_next.new.tree.story
     c.loop.invariant.grows c.work_next.ensures.grows
+
+pub returns-in_err-work_next-clause-one_given_up : goal.returns-in_err-work_next-clause-one_given_up
+returns-in_err-work_next-clause-one_given_up g c =
+    on_err c.from_residual.result
+    (none_then_one c.args.tree.now.story c.loop.tree.story c.work_next.new.tree.story
+    c.loop.invariant.none_given_up c.in_err-work_next.ensures.one_given_up)
+
+pub returns-clause-none_given_up : goal.returns-clause-none_given_up
+returns-clause-none_given_up g c = λ k.
+    c.in_ok-work_next.ensures.none_given_up k ∙ c.loop.invariant.none_given_up k
 
 pub returns-clause-grows : goal.returns-clause-grows
 returns-clause-grows g c =

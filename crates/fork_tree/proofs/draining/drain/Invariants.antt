@@ -1,5 +1,6 @@
-use Rattle.std.proofs.Common.{◌≡◌}
+use Rattle.std.proofs.Common.{◌≡◌, ℕ}
 use Rattle.tree_core.specs.Cores.{held_count}
+use Rattle.fork_spec.specs.Histories.{releases_by}
 use Rattle.fork_tree.specs.Drains.{GrowsBy, fuel}
 use Rattle.fork_tree.proofs.draining.drain.Given as goal
 
@@ -8,6 +9,7 @@ invariant-loop g l = record {
   worker : l.tree.worker ≡ l.fn.tree.worker;
   none_held : held_count l.tree.story ≡ 0;
   grows : GrowsBy l.by l.fn.tree.story l.tree.story;
+  none_given_up : (k : ℕ) → releases_by k l.tree.story.events ≡ releases_by k l.fn.tree.story.events;
 }
 
 -- what the free nodes weigh

@@ -5,6 +5,7 @@ use Rattle.tree_core.specs.declared.cause.Cause.TheVariants.{Steps}
 use Rattle.fork_tree.specs.Contents.{choices_in}
 use Rattle.fork_tree.specs.declared.content.Content.{Content}
 use Rattle.fork_tree.specs.declared.work.Parts.TheVariants.{CutSteps, Finished, Kids}
+use Rattle.fork_spec.proofs.Releases.{releases_kept, releases_more}
 use Rattle.fork_tree.specs.Calls.{IsSplitFit, finish_event, cut_event, release_event, split_event}
 use Rattle.fork_tree.proofs.Entering.{held-less, leaf-less, kids-less}
 use Rattle.fork_tree.proofs.Fitting.{end_fits, split_fits, worked_by}
@@ -16,11 +17,21 @@ returns-in-Err-clause-held g c =
     c.release.ensures.story c.is_whole.ensures.named c.requires.there c.requires.held
     (λ st by. refl) refl refl
 
+pub returns-in-Err-clause-one_given_up : goal.returns-in-Err-clause-one_given_up
+returns-in-Err-clause-one_given_up g c =
+    releases_more c.args.tree.now.story c.release.new.self.story
+    (release_event c.args.by c.args.node) c.release.ensures.story
+
 pub returns-in-Ok-Finished-clause-held : goal.returns-in-Ok-Finished-clause-held
 returns-in-Ok-Finished-clause-held g c =
     held-less c.args.tree.now.story c.finish.new.self.story
     (finish_event c.args.by c.args.node c.in-Ok-Finished.leaf) c.finish.ensures.story
     c.is_whole.ensures.named c.requires.there c.requires.held (λ st by. refl) refl refl
+
+pub returns-in-Ok-Finished-clause-none_given_up : goal.returns-in-Ok-Finished-clause-none_given_up
+returns-in-Ok-Finished-clause-none_given_up g c =
+    releases_kept c.args.tree.now.story c.finish.new.self.story
+    (finish_event c.args.by c.args.node c.in-Ok-Finished.leaf) c.finish.ensures.story refl
 
 pub returns-in-Ok-Finished-clause-less : goal.returns-in-Ok-Finished-clause-less
 returns-in-Ok-Finished-clause-less g c =
@@ -35,6 +46,11 @@ returns-in-Ok-CutSteps-clause-held g c =
     (cut_event c.args.by c.args.node c.in-Ok-CutSteps.leaf) c.cut.ensures.story
     c.is_whole.ensures.named c.requires.there c.requires.held (λ st by. refl) refl refl
 
+pub returns-in-Ok-CutSteps-clause-none_given_up : goal.returns-in-Ok-CutSteps-clause-none_given_up
+returns-in-Ok-CutSteps-clause-none_given_up g c =
+    releases_kept c.args.tree.now.story c.cut.new.self.story
+    (cut_event c.args.by c.args.node c.in-Ok-CutSteps.leaf) c.cut.ensures.story refl
+
 pub returns-in-Ok-CutSteps-clause-less : goal.returns-in-Ok-CutSteps-clause-less
 returns-in-Ok-CutSteps-clause-less g c =
     leaf-less (g.W.Work.rules c.args.tree.now.worker) c.args.tree.now.story c.cut.new.self.story
@@ -47,11 +63,22 @@ returns-then-is_err-clause-held g c = let e = release_event c.args.by c.args.nod
     (c.release-then-is_err.ensures.story ∙ ap (λ s. noted s e) c.reserve.ensures.story)
     c.is_whole.ensures.named c.requires.there c.requires.held (λ st by. refl) refl refl
 
+pub returns-then-is_err-clause-one_given_up : goal.returns-then-is_err-clause-one_given_up
+returns-then-is_err-clause-one_given_up g c = let e = release_event c.args.by c.args.node in
+    releases_more c.args.tree.now.story c.release-then-is_err.new.self.story e
+    (c.release-then-is_err.ensures.story ∙ ap (λ s. noted s e) c.reserve.ensures.story)
+
 pub returns-else-is_err-clause-held : goal.returns-else-is_err-clause-held
 returns-else-is_err-clause-held g c = let e = split_event c.args.by c.args.node c.in-Ok-Kids.kids in
     held-less c.args.tree.now.story c.split.new.self.story e
     (c.split.ensures.story ∙ ap (λ s. noted s e) c.reserve.ensures.story)
     c.is_whole.ensures.named c.requires.there c.requires.held (λ st by. refl) refl refl
+
+pub returns-else-is_err-clause-none_given_up : goal.returns-else-is_err-clause-none_given_up
+returns-else-is_err-clause-none_given_up g c =
+    let e = split_event c.args.by c.args.node c.in-Ok-Kids.kids in
+    releases_kept c.args.tree.now.story c.split.new.self.story e
+    (c.split.ensures.story ∙ ap (λ s. noted s e) c.reserve.ensures.story) refl
 
 pub returns-else-is_err-clause-less : goal.returns-else-is_err-clause-less
 returns-else-is_err-clause-less g c = let e = split_event c.args.by c.args.node c.in-Ok-Kids.kids in

@@ -1,13 +1,14 @@
 use Rattle.std.proofs.Common.{◌≡◌, ℕ, ◌+◌, ◌^◌, ◌<◌, subst, sym, refl, ap, ◌∙◌, arith}
 use Rattle.tree_core.specs.Stories.{Story, content}
 use Rattle.tree_core.specs.Cores.{held_count}
+use Rattle.fork_spec.proofs.Releases.{none_so_one, none_then_one, releases_kept, releases_same}
 use Rattle.fork_tree.specs.Calls.{IsClaim, claim_event}
 use Rattle.fork_tree.specs.Nodes.{StateIs}
 use Rattle.fork_tree.specs.Drains.{fuel}
 use Rattle.fork_tree.specs.declared.content.Content.{Content}
 use Rattle.fork_tree.specs.declared.tree.Claim.{Claim}
 use Rattle.fork_tree.specs.declared.tree.Claim.TheVariants.{Claimed, Quiet}
-use Rattle.fork_tree.proofs.Entering.{held-more, grows-none, grows-one, grows-both, claimed-status, claimed-state, round-less}
+use Rattle.fork_tree.proofs.Entering.{held-more, grows-none, grows-one, grows-both, on_err, claimed-status, claimed-state, round-less}
 use Rattle.fork_tree.proofs.draining.work_next.Goals as goal
 
 no_more : (u t s r : ℕ) → u + 1 ≡ t → t ≡ s + 1 → s ≡ r → r ≡ 0 → u ≡ 0
@@ -17,10 +18,21 @@ pub returns-in_err-reserve-clause-grows : goal.returns-in_err-reserve-clause-gro
 returns-in_err-reserve-clause-grows g c =
     grows-none c.args.by c.args.tree.now.story c.reserve.new.self.story c.reserve.ensures.story
 
+pub returns-in_err-reserve-clause-one_given_up : goal.returns-in_err-reserve-clause-one_given_up
+returns-in_err-reserve-clause-one_given_up g c =
+    let r = c.args.tree.now.story in let s = c.reserve.new.self.story in
+    on_err c.from_residual.result (none_so_one r s (releases_same r s c.reserve.ensures.story))
+
 pub returns-in_err-node-clause-grows : goal.returns-in_err-node-clause-grows
 returns-in_err-node-clause-grows g c =
     grows-none c.args.by c.args.tree.now.story c.claim.new.self.story
     (c.in_err-node.ensures.err ∙ c.reserve.ensures.story)
+
+pub returns-in_err-node-clause-one_given_up : goal.returns-in_err-node-clause-one_given_up
+returns-in_err-node-clause-one_given_up g c =
+    let r = c.args.tree.now.story in let t = c.claim.new.self.story in
+    on_err c.from_residual-in_err-node.result
+    (none_so_one r t (releases_same r t (c.in_err-node.ensures.err ∙ c.reserve.ensures.story)))
 
 pub enter-requires-clause-held : goal.enter-requires-clause-held
 enter-requires-clause-held g c =
@@ -79,6 +91,23 @@ returns-in_err-enter-in-Claimed-clause-grows g c =
     (grows-none c.args.by c.args.tree.now.story s c.reserve.ensures.story)
     (grows-one c.args.by s t (claim_event c.args.by m) claim.4 refl)) c.enter.ensures.grows
 
+pub returns-in_err-enter-in-Claimed-clause-one_given_up : goal.returns-in_err-enter-in-Claimed-clause-one_given_up
+returns-in_err-enter-in-Claimed-clause-one_given_up g c =
+    let s = c.reserve.new.self.story in
+    let t = c.claim.new.self.story in
+    let m = c.in-Claimed.node in
+    let claim : IsClaim (g.W.Work.rules c.reserve.new.self.worker).IsWell s c.args.by
+    (Claimed m c.in-Claimed.state) t =
+    subst (λ (x : Claim g.row.W-State.Denot). IsClaim
+    (g.W.Work.rules c.reserve.new.self.worker).IsWell s c.args.by x t) c.in-Claimed.is
+    c.in_ok-node.ensures.ok in
+    let r = c.args.tree.now.story in
+    on_err c.from_residual-in_err-enter-in-Claimed.result
+    (none_then_one r t c.enter.new.tree.story
+    (λ k. releases_kept s t (claim_event c.args.by m) claim.4 refl k
+    ∙ releases_same r s c.reserve.ensures.story k)
+    c.in_err-enter-in-Claimed.ensures.one_given_up)
+
 pub returns-in_ok-enter-in-Claimed-clause-none_held : goal.returns-in_ok-enter-in-Claimed-clause-none_held
 returns-in_ok-enter-in-Claimed-clause-none_held g c =
     let s = c.reserve.new.self.story in
@@ -110,6 +139,20 @@ returns-in_ok-enter-in-Claimed-clause-grows g c =
     (grows-both c.args.by c.args.tree.now.story s t
     (grows-none c.args.by c.args.tree.now.story s c.reserve.ensures.story)
     (grows-one c.args.by s t (claim_event c.args.by m) claim.4 refl)) c.enter.ensures.grows
+
+pub returns-in_ok-enter-in-Claimed-clause-none_given_up : goal.returns-in_ok-enter-in-Claimed-clause-none_given_up
+returns-in_ok-enter-in-Claimed-clause-none_given_up g c = λ k.
+    let s = c.reserve.new.self.story in
+    let t = c.claim.new.self.story in
+    let m = c.in-Claimed.node in
+    let claim : IsClaim (g.W.Work.rules c.reserve.new.self.worker).IsWell s c.args.by
+    (Claimed m c.in-Claimed.state) t =
+    subst (λ (x : Claim g.row.W-State.Denot). IsClaim
+    (g.W.Work.rules c.reserve.new.self.worker).IsWell s c.args.by x t) c.in-Claimed.is
+    c.in_ok-node.ensures.ok in
+    c.in_ok-enter-in-Claimed.ensures.none_given_up k
+    ∙ (releases_kept s t (claim_event c.args.by m) claim.4 refl k
+    ∙ releases_same c.args.tree.now.story s c.reserve.ensures.story k)
 
 pub returns-in_ok-enter-in-Claimed-clause-less : goal.returns-in_ok-enter-in-Claimed-clause-less
 returns-in_ok-enter-in-Claimed-clause-less g c = λ is.
@@ -144,3 +187,12 @@ returns-in-Quiet-clause-grows g c =
     (g.W.Work.rules c.reserve.new.self.worker).IsWell s c.args.by x t) c.in-Quiet.is
     c.in_ok-node.ensures.ok in
     grows-none c.args.by c.args.tree.now.story t (claim.1 ∙ c.reserve.ensures.story)
+
+pub returns-in-Quiet-clause-none_given_up : goal.returns-in-Quiet-clause-none_given_up
+returns-in-Quiet-clause-none_given_up g c =
+    let s = c.reserve.new.self.story in let t = c.claim.new.self.story in
+    let claim : IsClaim (g.W.Work.rules c.reserve.new.self.worker).IsWell s c.args.by Quiet t =
+    subst (λ (x : Claim g.row.W-State.Denot). IsClaim
+    (g.W.Work.rules c.reserve.new.self.worker).IsWell s c.args.by x t) c.in-Quiet.is
+    c.in_ok-node.ensures.ok in
+    releases_same c.args.tree.now.story t (claim.1 ∙ c.reserve.ensures.story)
