@@ -1,16 +1,16 @@
 -- What shows a leaf: an assignment that it covers, or for one that is cut the budget that was spent.
-use Rattle.std.specs.Prelude.{◌≡◌, ℕ, ◌-◌, ◌<◌, Bool, not, ◌&&◌, ◌==◌, List, [], ◌∷◌, ◌++◌, All, IsTrue, length, map, take, true}
+use Rattle.std.specs.Prelude.{◌≡◌, ℕ, ◌-◌, ◌<◌, ◌≤◌, Bool, not, ◌&&◌, ◌==◌, List, [], ◌∷◌, ◌++◌, All, IsTrue, length, map, take, true}
 use Rattle.std.specs.List.{list_any}
 use Rattle.bit_blast.specs.Budgets.{IsSpent}
-use Rattle.bv_dag.specs.Graphs.{width_of}
-use Rattle.bv_dag.specs.Queries.{Condition, holds}
+use Rattle.bv_dag.specs.Graphs.{IsDag, width_of}
+use Rattle.bv_dag.specs.Queries.{AreBits, Condition, holds}
 use Rattle.cnf_form.specs.Refutations.{Step}
 use Rattle.elf_load.specs.declared.region.Region.{Region}
-use Rattle.rv_spec.specs.Memory.{IsAssignment}
+use Rattle.rv_spec.specs.Memory.{IsAssignment, count_of}
 use Rattle.term_trees.specs.TreeSlices.{IsPartFor}
 use Rattle.tree_core.specs.declared.choice.Choice.{Choice}
 use Rattle.tree_core.specs.declared.choice.Choice.TheVariants.{Value, Rest}
-use Rattle.fork_spec.specs.Leaves.{Leaf, covers, worth}
+use Rattle.fork_spec.specs.Leaves.{IsSmall, Leaf, covers, worth}
 
 -- a value, and an assignment on which the term has it
 pub record Found : Type 0 where
@@ -53,6 +53,7 @@ pub record IsReached (regions : List Region) (leaf : Leaf) (count term : ℕ) (f
 pub record SpendsTargets (regions : List Region) (targets : ℕ) (sides : List Choice) (leaf : Leaf) (spent : Spent) : Type 0 where
   pub wide : width_of leaf.condition.graph spent.term ≡ 32
   pub each : length spent.found ≡ targets
+  pub asserted : targets ≤ length leaf.condition.asserted
   pub increasing : AreIncreasing (values_of spent.found)
   pub reached : All (IsReached regions leaf targets spent.term) spent.found
   pub rest : (input : List ℕ) → IsAssignment regions input →
@@ -60,12 +61,21 @@ pub record SpendsTargets (regions : List Region) (targets : ℕ) (sides : List C
   pub some : (input : List ℕ) × IsAssignment regions input × IsTrue (covers leaf input)
   pub others : sides ≡ map Value (values_of spent.found) ++ Rest ∷ []
 
--- The budget of conflicts is spent on the last of the leaf's assertions: the question is the part of the leaf's condition that
--- matters for it, and just so many clauses were learnt for it.
-pub record SpendsConflicts (conflicts : ℕ) (leaf : Leaf) (learnt : Learnt) : Type 0 where
+-- A question in full: its terms fit, its assertions are bits, and every number is below 2 ^ 32.
+pub record IsQuestion (q : Condition) : Type 0 where
+  pub is_dag : IsDag q.graph
+  pub bits : AreBits q.graph q.asserted
+  pub few_inputs : IsSmall q.graph.inputs
+  pub few_nodes : IsSmall (length q.graph.nodes)
+
+-- The budget of conflicts is spent on the last of the leaf's assertions: the question, which is over the bytes of the regions, is
+-- the part of the leaf's condition that matters for it, and just so many clauses were learnt for it.
+pub record SpendsConflicts (regions : List Region) (conflicts : ℕ) (leaf : Leaf) (learnt : Learnt) : Type 0 where
   pub front : List ℕ
   pub last : ℕ
   pub asserted : leaf.condition.asserted ≡ front ++ last ∷ []
+  pub full : IsQuestion learnt.question
+  pub inputs : learnt.question.graph.inputs ≡ count_of regions
   pub part : IsPartFor leaf.condition last learnt.question
   pub spent : IsSpent learnt.question conflicts learnt.log
 

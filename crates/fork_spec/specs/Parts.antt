@@ -33,7 +33,7 @@ Shows regions budgets sides leaf (Exits status) (Some sample) None = IsSample re
 Shows regions budgets sides leaf (Traps trap) (Some sample) None = IsSample regions leaf sample
 Shows regions budgets sides leaf (Cut Steps) (Some sample) None = IsSample regions leaf sample
 Shows regions budgets sides leaf (Cut Targets) (Some sample) (Some (OnTargets spent)) = IsSample regions leaf sample × SpendsTargets regions budgets.targets sides leaf spent
-Shows regions budgets sides leaf (Cut Conflicts) None (Some (OnConflicts learnt)) = SpendsConflicts budgets.conflicts leaf learnt
+Shows regions budgets sides leaf (Cut Conflicts) None (Some (OnConflicts learnt)) = SpendsConflicts regions budgets.conflicts leaf learnt
 Shows regions budgets sides leaf _ _ _ = ⊥
 
 -- A leaf is right, within these budgets and as a side of a fork with these choices, of none where it is no kid: it is one in full,

@@ -4,11 +4,11 @@ use Rattle.std.specs.Prelude.{All, IfOk, None, Some, Result, Ok, Err, ◌==◌, 
 use Rattle.std.proofs.lemmas.Bool.{and_parts}
 use Rattle.bv_dag.specs.Graphs.{Graph, number_of, width_of}
 use Rattle.bv_dag.specs.Queries.{IsUnsatisfiable, holds}
-use Rattle.bit_blast.specs.Budgets.{IsSpent}
 use Rattle.fork_spec.specs.Evidence.{Learnt}
 use Rattle.fork_spec.specs.Leaves.{IsSmallChoice, are_bytes}
 use Rattle.fork_spec.proofs.ByteLists.{are_bytes-each, are_bytes-of}
-use Rattle.query_front.specs.Asks.{with_term}
+use Rattle.query_front.specs.Asks.{IsAsked, with_term}
+use Rattle.query_front.specs.declared.asked.Asked.TheVariants.{Spent}
 use Rattle.rv_spec.specs.Arithmetic.{one_where}
 use Rattle.rv_spec.specs.Decisions.{Side as OnSide}
 use Rattle.sym_machine.specs.Stops.{IsBranch}
@@ -18,7 +18,6 @@ use Rattle.sym_state.specs.declared.decided.Decided.TheVariants.{Side}
 use Rattle.sym_state.proofs.Grown.{Continues-refl, holds-grown}
 use Rattle.sym_state.proofs.Opening.{stands-bytes}
 use Rattle.term_trees.specs.Growth.{Continues}
-use Rattle.term_trees.specs.TreeSlices.{IsPartFor}
 use Rattle.tree_core.specs.declared.budgets.Budgets.{Budgets}
 use Rattle.tree_core.specs.declared.choice.Choice.{Choice}
 use Rattle.tree_core.specs.declared.choice.Choice.TheVariants.{No, Yes}
@@ -180,7 +179,7 @@ module _ (s : Symbolic) (term : ℕ) (side : Bool) (t : Tested) (is : IsTested s
 
 -- what was learnt for a run's condition with one more term
 pub learnt_for : (conflicts : ℕ) (s u : Symbolic) (test : ℕ) (learnt : Learnt) → u ≡ record s { condition = s.condition ++ test ∷ [] }
-    → IsPartFor (with_term (condition_of s) test) test learnt.question × IsSpent learnt.question conflicts learnt.log → IsLearntFor conflicts (condition_of u) learnt
+    → IsAsked (condition_of s) test conflicts (Spent learnt.question learnt.log) → IsLearntFor conflicts (condition_of u) learnt
 learnt_for conflicts s u test learnt at is =
     subst (λ (r : Symbolic). IsLearntFor conflicts (condition_of r) learnt) (sym at)
-    (record { front = s.condition; last = test; asserted = refl; part = is.0; spent = is.1 })
+    (record { front = s.condition; last = test; asserted = refl; is_dag = is.0; bits = is.1; part = is.2; spent = is.3 })

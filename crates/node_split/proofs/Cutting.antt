@@ -1,5 +1,5 @@
 -- Leaves that are cut at a fork: what they stand for, that their runs are as they say, and what shows the budget that was spent.
-use Rattle.std.proofs.Common.{◌≡◌, ℕ, ◌-◌, ◌<◌, Bool, true, ◌&&◌, List, [], ◌∷◌, ◌++◌, get_or, length, map, take, refl, sym, ap, subst, ◌∙◌, arith}
+use Rattle.std.proofs.Common.{◌≡◌, ℕ, ◌+◌, ◌-◌, ◌<◌, ◌≤◌, Bool, true, ◌&&◌, List, [], ◌∷◌, ◌++◌, get_or, length, map, take, refl, sym, ap, subst, ◌∙◌, arith}
 use Rattle.std.specs.Prelude.{All, Option, None, Some, not, ◌==◌}
 use Rattle.std.specs.List.{list_all}
 use Rattle.std.proofs.lemmas.List.{length-append, length-map}
@@ -9,7 +9,8 @@ use Rattle.std.proofs.lemmas.Bool.{and_parts}
 use Rattle.bv_dag.specs.Graphs.{Graph, number_of, width_of}
 use Rattle.bv_dag.specs.Queries.{holds}
 use Rattle.bv_dag.proofs.TermLaws.{there}
-use Rattle.rv_spec.specs.Memory.{IsAssignment}
+use Rattle.elf_load.specs.declared.region.Region.{Region}
+use Rattle.rv_spec.specs.Memory.{IsAssignment, count_of}
 use Rattle.rv_spec.specs.Runs.{IsRunOf, run}
 use Rattle.tree_core.specs.declared.budgets.Budgets.{Budgets}
 use Rattle.tree_core.specs.declared.cause.Cause.{Cause}
@@ -17,7 +18,7 @@ use Rattle.tree_core.specs.declared.cause.Cause.TheVariants.{Conflicts, Targets}
 use Rattle.tree_core.specs.declared.choice.Choice.{Choice}
 use Rattle.tree_core.specs.declared.choice.Choice.TheVariants.{Rest, Value}
 use Rattle.fork_spec.specs.Evidence.{Found, IsReached, IsSample, Learnt, SpendsConflicts, SpendsTargets, all_but_last, is_among, values_of}
-use Rattle.fork_spec.specs.Leaves.{IsFull, are_bytes}
+use Rattle.fork_spec.specs.Leaves.{IsFull, IsSmall, are_bytes}
 use Rattle.fork_spec.specs.Parts.{Evidence, IsRight, OnConflicts, OnTargets, Part, Shows}
 use Rattle.fork_spec.specs.Runs.{AreWithin}
 use Rattle.fork_spec.specs.declared.end.LeafEnd.TheVariants.{Cut}
@@ -118,15 +119,18 @@ last-copied {A} f g (y ∷ ys) (z ∷ zs) x is =
     let more : map f zs ≡ map g (ys ++ x ∷ []) = cc is in
     last-kept z (last-copied f g ys zs x more)
 
-pub conflicts_shown : (conflicts : ℕ) (s : Symbolic) (t : LeafTerms) (learnt : Learnt) → HasTerms s t
-    → IsLearntFor conflicts (condition_of s) learnt → SpendsConflicts conflicts (left_as s t (Cut Conflicts)) learnt
-conflicts_shown conflicts s t learnt has is =
+pub conflicts_shown : (regions : List Region) (conflicts : ℕ) (s : Symbolic) (t : LeafTerms) (learnt : Learnt) → HasTerms s t
+    → s.terms.inputs ≡ count_of regions → IsSmall s.terms.inputs → IsSmall (length learnt.question.graph.nodes)
+    → IsLearntFor conflicts (condition_of s) learnt → SpendsConflicts regions conflicts (left_as s t (Cut Conflicts)) learnt
+conflicts_shown regions conflicts s t learnt has inputs few_inputs few_nodes is =
     let trees : map (tree_of t.condition.graph) t.condition.asserted ≡ map (tree_of s.terms) (is.front ++ is.last ∷ [])
     = has.condition.trees ∙ ap (map (tree_of s.terms)) is.asserted in
     let last = last-copied (tree_of t.condition.graph) (tree_of s.terms) is.front t.condition.asserted is.last trees in record {
       front = last.front;
       last = last.last;
       asserted = last.is;
+      full = record { is_dag = is.is_dag; bits = is.bits; few_inputs = subst IsSmall (sym is.part.inputs) few_inputs; few_nodes = few_nodes };
+      inputs = is.part.inputs ∙ inputs;
       part = record {
         inputs = is.part.inputs ∙ sym has.condition.inputs;
         slice = subst (λ (ts : List Tree). IsSliceOfTrees ts (tree_of t.condition.graph last.last) (asserted_trees learnt.question)) (sym has.condition.trees)
@@ -152,16 +156,16 @@ to_form P s u is holding = subst P (sym is) holding
 
 pub conflicts_side : (p : Program) (budgets : Budgets) (sides : List Choice) (s u new : Symbolic) (choice : Choice) (test : List ℕ → Bool) (t : LeafTerms)
     (learnt : Learnt) → IsOpen p s → s.steps < budgets.steps → IsFormed s → IsNarrowed s u test → IsLearntFor budgets.conflicts (condition_of u) learnt
-    → IsWritable u → IsGrown (chosen u choice) new → HasTerms (chosen u choice) t
+    → IsSmall (length learnt.question.graph.nodes) → IsWritable u → IsGrown (chosen u choice) new → HasTerms (chosen u choice) t
     → IsSideIn p budgets sides s choice (Some Conflicts) test (leaf_side choice (cut_part new t Conflicts None (Some (OnConflicts learnt))))
-conflicts_side p budgets sides s u new choice test t learnt was few formed is learning writable grown has =
+conflicts_side p budgets sides s u new choice test t learnt was few formed is learning few_nodes writable grown has =
     let form = narrowed_to s u.terms u.condition u.sample in
     let has_form : HasTerms (chosen form choice) t = subst (λ (r : Symbolic). HasTerms (chosen r choice) t) is.same has in
     let full : IsFull (left_as (chosen form choice) t (Cut Conflicts))
     = subst (λ (r : Symbolic). IsFull (left_as (chosen r choice) t (Cut Conflicts))) is.same
     (full-left (chosen u choice) t has (Cut Conflicts) grown.before (writable_chosen u choice writable) tt) in
     let side = cut_side p budgets sides s u.terms u.condition u.sample choice Conflicts test t None (Some (OnConflicts learnt)) was formed is.continues is.covers
-    has_form full few (conflicts_shown budgets.conflicts (chosen form choice) t learnt has_form learning) in
+    has_form full few (conflicts_shown p.regions budgets.conflicts (chosen form choice) t learnt has_form (is.continues.inputs ∙ was.inputs) writable.few_inputs few_nodes learning) in
     subst (λ (part : Part). IsSideIn p budgets sides s choice (Some Conflicts) test (leaf_side choice part))
     (sym (cut-same (chosen u choice) new t Conflicts None (Some (OnConflicts learnt)) grown
     ∙ ap (λ (r : Symbolic). cut_part (chosen r choice) t Conflicts None (Some (OnConflicts learnt))) is.same)) side
@@ -217,8 +221,8 @@ module _ (p : Program) (budgets : Budgets) (s u new : Symbolic) (term copy : ℕ
   term-left : (input : List ℕ) → number_of t.condition.graph copy input ≡ number_of s.terms term input
   term-left input = number input ∙ number-grown s.terms u.terms term 32 input is.continues unknown.width (omega arith)
 
-  many : length t.condition.asserted - budgets.targets ≡ length s.condition
-  many =
+  count : length t.condition.asserted ≡ length s.condition + budgets.targets
+  count =
       let widths = ap length copies.widths in
       omega (
         arith,
@@ -230,6 +234,12 @@ module _ (p : Program) (budgets : Budgets) (s u new : Symbolic) (term copy : ℕ
         length-map t.condition.asserted (width_of t.condition.graph),
         length-map (s.condition ++ is.ids) (width_of u.terms),
       )
+
+  enough : budgets.targets ≤ length t.condition.asserted
+  enough = omega (arith, count)
+
+  many : length t.condition.asserted - budgets.targets ≡ length s.condition
+  many = omega (arith, count)
 
   others-left : (input : List ℕ) → holds (all_but_last budgets.targets (left_as leaf t (Cut Targets))) input ≡ holds (condition_of s) input
   others-left input =
@@ -258,6 +268,7 @@ module _ (p : Program) (budgets : Budgets) (s u new : Symbolic) (term copy : ℕ
   spends-left whole = record {
     wide = width;
     each = spent;
+    asserted = enough;
     increasing = values.increasing;
     reached = λ k d below. reached-left (get_or found k d) (values.each k d below);
     rest = λ input assigned. leaf_tells input assigned.1

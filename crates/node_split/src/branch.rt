@@ -27,10 +27,29 @@ use tree_core::{Budgets, Choice, Kid};
 const SIDE: usize = 1;
 
 /// A run, with a term of one bit that is 1 on one side of a branch.
-#[derive(Drop)]
 pub struct Tested {
     pub run: State,
     pub test: usize,
+}
+
+impl Drop for Tested {
+    fn drop(self) {
+        let Self {
+            run: _run,
+            test: _test,
+        } = self;
+    }
+}
+
+impl Tested {
+    // The run, and the term.
+    fn into_parts(self) -> (State, usize)
+        ensures run { result.0 ≡ self.run }
+        ensures test { result.1 ≡ self.test }
+    {
+        let Self { run, test } = self;
+        (run, test)
+    }
 }
 
 fn choice_of(side: bool) -> Choice
@@ -68,7 +87,7 @@ fn open_side(
         → stands_for s sample ≡ true → is_side side (number_of s.terms term sample) ≡ true
         → IsSide s (choice_of side) (λ input. is_side side (number_of s.terms term input)) kid) }
 {
-    let Tested { mut run, test } = tested;
+    let (mut run, test) = tested.into_parts();
     narrow(&mut run, choice_of(side), test, sample)?;
     run.know(SIDE, Decided::Side(side));
     run_kid(alloc, choice_of(side), run)

@@ -15,7 +15,7 @@ use sym_state::{Evidence, LeafPart, State, listed};
 use tool_io::Bytes;
 
 /// Terms of a run, in a graph of their own.
-#[derive(Debug, Drop)]
+#[derive(Debug)]
 pub struct LeafTerms {
     /// The run's condition.
     pub condition: Query,
@@ -23,6 +23,31 @@ pub struct LeafTerms {
     pub outputs: Vec<usize>,
     /// What was asked for besides.
     pub more: Vec<usize>,
+}
+
+impl Drop for LeafTerms {
+    fn drop(self) {
+        let Self {
+            condition: _condition,
+            outputs: _outputs,
+            more: _more,
+        } = self;
+    }
+}
+
+impl LeafTerms {
+    // The condition and the bytes written.
+    fn into_parts(self) -> (Query, Vec<usize>)
+        ensures condition { result.0 ≡ self.condition }
+        ensures outputs { result.1.items ≡ self.outputs.items }
+    {
+        let Self {
+            condition,
+            outputs,
+            more: _more,
+        } = self;
+        (condition, outputs)
+    }
 }
 
 // The terms of the bytes written.
@@ -105,14 +130,15 @@ pub fn leaf_of(
 {
     let choices = listed(alloc, state.choices())?;
     let path = listed(alloc, state.path())?;
+    let (condition, outputs) = terms.into_parts();
     LeafPart::new(
         alloc,
         choices,
         path,
         state.steps(),
         end,
-        terms.condition,
-        terms.outputs,
+        condition,
+        outputs,
         sample,
         evidence,
     )

@@ -14,7 +14,7 @@ ghost use Rattle.node_split.specs.declared.values.Left.TheVariants.{Nothing};
 
 use crate::cut::{cut_conflicts, cut_targets};
 use crate::forked::{Forked, narrow, run_kid};
-use crate::values::{Left, Values, find_values};
+use crate::values::{Left, find_values};
 use fork_tree::Content;
 use query_front::Shared;
 use rv_decode::Test;
@@ -116,10 +116,6 @@ pub fn at_pin(
             decided,
         });
     }
-    let Values {
-        found,
-        mut rest,
-        left,
-    } = values;
+    let (found, mut rest, left) = values.into_parts();
     part(alloc, state, pin, found, &mut rest, left, budgets)
 }

@@ -1,6 +1,7 @@
 -- What is answered to the question whether a condition and one more term can hold.
 use Rattle.std.specs.Prelude.{◌≡◌, ℕ, true, [], ◌∷◌, ◌++◌}
-use Rattle.bv_dag.specs.Queries.{Condition, holds, IsUnsatisfiable}
+use Rattle.bv_dag.specs.Graphs.{IsDag}
+use Rattle.bv_dag.specs.Queries.{AreBits, Condition, holds, IsUnsatisfiable}
 use Rattle.bit_blast.specs.Budgets.{IsSpent}
 use Rattle.term_trees.specs.TreeSlices.{IsPartFor}
 use Rattle.query_front.specs.declared.asked.Asked.{Asked}
@@ -14,4 +15,5 @@ with_term q new = record { graph = q.graph; asserted = q.asserted ++ new ∷ [] 
 abbrev pub IsAsked : Condition → (new budget : ℕ) → Asked → Type 0
 IsAsked q new budget (Sat input) = holds (with_term q new) input ≡ true
 IsAsked q new budget Unsat = IsUnsatisfiable (with_term q new)
-IsAsked q new budget (Spent part log) = IsPartFor (with_term q new) new part × IsSpent part budget log
+IsAsked q new budget (Spent part log) =
+    IsDag part.graph × AreBits part.graph part.asserted × IsPartFor (with_term q new) new part × IsSpent part budget log

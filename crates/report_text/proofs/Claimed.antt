@@ -10,7 +10,7 @@ use Rattle.std.proofs.lemmas.List.Sums.{sum_by-append, sum_by-cons}
 use Rattle.std.proofs.lemmas.Option.{slice_get-map}
 use Rattle.elf_load.specs.Images.{Image}
 use Rattle.elf_load.specs.declared.region.Region.{Region}
-use Rattle.rv_spec.specs.Memory.{IsAssignment}
+use Rattle.rv_spec.specs.Memory.{IsAssignment, count_of}
 use Rattle.rv_spec.specs.Decisions.{decisions}
 use Rattle.test_files.specs.Tests.{Test}
 use Rattle.tree_core.specs.Choices.{is_before, is_same, precedes}
@@ -26,7 +26,7 @@ use Rattle.tree_core.specs.declared.node.Status.{Status}
 use Rattle.tree_core.specs.declared.node.Status.TheVariants.{Free, Held, Parted, Leaf as IsLeaf}
 use Rattle.tree_core.proofs.Counting.{count_at, count_by-map}
 use Rattle.fork_spec.specs.Evidence.{SpendsConflicts, SpendsTargets, values_of}
-use Rattle.fork_spec.specs.Histories.{cause_of, IsHistory, IsOwnSplit, IsSideOf, LeafNode, is_leaf_status, standing_of}
+use Rattle.fork_spec.specs.Histories.{cause_of, IsHistory, IsOwnSplit, IsSideOf, LeafNode, ReleaseOnce, is_leaf_status, standing_of}
 use Rattle.fork_spec.specs.Leaves.{IsFull, Leaf, covers}
 use Rattle.fork_spec.specs.Partings.{ArePlacesApart, DecidesAlike, PartAt, Place, place_of}
 use Rattle.fork_spec.specs.Parts.{Evidence, IsRight, OnConflicts, OnTargets, Part, Shows}
@@ -38,6 +38,7 @@ use Rattle.fork_spec.specs.declared.end.LeafEnd.{LeafEnd}
 use Rattle.fork_spec.specs.declared.end.LeafEnd.TheVariants.{Exits, Traps, Cut}
 use Rattle.fork_spec.proofs.ByteLists.{are_bytes-of}
 use Rattle.fork_spec.proofs.Quiet.{leaves-walked, quiet-walked}
+use Rattle.fork_spec.proofs.Releases.{once_written}
 use Rattle.fork_tree.specs.Contents.{cut_in, place_in}
 use Rattle.fork_tree.specs.Drains.{IsDrained}
 use Rattle.fork_tree.specs.Nodes.{HasLeaf, IsLeafRight, IsRightAt}
@@ -199,7 +200,7 @@ spent_beside image regions budgets lines node sides leaf rank (Cut Targets) (Som
 spent_beside image regions budgets lines node sides leaf rank (Cut Targets) (Some input) None beside is faithful own shows beside_is = absurd shows
 spent_beside image regions budgets lines node sides leaf rank (Cut Targets) None evidence beside is faithful own shows beside_is = absurd shows
 spent_beside image regions budgets lines node sides leaf rank (Cut Conflicts) None (Some (OnConflicts learnt)) (Learning written) is faithful own shows beside_is =
-    subst (SpendsConflicts budgets.conflicts leaf) (sym beside_is) shows
+    subst (SpendsConflicts regions budgets.conflicts leaf) (sym beside_is) shows
 spent_beside image regions budgets lines node sides leaf rank (Cut Conflicts) None (Some (OnConflicts learnt)) (Tested test) is faithful own shows beside_is = absurd beside_is
 spent_beside image regions budgets lines node sides leaf rank (Cut Conflicts) None (Some (OnConflicts learnt)) (Spending spent) is faithful own shows beside_is = absurd beside_is
 spent_beside image regions budgets lines node sides leaf rank (Cut Conflicts) None (Some (OnTargets spent)) beside is faithful own shows beside_is = absurd shows
@@ -404,9 +405,11 @@ module _ {S L : Type 0} (part_of : L → Part) (rules : Rules S L) (state_place 
               ∙ (λ k. record { choices = choices_is k; status = IsLeaf; cut = cause_is k })
 
   pub are_a_report : ((input : List ℕ) → IsAssignment regions input → covered covers_at (root_content s) input ≡ true)
-      → (workers : ℕ) → All (λ (x : Event (Content S L) ℕ). x.by < workers) s.events → IsReport image regions budgets workers lines entries
-  are_a_report rooted workers all = record {
+      → (workers : ℕ) → All (λ (x : Event (Content S L) ℕ). x.by < workers) s.events → ReleaseOnce s.events
+      → IsReport image regions budgets workers lines entries
+  are_a_report rooted workers all once = record {
     full = all_leaves IsFull (λ rank e at. (right_entry rank e at).right.full);
+    inputs = all_leaves (λ leaf. leaf.condition.graph.inputs ≡ count_of regions) (λ rank e at. (right_entry rank e at).right.inputs);
     exact_cover = exact_cover rooted;
     faithful = all_leaves (IsFaithful image regions budgets.steps) (λ rank e at. (right_entry rank e at).right.faithful);
     alike = all_leaves (DecidesAlike image regions) (λ rank e at. (right_entry rank e at).right.alike);
@@ -416,5 +419,6 @@ module _ {S L : Type 0} (part_of : L → Part) (rules : Rules S L) (state_place 
     cuts = all_items (λ (e : Entry). HasSpent regions budgets lines e.node e.leaf e.leaf.end e.beside) entries (λ rank e at. let r : IsRightEntry rank e = right_entry rank e at in
         spent_beside image regions budgets lines e.node r.sides e.leaf rank e.leaf.end r.part.sample r.part.evidence e.beside refl r.right.faithful r.own r.right.shown r.beside);
     history = history workers all;
+    releases = once_written (cut_in rules.cut) s once;
     ranked = are.ranked;
   }

@@ -1,15 +1,19 @@
 -- The files of leaves, one leaf after another, and what the summary and the JSON see of them.
 use Rattle.std.proofs.Common.{◌≡◌, ◌∙◌, ℕ, zero, suc, ◌+◌, ◌<◌, ◌≤◌, ◌^◌, Bool, true, false, List, [], ◌∷◌, ◌++◌, if◌then◌else◌, get_or, drop, length, map, ap, sym, refl, append_assoc, add-one, arith, drop-cons}
+use Rattle.std.specs.Prelude.{All, Option, None, Some}
 use Rattle.std.proofs.lemmas.List.{append-nil, drop_all, length-append, length-map}
+use Rattle.std.proofs.lemmas.List.Elements.{All-cons, All-head, All-nil, All-tail}
 use Rattle.std.proofs.lemmas.List.Sorted.{length_permutation}
 use Rattle.tool_io.specs.Told.{Put}
 use Rattle.elf_load.specs.declared.region.Region.{Region}
 use Rattle.tree_core.specs.Stories.{Story, status}
 use Rattle.fork_spec.specs.Histories.{LeafNode, is_leaf_status}
-use Rattle.fork_spec.specs.Parts.{Part}
+use Rattle.fork_spec.specs.Leaves.{Leaf}
+use Rattle.fork_spec.specs.Parts.{Evidence, OnConflicts, OnTargets, Part}
 use Rattle.fork_tree.specs.declared.content.Content.{Content}
-use Rattle.report_text.specs.Claims.{leaf_nodes_of, leaves_of}
-use Rattle.report_text.specs.Entries.{AreByRank, beside_of, entries_of, leaf_numbers, node_of, numbers_where}
+use Rattle.report_text.specs.Claims.{Entry, leaf_nodes_of, leaves_of}
+use Rattle.report_text.specs.Legible.{HasSmallLog, HasSmallLogBeside}
+use Rattle.report_text.specs.Entries.{AreByRank, beside_of, entries_of, entry_of, leaf_numbers, node_of, numbers_where}
 use Rattle.report_text.specs.Files.{beside_put, files_from, leaf_put}
 use Rattle.report_text.specs.declared.leaves.LeafAt.{LeafAt}
 
@@ -54,3 +58,20 @@ few_leaves part_of s leaves by_rank few =
     let low : length (leaf_numbers s) ≤ length s.nodes = few_numbers (λ m. is_leaf_status (status s m)) (length s.nodes) in
     let same : length leaves ≡ length (leaf_numbers s) = sym (length-map leaves (λ (l : LeafAt). l.node)) ∙ length_permutation (leaf_numbers s) (map (λ (l : LeafAt). l.node) leaves) by_rank.all in
     omega (arith, low, same, few)
+
+-- the logs beside leaves are those of their parts
+log_beside : (regions : List Region) (rank : ℕ) (leaf : Leaf) (sample : Option (List ℕ)) (evidence : Option Evidence) → HasSmallLog evidence → HasSmallLogBeside (beside_of regions rank leaf sample evidence)
+log_beside regions rank leaf sample (Some (OnTargets spent)) small = tt
+log_beside regions rank leaf sample (Some (OnConflicts learnt)) small = small
+log_beside regions rank leaf (Some input) None small = tt
+log_beside regions rank leaf None None small = tt
+
+pub logs_beside : (regions : List Region) (rank : ℕ) (leaves : List LeafAt) → All (λ (l : LeafAt). HasSmallLog l.part.now.evidence) leaves →
+    All (λ (e : Entry). HasSmallLogBeside e.beside) (entries_of regions rank leaves)
+unfolding entries_of
+logs_beside regions rank [] small = All-nil (λ (e : Entry). HasSmallLogBeside e.beside)
+logs_beside regions rank (l ∷ ls) small =
+    let first : HasSmallLog l.part.now.evidence = All-head (λ (k : LeafAt). HasSmallLog k.part.now.evidence) l ls small in
+    All-cons (λ (e : Entry). HasSmallLogBeside e.beside) (entry_of regions rank l) (entries_of regions (rank + 1) ls)
+    (log_beside regions rank l.part.now.leaf l.part.now.sample l.part.now.evidence first)
+    (logs_beside regions (rank + 1) ls (All-tail (λ (k : LeafAt). HasSmallLog k.part.now.evidence) l ls small))

@@ -2,13 +2,13 @@
 use Rattle.std.specs.Prelude.{◌≡◌, ◌≢◌, ℕ, List, All, map, Some, IsTrue, count_by, slice_get}
 use Rattle.elf_load.specs.Images.{Image}
 use Rattle.elf_load.specs.declared.region.Region.{Region}
-use Rattle.rv_spec.specs.Memory.{IsAssignment}
+use Rattle.rv_spec.specs.Memory.{IsAssignment, count_of}
 use Rattle.rv_spec.specs.Runs.{run, IsRunOf}
 use Rattle.tree_core.specs.declared.budgets.Budgets.{Budgets}
 use Rattle.tree_core.specs.declared.cause.Cause.TheVariants.{Conflicts, Steps, Targets}
 use Rattle.tree_core.specs.declared.choice.Choice.{Choice}
 use Rattle.fork_spec.specs.Evidence.{Learnt, Spent, SpendsConflicts, SpendsTargets}
-use Rattle.fork_spec.specs.Histories.{IsHistory, IsSideOf, LeafNode}
+use Rattle.fork_spec.specs.Histories.{IsHistory, IsSideOf, LeafNode, ReleaseOnce}
 use Rattle.fork_spec.specs.Leaves.{IsFull, Leaf, covers}
 use Rattle.fork_spec.specs.Partings.{ArePartedLeaves, DecidesAlike}
 use Rattle.fork_spec.specs.Ranks.{AreRanked}
@@ -43,6 +43,10 @@ leaf_nodes_of entries = map (λ (e : Entry). record { leaf = e.leaf; node = e.no
 -- each leaf is one in full
 abbrev pub AreFull : List Leaf → Type 0
 AreFull leaves = All IsFull leaves
+
+-- each leaf is over the bytes of the regions
+abbrev pub HaveInputs : List Region → List Leaf → Type 0
+HaveInputs regions leaves = All (λ (leaf : Leaf). leaf.condition.graph.inputs ≡ count_of regions) leaves
 
 -- each assignment is covered by exactly one of the leaves
 abbrev pub IsExactCover : List Region → List Leaf → Type 0
@@ -93,7 +97,7 @@ HasSpent regions budgets lines node leaf (Traps trap) beside = Unit {0}
 HasSpent regions budgets lines node leaf (Cut Steps) beside = leaf.steps ≡ budgets.steps
 HasSpent regions budgets lines node leaf (Cut Targets) (Spending spent) =
     (sides : List Choice) × IsSideOf lines node sides × SpendsTargets regions budgets.targets sides leaf spent
-HasSpent regions budgets lines node leaf (Cut Conflicts) (Learning learnt) = SpendsConflicts budgets.conflicts leaf learnt
+HasSpent regions budgets lines node leaf (Cut Conflicts) (Learning learnt) = SpendsConflicts regions budgets.conflicts leaf learnt
 HasSpent regions budgets lines node leaf (Cut _) beside = ⊥
 
 abbrev pub ShowBudgets : List Region → Budgets → List Line → List Entry → Type 0
@@ -106,6 +110,7 @@ HasHistory budgets workers lines entries = IsHistory workers budgets.targets lin
 -- all of the claims, for these budgets and so many workers
 pub record IsReport (image : Image) (regions : List Region) (budgets : Budgets) (workers : ℕ) (lines : List Line) (entries : List Entry) : Type 0 where
   pub full : AreFull (leaves_of entries)
+  pub inputs : HaveInputs regions (leaves_of entries)
   pub exact_cover : IsExactCover regions (leaves_of entries)
   pub faithful : AreFaithful image regions budgets (leaves_of entries)
   pub alike : AreAlike image regions (leaves_of entries)
@@ -113,4 +118,5 @@ pub record IsReport (image : Image) (regions : List Region) (budgets : Budgets) 
   pub runs : AreRuns image regions entries
   pub cuts : ShowBudgets regions budgets lines entries
   pub history : HasHistory budgets workers lines entries
+  pub releases : ReleaseOnce lines
   pub ranked : AreRanked (leaves_of entries)

@@ -1,5 +1,5 @@
 -- The entries of a report: the leaves of a fork tree by rank, each with what stands beside it.
-use Rattle.std.specs.Prelude.{◌≡◌, ℕ, zero, suc, ◌+◌, ◌<◌, Bool, true, if◌then◌else◌, List, [], ◌∷◌, ◌++◌, Option, Some, None, length, map, slice_get}
+use Rattle.std.specs.Prelude.{◌≡◌, ℕ, zero, suc, ◌+◌, ◌<◌, Bool, true, if◌then◌else◌, List, [], ◌∷◌, ◌++◌, All, Option, Some, None, length, map, slice_get}
 use Rattle.std.specs.List.Sorted.{IsPermutation}
 use Rattle.elf_load.specs.Images.{Image}
 use Rattle.elf_load.specs.declared.region.Region.{Region}
@@ -23,6 +23,7 @@ use Rattle.fork_tree.specs.declared.content.Content.{Content}
 use Rattle.fork_tree.specs.declared.content.Content.TheVariants.{Shut}
 use Rattle.report_text.specs.Claims.{Beside, Entry, Learning, Spending, Tested, leaves_of}
 use Rattle.report_text.specs.Files.{files_of, summary_of, test_of}
+use Rattle.report_text.specs.Legible.{HasSmallLog}
 use Rattle.report_text.specs.declared.leaves.LeafAt.{LeafAt}
 use Rattle.report_text.specs.declared.ranking.RankedLeaf.{RankedLeaf}
 
@@ -122,10 +123,11 @@ IsReportable part = HasBeside part.leaf.condition.graph.inputs part.sample part.
 abbrev pub AreReportable : {S L : Type 0} → (part_of : L → Part) → Story (Content S L) → Type 0
 AreReportable {S} {L} part_of s = (m : ℕ) (leaf : L) → m < length s.nodes → status s m ≡ IsLeaf → content s m ≡ Some (Shut leaf) → IsReportable (part_of leaf)
 
--- these files and this line are the report of the leaves of a tree, in the folder `out`
+-- these files and this line are the report of the leaves of a tree, in the folder `out`; the numbers in the logs are those that texts have
 pub record IsReportOfTree {S L : Type 0} (part_of : L → Part) (cut : L → Option Cause) (out : List ℕ) (regions : List Region) (budgets : Budgets) (workers : ℕ)
     (s : Story (Content S L)) (puts : List Put) (text : List ℕ) : Type 0 where
   pub leaves : List LeafAt
   pub by_rank : AreByRank part_of s leaves
   pub files : puts ≡ files_of out budgets workers regions (lines_of (cut_in cut) s) (entries_of regions 0 leaves)
   pub summary : text ≡ summary_of (entries_of regions 0 leaves)
+  pub small_logs : All (λ (l : LeafAt). HasSmallLog l.part.now.evidence) leaves

@@ -8,5 +8,6 @@ pub mod FileNames
 pub mod ReportData
 pub mod Samples
 pub mod Claims
+pub mod Legible
 pub mod Files
 pub mod Entries

@@ -1,4 +1,4 @@
-//! What holds of the entries of every tree, and of the order of choices.
+//! What holds of the entries of every tree, of the order of choices, and of the texts of events and of what was spent.
 
 ghost use Rattle.std.specs.Prelude.{◌≡◌, ◌≢◌, ◌⊎◌, ◌<◌, ℕ, List, All, Some, slice_get, true};
 ghost use Rattle.elf_load.specs.Images.{Image};
@@ -8,11 +8,18 @@ ghost use Rattle.tree_core.specs.Covers.{covered, root_content};
 ghost use Rattle.tree_core.specs.Stories.{Story};
 ghost use Rattle.tree_core.specs.declared.budgets.Budgets.{Budgets};
 ghost use Rattle.tree_core.specs.declared.event.Event.{Event};
+ghost use Rattle.fork_spec.specs.Evidence.{Learnt, Spent};
+ghost use Rattle.fork_spec.specs.Histories.{ReleaseOnce};
+ghost use Rattle.fork_spec.specs.Walks.{Line};
 ghost use Rattle.fork_spec.specs.Written.{lines_of};
 ghost use Rattle.fork_tree.specs.Contents.{cut_in, place_in};
 ghost use Rattle.fork_tree.specs.Drains.{IsDrained};
 ghost use Rattle.fork_tree.specs.declared.content.Content.{Content};
 ghost use Rattle.report_text.specs.Claims.{Entry, IsReport};
+ghost use Rattle.report_text.specs.Events.{events_text};
+ghost use Rattle.report_text.specs.Learnt.{conflicts_text};
+ghost use Rattle.report_text.specs.Legible.{AreLegible, IsLegibleLearnt, IsLegibleSpent};
+ghost use Rattle.report_text.specs.Spent.{targets_text};
 ghost use Rattle.report_text.specs.Entries.{AreByRank, AreEntries, AskAsClaimed, IsReportable, entries_of};
 ghost use Rattle.report_text.specs.declared.leaves.LeafAt.{LeafAt};
 ghost use Rattle.tree_core.specs.Choices.{is_before, precedes};
@@ -36,7 +43,7 @@ where
     ensures { (worker : W) (image : Image) (regions : List Region) (budgets : Budgets) (workers : ℕ) (s : Story (Content W.State W.Leaf)) (entries : List Entry)
         → AskAsClaimed W.Leaf.part (W.rules worker) W.Leaf.place image regions budgets → IsDrained (W.rules worker) W.State.place W.Leaf.place s → AreEntries W.Leaf.part regions s entries
         → ((input : List ℕ) → IsAssignment regions input → covered (λ c. (place_in W.State.place W.Leaf.place c).covers) (root_content s) input ≡ true)
-        → All (λ (e : Event (Content W.State W.Leaf) ℕ). e.by < workers) s.events
+        → All (λ (e : Event (Content W.State W.Leaf) ℕ). e.by < workers) s.events → ReleaseOnce s.events
         → IsReport image regions budgets workers (lines_of (cut_in (W.rules worker).cut) s) entries }
 {}
 
@@ -46,4 +53,15 @@ where
     W::Leaf: HasPart,
     ensures { (regions : List Region) (s : Story (Content W.State W.Leaf)) (leaves : List LeafAt) → AreByRank W.Leaf.part s leaves
         → ((rank : ℕ) (l : LeafAt) → slice_get leaves rank ≡ Some l → IsReportable l.part.now) → AreEntries W.Leaf.part regions s (entries_of regions 0 leaves) }
+{}
+
+/// The text of events is that of no others.
+pub fn a_text_is_that_of_one_history()
+    ensures { (lines others : List Line) → AreLegible lines → AreLegible others → events_text lines ≡ events_text others → lines ≡ others }
+{}
+
+/// What was spent is told by its text: values of a term, and a question with the clauses that were learnt for it.
+pub fn a_text_tells_what_was_spent()
+    ensures targets { (spent other : Spent) → IsLegibleSpent spent → IsLegibleSpent other → targets_text spent ≡ targets_text other → spent ≡ other }
+    ensures conflicts { (learnt other : Learnt) → IsLegibleLearnt learnt → IsLegibleLearnt other → conflicts_text learnt ≡ conflicts_text other → learnt ≡ other }
 {}

@@ -1,12 +1,14 @@
 //! What was spent on a leaf that is cut by conflicts: a question, and the clauses that were learnt for it. After an error a
 //! part of a text may stand there.
 
-ghost use Rattle.std.specs.Prelude.{◌≡◌, ◌++◌, IfOk, OnOk, string_bytes};
+ghost use Rattle.std.specs.Prelude.{◌≡◌, ◌++◌, ◌<◌, ◌^◌, All, IfOk, OnOk, string_bytes};
 ghost use Rattle.std.specs.List.{flat_map};
+ghost use Rattle.fork_spec.specs.Leaves.{IsSmall};
 ghost use Rattle.report_text.specs.Learnt.{conflicts_text, hint_text, learnt_heading, learnt_line, literal_text};
+ghost use Rattle.report_text.specs.Legible.{HasSmallNumbers};
 
 use cnf_form::{Lit, LogStep};
-use smt_text::{push_numbered, write_query};
+use smt_text::{print_query, push_numbered};
 use std::alloc::{AllocError as NoMemory, Global};
 use sym_state::Learnt;
 use tool_io::Bytes;
@@ -14,6 +16,7 @@ use tool_io::Bytes;
 /// Appends a literal, behind a blank.
 fn write_literal(text: &mut String, literal: Lit) -> Result<(), NoMemory>
     ensures ok { OnOk result (string_bytes text.new ≡ string_bytes text.old ++ literal_text literal) }
+    ensures small { IsSmall literal.variable }
 {
     let sign = if literal.is_positive() { " " } else { " -" };
     push_numbered(text, sign, literal.variable())
@@ -22,6 +25,7 @@ fn write_literal(text: &mut String, literal: Lit) -> Result<(), NoMemory>
 /// Appends the literals of a clause.
 fn write_literals(text: &mut String, literals: &[Lit]) -> Result<(), NoMemory>
     ensures ok { OnOk result (string_bytes text.new ≡ string_bytes text.old ++ flat_map literal_text literals.now) }
+    ensures small { OnOk result (All (λ l. IsSmall l.variable) literals.now) }
 {
     for literal in literals {
         write_literal(text, *literal)?;
@@ -32,6 +36,7 @@ fn write_literals(text: &mut String, literals: &[Lit]) -> Result<(), NoMemory>
 /// Appends the numbers of clauses.
 fn write_hints(text: &mut String, hints: &[usize]) -> Result<(), NoMemory>
     ensures ok { OnOk result (string_bytes text.new ≡ string_bytes text.old ++ flat_map hint_text hints.now) }
+    ensures small { All (λ h. h < 2 ^ 64) hints.now }
 {
     for hint in hints {
         push_numbered(text, " ", *hint)?;
@@ -42,6 +47,7 @@ fn write_hints(text: &mut String, hints: &[usize]) -> Result<(), NoMemory>
 /// Appends the line of a clause that was learnt.
 fn write_learnt_line(text: &mut String, step: &LogStep) -> Result<(), NoMemory>
     ensures ok { OnOk result (string_bytes text.new ≡ string_bytes text.old ++ learnt_line step.now) }
+    ensures small { OnOk result (HasSmallNumbers step.now) }
 {
     text.push_str("c")?;
     write_literals(text, step.clause().literals())?;
@@ -53,6 +59,7 @@ fn write_learnt_line(text: &mut String, step: &LogStep) -> Result<(), NoMemory>
 /// Appends a line for each clause that was learnt.
 fn write_learnt_lines(text: &mut String, log: &[LogStep]) -> Result<(), NoMemory>
     ensures ok { OnOk result (string_bytes text.new ≡ string_bytes text.old ++ flat_map learnt_line log.now) }
+    ensures small { OnOk result (All HasSmallNumbers log.now) }
 {
     for step in log {
         write_learnt_line(text, step)?;
@@ -73,11 +80,12 @@ fn write_heading(text: &mut String, learnt: &Learnt) -> Result<(), NoMemory>
 
 /// The text of a question on which the budget of conflicts was spent.
 pub fn write_conflicts(alloc: Global, learnt: &Learnt) -> Result<Bytes, NoMemory>
-    ensures { IfOk result (λ text. text ≡ conflicts_text learnt.now) }
+    ensures text { IfOk result (λ text. text ≡ conflicts_text learnt.now) }
+    ensures small { IfOk result (λ text. All HasSmallNumbers learnt.now.log) }
 {
     let mut text = String::new(alloc);
     write_heading(&mut text, learnt)?;
-    write_query(&mut text, &learnt.question)?;
+    text.push_str(print_query(alloc, &learnt.question)?.as_str())?;
     write_learnt_lines(&mut text, learnt.log.steps())?;
     Ok(Bytes::from_vec(text.into_bytes()))
 }

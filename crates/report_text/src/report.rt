@@ -5,6 +5,7 @@ ghost use Rattle.fork_spec.specs.Written.{lines_of, nodes_after};
 ghost use Rattle.fork_tree.specs.Contents.{cut_in};
 ghost use Rattle.fork_tree.specs.Drains.{IsDrained};
 ghost use Rattle.report_text.specs.Entries.{AreReportable, IsPlacedByPart, IsReportOfTree, IsReportable, beside_of, entries_of, node_of};
+ghost use Rattle.report_text.specs.Legible.{HasSmallLog};
 ghost use Rattle.report_text.specs.Files.{beside_put, events_put, files_from, leaf_put, report_put};
 
 use crate::event_lines::write_events;
@@ -26,10 +27,29 @@ use tool_io::{Bytes, NamedFile};
 use tree_core::Budgets;
 
 /// What is put and said of the leaves of a program.
-#[derive(Drop)]
 pub struct Report {
     pub files: Vec<NamedFile>,
     pub summary: Bytes,
+}
+
+impl Drop for Report {
+    fn drop(self) {
+        let Self {
+            files: _files,
+            summary: _summary,
+        } = self;
+    }
+}
+
+impl Report {
+    /// The files, and the line.
+    pub fn into_parts(self) -> (Vec<NamedFile>, Bytes)
+        ensures files { result.0.items ≡ self.files.items }
+        ensures summary { result.1 ≡ self.summary }
+    {
+        let Self { files, summary } = self;
+        (files, summary)
+    }
 }
 
 // The file of the leaf.
@@ -57,7 +77,8 @@ fn beside_file(
     part: &LeafPart,
 ) -> Result<NamedFile, NoMemory>
     requires { IsReportable part.now }
-    ensures { IfOk result (λ file. file ≡ beside_put out.now rank (beside_of regions.now rank part.now.leaf part.now.sample part.now.evidence)) }
+    ensures file { IfOk result (λ file. file ≡ beside_put out.now rank (beside_of regions.now rank part.now.leaf part.now.sample part.now.evidence)) }
+    ensures small { IfOk result (λ file. HasSmallLog part.now.evidence) }
 {
     match (part.evidence(), part.sample()) {
         (Some(Evidence::Targets(spent)), _) => {
@@ -87,8 +108,9 @@ fn push_files(
     part: &LeafPart,
 ) -> Result<(), NoMemory>
     requires { IsReportable part.now }
-    ensures { OnOk result (files.new.items ≡ files.old.items ++ leaf_put out.now rank part.now.leaf
+    ensures files { OnOk result (files.new.items ≡ files.old.items ++ leaf_put out.now rank part.now.leaf
         ∷ beside_put out.now rank (beside_of regions.now rank part.now.leaf part.now.sample part.now.evidence) ∷ []) }
+    ensures small { OnOk result (HasSmallLog part.now.evidence) }
 {
     files.push(leaf_file(alloc, out, rank, part)?)?;
     files.push(beside_file(alloc, out, regions, rank, part)?)?;
@@ -104,7 +126,8 @@ fn push_leaves(
     leaves: &[LeafAt<'_>],
 ) -> Result<(), NoMemory>
     requires { All (λ l. IsReportable l.part.now) leaves.now }
-    ensures { OnOk result (files.new.items ≡ files.old.items ++ files_from out.now 0 (entries_of regions.now 0 leaves.now)) }
+    ensures files { OnOk result (files.new.items ≡ files.old.items ++ files_from out.now 0 (entries_of regions.now 0 leaves.now)) }
+    ensures small { OnOk result (All (λ l. HasSmallLog l.part.now.evidence) leaves.now) }
 {
     for (rank, leaf) in leaves.iter().enumerate() {
         push_files(alloc, files, out, regions, rank, leaf.part)?;

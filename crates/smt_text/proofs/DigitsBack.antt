@@ -1,13 +1,13 @@
 -- Digits that were written: no zero leads, and eight hexadecimal ones are read back.
-use Rattle.std.proofs.Common.{◌≡◌, ℕ, zero, suc, ◌<◌, ◌/◌, ◌%◌, ◌^◌, Bool, true, false, ◌||◌, List, [], ◌∷◌, length, get_or, slice_index, Some, Ok, refl, ap, decimal, arith}
+use Rattle.std.proofs.Common.{◌≡◌, ◌∙◌, ℕ, zero, suc, ◌<◌, ◌/◌, ◌%◌, ◌^◌, Bool, true, false, ◌||◌, List, [], ◌∷◌, length, get_or, slice_index, Some, Ok, refl, ap, decimal, arith}
 use Rattle.std.specs.Char.{is_ascii_uppercase}
 use Rattle.std.specs.Int.{byte_at, bytes_high_first, to_be_bytes, w32}
 use Rattle.std.specs.List.{list_any}
 use Rattle.std.proofs.lemmas.Bool.Decides.{nat_tests}
 use Rattle.std.proofs.lemmas.Fmt.{decimal_digit, first_decimal}
 use Rattle.std.proofs.lemmas.Nat.{from_be_bytes-to_be_bytes_4}
-use Rattle.hex.specs.Hex.{IsBytes, decode_sized, encode_lower, encode_with, lower_digits}
-use Rattle.hex.proofs.HexLemmas.{decode_sized-encode_lower, length-encode_with}
+use Rattle.hex.specs.Hex.{IsBytes, decode_of, decode_sized, encode_lower, encode_with, lower_digits}
+use Rattle.hex.proofs.HexLemmas.{decode_of-encode_lower, decode_of-same, decode_sized-encode_lower, length-encode_with}
 use Rattle.smt_text.specs.Digits.{has_leading_zero, hex_number}
 use Rattle.smt_text.specs.Names.{eight_digits}
 
@@ -24,7 +24,7 @@ no_leading_zero (suc n) small = leads_not (decimal (suc n)) (first_decimal (suc 
 
 -- ---- eight hexadecimal digits
 
-none_at : (p : ℕ → Bool) → p 0 ≡ false → (xs : List ℕ) (k : ℕ) → list_any p xs ≡ false → p (get_or xs k 0) ≡ false
+pub none_at : (p : ℕ → Bool) → p 0 ≡ false → (xs : List ℕ) (k : ℕ) → list_any p xs ≡ false → p (get_or xs k 0) ≡ false
 none_at p at_zero [] k none = at_zero
 none_at p at_zero (x ∷ xs) zero none = first (p x) (list_any p xs) none
   where
@@ -64,3 +64,8 @@ hex_back n small =
     let bytes : decode_sized (eight_digits n) 4 ≡ Ok (to_be_bytes w32 n) =
     decode_sized-encode_lower (to_be_bytes w32 n) 4 refl (high_first_bytes 4 n) in
     rw (plain, bytes) (ap Some (from_be_bytes-to_be_bytes_4 n small))
+
+-- bytes are told by their digits
+pub bytes_by_digits : (a b : List ℕ) → IsBytes a → IsBytes b → encode_lower a ≡ encode_lower b → a ≡ b
+bytes_by_digits a b bytes also e =
+    decode_of-same (encode_lower a) a b (decode_of-encode_lower a bytes) (ap decode_of e ∙ decode_of-encode_lower b also)

@@ -230,8 +230,10 @@ pub whole_only : (text : List ℕ) (r : Reading) (leaf : Leaf) → IsWhole text 
     leaf_of r ≡ leaf
 unfolding leaf_text
 whole_only text r leaf whole full e =
-    let same = same_lines start r (ended leaf) whole.lines (leaf_lines leaf) IsWithin-start Counted-start whole.all_stand (all_read leaf full) (sym whole.is_theirs ∙ e) in
-    let readings : Some r ≡ Some (ended leaf) = sym whole.all_stand ∙ ap (read_lines start) same ∙ all_read leaf full in
+    let texts : lines_text whole.lines ≡ lines_text (leaf_lines leaf) = sym whole.is_theirs ∙ e in
+    let same = same_lines start r (ended leaf) whole.lines (leaf_lines leaf) [] [] IsWithin-start Counted-start whole.all_stand (all_read leaf full) whole.to_the_end refl
+    (ap (λ (t : List ℕ). t ++ []) texts) in
+    let readings : Some r ≡ Some (ended leaf) = sym whole.all_stand ∙ ap (read_lines start) same.0 ∙ all_read leaf full in
     ap leaf_of (same_Some r (ended leaf) readings)
 
 -- ---- no full leaf's text is refused

@@ -1,10 +1,12 @@
-//! What holds of every leaf and every node.
+//! What holds of every leaf, every question and every node.
 
-ghost use Rattle.std.specs.Prelude.{◌≡◌, ◌↔◌, ℕ, List, IsTrue};
+ghost use Rattle.std.specs.Prelude.{◌≡◌, ◌↔◌, ◌++◌, ℕ, List, IsTrue, length};
 ghost use Rattle.bv_dag.specs.Nodes.{Fits};
+ghost use Rattle.bv_dag.specs.Queries.{Condition};
 ghost use Rattle.bv_dag.specs.declared.nodes.Node.{Node};
 ghost use Rattle.smt_text.specs.Grammar.{IsTextOf};
-ghost use Rattle.smt_text.specs.LeafLines.{leaf_text};
+ghost use Rattle.smt_text.specs.LeafLines.{leaf_text, query_text};
+ghost use Rattle.fork_spec.specs.Evidence.{IsQuestion};
 ghost use Rattle.fork_spec.specs.Leaves.{IsFull, Leaf};
 ghost use Rattle.smt_text.specs.NodeFits.{fits};
 
@@ -21,4 +23,11 @@ pub fn a_text_reads_as_its_leaf()
 /// A text has one reading: two full leaves with the same text are the same leaf.
 pub fn a_text_is_read_in_one_way()
     ensures { (leaf other : Leaf) → IsFull leaf → IsFull other → leaf_text leaf ≡ leaf_text other → leaf ≡ other }
+{}
+
+/// The text of a question has one reading, whatever stands behind it: two questions in full, of as many inputs and of as many terms,
+/// with one text are the same question.
+pub fn a_question_is_read_in_one_way()
+    ensures { (q r : Condition) (more rest : List ℕ) → IsQuestion q → IsQuestion r → q.graph.inputs ≡ r.graph.inputs
+        → length q.graph.nodes ≡ length r.graph.nodes → query_text q ++ more ≡ query_text r ++ rest → (q ≡ r) × (more ≡ rest) }
 {}

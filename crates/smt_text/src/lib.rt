@@ -26,4 +26,4 @@ pub use leaf::LeafText;
 pub use leaf_reader::{SmtRefused, read_leaf};
 pub use names::{cause_name, end_name, kind_name, write_choice, write_choices, write_path};
 pub use numbered::push_numbered;
-pub use printing::{print_leaf, print_parts, write_query};
+pub use printing::{print_leaf, print_parts, print_query};

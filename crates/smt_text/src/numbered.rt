@@ -1,13 +1,14 @@
 //! Appending a word and the number behind it. After an error a part of them may stand there.
 
-ghost use Rattle.std.specs.Prelude.{◌≡◌, ◌++◌, OnOk, codes, string_bytes};
+ghost use Rattle.std.specs.Prelude.{◌≡◌, ◌⊎◌, ◌++◌, OnErr, OnOk, codes, string_bytes};
 
 use itoa::{Buffer, Integer};
 use std::alloc::AllocError as NoMemory;
 
-/// Appends a word and the digits of a number.
+/// Appends a word and the digits of a number. After an error none of it, or the word alone, stands there.
 pub fn push_numbered<I: Integer>(text: &mut String, word: &str, number: I) -> Result<(), NoMemory>
     ensures ok { OnOk result (string_bytes text.new ≡ string_bytes text.old ++ word.now ++ I.text number) }
+    ensures err { OnErr result ((string_bytes text.new ≡ string_bytes text.old) ⊎ (string_bytes text.new ≡ string_bytes text.old ++ word.now)) }
 {
     let mut buffer = Buffer::new();
     text.push_str(word)?;

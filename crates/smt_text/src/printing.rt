@@ -79,13 +79,22 @@ fn write_definitions(
     write_output_lines(text, outputs)
 }
 
-/// Appends a condition alone: its terms, and those that it asserts. After an error a part of it may stand there.
-pub fn write_query(text: &mut String, condition: &Query) -> Result<(), NoMemory>
+// Appends a condition alone: its terms, and those that it asserts.
+fn write_query(text: &mut String, condition: &Query) -> Result<(), NoMemory>
     ensures ok { OnOk result (string_bytes text.new ≡ string_bytes text.old ++ spec.query_text condition.now) }
 {
     write_terms(text, condition.dag())?;
     write_assert_lines(text, condition.asserted())?;
     text.push_str("(check-sat)\n(exit)\n")
+}
+
+/// The text of a condition alone.
+pub fn print_query(alloc: Global, condition: &Query) -> Result<String, NoMemory>
+    ensures { IfOk result (λ text. string_bytes text ≡ spec.query_text condition.now) }
+{
+    let mut text = String::new(alloc);
+    write_query(&mut text, condition)?;
+    Ok(text)
 }
 
 /// The text of a leaf, from its parts.

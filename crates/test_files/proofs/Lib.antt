@@ -8,4 +8,5 @@ pub mod LineEnds
 pub mod JsonBack
 pub mod Utf8Texts
 pub mod ReadBack
+pub mod OneTest
 pub mod Bounded

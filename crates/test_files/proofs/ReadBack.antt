@@ -1,5 +1,5 @@
 -- A test that was written is read back.
-use Rattle.std.proofs.Common.{◌≡◌, ◌∙◌, ℕ, true, false, ◌<◌, ◌≤◌, ◌^◌, ◌==◌, length, nat_le, nat_lt, sum_by, Some, Ok, refl, ap, arith}
+use Rattle.std.proofs.Common.{◌≡◌, ◌∙◌, ℕ, true, false, ◌≤◌, ◌^◌, ◌==◌, length, nat_le, nat_lt, sum_by, Some, Ok, refl, ap, arith}
 use Rattle.std.specs.Str.{is_utf8}
 use Rattle.std.proofs.lemmas.Bool.Decides.{nat_tests}
 use Rattle.std.proofs.lemmas.Str.{is_utf8-from_IsUtf8}
@@ -30,15 +30,15 @@ said_back test w =
     rw (
       between_back 0 (2 ^ 53) test.leaf (omega arith) w.leaf_within,
       between_back 1 1000000 test.steps w.steps_there w.steps_within,
-      end_back test.end w.status,
-      path_back test.path w.targets,
-      regions_back test.regions w.starts w.counts,
+      end_back test.end w.legible.status,
+      path_back test.path w.legible.targets,
+      regions_back test.regions w.legible.starts w.legible.counts,
     ) refl
 
 with_bytes_back : (test : Test) → IsWritable test → test_with_bytes (said test) ≡ Ok test
 with_bytes_back test w =
     let long : (length test.input == sum_by (λ (region : Region). region.count) test.regions) ≡ true = grind (arith, nat_tests, w.input_long) in
-    rw (decode_of-encode_lower test.input w.input_bytes, decode_of-encode_lower test.output w.output_bytes, long) refl
+    rw (decode_of-encode_lower test.input w.legible.input_bytes, decode_of-encode_lower test.output w.legible.output_bytes, long) refl
 
 data_back : (test : Test) → IsWritable test → test_in (test_data test) ≡ Ok test
 unfolding test_in
@@ -47,8 +47,6 @@ data_back test w = ap test_said (said_back test w) ∙ with_bytes_back test w
 pub test_back : (test : Test) → IsWritable test → reading (test_text test) ≡ Ok test
 unfolding reading
 test_back test w =
-    let leaf : test.leaf < 2 ^ 64 = omega (arith, w.leaf_within) in
-    let steps : test.steps < 2 ^ 64 = omega (arith, w.steps_within) in
     let fits : nat_lt most_bytes (length (test_text test)) ≡ false = grind (arith, nat_tests, w.text_within) in
-    let utf8 : is_utf8 (test_text test) ≡ true = is_utf8-from_IsUtf8 (test_text test) (text_utf8 test leaf steps w.status w.counts) in
-    rw (fits, utf8, text_back test leaf steps) (data_back test w)
+    let utf8 : is_utf8 (test_text test) ≡ true = is_utf8-from_IsUtf8 (test_text test) (text_utf8 test w.legible.leaf_fits w.legible.steps_fit w.legible.status w.legible.counts) in
+    rw (fits, utf8, text_back test w.legible.leaf_fits w.legible.steps_fit) (data_back test w)

@@ -1,4 +1,4 @@
--- The tests whose texts are read back.
+-- The tests that their texts tell from all others, and those whose texts are read back.
 use Rattle.std.specs.Prelude.{◌≡◌, ◌<◌, ◌≤◌, ◌^◌, length, sum_by, Option, None, Some}
 use Rattle.std.specs.List.{All}
 use Rattle.hex.specs.Hex.{IsBytes}
@@ -22,17 +22,24 @@ HasTarget (Target target) = target < 2 ^ 32
 HasTarget Taken = Unit {0}
 HasTarget NotTaken = Unit {0}
 
--- The numbers of a test within their bounds, and its input as long as its regions.
-pub record IsWritable (test : Test) : Type 0 where
-  pub leaf_within : test.leaf ≤ 2 ^ 53
-  pub steps_there : 1 ≤ test.steps
-  pub steps_within : test.steps ≤ 1000000
+-- The tests that their texts tell from all others: numbers of 64 bits, addresses of 32, counts of four digits, and bytes.
+pub record IsLegible (test : Test) : Type 0 where
+  pub leaf_fits : test.leaf < 2 ^ 64
+  pub steps_fit : test.steps < 2 ^ 64
   pub status : HasStatus test.end
   pub targets : All HasTarget test.path
   pub starts : All (λ (region : Region). region.start < 2 ^ 32) test.regions
   pub counts : All (λ (region : Region). region.count ≤ 9999) test.regions
   pub input_bytes : IsBytes test.input
   pub output_bytes : IsBytes test.output
+
+-- The tests that are read back whole: numbers within the bounds of a reader, the input as long as the regions, and a text of no more
+-- bytes than are read.
+pub record IsWritable (test : Test) : Type 0 where
+  pub legible : IsLegible test
+  pub leaf_within : test.leaf ≤ 2 ^ 53
+  pub steps_there : 1 ≤ test.steps
+  pub steps_within : test.steps ≤ 1000000
   pub input_long : length test.input ≡ sum_by (λ (region : Region). region.count) test.regions
   pub text_within : length (test_text test) ≤ most_bytes
 

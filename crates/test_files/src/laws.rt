@@ -5,7 +5,7 @@ ghost use Rattle.serde_json.specs.Written.{compact_text};
 ghost use Rattle.test_files.specs.TestData.{test_data};
 ghost use Rattle.test_files.specs.Reading.{reading};
 ghost use Rattle.test_files.specs.Tests.{Test, test_text};
-ghost use Rattle.test_files.specs.Writable.{IsBounded, IsWritable};
+ghost use Rattle.test_files.specs.Writable.{IsBounded, IsLegible, IsWritable};
 
 /// The text of a test is the compact text of a JSON object, and a line feed.
 pub fn the_text_is_that_of_an_object()
@@ -15,6 +15,11 @@ pub fn the_text_is_that_of_an_object()
 /// A test that was written is read back, where its numbers are within their bounds.
 pub fn a_written_test_is_read_back()
     ensures { (test : Test) → IsWritable test → reading (test_text test) ≡ Ok test }
+{}
+
+/// The text of a test is that of no other.
+pub fn a_text_is_that_of_one_test()
+    ensures { (test other : Test) → IsLegible test → IsLegible other → test_text test ≡ test_text other → test ≡ other }
 {}
 
 /// A test that was read has its numbers within their bounds, and one byte of input for each place of

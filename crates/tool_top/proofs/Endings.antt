@@ -23,7 +23,7 @@ use Rattle.tree_core.specs.declared.budgets.Budgets.{Budgets}
 use Rattle.replay_core.specs.Replays.{IsAsSaid}
 use Rattle.tool_top.proofs.BenchEndings.{benched, not_benched}
 use Rattle.tool_top.proofs.ReplayEndings.{given_held, replay_fault, replay_kept, replay_no_job, replay_misfit, replay_no_program, replay_no_test, replay_other, replay_puts, replay_same}
-use Rattle.report_text.specs.Claims.{Entry, IsReport, leaves_of}
+use Rattle.report_text.specs.Claims.{Entry, IsReport}
 use Rattle.report_text.specs.Files.{files_of, summary_of}
 use Rattle.tool_top.specs.Answer.{Answered, status_of, IsAnswered, IsFaulted, IsWanting, IsCarriedOut, IsCutByFault, IsWritten, OnWritten, OnReplayed, HoldsProgram, HoldsNoProgram, HoldsMisfit, HoldsNoTest, HoldsOther, HoldsTest, verdict_status}
 use Rattle.tool_top.specs.ReadBack.{AreReadBack}
@@ -218,8 +218,9 @@ written old new IsFile line out bytes image asked budgets workers Claim plan sum
       fits = fits;
       files = puts_since-after old.told new.told deeds (λ puts. puts ≡ files_of out budgets workers asked report.lines report.entries) carried.changes report.files;
       read_back =
-          puts_since-after old.told new.told deeds (λ puts. AreReadBack out puts (leaves_of report.entries)) carried.changes
-          (subst (λ puts. AreReadBack out puts (leaves_of report.entries)) (sym report.files) (read_back out budgets workers asked report.lines report.entries report.claims.full));
+          puts_since-after old.told new.told deeds (λ puts. AreReadBack out puts report.lines report.entries) carried.changes
+          (subst (λ puts. AreReadBack out puts report.lines report.entries) (sym report.files)
+          (read_back out image asked budgets workers report.lines report.entries report.claims report.counts fits));
       summary = said_since-after old.told new.told deeds (λ said. said ≡ line (summary_of report.entries)) carried.changes (said ∙ text ∙ ap line report.summary);
       claim = claims report.lines report.entries report.claims;
     }

@@ -2,14 +2,15 @@
 use Rattle.std.proofs.Common.{◌≡◌, ℕ, ◌<◌, ◌&&◌, ◌++◌, IsTrue, true, refl, sym, ap, subst, ◌∙◌, arith}
 use Rattle.std.specs.Prelude.{List, All, Bool, Option, Some, ◌==◌, length}
 use Rattle.std.proofs.lemmas.Bool.Decides.{nat_tests}
+use Rattle.std.proofs.lemmas.Option.{same_Some}
 use Rattle.elf_load.specs.declared.region.Region.{Region}
 use Rattle.rv_spec.specs.Memory.{IsAssignment}
 use Rattle.tree_core.specs.Covers.{covered, root_content}
 use Rattle.tree_core.specs.Stories.{Story}
 use Rattle.tree_core.specs.declared.budgets.Budgets.{Budgets}
 use Rattle.tree_core.specs.declared.event.Event.{Event}
-use Rattle.fork_spec.specs.Histories.{cause_of}
-use Rattle.fork_spec.specs.Leaves.{are_bytes}
+use Rattle.fork_spec.specs.Histories.{ReleaseOnce, cause_of}
+use Rattle.fork_spec.specs.Leaves.{IsSmall, are_bytes}
 use Rattle.fork_spec.specs.Parts.{Part}
 use Rattle.fork_spec.specs.Written.{lines_of}
 use Rattle.fork_spec.proofs.ByteLists.{are_bytes-of}
@@ -22,12 +23,14 @@ use Rattle.fork_tree.specs.declared.content.Content.TheVariants.{Open, Shut}
 use Rattle.node_split.specs.Rules.{leaf_place, rules_of}
 use Rattle.report_text.proofs.Claimed.{are_a_report}
 use Rattle.report_text.proofs.Entering.{are_entries, reportable}
+use Rattle.report_text.proofs.FileList.{logs_beside}
 use Rattle.report_text.specs.Entries.{AreEntries, AskAsClaimed, IsLeafAt, IsReportOfTree, IsReportable, entries_of}
 use Rattle.sym_state.specs.Places.{run_place}
 use Rattle.sym_state.specs.Programs.{Program}
 use Rattle.sym_state.specs.Runs.{IsFirst}
 use Rattle.sym_state.specs.Symbolic.{Symbolic, stands_for}
 use Rattle.tool_io.specs.Told.{Put}
+use Rattle.tool_words.specs.Limits.{IsBudgets}
 use Rattle.turn_lock.specs.Growth.{StartsWith}
 use Rattle.tool_top.specs.Reports.{IsReportOf}
 
@@ -66,15 +69,25 @@ module _ (p : Program) (budgets : Budgets) where
   pub is_report_of : (root : Symbolic) (old new : Story (Content Symbolic Part)) → IsOpening root old
       → IsFirst p root → StartsWith new.nodes old.nodes
       → IsDrained (rules_of p budgets) run_place leaf_place new → (workers : ℕ) → All (λ (e : Event (Content Symbolic Part) ℕ). e.by < workers) new.events
-      → (out : List ℕ) (puts : List Put) (text : List ℕ)
+      → ReleaseOnce new.events → IsSmall workers → IsBudgets budgets → (out : List ℕ) (puts : List Put) (text : List ℕ)
       → IsReportOfTree (λ (part : Part). part) (λ part. cause_of part.leaf.end) out p.regions budgets workers new puts text
       → IsReportOf out p.image p.regions budgets workers puts text
-  is_report_of root old new opens first grows drained workers few out puts text made = record {
+  is_report_of root old new opens first grows drained workers few once few_workers within out puts text made = record {
     lines = lines_of (cut_in (λ (part : Part). cause_of part.leaf.end)) new;
     entries = entries_of p.regions 0 made.leaves;
     claims =
         are_a_report (λ (part : Part). part) (rules_of p budgets) run_place leaf_place p.image p.regions budgets asks new drained
-        (entries_of p.regions 0 made.leaves) are (rooted p.regions root old new opens (stands_for_all p root first) grows) workers few;
+        (entries_of p.regions 0 made.leaves) are (rooted p.regions root old new opens (stands_for_all p root first) grows) workers few once;
+    counts = record {
+      few_workers = few_workers;
+      few_targets = omega (arith, within.targets_within.1);
+      few_conflicts = omega (arith, within.conflicts_within.1);
+      few_nodes = λ nodes walked.
+          let led = drained.walked.leads workers few in
+          let same : led.nodes ≡ nodes = same_Some led.nodes nodes (sym led.walked ∙ walked) in
+          omega (arith, ap length same, led.same.as_many, drained.few);
+      small_logs = logs_beside p.regions 0 made.leaves made.small_logs;
+    };
     files = made.files;
     summary = made.summary;
   }

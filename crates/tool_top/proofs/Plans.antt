@@ -1,18 +1,22 @@
 -- Making a plan, from what its parts are.
-use Rattle.std.proofs.Common.{◌≡◌, ℕ, ◌+◌, ◌∙◌, true, false, List, [], ◌∷◌, refl, sym, subst, ap, inl, inr, arith}
-use Rattle.std.specs.Prelude.{Bool, if◌then◌else◌, nat_lt, sum_by, Option, None, Some, Result, Ok, Err, IfOk, OnErr}
+use Rattle.std.proofs.Common.{◌≡◌, ℕ, zero, suc, ◌+◌, ◌/◌, ◌^◌, ◌<◌, ◌≤◌, ◌∙◌, true, false, List, [], ◌∷◌, refl, sym, subst, ap, inl, inr, arith}
+use Rattle.std.specs.Prelude.{All, Bool, not, ◌&&◌, ◌==◌, if◌then◌else◌, nat_lt, sum_by, Option, None, Some, Result, Ok, Err, IfOk, OnErr}
 use Rattle.std.proofs.lemmas.Bool.Decides.{nat_tests}
-use Rattle.std.proofs.lemmas.List.Sums.{sum_by-cons}
+use Rattle.std.proofs.lemmas.Bool.{or_parts}
+use Rattle.std.proofs.lemmas.List.Elements.{All-cons, All-nil}
+use Rattle.std.proofs.lemmas.List.Sums.{get_or-le-sum_by, sum_by-cons}
+use Rattle.std.specs.FinMap.{contains_key}
+use Rattle.std.specs.List.{list_any, range_with_len}
 use Rattle.std.specs.declared.alloc.AllocError.{AllocError}
 use Rattle.tool_io.specs.Told.{Seen, after, IsPrefix}
 use Rattle.tool_io.proofs.Deeds.{after-nothing}
-use Rattle.elf_load.specs.Fits.{unfit, unfit_empty, unfit_too_long, unfit_too_many}
+use Rattle.elf_load.specs.Fits.{is_mapped, is_unmapped, unfit, unfit_empty, unfit_too_long, unfit_too_many, unfit_unmapped}
 use Rattle.elf_load.specs.Images.{Image, Loads}
 use Rattle.elf_load.specs.Refusals.{refusal}
 use Rattle.elf_load.specs.declared.refused.Refused.{Refused as WhyRefused}
 use Rattle.elf_load.specs.declared.region.Region.{Region}
 use Rattle.elf_load.specs.declared.unfit.Unfit.{Unfit as WhyUnfit}
-use Rattle.elf_load.specs.declared.unfit.Unfit.TheVariants.{Empty, TooLong, TooMany}
+use Rattle.elf_load.specs.declared.unfit.Unfit.TheVariants.{Empty, TooLong, TooMany, Unmapped}
 use Rattle.fork_spec.specs.Leaves.{IsSmall}
 use Rattle.tool_words.specs.Job.{Bench, Job}
 use Rattle.rv_spec.specs.Memory.{count_of}
@@ -105,3 +109,41 @@ few_bytes image asked fits =
     let short : nat_lt 256 (sum_by (λ (r : Region). r.count) asked) ≡ false = (passed (unfit_too_long asked) TooLong _ some.1).0 in
     let same = sum_count asked in
     grind (arith, nat_tests, short, same)
+
+-- so does each of them
+pub short_regions : (image : Image) (asked : List Region) → unfit image asked ≡ None → All (λ (r : Region). r.count ≤ 9999) asked
+unfolding unfit
+short_regions image asked fits k d within =
+    let few = passed (unfit_too_many asked) TooMany _ fits in
+    let some = passed (unfit_empty asked) Empty _ few.1 in
+    let short : nat_lt 256 (sum_by (λ (r : Region). r.count) asked) ≡ false = (passed (unfit_too_long asked) TooLong _ some.1).0 in
+    let part = get_or-le-sum_by (λ (r : Region). r.count) asked k d within in
+    grind (arith, nat_tests, short, part)
+
+-- the first byte of a region that fits is on a mapped page
+first_mapped : (image : Image) (start count : ℕ) → (count == 0) ≡ false → list_any (λ address. not (is_mapped image address)) (range_with_len start count) ≡ false → start < 2 ^ 32
+first_mapped image start zero some none = cc
+first_mapped image start (suc count) some none =
+    let here = or_parts (not (is_mapped image start)) (list_any (λ address. not (is_mapped image address)) (range_with_len (start + 1) count)) none in
+    go (nat_lt start 4294967296) (contains_key image.pages (start / 256)) refl here.0
+  where
+    go : (a b : Bool) → nat_lt start 4294967296 ≡ a → not (a && b) ≡ false → start < 2 ^ 32
+    go true b is mapped = grind (arith, nat_tests, is)
+    go false b is mapped = cc
+
+starts_from : (image : Image) (asked : List Region) → unfit_empty asked ≡ false → unfit_unmapped image asked ≡ false → All (λ (r : Region). r.start < 2 ^ 32) asked
+starts_from image [] some mapped = All-nil (λ (r : Region). r.start < 2 ^ 32)
+starts_from image (r ∷ rs) some mapped =
+    let not_empty = or_parts (r.count == 0) (unfit_empty rs) some in
+    let on_pages = or_parts (is_unmapped image r) (unfit_unmapped image rs) mapped in
+    All-cons (λ (r : Region). r.start < 2 ^ 32) r rs (first_mapped image r.start r.count not_empty.0 on_pages.0) (starts_from image rs not_empty.1 on_pages.1)
+
+-- regions that fit begin at addresses
+pub region_starts : (image : Image) (asked : List Region) → unfit image asked ≡ None → All (λ (r : Region). r.start < 2 ^ 32) asked
+unfolding unfit
+region_starts image asked fits =
+    let few = passed (unfit_too_many asked) TooMany _ fits in
+    let some = passed (unfit_empty asked) Empty _ few.1 in
+    let short = passed (unfit_too_long asked) TooLong _ some.1 in
+    let mapped = passed (unfit_unmapped image asked) Unmapped _ short.1 in
+    starts_from image asked some.0 mapped.0

@@ -1,24 +1,32 @@
--- The files of leaves in full read as these leaves, and as no others.
+-- The files of leaves in full read as these leaves and as no others, and the other files have the texts of these events, tests and evidence alone.
 use Rattle.std.proofs.Common.{◌≡◌, ℕ, zero, suc, ◌+◌, List, [], ◌∷◌, ◌++◌, refl, sym, ap, subst, ◌∙◌, arith}
-use Rattle.std.specs.Prelude.{Option, None, Some, length, slice_get}
+use Rattle.std.specs.Prelude.{None, Some, slice_get}
 use Rattle.std.specs.List.{Contains}
 use Rattle.std.proofs.lemmas.List.Elements.{Contains-append_left}
-use Rattle.std.proofs.lemmas.Option.{get_or_from_slice_get, none-some, same_Some, slice_get_within}
+use Rattle.std.proofs.lemmas.Option.{none-some, same_Some}
+use Rattle.elf_load.specs.Fits.{unfit}
+use Rattle.elf_load.specs.Images.{Image}
 use Rattle.elf_load.specs.declared.region.Region.{Region}
 use Rattle.fork_spec.specs.Leaves.{IsFull, Leaf}
 use Rattle.fork_spec.specs.Walks.{Line}
-use Rattle.report_text.specs.Claims.{AreFull, Entry, leaf_nodes_of, leaves_of}
-use Rattle.report_text.specs.FileNames.{leaf_name}
+use Rattle.report_text.proofs.ClaimsLegible.{at_leaf, entry_legible, lines_legible}
+use Rattle.report_text.proofs.EventsBack.{events_told}
+use Rattle.report_text.proofs.LearntBack.{learnt_told}
+use Rattle.report_text.proofs.SpentBack.{spent_told}
+use Rattle.report_text.specs.Claims.{Beside, Entry, IsReport, Learning, Spending, Tested, leaf_nodes_of}
 use Rattle.report_text.specs.Files.{beside_put, events_put, files_from, files_of, leaf_put, report_put}
+use Rattle.report_text.specs.Legible.{HasSmallCounts, IsLegibleBeside}
 use Rattle.smt_text.specs.Grammar.{IsTextOf}
 use Rattle.smt_text.specs.LeafLines.{leaf_text}
 use Rattle.smt_text.specs.ReadingState.{IsWhole}
 use Rattle.smt_text.proofs.OneReading.{one_leaf}
 use Rattle.smt_text.proofs.Reading.{text_reads}
 use Rattle.smt_text.proofs.Whole.{whole_full, whole_text}
+use Rattle.test_files.proofs.OneTest.{test_by_text}
 use Rattle.tool_io.specs.Told.{Put}
 use Rattle.tree_core.specs.declared.budgets.Budgets.{Budgets}
-use Rattle.tool_top.specs.ReadBack.{AreReadBack, ReadsAs}
+use Rattle.tool_top.specs.ReadBack.{AreReadBack, HasOwnText, ReadsAs}
+use Rattle.tool_top.proofs.Plans.{region_starts, short_regions}
 
 -- what reads as a leaf is the text of a leaf in full
 read_whole : (bytes : List ℕ) (leaf : Leaf) (is : IsTextOf bytes leaf) → IsWhole bytes is.read_as.reading
@@ -45,34 +53,58 @@ reads_as leaf full = record {
 further : {X : Type 0} (head x : X) (rest : List X) → Contains rest x → Contains (head ∷ rest) x
 further head x rest (k, within, at) = (suc k, omega (arith, within), at)
 
--- the file of a leaf stands among those of its rank and on
-put_from : (out : List ℕ) (first : ℕ) (entries : List Entry) (rank : ℕ) (leaf : Leaf) → slice_get (leaves_of entries) rank ≡ Some leaf
-    → Contains (files_from out first entries) (leaf_put out (first + rank) leaf)
-unfolding files_from
-put_from out first [] rank leaf at = absurd (none-some leaf at)
-put_from out first (e ∷ es) zero leaf at =
-    let number : first ≡ first + 0 = omega arith in
-    (0, omega arith, ap (leaf_put out first) (same_Some e.leaf leaf at) ∙ ap (λ n. leaf_put out n leaf) number)
-put_from out first (e ∷ es) (suc rank) leaf at =
-    let number : (first + 1) + rank ≡ first + suc rank = omega arith in
-    let there = put_from out (first + 1) es rank leaf at in
-    let rest : List Put = files_from out (first + 1) es in
-    further (leaf_put out first e.leaf) (leaf_put out (first + suc rank) leaf) (beside_put out first e.beside ∷ rest)
-    (further (beside_put out first e.beside) (leaf_put out (first + suc rank) leaf) rest (subst (λ n. Contains rest (leaf_put out n leaf)) number there))
+-- the files of a leaf and of what stands beside it are among those of its rank and on
+pub record ArePut (out : List ℕ) (puts : List Put) (rank : ℕ) (e : Entry) : Type 0 where
+  pub leaf : Contains puts (leaf_put out rank e.leaf)
+  pub beside : Contains puts (beside_put out rank e.beside)
 
--- each leaf is what its file reads as, where all are leaves in full
-pub read_back : (out : List ℕ) (budgets : Budgets) (workers : ℕ) (regions : List Region) (lines : List Line) (entries : List Entry) → AreFull (leaves_of entries)
-    → AreReadBack out (files_of out budgets workers regions lines entries) (leaves_of entries)
-read_back out budgets workers regions lines entries full rank leaf at =
-    let last : List Put = report_put out budgets workers regions (leaf_nodes_of entries) ∷ [] in
-    let leaves : List Leaf = leaves_of entries in
-    let here : IsFull leaf = subst IsFull (get_or_from_slice_get leaves rank leaf leaf at) (full rank leaf (slice_get_within leaves rank leaf at)) in
-    let number : 0 + rank ≡ rank = omega arith in
-    let there = subst (λ n. Contains (files_from out 0 entries) (leaf_put out n leaf)) number (put_from out 0 entries rank leaf at) in
+put_from : (out : List ℕ) (first : ℕ) (entries : List Entry) (rank : ℕ) (e : Entry) → slice_get entries rank ≡ Some e
+    → ArePut out (files_from out first entries) (first + rank) e
+unfolding files_from
+put_from out first [] rank e at = absurd (none-some e at)
+put_from out first (x ∷ es) zero e at =
+    let number : first ≡ first + 0 = omega arith in
+    let same : x ≡ e = same_Some x e at in
     record {
-      bytes = leaf_text leaf;
-      is_put =
-          further (events_put out lines) (leaf_put out rank leaf) (files_from out 0 entries ++ last)
-          (Contains-append_left (files_from out 0 entries) last (leaf_put out rank leaf) there);
-      reads = reads_as leaf here;
+      leaf = (0, omega arith, ap (λ (y : Entry). leaf_put out first y.leaf) same ∙ ap (λ n. leaf_put out n e.leaf) number);
+      beside = (1, omega arith, ap (λ (y : Entry). beside_put out first y.beside) same ∙ ap (λ n. beside_put out n e.beside) number);
+    }
+put_from out first (x ∷ es) (suc rank) e at =
+    let number : (first + 1) + rank ≡ first + suc rank = omega arith in
+    let rest : List Put = files_from out (first + 1) es in
+    let there : ArePut out rest (first + suc rank) e = subst (λ n. ArePut out rest n e) number (put_from out (first + 1) es rank e at) in
+    let own : Put = beside_put out first x.beside in
+    record {
+      leaf = further (leaf_put out first x.leaf) (leaf_put out (first + suc rank) e.leaf) (own ∷ rest) (further own (leaf_put out (first + suc rank) e.leaf) rest there.leaf);
+      beside = further (leaf_put out first x.leaf) (beside_put out (first + suc rank) e.beside) (own ∷ rest) (further own (beside_put out (first + suc rank) e.beside) rest there.beside);
+    }
+
+-- the text of what can be told has no other meaning
+own_text : (b : Beside) → IsLegibleBeside b → HasOwnText b
+own_text (Tested test) legible = λ other is e. test_by_text other test is legible e
+own_text (Spending spent) legible = λ other is e. spent_told other spent is legible e
+own_text (Learning learnt) legible = λ other is e. learnt_told other learnt is legible e
+
+-- each leaf is what its file reads as, and the other files are those of these events, tests and evidence alone, where the claims hold
+pub read_back : (out : List ℕ) (image : Image) (regions : List Region) (budgets : Budgets) (workers : ℕ) (lines : List Line) (entries : List Entry)
+    → IsReport image regions budgets workers lines entries → HasSmallCounts budgets workers lines entries → unfit image regions ≡ None
+    → AreReadBack out (files_of out budgets workers regions lines entries) lines entries
+read_back out image regions budgets workers lines entries claims counts fits =
+    let last : List Put = report_put out budgets workers regions (leaf_nodes_of entries) ∷ [] in
+    let files : List Put = files_from out 0 entries in
+    let among : (p : Put) → Contains files p → Contains (files_of out budgets workers regions lines entries) p =
+    λ p there. further (events_put out lines) p (files ++ last) (Contains-append_left files last p there) in
+    record {
+      events = (0, omega arith, refl);
+      alone = λ others legible e. events_told others lines legible (lines_legible image regions budgets workers lines entries claims counts) e;
+      each = λ rank e at.
+          let number : 0 + rank ≡ rank = omega arith in
+          let there : ArePut out files rank e = subst (λ n. ArePut out files n e) number (put_from out 0 entries rank e at) in
+          let full : IsFull e.leaf = at_leaf image regions budgets workers lines entries claims counts IsFull rank e claims.full at in
+          record {
+            leaf = record { bytes = leaf_text e.leaf; is_put = among (leaf_put out rank e.leaf) there.leaf; reads = reads_as e.leaf full };
+            beside = among (beside_put out rank e.beside) there.beside;
+            alone = own_text e.beside
+                (entry_legible image regions budgets workers lines entries claims counts (region_starts image regions fits) (short_regions image regions fits) rank e at);
+          };
     }

@@ -18,7 +18,7 @@ use Rattle.tree_core.specs.declared.budgets.Budgets.{Budgets}
 use Rattle.elf_load.specs.Images.{Image, Loads}
 use Rattle.tool_top.specs.ReadBack.{AreReadBack}
 use Rattle.tool_top.specs.Replaying.{IsReplayable, most_test_bytes}
-use Rattle.report_text.specs.Claims.{Entry, leaves_of}
+use Rattle.report_text.specs.Claims.{Entry}
 use Rattle.report_text.specs.Files.{files_of, summary_of}
 use Rattle.replay_core.specs.Replays.{IsAsSaid}
 use Rattle.test_files.specs.Reading.{reading}
@@ -101,7 +101,7 @@ Answered old new job NoMemory = IsWanting old new job
 -- The claims are facts of an image, the regions of its input bytes, budgets, a number of workers, events and entries, that is, of leaves and
 -- what stands beside them. The image is that of a program's file; the regions, the budgets and the number of workers are the job's.
 -- The events and entries are those that were written: where the object tells its files, the files put are their texts, and no others,
--- and the file of each leaf reads as this leaf; where it tells what was said, the line said has the summary. The claim holds of all of these.
+-- and they read as these events and entries and as no others; where it tells what was said, the line said has the summary. The claim holds of all of these.
 pub record IsWritten (old new : Told) (IsFile : List ℕ → Type 0) (line : List ℕ → List ℕ) (out : List ℕ) (asked : List Region) (budgets : Budgets) (workers : ℕ)
     (Claim : Image → List Region → Budgets → ℕ → List Line → List Entry → Type 0) : Type 0 where
   pub image : Image
@@ -112,7 +112,7 @@ pub record IsWritten (old new : Told) (IsFile : List ℕ → Type 0) (line : Lis
   pub loads : Loads bytes image
   pub fits : unfit image asked ≡ None
   pub files : IfSome (puts_since old new) (λ puts. puts ≡ files_of out budgets workers asked lines entries)
-  pub read_back : IfSome (puts_since old new) (λ puts. AreReadBack out puts (leaves_of entries))
+  pub read_back : IfSome (puts_since old new) (λ puts. AreReadBack out puts lines entries)
   pub summary : IfSome (said_since old new) (λ said. said ≡ line (summary_of entries))
   pub claim : Claim image asked budgets workers lines entries
 

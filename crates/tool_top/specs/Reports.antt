@@ -7,11 +7,13 @@ use Rattle.tree_core.specs.declared.budgets.Budgets.{Budgets}
 use Rattle.fork_spec.specs.Walks.{Line}
 use Rattle.report_text.specs.Claims.{Entry, IsReport}
 use Rattle.report_text.specs.Files.{files_of, summary_of}
+use Rattle.report_text.specs.Legible.{HasSmallCounts}
 
--- these files and this text are the report, in the folder `out`, of entries for which all of the claims hold
+-- these files and this text are the report, in the folder `out`, of entries for which all of the claims hold, and whose numbers texts can tell
 pub record IsReportOf (out : List ℕ) (image : Image) (regions : List Region) (budgets : Budgets) (workers : ℕ) (puts : List Put) (text : List ℕ) : Type 0 where
   pub lines : List Line
   pub entries : List Entry
   pub claims : IsReport image regions budgets workers lines entries
+  pub counts : HasSmallCounts budgets workers lines entries
   pub files : puts ≡ files_of out budgets workers regions lines entries
   pub summary : text ≡ summary_of entries

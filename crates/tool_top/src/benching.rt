@@ -16,7 +16,6 @@ use prog_gen::{Generated, generate};
 use std::alloc::{AllocError as NoMemory, Global};
 use std::sync::Wait;
 use std::thread::Threads;
-use std::time::Clock;
 use sym_state::Program;
 use tool_io::Bytes;
 use tool_words::{CONFLICTS, STEPS, TARGETS};
@@ -47,7 +46,7 @@ fn load_whole(alloc: Global, bytes: &[u8]) -> Result<Image, NoMemory>
 }
 
 /// Makes the plan of a bench in full. Its program is generated, so nothing is read.
-pub(crate) fn plan_bench<R: Threads + Wait + Clock + Sync, G: Gate + Sync>(
+pub(crate) fn plan_bench<R: Threads + Wait + Sync, G: Gate + Sync>(
     rt: &R,
     alloc: Global,
     number: u32,
@@ -67,10 +66,7 @@ pub(crate) fn plan_bench<R: Threads + Wait + Clock + Sync, G: Gate + Sync>(
         conflicts: CONFLICTS.default,
     };
     let worker = Worker::new(alloc, Program::new(image, regions), budgets)?;
-    let report = plan_report(rt, alloc, out, &worker, workers, gate)?;
-    Ok(Plan {
-        verdict: report.verdict,
-        files: report.files,
-        text: bench_line(alloc, number, report.text.as_slice())?,
-    })
+    let mut plan = plan_report(rt, alloc, out, &worker, workers, gate)?;
+    plan.text = bench_line(alloc, number, plan.text.as_slice())?;
+    Ok(plan)
 }

@@ -15,7 +15,6 @@ use report_text::make_report;
 use std::alloc::{AllocError as NoMemory, Global};
 use std::sync::Wait;
 use std::thread::Threads;
-use std::time::Clock;
 use sym_state::{Program, State};
 use tool_io::{Fault, Files};
 use tree_core::Budgets;
@@ -23,7 +22,7 @@ use work_gate::Gate;
 use work_run::explore;
 
 /// The report of a program, made in full: so many workers work its fork tree until nothing is left to be done.
-pub(crate) fn plan_report<R: Threads + Wait + Clock + Sync, G: Gate + Sync>(
+pub(crate) fn plan_report<R: Threads + Wait + Sync, G: Gate + Sync>(
     rt: &R,
     alloc: Global,
     out: &str,
@@ -41,15 +40,17 @@ pub(crate) fn plan_report<R: Threads + Wait + Clock + Sync, G: Gate + Sync>(
     let budgets = worker.budgets();
     let regions = worker.program().regions();
     let report = make_report(alloc, out, regions, &budgets, workers, &tree)?;
+    let (files, text) = report.into_parts();
+    let verdict = Verdict::Done;
     Ok(Plan {
-        verdict: Verdict::Done,
-        files: report.files,
-        text: report.summary,
+        verdict,
+        files,
+        text,
     })
 }
 
 // What is to be done for a program, from its image.
-fn plan_image<R: Threads + Wait + Clock + Sync, G: Gate + Sync>(
+fn plan_image<R: Threads + Wait + Sync, G: Gate + Sync>(
     rt: &R,
     alloc: Global,
     out: &str,
@@ -75,7 +76,7 @@ fn plan_image<R: Threads + Wait + Clock + Sync, G: Gate + Sync>(
 }
 
 // What is to be done for a program's bytes, the regions that are asked, the budgets and the number of workers.
-fn plan_bytes<R: Threads + Wait + Clock + Sync, G: Gate + Sync>(
+fn plan_bytes<R: Threads + Wait + Sync, G: Gate + Sync>(
     rt: &R,
     alloc: Global,
     out: &str,
@@ -97,7 +98,7 @@ fn plan_bytes<R: Threads + Wait + Clock + Sync, G: Gate + Sync>(
 }
 
 /// Reads a program's file, and makes the plan of its exploration in full.
-pub(crate) fn plan_explore<R: Threads + Wait + Clock + Sync, F: Files, G: Gate + Sync>(
+pub(crate) fn plan_explore<R: Threads + Wait + Sync, F: Files, G: Gate + Sync>(
     rt: &R,
     alloc: Global,
     program: &str,

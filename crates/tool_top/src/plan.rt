@@ -14,7 +14,6 @@ use elf_load::{Refused, Unfit};
 use std::alloc::{AllocError as NoMemory, Global};
 use std::sync::Wait;
 use std::thread::Threads;
-use std::time::Clock;
 use tool_io::{Bytes, Files, NamedFile};
 use tool_words::{Job, WordsError, read_words};
 use work_gate::Gate;
@@ -29,11 +28,20 @@ const USAGE: &[u8] =
 ";
 
 /// What is to be put and said, and what the run answers then.
-#[derive(Drop)]
 pub struct Plan {
     pub verdict: Verdict,
     pub files: Vec<NamedFile>,
     pub text: Bytes,
+}
+
+impl Drop for Plan {
+    fn drop(self) {
+        let Self {
+            verdict: _verdict,
+            files: _files,
+            text: _text,
+        } = self;
+    }
 }
 
 // A text is said, and no file is put.
@@ -68,7 +76,7 @@ pub(crate) fn refuse_input(alloc: Global, why: Unfit) -> Result<Plan, NoMemory>
 }
 
 /// Reads what the words' job reads, and makes its plan in full.
-pub fn make_plan<R: Threads + Wait + Clock + Sync, F: Files, G: Gate + Sync>(
+pub fn make_plan<R: Threads + Wait + Sync, F: Files, G: Gate + Sync>(
     rt: &R,
     alloc: Global,
     words: &[String],

@@ -6,8 +6,9 @@ ghost use Rattle.tool_io.specs.Causes.{Rose};
 ghost use Rattle.tool_words.specs.Job.{job_of};
 ghost use Rattle.tool_top.specs.Plan.{names_of};
 ghost use Rattle.replay_core.specs.Replays.{IsAsSaid};
+ghost use Rattle.fork_spec.specs.Histories.{ReleaseOnce};
 ghost use Rattle.fork_spec.specs.Ranks.{AreRanked};
-ghost use Rattle.report_text.specs.Claims.{AreAlike, AreFaithful, AreFull, ArePartedAll, AreRuns, HasHistory, IsExactCover, IsReport, ShowBudgets, leaves_of};
+ghost use Rattle.report_text.specs.Claims.{AreAlike, AreFaithful, AreFull, ArePartedAll, AreRuns, HasHistory, HaveInputs, IsExactCover, IsReport, ShowBudgets, leaves_of};
 ghost use Rattle.tool_top.specs.Answer.{Answered, IsAnswered, IsFaulted, IsWanting, OnReplayed, OnWritten, HoldsProgram, HoldsNoProgram, HoldsNoTest, HoldsMisfit, HoldsOther, HoldsTest};
 
 use crate::carry::{carry_out, say_no_memory};
@@ -16,11 +17,10 @@ use crate::verdict::{Ending, Verdict};
 use std::alloc::Global;
 use std::sync::Wait;
 use std::thread::Threads;
-use std::time::Clock;
 use tool_io::{Fault, Files};
 use work_gate::Gate;
 
-fn run_words<R: Threads + Wait + Clock + Sync, F: Files, G: Gate + Sync>(
+fn run_words<R: Threads + Wait + Sync, F: Files, G: Gate + Sync>(
     rt: &R,
     alloc: Global,
     words: &[String],
@@ -46,7 +46,7 @@ fn run_words<R: Threads + Wait + Clock + Sync, F: Files, G: Gate + Sync>(
 }
 
 /// Does all that the tool does, and answers its status.
-pub fn run_tool<R: Threads + Wait + Clock + Sync, F: Files, G: Gate + Sync>(
+pub fn run_tool<R: Threads + Wait + Sync, F: Files, G: Gate + Sync>(
     rt: &R,
     alloc: Global,
     words: &[String],
@@ -82,6 +82,9 @@ pub fn run_tool<R: Threads + Wait + Clock + Sync, F: Files, G: Gate + Sync>(
     // Where an exploration is done: each leaf that was written is a leaf in full,
     ensures leaves_are_full { result ≡ 0 → OnWritten (F.seen files.old).told (F.seen files.new).told (job_of (map string_bytes words.now))
         (λ image regions budgets workers lines entries. AreFull (leaves_of entries)) }
+    // over the input bytes that were asked for,
+    ensures input_bytes { result ≡ 0 → OnWritten (F.seen files.old).told (F.seen files.new).told (job_of (map string_bytes words.now))
+        (λ image regions budgets workers lines entries. HaveInputs regions (leaves_of entries)) }
     // each assignment of the input bytes meets the condition of exactly one of them,
     ensures exact_cover { result ≡ 0 → OnWritten (F.seen files.old).told (F.seen files.new).told (job_of (map string_bytes words.now))
         (λ image regions budgets workers lines entries. IsExactCover regions (leaves_of entries)) }
@@ -104,6 +107,9 @@ pub fn run_tool<R: Threads + Wait + Clock + Sync, F: Files, G: Gate + Sync>(
     // the events are one run through the fork tree that leaves nothing to be done, and its leaves are those that were written,
     ensures history { result ≡ 0 → OnWritten (F.seen files.old).told (F.seen files.new).told (job_of (map string_bytes words.now))
         (λ image regions budgets workers lines entries. HasHistory budgets workers lines entries) }
+    // by which each worker gave up one node at most,
+    ensures releases { result ≡ 0 → OnWritten (F.seen files.old).told (F.seen files.new).told (job_of (map string_bytes words.now))
+        (λ image regions budgets workers lines entries. ReleaseOnce lines) }
     // the leaves stand in the order of their choices,
     ensures by_rank { result ≡ 0 → OnWritten (F.seen files.old).told (F.seen files.new).told (job_of (map string_bytes words.now))
         (λ image regions budgets workers lines entries. AreRanked (leaves_of entries)) }

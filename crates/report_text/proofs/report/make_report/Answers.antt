@@ -2,6 +2,7 @@ use Rattle.std.proofs.Common.{◌<◌, ◌∙◌, ◌^◌, List, map, ap, refl, 
 use Rattle.std.specs.Prelude.{All}
 use Rattle.fork_spec.specs.Leaves.{Leaf}
 use Rattle.report_text.specs.Entries.{IsLeafAt, IsReportable, node_of}
+use Rattle.report_text.specs.Legible.{HasSmallLog}
 use Rattle.report_text.specs.Summaries.{count, summary_text}
 use Rattle.report_text.specs.Reports.{leaves_in}
 use Rattle.report_text.specs.declared.leaves.LeafAt.{LeafAt}
@@ -27,7 +28,7 @@ returns g c = record {
   by_rank = c.in_ok-leaves.ensures;
   files = rw (
     c.in_ok-push-2.ensures.items,
-    c.in_ok-push_leaves.ensures,
+    c.in_ok-push_leaves.ensures.files,
     c.in_ok-push.ensures.items,
     c.new-files.ensures.items,
     c.in_ok-events_file.ensures,
@@ -39,4 +40,5 @@ returns g c = record {
   summary = c.in_ok-summary_line.ensures ∙ ap summary_text c.summarize-summary.ensures
       ∙ ap (λ (ls : List LeafAt). summary_text (count (leaves_in (map node_of ls)))) c.deref.ensures.value
       ∙ ap (λ (ks : List Leaf). summary_text (count ks)) (leaves_of_nodes c.args.regions.now 0 c.in_ok-leaves.leaves.items);
+  small_logs = subst (All (λ (l : LeafAt). HasSmallLog l.part.now.evidence)) c.deref-2.ensures.value c.in_ok-push_leaves.ensures.small;
 }

@@ -28,7 +28,7 @@ returns g c =
     let image : Image = c.in_ok-image.image in
     let bytes : c.as_slice.result.now ≡ generated_file c.args.number = c.as_slice.ensures ∙ c.in_ok-file.ensures.file in
     let loads : Loads (generated_file c.args.number) image = subst (λ b. Loads b image) bytes c.in_ok-image.ensures in
-    let report = c.in_ok-report.report in
+    let report = c.in_ok-plan.plan in
     let program : c.new.result ≡ record { image = image; regions = generated_regions c.args.number } =
     c.new.ensures ∙ ap (λ (rs : List Region). record { image = image; regions = rs }) c.in_ok-file.ensures.regions in
     let worker : c.in_ok-worker.worker ≡ record { program = record { image = image; regions = generated_regions c.args.number }; budgets = default_budgets } =
@@ -37,9 +37,9 @@ returns g c =
       image = image;
       loads = loads;
       fits = input_fits c.args.number image c.requires.number.0 c.requires.number.1 loads;
-      done = c.in_ok-report.ensures.verdict;
+      done = c.in_ok-plan.ensures.verdict;
       summary = report.text;
       report =
-          subst (λ (w : Worker). IsReportOf c.args.out.now w.program.image w.program.regions w.budgets c.args.workers report.files.items report.text) worker c.in_ok-report.ensures.report;
-      line = c.in_ok-bench_line.ensures ∙ ap (bench_line c.args.number) c.as_slice-2.ensures;
+          subst (λ (w : Worker). IsReportOf c.args.out.now w.program.image w.program.regions w.budgets c.args.workers report.files.items report.text) worker c.in_ok-plan.ensures.report;
+      line = c.in_ok-plan-2.ensures ∙ ap (bench_line c.args.number) c.as_slice-2.ensures;
     }

@@ -1,4 +1,4 @@
-use Rattle.std.proofs.Common.{◌≡◌, ◌∙◌, List, ap, subst}
+use Rattle.std.proofs.Common.{◌≡◌, ◌∙◌, List, ap, arith, subst}
 use Rattle.elf_load.specs.declared.region.Region.{Region}
 use Rattle.fork_spec.specs.Histories.{cause_of}
 use Rattle.fork_spec.specs.Parts.{Part}
@@ -19,9 +19,10 @@ returns-clause-report g c =
     let opening = c.in_ok-tree.ensures.opening in
     let regions : c.regions-regions.result.now ≡ worker.program.regions =
     c.regions-regions.ensures.value ∙ ap (λ (p : Program). p.regions) c.program-2.ensures.value in
-    is_report_of worker.program worker.budgets c.in_ok-root.root opening.0 story opening.1
+    rw (c.into_parts-files.ensures.files, c.into_parts-files.ensures.summary)
+    (is_report_of worker.program worker.budgets c.in_ok-root.root opening.0 story opening.1
     (subst (λ (p : Program). IsFirst p c.in_ok-root.root) c.program.ensures.value c.in_ok-root.ensures.first) opening.2.0
-    c.in_ok-tree.ensures.drained c.args.workers c.in_ok-tree.ensures.few c.args.out.now files summary
+    c.in_ok-tree.ensures.drained c.args.workers c.in_ok-tree.ensures.few c.in_ok-tree.ensures.releases (omega arith) c.requires.within c.args.out.now files summary
     (subst (λ (rs : List Region). IsReportOfTree (λ (part : Part). part) (λ part. cause_of part.leaf.end) c.args.out.now rs worker.budgets c.args.workers story files summary) regions
     (subst (λ (budgets : Budgets). IsReportOfTree (λ (part : Part). part) (λ part. cause_of part.leaf.end) c.args.out.now c.regions-regions.result.now budgets c.args.workers story files summary)
-    c.budgets-budgets.ensures.value c.in_ok-report.ensures))
+    c.budgets-budgets.ensures.value c.in_ok-report.ensures)))

@@ -97,3 +97,13 @@ pub returns-clause-parted : goal.returns-clause-parted
 returns-clause-parted g c = λ zero.
     done_written _ _ _ _ (λ image regions budgets workers lines entries report. report.parted)
     (answered_as _ _ _ c.run_words.result Done _ c.run_words.ensures c.status.ensures zero)
+
+pub returns-clause-input_bytes : goal.returns-clause-input_bytes
+returns-clause-input_bytes g c = λ zero.
+    done_written _ _ _ _ (λ image regions budgets workers lines entries report. report.inputs)
+    (answered_as _ _ _ c.run_words.result Done _ c.run_words.ensures c.status.ensures zero)
+
+pub returns-clause-releases : goal.returns-clause-releases
+returns-clause-releases g c = λ zero.
+    done_written _ _ _ _ (λ image regions budgets workers lines entries report. report.releases)
+    (answered_as _ _ _ c.run_words.result Done _ c.run_words.ensures c.status.ensures zero)

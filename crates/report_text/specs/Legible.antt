@@ -1,0 +1,77 @@
+-- Events and evidence that their texts tell from all others: those of which each number, choice and byte has a text of its own.
+use Rattle.std.specs.Prelude.{◌≡◌, ℕ, ◌<◌, ◌^◌, List, All, None, Option, Some, length}
+use Rattle.tree_core.specs.declared.budgets.Budgets.{Budgets}
+use Rattle.cnf_form.specs.Clauses.{IsClause}
+use Rattle.cnf_form.specs.Literals.{Literal}
+use Rattle.cnf_form.specs.Refutations.{Step}
+use Rattle.tree_core.specs.declared.cause.Cause.{Cause}
+use Rattle.tree_core.specs.declared.event.Deed.{Deed}
+use Rattle.tree_core.specs.declared.event.Deed.TheVariants.{Claim, Split, Finish, Cut, Release}
+use Rattle.fork_spec.specs.Evidence.{Found, IsQuestion, Learnt, Spent}
+use Rattle.fork_spec.specs.Leaves.{IsSmall, IsSmallChoice}
+use Rattle.fork_spec.specs.Parts.{Evidence, OnConflicts, OnTargets}
+use Rattle.fork_spec.specs.Walks.{Line, Side, Sides, Standing, walk}
+use Rattle.test_files.specs.Writable.{IsLegible}
+use Rattle.report_text.specs.Claims.{Beside, Entry, Learning, Spending, Tested}
+
+-- the numbers of sides and their values have 32 bits, and the line of what is finished says of no cut
+abbrev pub IsLegibleDeed : Deed (Option Cause) Sides → Type 0
+IsLegibleDeed Claim = Unit {0}
+IsLegibleDeed (Split sides) = IsSmall sides.first × All (λ (side : Side). IsSmallChoice side.choice) sides.sides
+IsLegibleDeed (Finish cut) = cut ≡ None
+IsLegibleDeed (Cut cut) = Unit {0}
+IsLegibleDeed Release = Unit {0}
+
+-- so have those of the worker and of the node
+abbrev pub IsLegibleLine : Line → Type 0
+IsLegibleLine line = IsSmall line.by × IsSmall line.node × IsLegibleDeed line.deed
+
+abbrev pub AreLegible : List Line → Type 0
+AreLegible lines = All IsLegibleLine lines
+
+-- a value of 32 bits, and bytes
+abbrev pub IsLegibleFound : Found → Type 0
+IsLegibleFound found = IsSmall found.value × All (λ b. b < 256) found.input
+
+-- the term has a number of 32 bits, and so many values have one
+abbrev pub IsLegibleSpent : Spent → Type 0
+IsLegibleSpent spent = IsSmall (length spent.found) × IsSmall spent.term × All IsLegibleFound spent.found
+
+-- the variables of a step's clause have numbers of 32 bits, and its hints numbers of 64
+pub record HasSmallNumbers (s : Step) : Type 0 where
+  pub variables : All (λ (l : Literal). IsSmall l.variable) s.clause
+  pub hints : All (λ h. h < 2 ^ 64) s.hints
+
+-- so it is of each step of a log, where there is one
+abbrev pub HasSmallLog : Option Evidence → Type 0
+HasSmallLog None = Unit {0}
+HasSmallLog (Some (OnTargets spent)) = Unit {0}
+HasSmallLog (Some (OnConflicts learnt)) = All HasSmallNumbers learnt.log
+
+-- a question in full, and clauses as texts have them, of such numbers
+pub record IsLegibleLearnt (learnt : Learnt) : Type 0 where
+  pub question : IsQuestion learnt.question
+  pub few_clauses : IsSmall (length learnt.log)
+  pub clauses : All (λ (s : Step). IsClause s.clause) learnt.log
+  pub numbers : All HasSmallNumbers learnt.log
+
+-- what stands beside a leaf
+abbrev pub IsLegibleBeside : Beside → Type 0
+IsLegibleBeside (Tested test) = IsLegible test
+IsLegibleBeside (Spending spent) = IsLegibleSpent spent
+IsLegibleBeside (Learning learnt) = IsLegibleLearnt learnt
+
+-- its steps, where a log stands there
+abbrev pub HasSmallLogBeside : Beside → Type 0
+HasSmallLogBeside (Tested test) = Unit {0}
+HasSmallLogBeside (Spending spent) = Unit {0}
+HasSmallLogBeside (Learning learnt) = All HasSmallNumbers learnt.log
+
+-- The numbers of a report that its claims leave open: of workers, of what the budgets allow, of the nodes that the events make, and in
+-- the logs beside its leaves.
+pub record HasSmallCounts (budgets : Budgets) (workers : ℕ) (lines : List Line) (entries : List Entry) : Type 0 where
+  pub few_workers : IsSmall workers
+  pub few_targets : IsSmall budgets.targets
+  pub few_conflicts : IsSmall budgets.conflicts
+  pub few_nodes : (nodes : List Standing) → walk workers budgets.targets lines ≡ Some nodes → IsSmall (length nodes)
+  pub small_logs : All (λ (e : Entry). HasSmallLogBeside e.beside) entries
