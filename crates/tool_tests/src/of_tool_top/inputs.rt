@@ -1,7 +1,7 @@
 //! Programs whose input has more bytes than one: the line said, the names of the files, and how each of some of them begins.
 
 use crate::of_tool_top::rows::{Row, check_rows, explored};
-use crate::of_tool_top::runs::check;
+use crate::of_tool_top::runs::{check, count_lines};
 use row_files::programs::STRAIGHT;
 use std::alloc::{AllocError as NoMemory, Global};
 use std::process::Abort;
@@ -162,17 +162,6 @@ const ROWS: &[Row] = &[
 #[test]
 fn inputs_of_more_bytes_are_explored(rt: HostRuntime) -> Result<(), NoMemory> {
     check_rows(&rt, ROWS)
-}
-
-// How many lines behind the first begin so.
-fn count_lines(bytes: &[u8], beginning: &[u8]) -> usize {
-    let mut count: usize = 0;
-    for at in 0..bytes.len() {
-        if bytes[at] == b'\n' && bytes[at + 1..].starts_with(beginning) {
-            count = count.saturating_add(1);
-        }
-    }
-    count
 }
 
 // One clause was spent before the second leaf was cut.

@@ -1,12 +1,11 @@
 //! Programs and inputs that are refused, by the line that is said.
 
-use crate::of_tool_top::runs::{EXPLORE, answers, holding, program_file};
+use crate::of_tool_top::runs::{EXPLORE, answers, by_three, holding, program_file};
 use row_files::programs::STRAIGHT;
 use std::alloc::AllocError as NoMemory;
 use std::process::Abort;
 use std::sync::Wait;
 use std::thread::Threads;
-use std::time::Clock;
 use work_gate::OpenGate;
 
 const ONE_LEAF: &str = "leaves 1 finished 1 cut 0 tests 1 steps 3\n";
@@ -77,7 +76,7 @@ fn edited<R: AllocGlobal + Abort>(
     Ok(bytes)
 }
 
-fn says<R: Threads + Wait + Clock + Sync + AllocGlobal + Abort>(
+fn says<R: Threads + Wait + Sync + AllocGlobal + Abort>(
     rt: &R,
     bytes: &[u8],
     words: &[&str],
@@ -93,6 +92,16 @@ fn files_are_refused_or_load(rt: HostRuntime) -> Result<(), NoMemory> {
     for (row, &(length, edits, status, said)) in FILES.iter().enumerate() {
         let bytes = edited(&rt, length, edits)?;
         says(&rt, bytes.as_slice(), EXPLORE, (status, said), row)?;
+    }
+    Ok(())
+}
+
+#[test]
+fn three_workers_are_refused_the_same_files(rt: HostRuntime) -> Result<(), NoMemory> {
+    let words = by_three(rt.alloc(), EXPLORE)?;
+    for (row, &(length, edits, status, said)) in FILES.iter().enumerate() {
+        let bytes = edited(&rt, length, edits)?;
+        says(&rt, bytes.as_slice(), words.as_slice(), (status, said), row)?;
     }
     Ok(())
 }
@@ -129,7 +138,7 @@ const LONG: &[&str] = &["rvklee", "explore", "p.elf", "out", "00011000:257"];
 const FAR: &[&str] = &["rvklee", "explore", "p.elf", "out", "00012000:1"];
 
 // Inputs for a program, and the line.
-const INPUTS: &[(&[&str], &str)] = &[
+const INPUTS: &[(&[&'static str], &str)] = &[
     (NINE, "inputs refused 1 TooMany\n"),
     (NONE, "inputs refused 2 Empty\n"),
     (LONG, "inputs refused 3 TooLong\n"),
@@ -142,6 +151,8 @@ fn inputs_that_are_refused(rt: HostRuntime) -> Result<(), NoMemory> {
     let bytes = program_file(&rt, &STRAIGHT)?;
     for (row, &(words, line)) in INPUTS.iter().enumerate() {
         says(&rt, bytes.as_slice(), words, (4, line), row)?;
+        let words = by_three(rt.alloc(), words)?;
+        says(&rt, bytes.as_slice(), words.as_slice(), (4, line), row)?;
     }
     Ok(())
 }

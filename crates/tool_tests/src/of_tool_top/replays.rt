@@ -6,7 +6,6 @@ use std::alloc::{AllocError as NoMemory, Global};
 use std::process::Abort;
 use std::sync::Wait;
 use std::thread::Threads;
-use std::time::Clock;
 use tool_io::MemFiles;
 use work_gate::OpenGate;
 
@@ -89,7 +88,7 @@ const ROWS: &[Row] = &[
     (Held::Empty, "[]", 3, "program refused 2 Short\n"),
 ];
 
-fn replays<R: Threads + Wait + Clock + Sync + AllocGlobal + Abort>(
+fn replays<R: Threads + Wait + Sync + AllocGlobal + Abort>(
     rt: &R,
     &(ref held, test, status, said): &Row,
     row: usize,

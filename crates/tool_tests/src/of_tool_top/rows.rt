@@ -1,13 +1,12 @@
 //! Programs that are explored: the line said, the names of the files, and how each of some of them begins.
 
-use crate::of_tool_top::runs::{EXPLORE, check, files, run};
+use crate::of_tool_top::runs::{EXPLORE, by_three, check, files, run};
 use row_files::programs::{CALLED, COMPARED, COUNTED, FORKED, STRAIGHT};
 use smt_text::{print_leaf, read_leaf};
 use std::alloc::{AllocError as NoMemory, Global};
 use std::process::Abort;
 use std::sync::Wait;
 use std::thread::Threads;
-use std::time::Clock;
 use tool_io::{MemFiles, NamedFile};
 use work_gate::OpenGate;
 
@@ -218,7 +217,7 @@ const ROWS: &[Row] = &[
 ];
 
 /// The files after a run on this program, which is done.
-pub(crate) fn explored<R: Threads + Wait + Clock + Sync + AllocGlobal + Abort>(
+pub(crate) fn explored<R: Threads + Wait + Sync + AllocGlobal + Abort>(
     rt: &R,
     program: &[u32],
     words: &[&str],
@@ -299,7 +298,7 @@ fn test_names(alloc: Global, puts: &[NamedFile]) -> Result<Vec<String>, NoMemory
 }
 
 // Each of these tests is as its run, which is said.
-fn replay_each<R: Threads + Wait + Clock + Sync + AllocGlobal + Abort>(
+fn replay_each<R: Threads + Wait + Sync + AllocGlobal + Abort>(
     rt: &R,
     held: &mut MemFiles,
     names: &[String],
@@ -326,7 +325,7 @@ fn replay_each<R: Threads + Wait + Clock + Sync + AllocGlobal + Abort>(
 }
 
 // Each test that was put is replayed, and is as its run.
-fn replay_tests<R: Threads + Wait + Clock + Sync + AllocGlobal + Abort>(
+fn replay_tests<R: Threads + Wait + Sync + AllocGlobal + Abort>(
     rt: &R,
     held: &mut MemFiles,
     row: usize,
@@ -336,7 +335,7 @@ fn replay_tests<R: Threads + Wait + Clock + Sync + AllocGlobal + Abort>(
     replay_each(rt, held, names.as_slice(), row)
 }
 
-fn explores<R: Threads + Wait + Clock + Sync + AllocGlobal + Abort>(
+fn explores<R: Threads + Wait + Sync + AllocGlobal + Abort>(
     rt: &R,
     row: &Row,
     at: usize,
@@ -348,17 +347,8 @@ fn explores<R: Threads + Wait + Clock + Sync + AllocGlobal + Abort>(
     replay_tests(rt, &mut held, at)
 }
 
-// The words with three workers in place of theirs, which stand behind the command.
-fn by_three(alloc: Global, words: &[&'static str]) -> Result<Vec<&'static str>, NoMemory> {
-    let mut others = Vec::from_slice(alloc, words)?;
-    if 3 < others.len() {
-        others[3] = "3";
-    }
-    Ok(others)
-}
-
 // How many workers there are changes neither the leaves nor their number.
-fn says_the_same<R: Threads + Wait + Clock + Sync + AllocGlobal + Abort>(
+fn says_the_same<R: Threads + Wait + Sync + AllocGlobal + Abort>(
     rt: &R,
     row: &Row,
     at: usize,
@@ -370,7 +360,7 @@ fn says_the_same<R: Threads + Wait + Clock + Sync + AllocGlobal + Abort>(
 }
 
 /// What is put and said is as each row says, each test that is put is as its run, and three workers say what one does.
-pub(crate) fn check_rows<R: Threads + Wait + Clock + Sync + AllocGlobal + Abort>(
+pub(crate) fn check_rows<R: Threads + Wait + Sync + AllocGlobal + Abort>(
     rt: &R,
     rows: &[Row],
 ) -> Result<(), NoMemory> {

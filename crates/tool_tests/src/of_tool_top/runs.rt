@@ -7,7 +7,6 @@ use std::fs;
 use std::process::Abort;
 use std::sync::Wait;
 use std::thread::Threads;
-use std::time::Clock;
 use tool_io::{Bytes, Fault, Files, HostFiles, MemFiles, NamedFile};
 use tool_top::run_tool;
 use work_gate::{Gate, OpenGate};
@@ -152,7 +151,7 @@ pub(crate) fn files_of<R: AllocGlobal + Abort>(
 }
 
 /// The status of the tool's run at this gate.
-pub(crate) fn run<R: Threads + Wait + Clock + Sync + AllocGlobal, F: Files, G: Gate + Sync>(
+pub(crate) fn run<R: Threads + Wait + Sync + AllocGlobal, F: Files, G: Gate + Sync>(
     rt: &R,
     words: &[&str],
     files: &mut F,
@@ -162,13 +161,27 @@ pub(crate) fn run<R: Threads + Wait + Clock + Sync + AllocGlobal, F: Files, G: G
     Ok(run_tool(rt, rt.alloc(), words.as_slice(), files, gate))
 }
 
+/// The words of an exploration, with three workers in place of theirs, which stand right behind the command if they are said.
+pub(crate) fn by_three(
+    alloc: Global,
+    words: &[&'static str],
+) -> Result<Vec<&'static str>, NoMemory> {
+    let mut others = Vec::from_slice(alloc, &["rvklee", "explore", "--workers", "3"])?;
+    let behind = match words.get(2) {
+        Some(word) if *word == "--workers" => 4,
+        _ => 2,
+    };
+    others.extend_from_slice(words.get(behind..).unwrap_or(&[]))?;
+    Ok(others)
+}
+
 /// This holds of the row, or else the test fails and names both.
 pub(crate) fn check(rt: &impl Abort, holds: bool, row: usize, what: &str) {
     assert!(rt; holds, "row {row}: {what}");
 }
 
 /// The tool's run at this gate answers this status and says this.
-pub(crate) fn answers<R: Threads + Wait + Clock + Sync + AllocGlobal + Abort, G: Gate + Sync>(
+pub(crate) fn answers<R: Threads + Wait + Sync + AllocGlobal + Abort, G: Gate + Sync>(
     rt: &R,
     words: &[&str],
     files: &mut MemFiles,
@@ -180,6 +193,17 @@ pub(crate) fn answers<R: Threads + Wait + Clock + Sync + AllocGlobal + Abort, G:
     check(rt, answer == status, row, "the status");
     check(rt, files.said() == said.as_bytes(), row, "what is said");
     Ok(())
+}
+
+/// How many lines behind the first begin so.
+pub(crate) fn count_lines(bytes: &[u8], beginning: &[u8]) -> usize {
+    let mut count: usize = 0;
+    for at in 0..bytes.len() {
+        if bytes[at] == b'\n' && bytes[at + 1..].starts_with(beginning) {
+            count = count.saturating_add(1);
+        }
+    }
+    count
 }
 
 /// So many names were read and files put.
@@ -198,9 +222,10 @@ pub(crate) fn counts(rt: &impl Abort, files: &MemFiles, (names, puts): (usize, u
     );
 }
 
-fn comes_to<R: Threads + Wait + Clock + Sync + AllocGlobal + Abort>(
+fn comes_to<R: Threads + Wait + Sync + AllocGlobal + Abort>(
     rt: &R,
-    &(words, ref held, to_fail, status, said, names, puts): &Row,
+    words: &[&str],
+    &(_, ref held, to_fail, status, said, names, puts): &Row,
     row: usize,
 ) -> Result<(), NoMemory> {
     let mut files = files_of(rt, held, &[to_fail])?;
@@ -213,7 +238,19 @@ fn comes_to<R: Threads + Wait + Clock + Sync + AllocGlobal + Abort>(
 #[test]
 fn other_runs_say_one_line(rt: HostRuntime) -> Result<(), NoMemory> {
     for (at, row) in ROWS.iter().enumerate() {
-        comes_to(&rt, row, at)?;
+        comes_to(&rt, row.0, row, at)?;
+    }
+    Ok(())
+}
+
+// The number of workers changes nothing of that.
+#[test]
+fn three_workers_say_the_same_line(rt: HostRuntime) -> Result<(), NoMemory> {
+    for (at, row) in ROWS.iter().enumerate() {
+        if row.0.len() > 1 {
+            let words = by_three(rt.alloc(), row.0)?;
+            comes_to(&rt, words.as_slice(), row, at)?;
+        }
     }
     Ok(())
 }
@@ -288,7 +325,7 @@ const PUT_HERE: &[&str] = &[
 ];
 
 // The program is explored, and its tests are put.
-fn explore_here<R: Threads + Wait + Clock + Sync + AllocGlobal + Abort, F: Files>(
+fn explore_here<R: Threads + Wait + Sync + AllocGlobal + Abort, F: Files>(
     rt: &R,
     files: &mut F,
 ) -> Result<(), Fault> {

@@ -1,14 +1,13 @@
 //! Runs by several workers, and by several at once.
 
-use crate::of_tool_top::runs::{Held, answers, check, counts, files, files_of};
+use crate::of_tool_top::runs::{Held, answers, check, count_lines, counts, files, files_of};
 use row_files::programs::COMPARED;
 use std::alloc::AllocError as NoMemory;
 use std::process::Abort;
 use std::sync::Wait;
 use std::thread::Threads;
-use std::time::Clock;
 use tool_io::MemFiles;
-use work_gate::{DropGate, MeetGate, Point};
+use work_gate::{DropGate, MeetGate, OpenGate, Point};
 
 const BY_TWO: &[&str] = &[
     "rvklee",
@@ -22,13 +21,27 @@ const BY_TWO: &[&str] = &[
 
 const BENCH: &[&str] = &["rvklee", "bench", "8", "2", "out"];
 
+// Benches of one worker, of as many as there are input bytes, and of a program with a mebibyte of data, with what they say.
+const BENCHES: &[(&[&str], &str)] = &[
+    (
+        &["rvklee", "bench", "1", "1", "out"],
+        "bench 1 leaves 2 finished 2 cut 0 tests 2 steps 29\n",
+    ),
+    (&["rvklee", "bench", "8", "1", "out"], BENCH_SAYS),
+    (&["rvklee", "bench", "8", "8", "out"], BENCH_SAYS),
+    (
+        &["rvklee", "bench", "12", "4", "out"],
+        "bench 12 leaves 4096 finished 4096 cut 0 tests 4096 steps 262144\n",
+    ),
+];
+
 // The summary of `COMPARED`, whoever works at it.
 const COMPARED_SAYS: &str = "leaves 3 finished 3 cut 0 tests 3 steps 26\n";
 
 const BENCH_SAYS: &str = "bench 8 leaves 256 finished 256 cut 0 tests 256 steps 11776\n";
 
 // Two workers of this run are held at once, and neither is held up to the limit.
-fn meet<R: Threads + Wait + Clock + Sync + AllocGlobal + Abort>(
+fn meet<R: Threads + Wait + Sync + AllocGlobal + Abort>(
     rt: &R,
     words: &[&str],
     held: &mut MemFiles,
@@ -61,13 +74,57 @@ fn a_bench_is_explored_by_two_at_once(rt: HostRuntime) -> Result<(), NoMemory> {
     Ok(())
 }
 
-// What a worker leaves is worked by another.
+// What a bench says is the same each time, whatever its number of workers.
 #[test]
-fn a_worker_leaves(rt: HostRuntime) -> Result<(), NoMemory> {
+fn benches_say_the_same_again(rt: HostRuntime) -> Result<(), NoMemory> {
+    for (row, &(words, said)) in BENCHES.iter().chain(BENCHES.iter()).enumerate() {
+        let mut held = files_of(&rt, &Held::Missing, &[])?;
+        answers(&rt, words, &mut held, &OpenGate, (0, said), row)?;
+    }
+    Ok(())
+}
+
+// At most one node was given up, and by worker 1.
+fn check_releases(rt: &impl Abort, held: &MemFiles, row: usize) {
+    let Some(events) = held.puts().first() else {
+        return check(rt, false, row, "whether there are files");
+    };
+    let all = count_lines(events.bytes(), b"release ");
+    let own = count_lines(events.bytes(), b"release 1 ");
+    check(rt, events.name() == "out/events.txt", row, "the events");
+    check(
+        rt,
+        all == own && all < 2,
+        row,
+        "how many nodes are given up",
+    );
+}
+
+// What a worker leaves is worked by another: the same is said.
+fn says_without<R: Threads + Wait + Sync + AllocGlobal + Abort>(
+    rt: &R,
+    words: &[&str],
+    held: &mut MemFiles,
+    said: &str,
+    row: usize,
+) -> Result<(), NoMemory> {
     let gate = DropGate {
         worker: 1,
         point: Point::BeforeGive,
     };
+    answers(rt, words, held, &gate, (0, said), row)?;
+    check_releases(rt, held, row);
+    Ok(())
+}
+
+#[test]
+fn a_worker_leaves(rt: HostRuntime) -> Result<(), NoMemory> {
     let mut held = files(&rt, &COMPARED, &[])?;
-    answers(&rt, BY_TWO, &mut held, &gate, (0, COMPARED_SAYS), 0)
+    says_without(&rt, BY_TWO, &mut held, COMPARED_SAYS, 0)
+}
+
+#[test]
+fn a_worker_leaves_a_bench(rt: HostRuntime) -> Result<(), NoMemory> {
+    let mut held = files_of(&rt, &Held::Missing, &[])?;
+    says_without(&rt, BENCH, &mut held, BENCH_SAYS, 1)
 }
