@@ -1,6 +1,6 @@
 //! Shifts by a row's number.
 
-ghost use Rattle.std.specs.Prelude.{◌≡◌, ◌*◌, IfOk, drop};
+ghost use Rattle.std.specs.Prelude.{◌≡◌, IfOk, drop};
 ghost use Rattle.bit_blast.specs.Shifts.{moved, next_stage, shift_end, shift_row};
 ghost use Rattle.bit_blast.specs.Staging.{stage_of};
 
@@ -21,7 +21,7 @@ pub enum Direction {
 struct Stage {
     row: Vec<Lit>,
     // What the next bit of the distance is worth.
-    unit: usize,
+    unit: u128,
     // Whether the distance is the width or more.
     big: Lit,
 }
@@ -50,12 +50,6 @@ fn moved(
     }
 }
 
-fn doubled(unit: usize) -> Result<usize, NoMemory>
-    ensures { IfOk result (λ n. n ≡ unit * 2) }
-{
-    unit.checked_mul(2).ok_or(NoMemory)
-}
-
 impl Gates {
     #[tactic(auto, unfolding(crate::specs::Shifts::next_stage))]
     fn next_stage(
@@ -69,13 +63,12 @@ impl Gates {
         ensures { IfOk result (λ s. stage_of s self.new ≡ next_stage direction fill width (stage_of stage self.old) bit) }
     {
         let Stage { row, unit, big } = stage;
-        if unit < width {
-            let unit_after = doubled(unit)?;
-            let other = moved(self.alloc(), direction, fill, unit, &row)?;
+        if unit < width as u128 {
+            let other = moved(self.alloc(), direction, fill, unit as usize, &row)?;
             let row = self.each(&Gate::Mux(bit), &other, &row)?;
             return Ok(Stage {
                 row,
-                unit: unit_after,
+                unit: unit * 2,
                 big,
             });
         }

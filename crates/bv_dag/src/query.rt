@@ -1,6 +1,6 @@
 //! A condition on input bytes.
 
-ghost use Rattle.std.specs.Prelude.{◌≡◌, ◌++◌, ◌∷◌, [], IfOk, OnOk, OnErr};
+ghost use Rattle.std.specs.Prelude.{◌≡◌, ◌<◌, ◌^◌, ◌++◌, ◌∷◌, [], IfOk, OnOk, OnErr, length};
 
 use crate::evaluation::are_met;
 use crate::graph::Dag;
@@ -54,6 +54,13 @@ impl Query {
     {
         self.asserted.push(id)?;
         Ok(())
+    }
+
+    /// It has fewer than 2^64 terms, as any list in memory.
+    pub fn is_whole(&self)
+        ensures { length self.now.graph.nodes < 2 ^ 64 }
+    {
+        let _ = self.dag.len();
     }
 
     pub fn dag(&self) -> &Dag

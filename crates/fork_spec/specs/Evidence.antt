@@ -10,7 +10,7 @@ use Rattle.rv_spec.specs.Memory.{IsAssignment, count_of}
 use Rattle.term_trees.specs.TreeSlices.{IsPartFor}
 use Rattle.tree_core.specs.declared.choice.Choice.{Choice}
 use Rattle.tree_core.specs.declared.choice.Choice.TheVariants.{Value, Rest}
-use Rattle.fork_spec.specs.Leaves.{IsSmall, Leaf, covers, worth}
+use Rattle.fork_spec.specs.Leaves.{IsCount, IsSmall, Leaf, covers, worth}
 
 -- a value, and an assignment on which the term has it
 pub record Found : Type 0 where
@@ -61,12 +61,12 @@ pub record SpendsTargets (regions : List Region) (targets : ℕ) (sides : List C
   pub some : (input : List ℕ) × IsAssignment regions input × IsTrue (covers leaf input)
   pub others : sides ≡ map Value (values_of spent.found) ++ Rest ∷ []
 
--- A question in full: its terms fit, its assertions are bits, and every number is below 2 ^ 32.
+-- A question in full: its terms fit, its assertions are bits, it has fewer than 2 ^ 32 inputs and fewer than 2 ^ 64 terms.
 pub record IsQuestion (q : Condition) : Type 0 where
   pub is_dag : IsDag q.graph
   pub bits : AreBits q.graph q.asserted
   pub few_inputs : IsSmall q.graph.inputs
-  pub few_nodes : IsSmall (length q.graph.nodes)
+  pub few_nodes : IsCount (length q.graph.nodes)
 
 -- The budget of conflicts is spent on the last of the leaf's assertions: the question, which is over the bytes of the regions, is
 -- the part of the leaf's condition that matters for it, and just so many clauses were learnt for it.

@@ -39,6 +39,10 @@ are_bytes input = list_all (λ b. nat_lt b 256) input
 abbrev pub IsSmall : ℕ → Type 0
 IsSmall n = n < 2 ^ 32
 
+-- a count of terms that texts may have
+abbrev pub IsCount : ℕ → Type 0
+IsCount n = n < 2 ^ 64
+
 abbrev pub IsSmallChoice : Choice → Type 0
 IsSmallChoice No = Unit {0}
 IsSmallChoice Yes = Unit {0}
@@ -60,7 +64,8 @@ IsByteStatus graph (Cut cause) = Unit {0}
 abbrev pub AreBytes : Graph → List ℕ → Type 0
 AreBytes graph ids = All (λ id. width_of graph id ≡ 8) ids
 
--- A leaf in full: its terms fit, its assertions are bits, its status and its outputs are bytes, and every number is below 2 ^ 32.
+-- A leaf in full: its terms fit, its assertions are bits, its status and its outputs are bytes, and every number is below 2 ^ 32,
+-- the count of its terms below 2 ^ 64.
 pub record IsFull (leaf : Leaf) : Type 0 where
   pub is_dag : IsDag leaf.condition.graph
   pub bits : AreBits leaf.condition.graph leaf.condition.asserted
@@ -70,5 +75,5 @@ pub record IsFull (leaf : Leaf) : Type 0 where
   pub small_path : All IsSmallStep leaf.path
   pub few_steps : IsSmall leaf.steps
   pub few_inputs : IsSmall leaf.condition.graph.inputs
-  pub few_nodes : IsSmall (length leaf.condition.graph.nodes)
+  pub few_nodes : IsCount (length leaf.condition.graph.nodes)
   pub few_outputs : IsSmall (length leaf.outputs)

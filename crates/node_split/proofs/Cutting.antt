@@ -18,7 +18,7 @@ use Rattle.tree_core.specs.declared.cause.Cause.TheVariants.{Conflicts, Targets}
 use Rattle.tree_core.specs.declared.choice.Choice.{Choice}
 use Rattle.tree_core.specs.declared.choice.Choice.TheVariants.{Rest, Value}
 use Rattle.fork_spec.specs.Evidence.{Found, IsReached, IsSample, Learnt, SpendsConflicts, SpendsTargets, all_but_last, is_among, values_of}
-use Rattle.fork_spec.specs.Leaves.{IsFull, IsSmall, are_bytes}
+use Rattle.fork_spec.specs.Leaves.{IsCount, IsFull, IsSmall, are_bytes}
 use Rattle.fork_spec.specs.Parts.{Evidence, IsRight, OnConflicts, OnTargets, Part, Shows}
 use Rattle.fork_spec.specs.Runs.{AreWithin}
 use Rattle.fork_spec.specs.declared.end.LeafEnd.TheVariants.{Cut}
@@ -120,7 +120,7 @@ last-copied {A} f g (y ∷ ys) (z ∷ zs) x is =
     last-kept z (last-copied f g ys zs x more)
 
 pub conflicts_shown : (regions : List Region) (conflicts : ℕ) (s : Symbolic) (t : LeafTerms) (learnt : Learnt) → HasTerms s t
-    → s.terms.inputs ≡ count_of regions → IsSmall s.terms.inputs → IsSmall (length learnt.question.graph.nodes)
+    → s.terms.inputs ≡ count_of regions → IsSmall s.terms.inputs → IsCount (length learnt.question.graph.nodes)
     → IsLearntFor conflicts (condition_of s) learnt → SpendsConflicts regions conflicts (left_as s t (Cut Conflicts)) learnt
 conflicts_shown regions conflicts s t learnt has inputs few_inputs few_nodes is =
     let trees : map (tree_of t.condition.graph) t.condition.asserted ≡ map (tree_of s.terms) (is.front ++ is.last ∷ [])
@@ -156,7 +156,7 @@ to_form P s u is holding = subst P (sym is) holding
 
 pub conflicts_side : (p : Program) (budgets : Budgets) (sides : List Choice) (s u new : Symbolic) (choice : Choice) (test : List ℕ → Bool) (t : LeafTerms)
     (learnt : Learnt) → IsOpen p s → s.steps < budgets.steps → IsFormed s → IsNarrowed s u test → IsLearntFor budgets.conflicts (condition_of u) learnt
-    → IsSmall (length learnt.question.graph.nodes) → IsWritable u → IsGrown (chosen u choice) new → HasTerms (chosen u choice) t
+    → IsCount (length learnt.question.graph.nodes) → IsWritable u → IsGrown (chosen u choice) new → HasTerms (chosen u choice) t
     → IsSideIn p budgets sides s choice (Some Conflicts) test (leaf_side choice (cut_part new t Conflicts None (Some (OnConflicts learnt))))
 conflicts_side p budgets sides s u new choice test t learnt was few formed is learning few_nodes writable grown has =
     let form = narrowed_to s u.terms u.condition u.sample in

@@ -2,7 +2,7 @@
 use Rattle.std.specs.Prelude.{◌≡◌, ℕ, ◌<◌, List, All, length, map}
 use Rattle.bv_dag.specs.Graphs.{Graph, IsDag, number_of}
 use Rattle.cow_pages.specs.declared.byte.Byte.{Byte}
-use Rattle.fork_spec.specs.Leaves.{AreBytes, IsSmall, Leaf}
+use Rattle.fork_spec.specs.Leaves.{AreBytes, IsCount, IsSmall, Leaf}
 use Rattle.fork_spec.specs.declared.end.LeafEnd.{LeafEnd}
 use Rattle.sym_state.specs.Symbolic.{Symbolic}
 use Rattle.sym_state.specs.Values.{byte_worth}
@@ -18,14 +18,14 @@ pub record AreTermsOf (old : Graph) (bytes : List Byte) (new : Graph) (ids : Lis
 -- the terms of a run's condition, and of what it has written, as a leaf has them
 pub record HasTerms (s : Symbolic) (t : LeafTerms) : Type 0 where
   pub is_dag : IsDag t.condition.graph
-  pub few_nodes : IsSmall (length t.condition.graph.nodes)
+  pub few_nodes : IsCount (length t.condition.graph.nodes)
   pub condition : AreCopies s.terms s.condition t.condition.graph t.condition.asserted
   pub outputs : AreTermsOf s.terms s.output t.condition.graph t.outputs.items
 
 -- the terms of a run's condition, and these
 pub record IsPicked (s : Symbolic) (written besides : List ℕ) (t : LeafTerms) : Type 0 where
   pub is_dag : IsDag t.condition.graph
-  pub few_nodes : IsSmall (length t.condition.graph.nodes)
+  pub few_nodes : IsCount (length t.condition.graph.nodes)
   pub condition : AreCopies s.terms s.condition t.condition.graph t.condition.asserted
   pub outputs : AreCopies s.terms written t.condition.graph t.outputs.items
   pub more : AreCopies s.terms besides t.condition.graph t.more.items

@@ -52,10 +52,7 @@ pub fn cut_conflicts(
         → IsOpen p s → s.steps < budgets.steps → IsFormed s → IsNarrowed s run.old test → IsLearntFor budgets.conflicts (condition_of run.old) learnt
         → IsSideIn p budgets sides s choice (Some Conflicts) test kid) }
 {
-    // A text has no room for more terms.
-    if learnt.question.dag().len() > u32::MAX as usize {
-        return Err(NoMemory);
-    }
+    learnt.question.is_whole();
     run.choose(choice)?;
     let terms = leaf_terms(alloc, run, &[])?;
     let evidence = Some(Evidence::Conflicts(learnt));

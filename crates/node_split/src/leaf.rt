@@ -76,7 +76,7 @@ fn split(alloc: Global, ids: &[usize], at: usize) -> Result<(Vec<usize>, Vec<usi
     ))
 }
 
-// The terms of the condition and these, in a graph of their own. It has fewer than 2^32: a text has no room for more.
+// The terms of the condition and these, in a graph of their own.
 fn picked(
     alloc: Global,
     state: &State,
@@ -93,13 +93,12 @@ fn picked(
     let more_at = ids.len();
     ids.extend_from_slice(more)?;
     let picked = pick_terms(alloc, state.terms(), &ids)?;
-    if picked.graph.len() > u32::MAX as usize {
-        return Err(NoMemory);
-    }
     let (front, more) = split(alloc, &picked.ids, more_at)?;
     let (condition, outputs) = split(alloc, &front, outputs_at)?;
+    let condition = Query::new(picked.graph, condition);
+    condition.is_whole();
     Ok(LeafTerms {
-        condition: Query::new(picked.graph, condition),
+        condition,
         outputs,
         more,
     })

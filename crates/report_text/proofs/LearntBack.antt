@@ -180,7 +180,7 @@ heading_back : (learnt : Learnt) → IsLegibleLearnt learnt →
     three (codes "\n; inputs ") (codes "\n; nodes ") (codes "\n") (behind_first learnt) ≡ Some (counts_of learnt, behind_heading learnt)
 heading_back learnt legible =
     three_back (codes "\n; inputs ") (codes "\n; nodes ") (codes "\n") (length learnt.log) learnt.question.graph.inputs (length learnt.question.graph.nodes)
-    (behind_heading learnt) (omega (arith, legible.few_clauses)) (omega (arith, legible.question.few_inputs)) (omega (arith, legible.question.few_nodes)) refl refl refl
+    (behind_heading learnt) (omega (arith, legible.few_clauses)) (omega (arith, legible.question.few_inputs)) legible.question.few_nodes refl refl refl
 
 legible_steps : (learnt : Learnt) → IsLegibleLearnt learnt → All IsLegibleStep learnt.log
 legible_steps learnt legible i d within =

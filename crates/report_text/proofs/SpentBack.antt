@@ -114,7 +114,7 @@ heading_back : (spent : Spent) → IsLegibleSpent spent →
     two (codes "\n; term n") (codes "\n") (behind_first spent) ≡ Some ((length spent.found, spent.term), flat_map found_text spent.found)
 heading_back spent legible =
     two_back (codes "\n; term n") (codes "\n") (length spent.found) spent.term (flat_map found_text spent.found)
-    (omega (arith, legible.0)) (omega (arith, legible.1)) refl refl
+    (omega (arith, legible.0)) legible.1 refl refl
 
 -- values of one text are the same
 pub spent_told : (spent other : Spent) → IsLegibleSpent spent → IsLegibleSpent other → targets_text spent ≡ targets_text other → spent ≡ other

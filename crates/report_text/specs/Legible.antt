@@ -8,7 +8,7 @@ use Rattle.tree_core.specs.declared.cause.Cause.{Cause}
 use Rattle.tree_core.specs.declared.event.Deed.{Deed}
 use Rattle.tree_core.specs.declared.event.Deed.TheVariants.{Claim, Split, Finish, Cut, Release}
 use Rattle.fork_spec.specs.Evidence.{Found, IsQuestion, Learnt, Spent}
-use Rattle.fork_spec.specs.Leaves.{IsSmall, IsSmallChoice}
+use Rattle.fork_spec.specs.Leaves.{IsCount, IsSmall, IsSmallChoice}
 use Rattle.fork_spec.specs.Parts.{Evidence, OnConflicts, OnTargets}
 use Rattle.fork_spec.specs.Walks.{Line, Side, Sides, Standing, walk}
 use Rattle.test_files.specs.Writable.{IsLegible}
@@ -33,9 +33,9 @@ AreLegible lines = All IsLegibleLine lines
 abbrev pub IsLegibleFound : Found → Type 0
 IsLegibleFound found = IsSmall found.value × All (λ b. b < 256) found.input
 
--- the term has a number of 32 bits, and so many values have one
+-- the term has a number of 64 bits, and so many values have one of 32
 abbrev pub IsLegibleSpent : Spent → Type 0
-IsLegibleSpent spent = IsSmall (length spent.found) × IsSmall spent.term × All IsLegibleFound spent.found
+IsLegibleSpent spent = IsSmall (length spent.found) × IsCount spent.term × All IsLegibleFound spent.found
 
 -- the variables of a step's clause have numbers of 32 bits, and its hints numbers of 64
 pub record HasSmallNumbers (s : Step) : Type 0 where

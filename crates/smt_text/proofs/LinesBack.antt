@@ -33,7 +33,7 @@ has_place [] a h = absurd (omega (arith, h))
 has_place (x ∷ before) zero h = omega arith
 has_place (x ∷ before) (suc a) h = omega (arith, has_place before a h)
 
-module _ (inputs : ℕ) (before : List ℕ) (few_inputs : inputs < 2 ^ 32) (few : length before < 2 ^ 32)
+module _ (inputs : ℕ) (before : List ℕ) (few_inputs : inputs < 2 ^ 32) (few : length before < 2 ^ 64)
     (at_most_64 : (k : ℕ) → get_or before k 0 ≤ 64) where
   operand : (a : ℕ) → 0 < get_or before a 0 → a < 2 ^ 64
   operand a h = let place = has_place before a h in omega (arith, place, few)
@@ -115,7 +115,7 @@ node_line_back id width node rest small_id small_width small_node =
       behind_word (codes ")\n") rest,
     ) refl
 
-wide_term : (r : Reading) (id width : ℕ) → length r.nodes < 2 ^ 32 → 0 < width → is_wide r id width ≡ true → id < 2 ^ 64
+wide_term : (r : Reading) (id width : ℕ) → length r.nodes < 2 ^ 64 → 0 < width → is_wide r id width ≡ true → id < 2 ^ 64
 wide_term r id width few some h =
     let place = there (graph_of r) id width (eqb-true (width_of (graph_of r) id) width h) some in
     omega (arith, place, few)
@@ -146,7 +146,7 @@ line_back AtEnd r (EndLine word) rest w c h =
 line_back AtInputs r (InputsLine n) rest w c h =
     number_line InputsLine (codes "; inputs ") (codes "\n") n rest (omega (arith, lt_from n (2 ^ 32) h)) refl
 line_back AtNodes r (NodesLine n) rest w c h =
-    number_line NodesLine (codes "; nodes ") (codes "\n") n rest (omega (arith, lt_from n (2 ^ 32) h)) refl
+    number_line NodesLine (codes "; nodes ") (codes "\n") n rest (lt_from n (2 ^ 64) h) refl
 line_back AtOutputs r (OutputsLine n) rest w c h =
     number_line OutputsLine (codes "; outputs ") (codes "\n") n rest (omega (arith, lt_from n (2 ^ 32) h)) refl
 line_back AtLogic r LogicLine rest w c h = rw (behind_word (line_text LogicLine) rest) refl
@@ -157,7 +157,7 @@ line_back AmongNodes r (NodeLine id width node) rest w c h =
     let parts = and_parts ((id == length r.nodes) && fits r.inputs (widths_of r.nodes) node) (width == node_width (widths_of r.nodes) node) h in
     let next = and_parts (id == length r.nodes) (fits r.inputs (widths_of r.nodes) node) parts.0 in
     let fit = fits_from r.inputs (widths_of r.nodes) node next.1 in
-    let few : length (widths_of r.nodes) < 2 ^ 32 = omega (arith, length-widths_of r.nodes, c.1, w.4) in
+    let few : length (widths_of r.nodes) < 2 ^ 64 = omega (arith, length-widths_of r.nodes, c.1, w.4) in
     let bound : (k : ℕ) → get_or (widths_of r.nodes) k 0 ≤ 64 = all_at_most_64 r.inputs r.nodes w.6 in
     let wide : node_width (widths_of r.nodes) node < 2 ^ 64 = small_width r.inputs (widths_of r.nodes) w.3 few bound node fit in
     node_line_back id width node rest (omega (arith, eqb-true id (length r.nodes) next.0, c.1, w.4)) (omega (arith, eqb-true width (node_width (widths_of r.nodes) node) parts.1, wide))

@@ -148,7 +148,7 @@ kept AtSteps r (StepsLine n) w c here h = ((w.0, w.1, lt_from n (2 ^ 32) h, w.3,
 kept AtEnd r (EndLine word) w c here h = (w, c)
 kept AtInputs r (InputsLine n) w c here h =
     ((w.0, w.1, w.2, lt_from n (2 ^ 32) h, w.4, w.5, none_fit n r.nodes c.1, w.7, w.8), c)
-kept AtNodes r (NodesLine n) w c here h = ((w.0, w.1, w.2, w.3, lt_from n (2 ^ 32) h, w.5, w.6, w.7, w.8), c)
+kept AtNodes r (NodesLine n) w c here h = ((w.0, w.1, w.2, w.3, lt_from n (2 ^ 64) h, w.5, w.6, w.7, w.8), c)
 kept AtOutputs r (OutputsLine n) w c here h = ((w.0, w.1, w.2, w.3, w.4, lt_from n (2 ^ 32) h, w.6, w.7, w.8), c)
 kept AtLogic r LogicLine w c here h = (w, counted_inputs r (omega (arith, c.0)) c.1 c.2 c.3)
 kept AmongInputs r (InputLine i) w c here h =

@@ -36,6 +36,9 @@ same n = eq-eqb n n refl
 small : (n : ℕ) → n < 2 ^ 32 → nat_lt n (2 ^ 32) ≡ true
 small n h = grind (arith, nat_tests)
 
+counted : (n : ℕ) → n < 2 ^ 64 → nat_lt n (2 ^ 64) ≡ true
+counted n h = grind (arith, nat_tests)
+
 below : (a b : ℕ) → a < b → (a == b) ≡ false
 below a b h = grind (arith, nat_tests)
 
@@ -81,7 +84,7 @@ heading_read : (leaf : Leaf) (rest : List LeafLine) → IsFull leaf →
     }) rest
 unfolding read_lines next_state
 heading_read leaf rest h =
-    rw (small_choices leaf.choices h.small_choices, small_path leaf.path h.small_path, small leaf.steps h.few_steps, agrees leaf.end, small leaf.condition.graph.inputs h.few_inputs, small (length leaf.condition.graph.nodes) h.few_nodes, small (length leaf.outputs) h.few_outputs) refl
+    rw (small_choices leaf.choices h.small_choices, small_path leaf.path h.small_path, small leaf.steps h.few_steps, agrees leaf.end, small leaf.condition.graph.inputs h.few_inputs, counted (length leaf.condition.graph.nodes) h.few_nodes, small (length leaf.outputs) h.few_outputs) refl
 
 -- The inputs that are left.
 inputs_read : (r : Reading) (more i : ℕ) (rest : List LeafLine) → i + more ≡ r.inputs →

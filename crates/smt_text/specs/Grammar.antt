@@ -73,6 +73,10 @@ leaf_of r = record {
 abbrev pub is_small : ℕ → Bool
 is_small n = nat_lt n (2 ^ 32)
 
+-- a count of terms that texts may have
+abbrev pub is_count : ℕ → Bool
+is_count n = nat_lt n (2 ^ 64)
+
 -- a choice whose value texts may have
 abbrev pub is_small_choice : Choice → Bool
 is_small_choice (Value v) = is_small v
@@ -136,7 +140,7 @@ stands AtPath r (PathLine path) = list_all is_small_step path
 stands AtSteps r (StepsLine steps) = is_small steps
 stands AtEnd r (EndLine word) = agree r.kind word
 stands AtInputs r (InputsLine inputs) = is_small inputs
-stands AtNodes r (NodesLine nodes) = is_small nodes
+stands AtNodes r (NodesLine nodes) = is_count nodes
 stands AtOutputs r (OutputsLine outputs) = is_small outputs
 stands AtLogic r LogicLine = true
 stands AmongInputs r (InputLine i) = i == r.declared

@@ -76,7 +76,7 @@ IsWithin r =
     × All IsSmallStep r.path
     × (r.steps < 2 ^ 32)
     × (r.inputs < 2 ^ 32)
-    × (r.node_count < 2 ^ 32)
+    × (r.node_count < 2 ^ 64)
     × (r.output_count < 2 ^ 32)
     × AllFit r.inputs r.nodes
     × AreBytes (graph_of r) r.outputs

@@ -39,7 +39,7 @@ impl LeafReading {
         requires { self.old.place ≡ spot.AtNodes }
         ensures { IsNext (reading_of self.old) text.now (reading_of self.new) (option_map (λ rest. rest.now) result) }
     {
-        let (count, rest) = take_count(behind(text, "; nodes ")?)?;
+        let (count, rest) = one(behind(text, "; nodes ")?, "\n")?;
         self.node_count = count as usize;
         self.place = Spot::AtOutputs;
         Some(rest)

@@ -1,5 +1,5 @@
 -- Where no memory was found, and what an event that was allowed takes.
-use Rattle.std.proofs.Common.{◌≡◌, ℕ, ◌+◌, ◌-◌, ◌<◌, Bool, true, IsTrue, Option, List, length, sym, ap, ◌∙◌, subst, arith}
+use Rattle.std.proofs.Common.{◌≡◌, ℕ, ◌+◌, ◌-◌, ◌<◌, ◌≤◌, Bool, true, IsTrue, Option, List, length, sym, ap, ◌∙◌, subst, arith}
 use Rattle.std.specs.Global.{Vec}
 use Rattle.std.specs.Vec.{vec_capacity, vec_len}
 use Rattle.tree_core.specs.declared.event.Event.{Event}
@@ -10,7 +10,7 @@ use Rattle.tree_core.specs.Nodes.{Node}
 use Rattle.tree_core.specs.declared.node.Status.{Status}
 use Rattle.tree_core.specs.Stories.{Story, status}
 use Rattle.tree_core.specs.Replays.{allows, is_allowed}
-use Rattle.tree_core.specs.Cores.{LacksRoom, NoRoom, spare_nodes}
+use Rattle.tree_core.specs.Cores.{LacksRoom, NoRoom, ends, spare_nodes, takes}
 
 module _ {R : Type 0} where
   pub may_come : (s : Story R) (e : Event R (Vec (Kid R))) (nodes : List (Node R)) (events : List (Event R ℕ)) (st : Status) (b : Bool) → nodes ≡ s.nodes → events ≡ s.events
@@ -27,3 +27,11 @@ module _ {R : Type 0} where
   lacks_room nodes latest contents events held (Finish r) full = absurd full
   lacks_room nodes latest contents events held (Cut r) full = absurd full
   lacks_room nodes latest contents events held Release full = absurd full
+
+  -- Each node that is held was claimed by an event, and so it is behind any event.
+  pub still_claimed : (d : Deed R (Vec (Kid R))) (before after events : ℕ) → after + ends d ≡ before + takes d → before ≤ events → after ≤ events + 1
+  still_claimed Claim before after events is claimed = let goal : after ≤ events + 1 = omega (arith, is, claimed) in goal
+  still_claimed (Split kids) before after events is claimed = let goal : after ≤ events + 1 = omega (arith, is, claimed) in goal
+  still_claimed (Finish r) before after events is claimed = let goal : after ≤ events + 1 = omega (arith, is, claimed) in goal
+  still_claimed (Cut r) before after events is claimed = let goal : after ≤ events + 1 = omega (arith, is, claimed) in goal
+  still_claimed Release before after events is claimed = let goal : after ≤ events + 1 = omega (arith, is, claimed) in goal

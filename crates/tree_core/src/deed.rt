@@ -44,6 +44,7 @@ pub(crate) fn make_room<R: Drop>(
     deed: &Deed<R>,
 ) -> Result<(), NoMemory>
     requires held { ends deed.now ≤ held }
+    requires claimed { held ≤ vec_len events.old }
     requires spare { vec_len events.old + held ≤ vec_capacity events.old }
     ensures nodes { nodes.new.items ≡ nodes.old.items }
     ensures latest { latest.new.items ≡ latest.old.items }
@@ -58,12 +59,7 @@ pub(crate) fn make_room<R: Drop>(
     ensures err { OnErr result (NoRoom nodes.old latest.old contents.old events.old held deed.now) }
 {
     match deed {
-        Deed::Claim => {
-            let Some(asked) = held.checked_add(2) else {
-                return Err(NoMemory);
-            };
-            events.reserve(asked)
-        }
+        Deed::Claim => events.reserve(held + 2),
         Deed::Split(kids) => {
             nodes.reserve(kids.len())?;
             latest.reserve(kids.len())?;

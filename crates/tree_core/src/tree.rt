@@ -49,7 +49,7 @@ impl<R: Cover> Model for Core<R> {
 
     ghost view = { λ c. record { story = record { nodes = c.nodes.items; events = c.events.items }; node_room = spare_nodes c.nodes c.latest c.contents; event_room = vec_capacity c.events - (length c.events.items + c.held) } };
 
-    ghost invariant = { λ c. IsCore R.covers (record { nodes = c.nodes.items; events = c.events.items }) c.latest.items c.contents.items c.held × (length c.events.items + c.held ≤ vec_capacity c.events) };
+    ghost invariant = { λ c. IsCore R.covers (record { nodes = c.nodes.items; events = c.events.items }) c.latest.items c.contents.items c.held × (length c.events.items + c.held ≤ vec_capacity c.events) × (c.held ≤ length c.events.items) };
 }
 
 impl<R: Cover> Core<R> {
@@ -161,13 +161,10 @@ impl<R: Cover> Core<R> {
         ensures nodes { OnOk result (kids ≤ self.new.node_room) }
         ensures events { OnOk result (2 ≤ self.new.event_room) }
     {
-        let Some(events) = self.held.checked_add(2) else {
-            return Err(NoMemory);
-        };
         self.nodes.reserve(kids)?;
         self.latest.reserve(kids)?;
         self.contents.reserve(kids)?;
-        self.events.reserve(events)
+        self.events.reserve(self.held + 2)
     }
 
     /// At every moment the tree is what its events have made of its root, each allowed and fit when it came, and its free,

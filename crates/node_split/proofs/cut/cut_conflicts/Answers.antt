@@ -1,7 +1,6 @@
-use Rattle.std.proofs.Common.{ap, length, ◌∙◌, arith}
-use Rattle.bv_dag.specs.Graphs.{Graph}
+use Rattle.std.proofs.Common.{length, subst}
 use Rattle.fork_spec.specs.Evidence.{Learnt}
-use Rattle.fork_spec.specs.Leaves.{IsSmall}
+use Rattle.fork_spec.specs.Leaves.{IsCount}
 use Rattle.tree_core.specs.declared.cause.Cause.TheVariants.{Conflicts}
 use Rattle.node_split.proofs.Cutting.{chosen, conflicts_side, full_cut, writable_chosen}
 use Rattle.node_split.proofs.cut.cut_conflicts.Goals as goal
@@ -15,8 +14,8 @@ leaf_of-requires c = record {
 
 pub returns : goal.returns
 returns c = λ p budgets sides s test was few formed is learning.
-    let few_nodes : IsSmall (length c.args.learnt.question.graph.nodes) =
-    omega (arith, c.if-len.false, c.len.ensures, ap (λ (g : Graph). length g.nodes) (c.dag.ensures ∙ ap (λ (l : Learnt). l.question.graph) c.learnt.view_is)) in
+    let few_nodes : IsCount (length c.args.learnt.question.graph.nodes) =
+    subst (λ (l : Learnt). IsCount (length l.question.graph.nodes)) c.learnt.view_is c.is_whole.ensures in
     rw (c.leaf_kid.ensures, c.in_ok-leaf.ensures)
     (conflicts_side p budgets sides s c.args.run.now c.leaf_terms.new.state c.args.choice test c.in_ok-terms.terms c.args.learnt was few formed is learning few_nodes c.requires.writable
     (rw c.in_ok-choose.ensures.ok at c.in_ok-terms.ensures.grown) (rw c.in_ok-choose.ensures.ok at c.in_ok-terms.ensures.terms))

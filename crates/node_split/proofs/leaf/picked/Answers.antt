@@ -1,4 +1,6 @@
-use Rattle.std.proofs.Common.{List, ℕ, length, refl, ap, ◌++◌, ◌∙◌, arith}
+use Rattle.std.proofs.Common.{List, ℕ, length, refl, ap, subst, ◌++◌, ◌∙◌}
+use Rattle.bv_dag.specs.Queries.{Condition}
+use Rattle.fork_spec.specs.Leaves.{IsCount}
 use Rattle.node_split.proofs.Copying.{all-copied, picked_from}
 use Rattle.node_split.proofs.Leaving.{parts_split, picked_there}
 use Rattle.node_split.proofs.leaf.picked.Goals as goal
@@ -8,8 +10,8 @@ pick_terms-requires c =
     rw (c.terms.ensures.value, c.deref.ensures.value, c.in_ok-extend_from_slice-2.ensures.items, c.in_ok-extend_from_slice.ensures.items, c.in_ok-ids.ensures, c.condition.ensures)
     (picked_there c.args.state.now c.args.outputs.now c.args.more.now c.terms.ensures.formed c.requires.outputs c.requires.more)
 
-pub new-requires : goal.new-requires
-new-requires c =
+pub new-condition-requires : goal.new-condition-requires
+new-condition-requires c =
     let ids = c.in_ok-ids.ensures ∙ c.condition.ensures in
     let both = c.in_ok-extend_from_slice.ensures.items ∙ ap (λ (xs : List ℕ). xs ++ c.args.outputs.now) ids in
     let all = picked_from c.terms.ensures.value
@@ -35,10 +37,10 @@ returns c =
     c.len-outputs_at.result c.len-more_at.result (c.len-outputs_at.ensures ∙ c.in_ok-ids.ids.ok.0 ∙ ap (λ (xs : List ℕ). length xs) ids) (c.len-more_at.ensures ∙ c.extend_from_slice.new.self.ok.0 ∙ ap (λ (xs : List ℕ). length xs) both)
     all c.deref-2.ensures.value c.in_ok-front.ensures.front c.in_ok-front.ensures.back c.deref-3.ensures.value
     c.in_ok-condition.ensures.front c.in_ok-condition.ensures.back in
-    rw c.new.ensures
+    rw c.new-condition.ensures
     (record {
       is_dag = c.in_ok-picked.ensures.dag;
-      few_nodes = omega (arith, c.if-len.false, c.len.ensures);
+      few_nodes = subst (λ (q : Condition). IsCount (length q.graph.nodes)) c.new-condition.ensures c.is_whole.ensures;
       condition = parts.asserted;
       outputs = parts.written;
       more = parts.besides;

@@ -6,7 +6,7 @@ use Rattle.tree_core.specs.Stories.{Story}
 use Rattle.tree_core.specs.Replays.{IsFit, is_allowed, births, kids_of, deed_kept}
 use Rattle.tree_core.specs.Cores.{Kept, IsCore, LacksRoom, let_go, takes, ends, unworked_of}
 use Rattle.tree_core.proofs.Keeping.{core-noted, ends-held}
-use Rattle.tree_core.proofs.Rooms.{may_come, lacks_room}
+use Rattle.tree_core.proofs.Rooms.{may_come, lacks_room, still_claimed}
 use Rattle.tree_core.proofs.tree.Core.apply.Goals as goal
 
 pub make_room-requires-clause-held : goal.make_room-requires-clause-held
@@ -47,8 +47,11 @@ invariant_of-self-2 g c = let R : Type 0 = g.row.R.Denot in let i = c.self.insid
     let room : vec_len c.make_room.new.events + 1 + i.held + takes e.deed ≤ vec_capacity c.make_room.new.events + ends e.deed = c.in_ok-make_room.ensures.event_room in
     let cap : vec_capacity c.push_reserved.new.self ≡ vec_capacity c.make_room.new.events = c.push_reserved.ensures.capacity in
     let len : vec_len c.push_reserved.new.self ≡ vec_len c.make_room.new.events + 1 = c.push_reserved.ensures.len in
-    let long : vec_len c.push_reserved.new.self ≡ length c.push_reserved.new.self.items = c.push_reserved.new.self.ok.0 in (
+    let long : vec_len c.push_reserved.new.self ≡ length c.push_reserved.new.self.items = c.push_reserved.new.self.ok.0 in
+    let claimed : c.held_after-self-inside.result ≤ length i.events.items + 1 = still_claimed e.deed i.held c.held_after-self-inside.result (length i.events.items) held c.self.invariant.2 in
+    let count : vec_len c.make_room.new.events ≡ length i.events.items = c.make_room.new.events.ok.0 ∙ ap length c.make_room.ensures.events in (
       subst (λ (t : List (Node R) × List (Event R ℕ) × List (Option ℕ) × ℕ × List (Option R)). IsCore g.R.Cover.covers (record { nodes = t.0; events = t.1 }) (slice_set t.2 e.node (Some t.3)) t.4 c.held_after-self-inside.result)
           (λ k. (sym nodes k, sym events k, sym latest k, sym place k, sym contents k)) core,
       omega arith,
+      omega (arith, claimed, count, len, long),
     )

@@ -15,4 +15,5 @@ invariant_of-result g c = let R : Type 0 = g.row.R.Denot in
     let empty : length c.new.result.items ≡ 0 = ap length events in (
       subst (λ (t : List (Node R) × List (Event R ℕ) × List (Option ℕ) × List (Option R)). IsCore g.R.Cover.covers (record { nodes = t.0; events = t.1 }) t.2 t.3 0) (λ k. (sym nodes k, sym events k, sym latest k, sym contents k)) (core-opened g.R.Cover.covers c.args.root c.args.is_leaf),
       omega arith,
+      omega arith,
     )
