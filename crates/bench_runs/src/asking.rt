@@ -3,12 +3,12 @@
 use crate::files::read_question;
 use anyhow::{Result, bail};
 use bv_dag::Query;
+use byte_list::Bytes;
 use query_front::{Asked, Shared, ask_part, part_of};
 use smt_text::LeafText;
 use std::alloc::Global;
 use std::rt;
 use std::sync::Wait;
-use tool_io::Bytes;
 
 /// How a question ended.
 #[derive(Clone, Copy, Debug, PartialEq, Eq)]

@@ -1,9 +1,11 @@
 //! The files that are read.
 
 use anyhow::{Result, bail};
-use smt_text::{LeafText, read_leaf};
+use byte_list::Bytes;
+use leaf_reader::read_leaf;
+use smt_text::LeafText;
 use std::rt;
-use tool_io::{Bytes, Files, HostFiles};
+use tool_io::{Files, HostFiles};
 
 // The most bytes of a file that are read.
 const MOST_BYTES: usize = 16_777_217;

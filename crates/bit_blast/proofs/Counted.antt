@@ -1,8 +1,8 @@
 -- Rows that are made place by place, with so many places left.
 use Rattle.std.proofs.Common.{◌≡◌, ℕ, suc, ◌+◌, ◌-◌, ◌/◌, ◌%◌, ◌==◌, ◌<◌, ◌≤◌, List, [], ◌∷◌, ◌++◌, ap, sym, arith, append_assoc, append-nil}
 use Rattle.cnf_form.specs.Literals.{Literal}
-use Rattle.bit_blast.specs.Formulas.{Formula, constant, next_variable, with_variable}
-use Rattle.bit_blast.specs.Rows.{fresh_row, number_row}
+use Rattle.circuit_spec.specs.Formulas.{Formula, constant, next_variable, with_variable}
+use Rattle.circuit_spec.specs.Rows.{fresh_row, number_row}
 use Rattle.bit_blast.proofs.Walks.{with_before}
 
 one_less : (w i : ℕ) → i < w → w - i ≡ suc (w - (i + 1))

@@ -2,9 +2,9 @@
 use Rattle.std.proofs.Common.{◌≡◌, ℕ, ◌+◌, ◌<◌, ◌≤◌, List, [], ◌∷◌, ◌++◌, length, get_or, drop, refl, ap, sym, ◌∙◌, reverse}
 use Rattle.std.proofs.lemmas.List.{drop_all, reverse-append}
 use Rattle.cnf_form.specs.Literals.{Literal}
-use Rattle.bit_blast.specs.Formulas.{Formula}
-use Rattle.bit_blast.specs.Rows.{add_row}
-use Rattle.bit_blast.specs.Products.{partial_row, products, Division, Restored, division, division_step, with_quotient}
+use Rattle.circuit_spec.specs.Formulas.{Formula}
+use Rattle.circuit_spec.specs.Rows.{add_row}
+use Rattle.circuit_spec.specs.Products.{partial_row, products, Division, Restored, division, division_step, with_quotient}
 use Rattle.bit_blast.proofs.Walks.{opened}
 
 product_step : (a bs total p t : List Literal) (x : Literal) (low : ℕ) (f g h : Formula) → (p, g) ≡ partial_row a low x f → (t, h) ≡ add_row total p g

@@ -4,8 +4,8 @@ use Rattle.std.proofs.Math.Nat.{pow-le-pow_right}
 use Rattle.std.proofs.lemmas.List.{drop_all, length-drop}
 use Rattle.cnf_form.specs.Literals.{Literal}
 use Rattle.cnf_form.specs.Valuations.{literal_value}
-use Rattle.bit_blast.specs.Bytes.{bit_of, number_of_row}
-use Rattle.bit_blast.proofs.Numbers.{number_nil, number_cons, number_bound}
+use Rattle.circuit_spec.specs.Bytes.{bit_of, number_of_row}
+use Rattle.circuit_spec.proofs.Numbers.{number_nil, number_cons, number_bound}
 use Rattle.bit_blast.proofs.Walks.{opened}
 
 -- the bits above place i of at most eight are at most seven

@@ -3,9 +3,9 @@ use Rattle.std.proofs.Common.{◌≡◌, ℕ, ◌+◌, ◌<◌, ◌≤◌, min, 
 use Rattle.std.proofs.lemmas.List.{drop_all, drop_more}
 use Rattle.std.proofs.lemmas.Bool.{cases_lt}
 use Rattle.cnf_form.specs.Literals.{Literal, negation}
-use Rattle.bit_blast.specs.Formulas.{Formula}
-use Rattle.bit_blast.specs.Gates.{and_gate, xor_gate, xor3_gate, majority_gate}
-use Rattle.bit_blast.specs.Rows.{each, adder, Sum, equal_from}
+use Rattle.circuit_spec.specs.Formulas.{Formula}
+use Rattle.circuit_spec.specs.Gates.{and_gate, xor_gate, xor3_gate, majority_gate}
+use Rattle.circuit_spec.specs.Rows.{each, adder, Sum, equal_from}
 
 abbrev pub with_before : List Literal → List Literal × Formula → List Literal × Formula
 with_before front made = (front ++ made.0, made.1)

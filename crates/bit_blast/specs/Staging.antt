@@ -1,6 +1,6 @@
 -- A stage of the shifter, as the code holds it. Only private functions speak of this.
-use Rattle.bit_blast.specs.Formulas.{Formula}
-use Rattle.bit_blast.specs.Shifts.{Stage}
+use Rattle.circuit_spec.specs.Formulas.{Formula}
+use Rattle.circuit_spec.specs.Shifts.{Stage}
 use Rattle.bit_blast.specs.declared.shifts.Stage.{Stage as Shifting}
 
 -- a row on its way through the shifter, and the formula so far

@@ -1,8 +1,8 @@
 //! Sums, differences and comparisons.
 
 ghost use Rattle.std.specs.Prelude.{◌≡◌, IfOk};
-ghost use Rattle.bit_blast.specs.Formulas.{constant};
-ghost use Rattle.bit_blast.specs.Rows.{adder, add_row, sub_row, neg_row, ult_gate, slt_gate, equal_gate};
+ghost use Rattle.circuit_spec.specs.Formulas.{constant};
+ghost use Rattle.circuit_spec.specs.Rows.{adder, add_row, sub_row, neg_row, ult_gate, slt_gate, equal_gate};
 
 use crate::gates::{Gates, constant};
 use crate::rows::{copies, negations, with_top_negated};

@@ -1,16 +1,16 @@
 //! The literals of terms, each from those of earlier ones.
 
 ghost use Rattle.std.specs.Prelude.{◌≡◌, ◌+◌, ◌∷◌, [], IfOk, OnOk, take, drop, replicate, None, slice_index_or};
-ghost use Rattle.bit_blast.specs.Circuits.{row_at, lowest_of, binary_row, compare_gate, extension_of, with_row, with_input, with_node, no_terms, with_asserted};
-ghost use Rattle.bit_blast.specs.Gates.{mux_gate};
-ghost use Rattle.bit_blast.specs.Rows.{each};
+ghost use Rattle.circuit_spec.specs.Circuits.{row_at, lowest_of, binary_row, compare_gate, extension_of, with_row, with_input, with_node, no_terms, with_asserted};
+ghost use Rattle.circuit_spec.specs.Gates.{mux_gate};
+ghost use Rattle.circuit_spec.specs.Rows.{each};
 
 use crate::encoding::Encoding;
-use crate::gates::{Gate, Gates, constant};
+use crate::gates::{Gates, constant};
 use crate::row::Row;
 use crate::rows::{copies, joined, negations, number_row, top_of};
-use crate::shifts::Direction;
 use bv_dag::{BinaryOp, Comparison, Node};
+use circuit_spec::{Direction, Gate};
 use cnf_form::Lit;
 use std::alloc::{AllocError as NoMemory, Global};
 use std::marker::Model;
@@ -34,7 +34,7 @@ impl Drop for Circuit {
 }
 
 impl Model for Circuit {
-    ghost use Rattle.bit_blast.specs.Circuits.{Circuit as CircuitValue};
+    ghost use Rattle.circuit_spec.specs.Circuits.{Circuit as CircuitValue};
 
     ghost Value = { CircuitValue };
 
@@ -76,7 +76,7 @@ fn extracted(alloc: Global, high: u32, low: u32, row: &[Lit]) -> Result<Vec<Lit>
     places.skip(low as usize).copied().collect(alloc)
 }
 
-#[tactic(auto, unfolding(crate::specs::Circuits::binary_row))]
+#[tactic(auto, unfolding(circuit_spec::specs::Circuits::binary_row))]
 fn binary_row(gates: &mut Gates, op: BinaryOp, a: &[Lit], b: &[Lit]) -> Result<Vec<Lit>, NoMemory>
     ensures { IfOk result (λ r. (r.items, gates.new) ≡ binary_row op a.now b.now gates.old) }
 {
@@ -95,7 +95,7 @@ fn binary_row(gates: &mut Gates, op: BinaryOp, a: &[Lit], b: &[Lit]) -> Result<V
     }
 }
 
-#[tactic(auto, unfolding(crate::specs::Circuits::compare_gate))]
+#[tactic(auto, unfolding(circuit_spec::specs::Circuits::compare_gate))]
 fn compare_gate(gates: &mut Gates, op: Comparison, a: &[Lit], b: &[Lit]) -> Result<Lit, NoMemory>
     ensures { IfOk result (λ o. (o, gates.new) ≡ compare_gate op a.now b.now gates.old) }
 {
@@ -118,7 +118,7 @@ fn choice_row(
 }
 
 // A clause for each term that is asserted.
-#[tactic(auto, unfolding(crate::specs::Circuits::with_asserted))]
+#[tactic(auto, unfolding(circuit_spec::specs::Circuits::with_asserted))]
 fn assert_each(gates: &mut Gates, rows: &[Row], asserted: &[usize]) -> Result<(), NoMemory>
     ensures { OnOk result (gates.new ≡ with_asserted rows.now asserted.now gates.old) }
 {
@@ -175,7 +175,7 @@ impl Circuit {
     }
 
     /// The literals of one more term.
-    #[tactic(auto, unfolding(crate::specs::Circuits::with_node))]
+    #[tactic(auto, unfolding(circuit_spec::specs::Circuits::with_node))]
     pub fn push_node(&mut self, alloc: Global, node: &Node) -> Result<(), NoMemory>
         ensures { OnOk result (self.new ≡ with_node self.old node.now) }
     {

@@ -2,14 +2,14 @@
 
 ghost use Rattle.std.specs.Prelude.{◌≡◌, IfOk, map};
 ghost use Rattle.cnf_form.specs.Valuations.{valuation};
-ghost use Rattle.bit_blast.specs.Bytes.{byte_of};
+ghost use Rattle.circuit_spec.specs.Bytes.{byte_of};
 
 use crate::row::Row;
 use crate::values::{low_eight, number_of};
+use byte_list::Bytes;
 use cnf_form::{Cnf, Val};
 use std::alloc::{AllocError as NoMemory, Global};
 use std::marker::Model;
-use tool_io::Bytes;
 
 /// The clauses of a condition, and the literals of each of its input bytes that occurs.
 #[derive(Debug)]
@@ -28,7 +28,7 @@ impl Drop for Encoding {
 }
 
 impl Model for Encoding {
-    ghost use Rattle.bit_blast.specs.Bytes.{Encoding as EncodingValue};
+    ghost use Rattle.circuit_spec.specs.Bytes.{Encoding as EncodingValue};
 
     ghost Value = { EncodingValue };
 

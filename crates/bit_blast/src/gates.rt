@@ -1,22 +1,13 @@
 //! Formulas that grow by the clauses of gates.
 
 ghost use Rattle.std.specs.Prelude.{◌≡◌, ◌∷◌, [], IfOk, OnOk};
-ghost use Rattle.bit_blast.specs.Formulas.{constant, next_variable, with_variable, with_clause, only_truth};
-ghost use Rattle.bit_blast.specs.Gates.{and_gate, or_gate, xor_gate, mux_gate, xor3_gate, majority_gate, gate_of};
+ghost use Rattle.circuit_spec.specs.Formulas.{constant, next_variable, with_variable, with_clause, only_truth};
+ghost use Rattle.circuit_spec.specs.Gates.{and_gate, or_gate, xor_gate, mux_gate, xor3_gate, majority_gate, gate_of};
 
+use circuit_spec::Gate;
 use cnf_form::{Clause, Cnf, Lit};
 use std::alloc::{AllocError as NoMemory, Global};
 use std::marker::Model;
-
-/// A gate of two literals.
-#[derive(Clone, Copy, Debug)]
-pub enum Gate {
-    And,
-    Or,
-    Xor,
-    /// The first where this literal is true, else the second.
-    Mux(Lit),
-}
 
 /// The literal of variable 1, which the first clause makes true, or its negation.
 pub fn constant(value: bool) -> Lit
@@ -44,7 +35,7 @@ impl Drop for Gates {
 }
 
 impl Model for Gates {
-    ghost use Rattle.bit_blast.specs.Formulas.{Formula};
+    ghost use Rattle.circuit_spec.specs.Formulas.{Formula};
 
     ghost Value = { Formula };
 
@@ -53,7 +44,7 @@ impl Model for Gates {
 
 impl Gates {
     /// Variable 1, and the clause that makes it true.
-    #[tactic(auto, unfolding(crate::specs::Formulas::only_truth))]
+    #[tactic(auto, unfolding(circuit_spec::specs::Formulas::only_truth))]
     pub fn new(alloc: Global) -> Result<Gates, NoMemory>
         ensures { IfOk result (λ g. g ≡ only_truth) }
     {
@@ -92,7 +83,7 @@ impl Gates {
     }
 
     /// One more clause, unless it is always true.
-    #[tactic(auto, unfolding(crate::specs::Formulas::with_clause))]
+    #[tactic(auto, unfolding(circuit_spec::specs::Formulas::with_clause))]
     pub fn clause(&mut self, literals: &[Lit]) -> Result<(), NoMemory>
         ensures { OnOk result (self.new ≡ with_clause literals.now self.old) }
     {
@@ -103,7 +94,7 @@ impl Gates {
     }
 
     /// A literal that is true where both are.
-    #[tactic(auto, unfolding(crate::specs::Gates::and_gate))]
+    #[tactic(auto, unfolding(circuit_spec::specs::Gates::and_gate))]
     pub fn and(&mut self, a: Lit, b: Lit) -> Result<Lit, NoMemory>
         ensures { IfOk result (λ o. (o, self.new) ≡ and_gate a b self.old) }
     {
@@ -115,7 +106,7 @@ impl Gates {
     }
 
     /// A literal that is true where one of them is, or both.
-    #[tactic(auto, unfolding(crate::specs::Gates::or_gate))]
+    #[tactic(auto, unfolding(circuit_spec::specs::Gates::or_gate))]
     pub fn or(&mut self, a: Lit, b: Lit) -> Result<Lit, NoMemory>
         ensures { IfOk result (λ o. (o, self.new) ≡ or_gate a b self.old) }
     {
@@ -124,7 +115,7 @@ impl Gates {
     }
 
     /// A literal that is true where just one of them is.
-    #[tactic(auto, unfolding(crate::specs::Gates::xor_gate))]
+    #[tactic(auto, unfolding(circuit_spec::specs::Gates::xor_gate))]
     pub fn xor(&mut self, a: Lit, b: Lit) -> Result<Lit, NoMemory>
         ensures { IfOk result (λ o. (o, self.new) ≡ xor_gate a b self.old) }
     {
@@ -137,7 +128,7 @@ impl Gates {
     }
 
     /// A literal that is as the second where the first is true, else as the third.
-    #[tactic(auto, unfolding(crate::specs::Gates::mux_gate))]
+    #[tactic(auto, unfolding(circuit_spec::specs::Gates::mux_gate))]
     pub fn mux(&mut self, c: Lit, a: Lit, b: Lit) -> Result<Lit, NoMemory>
         ensures { IfOk result (λ o. (o, self.new) ≡ mux_gate c a b self.old) }
     {
@@ -150,7 +141,7 @@ impl Gates {
     }
 
     /// A literal that is true where an odd number of the three is.
-    #[tactic(auto, unfolding(crate::specs::Gates::xor3_gate))]
+    #[tactic(auto, unfolding(circuit_spec::specs::Gates::xor3_gate))]
     pub fn xor3(&mut self, a: Lit, b: Lit, c: Lit) -> Result<Lit, NoMemory>
         ensures { IfOk result (λ o. (o, self.new) ≡ xor3_gate a b c self.old) }
     {
@@ -167,7 +158,7 @@ impl Gates {
     }
 
     /// A literal that is true where two or three of the three are.
-    #[tactic(auto, unfolding(crate::specs::Gates::majority_gate))]
+    #[tactic(auto, unfolding(circuit_spec::specs::Gates::majority_gate))]
     pub fn majority(&mut self, a: Lit, b: Lit, c: Lit) -> Result<Lit, NoMemory>
         ensures { IfOk result (λ o. (o, self.new) ≡ majority_gate a b c self.old) }
     {

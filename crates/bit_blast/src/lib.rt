@@ -5,7 +5,6 @@ mod adders;
 mod circuit;
 mod encoding;
 mod gates;
-pub mod laws;
 mod products;
 mod query;
 mod row;

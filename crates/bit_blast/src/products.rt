@@ -1,12 +1,13 @@
 //! Products, quotients and remainders.
 
 ghost use Rattle.std.specs.Prelude.{◌≡◌, ◌∷◌, [], ◌++◌, false, IfOk};
-ghost use Rattle.bit_blast.specs.Formulas.{constant};
-ghost use Rattle.bit_blast.specs.Rows.{negations};
-ghost use Rattle.bit_blast.specs.Products.{partial_row, mul_row, brought_down, division_step, divided, udiv_row, urem_row};
+ghost use Rattle.circuit_spec.specs.Formulas.{constant};
+ghost use Rattle.circuit_spec.specs.Rows.{negations};
+ghost use Rattle.circuit_spec.specs.Products.{partial_row, mul_row, brought_down, division_step, divided, udiv_row, urem_row};
 
-use crate::gates::{Gate, Gates, constant};
+use crate::gates::{Gates, constant};
 use crate::rows::{copies, joined, negations};
+use circuit_spec::Gate;
 use cnf_form::Lit;
 use std::alloc::{AllocError as NoMemory, Global};
 
@@ -28,7 +29,7 @@ fn negated_divisor(alloc: Global, row: &[Lit]) -> Result<Vec<Lit>, NoMemory>
 
 impl Gates {
     // What the bit at place `low` of one factor adds to the product.
-    #[tactic(auto, unfolding(crate::specs::Products::partial_row))]
+    #[tactic(auto, unfolding(circuit_spec::specs::Products::partial_row))]
     fn partial(&mut self, a: &[Lit], low: usize, bit: Lit) -> Result<Vec<Lit>, NoMemory>
         ensures { IfOk result (λ r. (r.items, self.new) ≡ partial_row a.now low bit self.old) }
     {
@@ -52,7 +53,7 @@ impl Gates {
     }
 
     // The next bit of the quotient, and the rest that is left.
-    #[tactic(auto, unfolding(crate::specs::Products::division_step))]
+    #[tactic(auto, unfolding(circuit_spec::specs::Products::division_step))]
     fn division_step(
         &mut self,
         a: Lit,

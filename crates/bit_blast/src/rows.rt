@@ -1,11 +1,12 @@
 //! Rows of literals, the lowest first, and what is made of them with few gates.
 
 ghost use Rattle.std.specs.Prelude.{◌≡◌, ◌++◌, ◌∷◌, IfOk, replicate, take, drop};
-ghost use Rattle.bit_blast.specs.Formulas.{constant};
-ghost use Rattle.bit_blast.specs.Gates.{gate_of};
-ghost use Rattle.bit_blast.specs.Rows.{negations, number_row, zeros, top_of, with_top_negated, fresh_row, each};
+ghost use Rattle.circuit_spec.specs.Formulas.{constant};
+ghost use Rattle.circuit_spec.specs.Gates.{gate_of};
+ghost use Rattle.circuit_spec.specs.Rows.{negations, number_row, zeros, top_of, with_top_negated, fresh_row, each};
 
-use crate::gates::{Gate, Gates, constant};
+use crate::gates::{Gates, constant};
+use circuit_spec::Gate;
 use cnf_form::Lit;
 use std::alloc::{AllocError as NoMemory, Global};
 

@@ -1,20 +1,14 @@
 //! Shifts by a row's number.
 
 ghost use Rattle.std.specs.Prelude.{◌≡◌, IfOk, drop};
-ghost use Rattle.bit_blast.specs.Shifts.{moved, next_stage, shift_end, shift_row};
+ghost use Rattle.circuit_spec.specs.Shifts.{moved, next_stage, shift_end, shift_row};
 ghost use Rattle.bit_blast.specs.Staging.{stage_of};
 
-use crate::gates::{Gate, Gates, constant};
+use crate::gates::{Gates, constant};
 use crate::rows::{copies, joined};
+use circuit_spec::{Direction, Gate};
 use cnf_form::Lit;
 use std::alloc::{AllocError as NoMemory, Global};
-
-/// Towards the high end of a row, or the low one.
-#[derive(Clone, Copy, Debug)]
-pub enum Direction {
-    Up,
-    Down,
-}
 
 // A row on its way through the shifter.
 #[derive(Drop)]
@@ -51,7 +45,7 @@ fn moved(
 }
 
 impl Gates {
-    #[tactic(auto, unfolding(crate::specs::Shifts::next_stage))]
+    #[tactic(auto, unfolding(circuit_spec::specs::Shifts::next_stage))]
     fn next_stage(
         &mut self,
         direction: Direction,
@@ -76,7 +70,7 @@ impl Gates {
         Ok(Stage { row, unit, big })
     }
 
-    #[tactic(auto, unfolding(crate::specs::Shifts::shift_end))]
+    #[tactic(auto, unfolding(circuit_spec::specs::Shifts::shift_end))]
     fn shift_end(&mut self, fill: Lit, stage: &Stage) -> Result<Vec<Lit>, NoMemory>
         ensures { IfOk result (λ r. (r.items, self.new) ≡ shift_end fill (stage_of stage.now self.old)) }
     {
@@ -85,7 +79,7 @@ impl Gates {
     }
 
     /// A row shifted by the number of another: the places that come free have the literal `fill`.
-    #[tactic(auto, unfolding(crate::specs::Shifts::shift_row))]
+    #[tactic(auto, unfolding(circuit_spec::specs::Shifts::shift_row))]
     pub fn shift(
         &mut self,
         direction: Direction,

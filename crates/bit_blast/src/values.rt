@@ -2,7 +2,7 @@
 
 ghost use Rattle.std.specs.Prelude.{◌≡◌, ◌≤◌, ◌<◌, ◌*◌, ◌+◌, take, length};
 ghost use Rattle.cnf_form.specs.Valuations.{valuation, literal_value};
-ghost use Rattle.bit_blast.specs.Bytes.{bit_of, number_of_row};
+ghost use Rattle.circuit_spec.specs.Bytes.{bit_of, number_of_row};
 
 use cnf_form::{Lit, Val};
 

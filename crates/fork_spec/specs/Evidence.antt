@@ -1,7 +1,7 @@
 -- What shows a leaf: an assignment that it covers, or for one that is cut the budget that was spent.
 use Rattle.std.specs.Prelude.{◌≡◌, ℕ, ◌-◌, ◌<◌, ◌≤◌, Bool, not, ◌&&◌, ◌==◌, List, [], ◌∷◌, ◌++◌, All, IsTrue, length, map, take, true}
 use Rattle.std.specs.List.{list_any}
-use Rattle.bit_blast.specs.Budgets.{IsSpent}
+use Rattle.circuit_spec.specs.Budgets.{IsSpent}
 use Rattle.bv_dag.specs.Graphs.{IsDag, width_of}
 use Rattle.bv_dag.specs.Queries.{AreBits, Condition, holds}
 use Rattle.cnf_form.specs.Refutations.{Step}

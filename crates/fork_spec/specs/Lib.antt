@@ -6,5 +6,4 @@ pub mod Parts
 pub mod Ranks
 pub mod Walks
 pub mod WorkedWalks
-pub mod Written
 pub mod Histories

@@ -1,18 +1,12 @@
 -- How two places of the fork tree part: their choices first differ at one fork, and there the runs of what they cover decide as the
 -- choices say. No fork is made at no instruction's need.
-use Rattle.std.specs.Prelude.{◌≡◌, ◌≢◌, ℕ, ◌<◌, ◌&&◌, Bool, true, false, List, ◌∷◌, ◌++◌, All, IsTrue, Some, length, slice_get}
-use Rattle.std.specs.Global.{Vec}
+use Rattle.std.specs.Prelude.{◌≡◌, ◌≢◌, ℕ, ◌&&◌, Bool, true, false, List, ◌∷◌, ◌++◌, IsTrue}
 use Rattle.elf_load.specs.Images.{Image}
 use Rattle.elf_load.specs.declared.region.Region.{Region}
 use Rattle.rv_spec.specs.Decisions.{Decision, Side, Number, decisions}
 use Rattle.rv_spec.specs.Memory.{IsAssignment}
 use Rattle.tree_core.specs.declared.choice.Choice.{Choice}
 use Rattle.tree_core.specs.declared.choice.Choice.TheVariants.{No, Yes, Value, Rest}
-use Rattle.tree_core.specs.Covers.{is_live}
-use Rattle.tree_core.specs.Stories.{Story, content, status}
-use Rattle.tree_core.specs.declared.event.Deed.{Deed}
-use Rattle.tree_core.specs.declared.event.Deed.TheVariants.{Claim, Split, Finish, Cut, Release}
-use Rattle.tree_core.specs.declared.event.Kid.{Kid}
 use Rattle.fork_spec.specs.Leaves.{Leaf, are_bytes, covers}
 
 -- a place of the fork tree: the sides that lead to it, and the assignments that it stands for
@@ -65,31 +59,6 @@ pub record ArePlacesApart (decides : List ℕ → List Decision) (p q : Place) :
   pub d : Choice
   pub first : FirstDiffer p.choices q.choices c d
   pub part : (a b : List ℕ) → IsTrue (p.covers a) → IsTrue (q.covers b) → PartAt c d (decides a) (decides b)
-
--- the one is somewhere under the other: it has the other's choices and maybe more, and stands for none but its assignments
-pub record IsUnder (p q : Place) : Type 0 where
-  pub more : List Choice
-  pub choices : p.choices ≡ q.choices ++ more
-  pub within : (input : List ℕ) → IsTrue (p.covers input) → IsTrue (q.covers input)
-
--- any two of these kids are apart
-abbrev pub AreKidsApart : {R : Type 0} → (place : R → Place) → (List ℕ → List Decision) → List (Kid R) → Type 0
-AreKidsApart {R} place decides kids = (i j : ℕ) (a b : Kid R) → i ≢ j → slice_get kids i ≡ Some a → slice_get kids j ≡ Some b →
-    ArePlacesApart decides (place a.content) (place b.content)
-
--- any two nodes of a story that have no kids are apart
-abbrev pub AreNodesApart : {R : Type 0} → (place : R → Place) → (List ℕ → List Decision) → Story R → Type 0
-AreNodesApart {R} place decides s = (m k : ℕ) (a b : R) → m ≢ k → m < length s.nodes → k < length s.nodes →
-    is_live (status s m) ≡ true → is_live (status s k) ≡ true → content s m ≡ Some a → content s k ≡ Some b →
-    ArePlacesApart decides (place a) (place b)
-
--- what a deed makes of a node with this content is under it, and kids are apart
-abbrev pub KeepsApart : {R : Type 0} → (place : R → Place) → (List ℕ → List Decision) → R → Deed R (Vec (Kid R)) → Type 0
-KeepsApart place decides r Claim = Unit {0}
-KeepsApart {R} place decides r (Split kids) = All (λ (kid : Kid R). IsUnder (place kid.content) (place r)) kids.items × AreKidsApart place decides kids.items
-KeepsApart place decides r (Finish leaf) = IsUnder (place leaf) (place r)
-KeepsApart place decides r (Cut leaf) = IsUnder (place leaf) (place r)
-KeepsApart place decides r Release = Unit {0}
 
 -- two leaves part, by the decisions of at most so many steps
 pub record ArePartedLeaves (image : Image) (regions : List Region) (most : ℕ) (leaf other : Leaf) : Type 0 where

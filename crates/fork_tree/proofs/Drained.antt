@@ -12,8 +12,8 @@ use Rattle.tree_core.proofs.Counting.{count_same, count_at}
 use Rattle.fork_spec.specs.Histories.{is_leaf_status}
 use Rattle.fork_spec.specs.Partings.{Place}
 use Rattle.fork_spec.specs.Walks.{Standing, is_quiet, is_settled}
-use Rattle.fork_spec.specs.Written.{AreNodesOf}
-use Rattle.fork_spec.proofs.Quiet.{quiet-walked}
+use Rattle.fork_tree.specs.Written.{AreNodesOf}
+use Rattle.fork_tree.proofs.Quiet.{quiet-walked}
 use Rattle.fork_tree.specs.Calls.{IsQuiet, NoneFree}
 use Rattle.fork_tree.specs.Contents.{place_in}
 use Rattle.fork_tree.specs.Drains.{IsDrained}

@@ -10,7 +10,7 @@ use Rattle.tree_core.specs.declared.node.Status.TheVariants.{Free, Held, Leaf}
 use Rattle.tree_core.specs.Covers.{one_if}
 use Rattle.tree_core.specs.Stories.{Story, content, status}
 use Rattle.fork_spec.specs.Partings.{Place}
-use Rattle.fork_spec.specs.Written.{IsCutOr}
+use Rattle.fork_tree.specs.Written.{IsCutOr}
 use Rattle.fork_tree.specs.Calls.{IsEndFit, IsSplitFit}
 use Rattle.fork_tree.specs.Contents.{choices_in, cut_in, place_in}
 use Rattle.fork_tree.specs.Nodes.{HoldsFor, StateIs}

@@ -19,13 +19,13 @@ use Rattle.tree_core.proofs.Places.{get_before, get_last}
 use Rattle.tree_core.proofs.Standing.{status-kid, content-kid}
 use Rattle.fork_spec.specs.Histories.{IsOwnSplit, IsSideOf}
 use Rattle.fork_spec.specs.Walks.{Line, Side}
-use Rattle.fork_spec.specs.Written.{lines_of, nodes_after, side_of_kid}
+use Rattle.fork_tree.specs.Written.{lines_of, nodes_after, side_of_kid}
 use Rattle.fork_tree.specs.Contents.{choices_in, cut_in}
 use Rattle.fork_tree.specs.Nodes.{AllHold, HasLeaf, HoldsFor, IsRightAt}
 use Rattle.fork_tree.specs.Works.{Rules}
 use Rattle.fork_tree.specs.declared.content.Content.{Content}
 use Rattle.fork_tree.specs.declared.content.Content.TheVariants.{Open, Shut}
-use Rattle.fork_spec.proofs.Lines.{line_now, lines-noted}
+use Rattle.fork_tree.proofs.Lines.{line_now, lines-noted}
 use Rattle.fork_tree.proofs.Standings.{AreThere, Coming, content-here, content-other, length-noted, status-here, status-other}
 use Rattle.fork_tree.proofs.Free.{get_some}
 

@@ -1,3 +1,9 @@
+pub mod Changing
+pub mod Lines
+pub mod Walked
+pub mod Apart
+pub mod Quiet
+pub mod Releases
 pub mod Standings
 pub mod Free
 pub mod Totals

@@ -12,8 +12,9 @@ use Rattle.tree_core.specs.Covers.{one_if}
 use Rattle.tree_core.specs.Replays.{allows, is_allowed, is_held_by, kids_of, noted, opening}
 use Rattle.tree_core.specs.Cores.{ends, held_count, takes}
 use Rattle.tree_core.proofs.Sharing.{held_count-noted}
-use Rattle.fork_spec.specs.Partings.{IsUnder, KeepsApart, Place}
-use Rattle.fork_spec.specs.Written.{IsInForm}
+use Rattle.fork_spec.specs.Partings.{Place}
+use Rattle.fork_tree.specs.NodesApart.{IsUnder, KeepsApart}
+use Rattle.fork_tree.specs.Written.{IsInForm}
 use Rattle.fork_tree.specs.Calls.{IsEndFit, IsSplitFit, claim_event, cut_event, finish_event, release_event, split_event}
 use Rattle.fork_tree.specs.Contents.{cut_in, place_in}
 use Rattle.fork_tree.specs.Nodes.{AllHold, HasState, HoldsFor, IsLeafRight, StateIs}
@@ -22,8 +23,8 @@ use Rattle.fork_tree.specs.Works.{Rules}
 use Rattle.fork_tree.specs.Worklists.{HasOnceMore, Listed}
 use Rattle.fork_tree.specs.declared.content.Content.{Content}
 use Rattle.fork_tree.specs.declared.content.Content.TheVariants.{Open, Shut}
-use Rattle.fork_spec.proofs.Apart.{apart-noted, apart-opening}
-use Rattle.fork_spec.proofs.Walked.{walked-noted, walked-opening}
+use Rattle.fork_tree.proofs.Apart.{apart-noted, apart-opening}
+use Rattle.fork_tree.proofs.Walked.{walked-noted, walked-opening}
 use Rattle.fork_tree.proofs.Standings.{AreThere, Coming, length-noted}
 use Rattle.fork_tree.proofs.Free.{free-none}
 use Rattle.fork_tree.proofs.Holding.{DeedHolds, holds-noted}

@@ -9,8 +9,8 @@ use Rattle.fork_spec.specs.Histories.{IsHistory, LeafNode, cause_of, standing_of
 use Rattle.fork_spec.specs.Leaves.{Leaf}
 use Rattle.fork_spec.specs.Partings.{Place}
 use Rattle.fork_spec.specs.Walks.{Standing}
-use Rattle.fork_spec.specs.Written.{AreNodesOf, cut_where, lines_of}
-use Rattle.fork_spec.proofs.Quiet.{leaves-walked}
+use Rattle.fork_tree.specs.Written.{AreNodesOf, cut_where, lines_of}
+use Rattle.fork_tree.proofs.Quiet.{leaves-walked}
 use Rattle.fork_tree.specs.Contents.{cut_in}
 use Rattle.fork_tree.specs.Drains.{IsDrained, IsLeafOf, Reads, leaf_nodes}
 use Rattle.fork_tree.specs.Trees.{choices_at}

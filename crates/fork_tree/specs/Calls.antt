@@ -11,8 +11,9 @@ use Rattle.tree_core.specs.declared.event.Event.{Event}
 use Rattle.tree_core.specs.declared.event.Deed.TheVariants.{Claim as ClaimIt, Split, Finish, Cut, Release}
 use Rattle.tree_core.specs.declared.event.Kid.{Kid}
 use Rattle.tree_core.specs.declared.node.Status.TheVariants.{Free, Held, Leaf}
-use Rattle.fork_spec.specs.Partings.{KeepsApart, Place}
-use Rattle.fork_spec.specs.Written.{IsInForm}
+use Rattle.fork_spec.specs.Partings.{Place}
+use Rattle.fork_tree.specs.NodesApart.{KeepsApart}
+use Rattle.fork_tree.specs.Written.{IsInForm}
 use Rattle.fork_tree.specs.Contents.{choices_in, cut_in, place_in}
 use Rattle.fork_tree.specs.Nodes.{HoldsFor, StateIs}
 use Rattle.fork_tree.specs.Trees.{choices_at, covers_at}

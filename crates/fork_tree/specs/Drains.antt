@@ -10,8 +10,9 @@ use Rattle.tree_core.specs.declared.node.Status.{Status}
 use Rattle.tree_core.specs.declared.node.Status.TheVariants.{Free, Leaf as IsLeaf}
 use Rattle.fork_spec.specs.Histories.{LeafNode, cause_of, is_leaf_status}
 use Rattle.fork_spec.specs.Leaves.{Leaf}
-use Rattle.fork_spec.specs.Partings.{AreNodesApart, Place}
-use Rattle.fork_spec.specs.Written.{IsWalked}
+use Rattle.fork_spec.specs.Partings.{Place}
+use Rattle.fork_tree.specs.NodesApart.{AreNodesApart}
+use Rattle.fork_tree.specs.Written.{IsWalked}
 use Rattle.fork_tree.specs.Calls.{IsQuiet}
 use Rattle.fork_tree.specs.Contents.{cut_in, place_in}
 use Rattle.fork_tree.specs.Nodes.{HasLeaf, IsLeafRight}

@@ -1,4 +1,6 @@
 pub mod Contents
+pub mod Written
+pub mod NodesApart
 pub mod Works
 pub mod Nodes
 pub mod Worklists

@@ -7,7 +7,7 @@ use Rattle.tree_core.specs.declared.node.Status.{Status}
 use Rattle.tree_core.specs.declared.node.Status.TheVariants.{Free, Held, Parted, Leaf}
 use Rattle.fork_spec.specs.Histories.{IsOwnSplit}
 use Rattle.fork_spec.specs.Walks.{Line}
-use Rattle.fork_spec.specs.Written.{lines_of}
+use Rattle.fork_tree.specs.Written.{lines_of}
 use Rattle.fork_tree.specs.Contents.{cut_in}
 use Rattle.fork_tree.specs.Works.{Rules}
 use Rattle.fork_tree.specs.declared.content.Content.{Content}

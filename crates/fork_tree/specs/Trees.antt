@@ -8,8 +8,9 @@ use Rattle.tree_core.specs.declared.choice.Choice.{Choice}
 use Rattle.tree_core.specs.declared.event.Kid.{Kid}
 use Rattle.tree_core.specs.Nodes.{Node}
 use Rattle.tree_core.specs.declared.node.Status.{Status}
-use Rattle.fork_spec.specs.Partings.{AreNodesApart, Place}
-use Rattle.fork_spec.specs.Written.{IsWalked}
+use Rattle.fork_spec.specs.Partings.{Place}
+use Rattle.fork_tree.specs.NodesApart.{AreNodesApart}
+use Rattle.fork_tree.specs.Written.{IsWalked}
 use Rattle.fork_tree.specs.Contents.{cut_in, place_in}
 use Rattle.fork_tree.specs.Nodes.{AllHold}
 use Rattle.fork_tree.specs.Works.{Rules}

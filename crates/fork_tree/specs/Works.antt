@@ -7,9 +7,10 @@ use Rattle.tree_core.specs.declared.cause.Cause.{Cause}
 use Rattle.tree_core.specs.declared.cause.Cause.TheVariants.{Steps}
 use Rattle.tree_core.specs.declared.choice.Choice.{Choice}
 use Rattle.tree_core.specs.declared.event.Kid.{Kid}
-use Rattle.fork_spec.specs.Partings.{Place, AreKidsApart}
+use Rattle.fork_spec.specs.Partings.{Place}
+use Rattle.fork_tree.specs.NodesApart.{AreKidsApart}
 use Rattle.fork_spec.specs.Walks.{are_sides}
-use Rattle.fork_spec.specs.Written.{IsCutOr, side_of_kid}
+use Rattle.fork_tree.specs.Written.{IsCutOr, side_of_kid}
 use Rattle.fork_tree.specs.Contents.{choices_in, cut_in, place_in}
 use Rattle.fork_tree.specs.declared.content.Content.{Content}
 use Rattle.fork_tree.specs.declared.content.Content.TheVariants.{Open, Shut}

@@ -1,16 +1,11 @@
 //! What a node holds.
 
-ghost use Rattle.fork_spec.specs.Partings.{Place};
 ghost use Rattle.fork_tree.specs.Contents.{place_in};
 
+use fork_spec::Placed;
 use std::alloc::Global;
 use std::sync::Arc;
 use tree_core::Cover;
-
-/// What has a place in the fork tree: the sides that lead to it, and the assignments that it stands for.
-pub trait Placed: Drop {
-    ghost place: { Self → Place };
-}
 
 /// A state, on which there is work left, or a leaf.
 #[derive(Drop)]

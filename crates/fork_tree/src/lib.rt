@@ -8,7 +8,7 @@ mod tree;
 mod work;
 mod worklists;
 
-pub use content::{Content, Placed};
+pub use content::Content;
 pub use draining::drain;
 pub use tree::{Claim, Tree};
 pub use work::{Parts, Work};

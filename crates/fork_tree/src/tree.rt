@@ -13,9 +13,10 @@ ghost use Rattle.fork_tree.specs.Calls.{IsClaim, IsEndFit, IsOpening, IsQuiet, I
 ghost use Rattle.fork_tree.specs.Nodes.{HasState, IsLeafRight, StateIs};
 ghost use Rattle.fork_tree.specs.Trees.{FollowsRules, HasBorn};
 
-use crate::content::{Content, Placed};
+use crate::content::Content;
 use crate::work::Work;
 use crate::worklists::Worklists;
+use fork_spec::Placed;
 use std::alloc::{AllocError as NoMemory, Global};
 use std::marker::Model;
 use std::sync::Arc;

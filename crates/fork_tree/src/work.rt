@@ -3,7 +3,8 @@
 ghost use Rattle.std.specs.Prelude.{IfOk};
 ghost use Rattle.fork_tree.specs.Works.{IsWorked, Rules};
 
-use crate::content::{Content, Placed};
+use crate::content::Content;
+use fork_spec::Placed;
 use std::alloc::{AllocError as NoMemory, Global};
 use std::sync::Wait;
 use tree_core::Kid;

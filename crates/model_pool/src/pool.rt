@@ -6,9 +6,9 @@ ghost use Rattle.bv_dag.specs.Queries.{holds};
 use crate::scanning::scan;
 use boxcar::Vec as Places;
 use bv_dag::Query;
+use byte_list::Bytes;
 use std::alloc::{AllocError as NoMemory, Global};
 use std::sync::Wait;
-use tool_io::Bytes;
 
 /// A pool takes no more samples once its last place is filled, of so many.
 pub const PLACES: usize = 1024;

@@ -5,8 +5,8 @@ ghost use Rattle.std.specs.Iterator.{IsFinite};
 ghost use Rattle.model_pool.specs.Scans.{IsScan};
 
 use bv_dag::Query;
+use byte_list::Bytes;
 use std::alloc::{AllocError as NoMemory, Global};
-use tool_io::Bytes;
 
 /// A copy of a sample that meets the condition, or none where none does.
 pub fn scan<'a, I: Iterator<Item = &'a Bytes> + Drop>(

@@ -8,7 +8,8 @@ use Rattle.std.proofs.lemmas.List.Elements.{All-head, All-tail}
 use Rattle.rv_spec.specs.Decisions.{Decision, decisions, decisions_from, run_decisions, step_decisions}
 use Rattle.rv_spec.specs.Machine.{State, first_state}
 use Rattle.rv_spec.specs.Runs.{Run, run, run_from}
-use Rattle.fork_spec.specs.Partings.{AreKidsApart, ArePlacesApart, IsOnSide}
+use Rattle.fork_spec.specs.Partings.{ArePlacesApart, IsOnSide}
+use Rattle.fork_tree.specs.NodesApart.{AreKidsApart}
 use Rattle.sym_machine.specs.Stops.{StandsAt}
 use Rattle.sym_state.specs.Programs.{Program}
 use Rattle.sym_state.specs.Runs.{IsOpen}

@@ -11,7 +11,7 @@ use Rattle.tree_core.specs.declared.cause.Cause.TheVariants.{Conflicts, Steps, T
 use Rattle.tree_core.specs.declared.choice.Choice.TheVariants.{No, Yes}
 use Rattle.fork_spec.specs.Partings.{IsOnSide}
 use Rattle.fork_spec.specs.Walks.{Side, are_sides, is_one_cut_at_most}
-use Rattle.fork_spec.specs.Written.{side_of_kid}
+use Rattle.fork_tree.specs.Written.{side_of_kid}
 use Rattle.fork_tree.specs.Contents.{choices_in, cut_in}
 use Rattle.fork_tree.specs.Works.{IsPart}
 use Rattle.sym_machine.specs.Stops.{IsBranch}

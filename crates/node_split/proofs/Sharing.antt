@@ -11,7 +11,7 @@ use Rattle.tree_core.specs.declared.choice.Choice.{Choice}
 use Rattle.fork_spec.specs.Partings.{Place, IsOnSide}
 use Rattle.fork_spec.specs.Parts.{Part}
 use Rattle.fork_spec.specs.Walks.{Side}
-use Rattle.fork_spec.specs.Written.{side_of_kid}
+use Rattle.fork_tree.specs.Written.{side_of_kid}
 use Rattle.fork_tree.specs.Contents.{cut_in}
 use Rattle.fork_tree.specs.Works.{IsPart}
 use Rattle.fork_tree.specs.declared.content.Content.{Content}

@@ -16,7 +16,7 @@ use Rattle.tree_core.specs.declared.choice.Choice.TheVariants.{Rest, Value}
 use Rattle.fork_spec.specs.Evidence.{AreIncreasing, Found, is_among, values_of}
 use Rattle.fork_spec.specs.Partings.{IsOnSide}
 use Rattle.fork_spec.specs.Walks.{Side, are_sides, are_small, is_increasing, is_rest_cut, rest_side, value_side}
-use Rattle.fork_spec.specs.Written.{side_of_kid}
+use Rattle.fork_tree.specs.Written.{side_of_kid}
 use Rattle.fork_spec.proofs.Walking.{part_into_values, part_into_values_and_rest}
 use Rattle.fork_tree.specs.Contents.{choices_in, cut_in}
 use Rattle.fork_tree.specs.Works.{IsPart}

@@ -1,6 +1,6 @@
 -- What was learnt for the last assertion of a condition.
 use Rattle.std.specs.Prelude.{◌≡◌, ℕ, List, [], ◌∷◌, ◌++◌}
-use Rattle.bit_blast.specs.Budgets.{IsSpent}
+use Rattle.circuit_spec.specs.Budgets.{IsSpent}
 use Rattle.bv_dag.specs.Graphs.{IsDag}
 use Rattle.bv_dag.specs.Queries.{AreBits, Condition}
 use Rattle.fork_spec.specs.Evidence.{Learnt}

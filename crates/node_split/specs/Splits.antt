@@ -5,7 +5,7 @@ use Rattle.bv_dag.specs.Graphs.{number_of, width_of}
 use Rattle.fork_spec.specs.Evidence.{Found}
 use Rattle.fork_spec.specs.Parts.{Part}
 use Rattle.fork_spec.specs.Walks.{is_one_cut_at_most}
-use Rattle.fork_spec.specs.Written.{side_of_kid}
+use Rattle.fork_tree.specs.Written.{side_of_kid}
 use Rattle.fork_tree.specs.Contents.{cut_in}
 use Rattle.fork_tree.specs.Works.{IsPart, IsSplit}
 use Rattle.fork_tree.specs.declared.content.Content.{Content}

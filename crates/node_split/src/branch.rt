@@ -13,14 +13,16 @@ ghost use Rattle.node_split.specs.Leaving.{IsWritable};
 ghost use Rattle.node_split.specs.Narrowing.{is_side};
 ghost use Rattle.node_split.specs.Splits.{IsBranchSide, IsForked, IsSide, IsTested, choice_of};
 
+use crate::asking::ask_run;
 use crate::cut::cut_conflicts;
 use crate::forked::{Forked, are_bytes, narrow, run_kid, sample_of, sampled};
+use byte_list::Bytes;
 use fork_tree::Content;
-use query_front::{Asked, Shared, ask};
+use leaf_part::{LeafPart, Learnt};
+use query_front::{Asked, Shared};
 use std::alloc::{AllocError as NoMemory, Global};
 use std::sync::Wait;
-use sym_state::{Decided, LeafPart, Learnt, State};
-use tool_io::Bytes;
+use sym_state::{Decided, State};
 use tree_core::{Budgets, Choice, Kid};
 
 /// Where the side of a branch stands among the decisions of its step: behind the step's word.
@@ -127,7 +129,7 @@ fn other_side(
     ensures none { IfOk result (λ kid. IfNone kid ((input : List ℕ) → stands_for state.now input ≡ true → is_side side (number_of state.now.terms term input) ≡ false)) }
 {
     let mut tested = with_test(state, term, side)?;
-    match ask(
+    match ask_run(
         rt,
         alloc,
         shared,

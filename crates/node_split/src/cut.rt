@@ -23,8 +23,9 @@ use crate::forked::sample_of;
 use crate::leaf::{leaf_of, leaf_terms};
 use fork_spec::LeafEnd;
 use fork_tree::Content;
+use leaf_part::{Evidence, Found, LeafPart, Learnt, Spent};
 use std::alloc::{AllocError as NoMemory, Global};
-use sym_state::{Evidence, Found, LeafPart, Learnt, Spent, State};
+use sym_state::State;
 use tree_core::{Cause, Choice, Kid};
 
 // The side of a fork that is this leaf.

@@ -18,10 +18,11 @@ ghost use Rattle.node_split.specs.Rules.{leaf_place, rules_of};
 use crate::forked::sample_of;
 use crate::leaf::{leaf_of, leaf_terms};
 use fork_spec::LeafEnd;
+use leaf_part::LeafPart;
 use rv_decode::{Register, Trap};
 use std::alloc::{AllocError as NoMemory, Global};
 use sym_machine::RunEnd;
-use sym_state::{LeafPart, State};
+use sym_state::State;
 use tree_core::Cause;
 
 /// The leaf of a run that has spent its steps. The run is of no use after that.

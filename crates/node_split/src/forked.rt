@@ -7,12 +7,13 @@ ghost use Rattle.sym_state.specs.Moves.{narrowed};
 ghost use Rattle.node_split.specs.Splits.{IsRunOn};
 
 use bv_dag::Word;
+use byte_list::Bytes;
 use fork_tree::Content;
+use leaf_part::LeafPart;
 use query_pick::pick_terms;
 use std::alloc::{AllocError as NoMemory, Global};
 use std::sync::Arc;
-use sym_state::{Decided, LeafPart, State};
-use tool_io::Bytes;
+use sym_state::{Decided, State};
 use tree_core::{Choice, Kid};
 
 /// Where a run goes at a fork.

@@ -3,16 +3,17 @@
 ghost use Rattle.std.specs.Prelude.{◌≡◌, ◌<◌, ◌≤◌, All, IfOk, OnOk, drop, length, option_map, take};
 ghost use Rattle.fork_spec.specs.Leaves.{AreBytes, IsFull};
 ghost use Rattle.sym_state.specs.Moves.{IsGrown};
-ghost use Rattle.sym_state.specs.Places.{evidence_of};
+ghost use Rattle.leaf_part.specs.Evidences.{evidence_of};
 ghost use Rattle.node_split.specs.Copies.{AreCopies};
 ghost use Rattle.node_split.specs.Leaving.{AreTermsOf, HasTerms, IsPicked, left_as};
 
 use bv_dag::Query;
+use byte_list::Bytes;
 use fork_spec::LeafEnd;
+use leaf_part::{Evidence, LeafPart};
 use query_pick::pick_terms;
 use std::alloc::{AllocError as NoMemory, Global};
-use sym_state::{Evidence, LeafPart, State, listed};
-use tool_io::Bytes;
+use sym_state::{State, listed};
 
 /// Terms of a run, in a graph of their own.
 #[derive(Debug)]

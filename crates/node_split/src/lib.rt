@@ -1,11 +1,13 @@
 //! Work on one symbolic run: it goes on until it forks, all its runs have ended, or its budget of steps is spent.
 //!
 //! - `worker`: who works the runs of a program
+//! - `asking`: a question about a run
 //! - `branch`, `pin`: the two kinds of forks; `values`: the values that a pin finds
 //! - `forked`: what a fork makes of a run
 //! - `leaf`: the terms of a leaf; `finish`, `cut`: the leaves of runs that go on no more
 #![tactic(auto)]
 
+mod asking;
 mod branch;
 mod cut;
 mod finish;

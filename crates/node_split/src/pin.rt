@@ -15,13 +15,14 @@ ghost use Rattle.node_split.specs.declared.values.Left.TheVariants.{Nothing};
 use crate::cut::{cut_conflicts, cut_targets};
 use crate::forked::{Forked, narrow, run_kid};
 use crate::values::{Left, find_values};
+use byte_list::Bytes;
 use fork_tree::Content;
+use leaf_part::{Found, LeafPart};
 use query_front::Shared;
 use rv_decode::Test;
 use std::alloc::{AllocError as NoMemory, Global};
 use std::sync::Wait;
-use sym_state::{Decided, Found, LeafPart, State, Value};
-use tool_io::Bytes;
+use sym_state::{Decided, State, Value};
 use tree_core::{Budgets, Choice, Kid};
 
 /// A term that has to be a number, and where that number stands among the decisions of the step that needs it.

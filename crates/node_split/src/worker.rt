@@ -15,12 +15,13 @@ use crate::finish::{cut_steps, finish};
 use crate::forked::Forked;
 use crate::pin::{Pin, at_pin};
 use fork_tree::{Parts, Work};
+use leaf_part::LeafPart;
 use query_front::{Counts, Shared};
 use std::alloc::{AllocError as NoMemory, Global};
 use std::marker::Model;
 use std::sync::Wait;
 use sym_machine::{Advanced, Stop, advance};
-use sym_state::{LeafPart, Program, State};
+use sym_state::{Program, State};
 use tree_core::Budgets;
 use work_gate::{Gate, Point};
 

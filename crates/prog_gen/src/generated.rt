@@ -5,10 +5,10 @@ ghost use Rattle.prog_gen.specs.Generated.{generated_file, generated_regions};
 ghost use Rattle.row_files.specs.RowFiles.{word};
 
 use crate::words::program_words;
+use byte_list::Bytes;
 use elf_load::{Region, Regions};
 use row_files::row_file;
 use std::alloc::{AllocError as NoMemory, Global};
-use tool_io::Bytes;
 
 /// A program and its input bytes.
 #[derive(Debug, Drop)]

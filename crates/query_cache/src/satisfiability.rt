@@ -2,8 +2,8 @@
 
 ghost use Rattle.std.specs.Prelude.{◌≡◌, IfOk};
 
+use byte_list::Bytes;
 use std::alloc::{AllocError as NoMemory, Global};
-use tool_io::Bytes;
 
 /// Whether some input bytes meet a condition.
 #[derive(Debug, Drop)]

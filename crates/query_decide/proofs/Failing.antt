@@ -1,13 +1,13 @@
 -- No value of the one byte does, so no input does.
 use Rattle.std.proofs.Common.{◌≡◌, ℕ, ◌<◌, ◌==◌, Bool, true, false, List, length, replicate, refl, ◌∙◌, arith, slice_index, slice_set}
 use Rattle.std.specs.Prelude.{All}
-use Rattle.bit_blast.proofs.Scopes.{All-at}
+use Rattle.circuit_spec.proofs.Scopes.{All-at}
 use Rattle.std.proofs.lemmas.Bool.Decides.{Decides-eqb}
 use Rattle.cnf_form.specs.Valuations.{satisfies}
 use Rattle.bv_dag.specs.Graphs.{IsDag}
 use Rattle.bv_dag.specs.Queries.{AreBits, Condition, holds, IsUnsatisfiable}
-use Rattle.bit_blast.specs.Circuits.{clauses}
-use Rattle.bit_blast.proofs.Completeness.{has_valuation}
+use Rattle.circuit_spec.specs.Circuits.{clauses}
+use Rattle.circuit_spec.proofs.Completeness.{has_valuation}
 use Rattle.bv_dag.specs.Inputs.{asserted_inputs}
 use Rattle.query_decide.specs.Occurring.{IsAlone}
 use Rattle.query_decide.proofs.Agreeing.{same_holds}

@@ -1,7 +1,7 @@
 -- What the answer to a question shows.
 use Rattle.std.specs.Prelude.{◌≡◌, ℕ, true}
 use Rattle.bv_dag.specs.Queries.{Condition, holds, IsUnsatisfiable}
-use Rattle.bit_blast.specs.Budgets.{IsSpent}
+use Rattle.circuit_spec.specs.Budgets.{IsSpent}
 use Rattle.query_decide.specs.declared.decision.Decision.{Decision}
 use Rattle.query_decide.specs.declared.decision.Decision.TheVariants.{Sat, Unsat, Spent}
 

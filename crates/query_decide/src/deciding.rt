@@ -12,9 +12,9 @@ use crate::occurrence::{Occurrence, occurring};
 use crate::one_byte::try_byte;
 use bit_blast::encode;
 use bv_dag::Query;
+use byte_list::Bytes;
 use cdcl_core::{Answer, search};
 use std::alloc::{AllocError as NoMemory, Global};
-use tool_io::Bytes;
 
 // The answer of a question that rests on this byte alone, or on none: no budget is spent.
 fn decide_byte(

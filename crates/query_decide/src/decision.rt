@@ -1,7 +1,7 @@
 //! The answer to a question.
 
+use byte_list::Bytes;
 use cnf_form::Log;
-use tool_io::Bytes;
 
 /// Whether some input bytes meet a condition.
 #[derive(Debug, Drop)]

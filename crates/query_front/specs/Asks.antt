@@ -2,7 +2,7 @@
 use Rattle.std.specs.Prelude.{◌≡◌, ℕ, true, [], ◌∷◌, ◌++◌}
 use Rattle.bv_dag.specs.Graphs.{IsDag}
 use Rattle.bv_dag.specs.Queries.{AreBits, Condition, holds, IsUnsatisfiable}
-use Rattle.bit_blast.specs.Budgets.{IsSpent}
+use Rattle.circuit_spec.specs.Budgets.{IsSpent}
 use Rattle.term_trees.specs.TreeSlices.{IsPartFor}
 use Rattle.query_front.specs.declared.asked.Asked.{Asked}
 use Rattle.query_front.specs.declared.asked.Asked.TheVariants.{Sat, Unsat, Spent}

@@ -2,23 +2,21 @@
 
 ghost use Rattle.std.specs.Prelude.{◌≡◌, ℕ, true, IfOk, IfSome, length};
 ghost use Rattle.bv_dag.specs.Graphs.{width_of};
-ghost use Rattle.bv_dag.specs.Queries.{Condition, holds};
+ghost use Rattle.bv_dag.specs.Queries.{AreBits, Condition, holds};
 ghost use Rattle.query_cache.specs.Answers.{IsAnswer};
 ghost use Rattle.query_front.specs.Asks.{IsAsked};
 ghost use Rattle.query_front.specs.Parts.{IsPart};
-ghost use Rattle.sym_state.specs.Symbolic.{condition_of};
 
 use crate::asked::Asked;
 use crate::part::part_of;
 use crate::shared::Shared;
-use bv_dag::Query;
+use bv_dag::{Query, Table};
+use byte_list::Bytes;
 use query_cache::{Satisfiability, Solved};
 use query_decide::{Decision, Occurrence, decide, occurring};
 use query_slice::merge;
 use std::alloc::{AllocError as NoMemory, Global};
 use std::sync::Wait;
-use sym_state::{State, listed};
-use tool_io::Bytes;
 
 // Whether it may cost less to try samples than to decide a question. Of one input byte there are no more values than a pool
 // has places.
@@ -101,20 +99,23 @@ pub fn ask_part(
     }
 }
 
-/// Whether a run can go on where one more term is 1.
-pub fn ask(
+/// Whether a condition on a table of terms and one more term can hold, from a sample that meets the condition. A question that needs
+/// a search may cost `budget` learnt clauses.
+pub fn ask<T: Table>(
     rt: &impl Wait,
     alloc: Global,
     shared: &Shared,
-    state: &State,
+    terms: &T,
+    condition: Vec<usize>,
+    sample: &Bytes,
     new: usize,
     budget: u32,
 ) -> Result<Asked, NoMemory>
-    requires bit { width_of state.now.terms new ≡ 1 }
-    requires sampled { holds (condition_of state.now) state.now.sample ≡ true }
-    ensures { IfOk result (IsAsked (condition_of state.now) new budget) }
+    requires condition { AreBits (T.graph terms.now) condition.items }
+    requires bit { width_of (T.graph terms.now) new ≡ 1 }
+    requires sampled { holds (record { graph = T.graph terms.now; asserted = condition.items }) sample.now ≡ true }
+    ensures { IfOk result (IsAsked (record { graph = T.graph terms.now; asserted = condition.items }) new budget) }
 {
-    let condition = listed(alloc, state.condition())?;
-    let part = part_of(alloc, state.terms(), condition, new)?;
-    ask_part(rt, alloc, shared, part, state.sample(), budget)
+    let part = part_of(alloc, terms, condition, new)?;
+    ask_part(rt, alloc, shared, part, sample, budget)
 }

@@ -1,5 +1,4 @@
-//! Questions about symbolic runs: whether a run can go on where one more term is 1. A question is cut to the part that
-//! matters for the term, looked for among those that were answered before, tried on samples, and only then decided.
+//! Questions: whether a condition and one more term can hold. A question is cut to the part that matters for the term, looked for among those that were answered before, tried on samples, and only then decided.
 //!
 //! - `asked`: what is answered
 //! - `shared`: the answers and samples that workers share

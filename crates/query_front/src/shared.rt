@@ -5,12 +5,12 @@ ghost use Rattle.bv_dag.specs.Queries.{holds};
 ghost use Rattle.query_cache.specs.Answers.{IsAnswer};
 
 use bv_dag::Query;
+use byte_list::Bytes;
 use model_pool::Pool;
 use query_cache::{Cache, Satisfiability, Solved};
 use std::alloc::{AllocError as NoMemory, Global};
 use std::sync::atomic::{AtomicU64, Ordering};
 use std::sync::{Mutex, Wait};
-use tool_io::Bytes;
 
 /// How many questions were answered by each means.
 #[derive(Clone, Copy, Debug, PartialEq, Eq)]

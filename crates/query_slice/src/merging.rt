@@ -7,9 +7,9 @@ ghost use Rattle.bv_dag.specs.declared.nodes.Node.TheVariants.{Input};
 ghost use Rattle.query_slice.specs.Merging.{merged, own_input, own_inputs};
 
 use bv_dag::{Node, Query};
+use byte_list::Bytes;
 use query_pick::cone;
 use std::alloc::{AllocError as NoMemory, Global};
-use tool_io::Bytes;
 
 // The node at a place.
 fn node_at(nodes: &[Node], id: usize) -> Node

@@ -4,7 +4,7 @@ use Rattle.std.specs.Prelude.{decimal}
 use Rattle.hex.specs.Hex.{encode_lower}
 use Rattle.rv_machine.specs.declared.run.Ran.{Ran}
 use Rattle.rv_spec.specs.Runs.{Run}
-use Rattle.smt_text.specs.Names.{path_text}
+use Rattle.text_parts.specs.Names.{path_text}
 use Rattle.test_files.specs.Tests.{end_text}
 use Rattle.replay_core.specs.Differences.{difference_text}
 use Rattle.replay_core.specs.Replays.{IsWhatRan}

@@ -2,7 +2,7 @@
 use Rattle.std.specs.Prelude.{List, ℕ, ◌++◌, codes, decimal}
 use Rattle.hex.specs.Hex.{encode_lower}
 use Rattle.rv_spec.specs.Runs.{Run}
-use Rattle.smt_text.specs.Names.{path_text}
+use Rattle.text_parts.specs.Names.{path_text}
 use Rattle.test_files.specs.Tests.{end_text}
 
 -- five lines: that it differs, and how the run ends, its steps, its path and its output

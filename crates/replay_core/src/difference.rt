@@ -5,12 +5,12 @@ ghost use Rattle.rv_spec.specs.Runs.{Run};
 ghost use Rattle.replay_core.specs.Differences.{difference_text};
 ghost use Rattle.replay_core.specs.Replays.{IsWhatRan};
 
+use byte_list::Bytes;
 use itoa::Buffer;
 use rv_machine::Ran;
-use smt_text::write_path;
 use std::alloc::{AllocError as NoMemory, Global};
 use test_files::end_text;
-use tool_io::Bytes;
+use text_parts::write_path;
 
 /// Five lines: that the run differs, and its end, its steps, its path and its output.
 pub fn write_difference(alloc: Global, ran: &Ran) -> Result<Bytes, NoMemory>

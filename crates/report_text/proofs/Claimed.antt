@@ -33,12 +33,12 @@ use Rattle.fork_spec.specs.Parts.{Evidence, IsRight, OnConflicts, OnTargets, Par
 use Rattle.fork_spec.specs.Ranks.{AreRanked}
 use Rattle.fork_spec.specs.Runs.{AreWithin, IsFaithful}
 use Rattle.fork_spec.specs.Walks.{Line, Standing, is_settled}
-use Rattle.fork_spec.specs.Written.{LeadsTo, StandsAs, cut_where, lines_of}
+use Rattle.fork_tree.specs.Written.{LeadsTo, StandsAs, cut_where, lines_of}
 use Rattle.fork_spec.specs.declared.end.LeafEnd.{LeafEnd}
 use Rattle.fork_spec.specs.declared.end.LeafEnd.TheVariants.{Exits, Traps, Cut}
 use Rattle.fork_spec.proofs.ByteLists.{are_bytes-of}
-use Rattle.fork_spec.proofs.Quiet.{leaves-walked, quiet-walked}
-use Rattle.fork_spec.proofs.Releases.{once_written}
+use Rattle.fork_tree.proofs.Quiet.{leaves-walked, quiet-walked}
+use Rattle.fork_tree.proofs.Releases.{once_written}
 use Rattle.fork_tree.specs.Contents.{cut_in, place_in}
 use Rattle.fork_tree.specs.Drains.{IsDrained}
 use Rattle.fork_tree.specs.Nodes.{HasLeaf, IsLeafRight, IsRightAt}

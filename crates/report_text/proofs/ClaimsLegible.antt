@@ -24,7 +24,7 @@ use Rattle.fork_spec.specs.Runs.{IsFaithful, end_on}
 use Rattle.fork_spec.specs.Walks.{Line, root}
 use Rattle.fork_spec.specs.declared.end.LeafEnd.{LeafEnd}
 use Rattle.fork_spec.specs.declared.end.LeafEnd.TheVariants.{Exits, Traps, Cut}
-use Rattle.sym_state.proofs.Naming.{number_fits}
+use Rattle.term_trees.proofs.Numbers.{number_fits}
 use Rattle.test_files.specs.Tests.{Test}
 use Rattle.test_files.specs.Writable.{HasStatus, HasTarget, IsLegible}
 use Rattle.report_text.specs.Claims.{Beside, Entry, HasSpent, IsReport, IsRun, IsTested, Learning, Spending, Tested, leaf_nodes_of, leaves_of}

@@ -10,12 +10,12 @@ use Rattle.tree_core.specs.declared.event.Deed.{Deed}
 use Rattle.tree_core.specs.declared.event.Deed.TheVariants.{Claim, Split, Finish, Cut, Release}
 use Rattle.fork_spec.specs.Leaves.{IsSmall, IsSmallChoice}
 use Rattle.fork_spec.specs.Walks.{Line, Side, Sides}
-use Rattle.smt_text.specs.LineReading.{choice}
-use Rattle.smt_text.specs.Names.{choice_text}
-use Rattle.smt_text.specs.Pieces.{Reader, behind, made, named, number, two}
-use Rattle.smt_text.proofs.ItemsBack.{choice_back}
-use Rattle.smt_text.proofs.TermsBack.{three_pieces}
-use Rattle.smt_text.proofs.Words.{behind_word, number_back, starts_plain, two_back}
+use Rattle.text_parts.specs.Items.{choice}
+use Rattle.text_parts.specs.Names.{choice_text}
+use Rattle.text_parts.specs.Pieces.{Reader, behind, made, named, number, two}
+use Rattle.text_parts.proofs.ItemsBack.{choice_back}
+use Rattle.text_parts.proofs.Joined.{three_pieces}
+use Rattle.text_parts.proofs.Words.{behind_word, number_back, starts_plain, two_back}
 use Rattle.report_text.specs.Events.{actors_text, cut_text, deed_text, event_text, events_text, mark_text, side_text, sides_text}
 use Rattle.report_text.specs.Legible.{AreLegible, IsLegibleDeed, IsLegibleLine}
 use Rattle.report_text.proofs.ListsBack.{items_told, lines_told}

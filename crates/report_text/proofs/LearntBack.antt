@@ -12,10 +12,10 @@ use Rattle.cnf_form.specs.Refutations.{Step}
 use Rattle.fork_spec.specs.Evidence.{Learnt}
 use Rattle.fork_spec.specs.Leaves.{IsSmall}
 use Rattle.smt_text.specs.LeafLines.{query_text}
-use Rattle.smt_text.specs.Pieces.{Reader, behind, made, number, plain_number, three}
+use Rattle.text_parts.specs.Pieces.{Reader, behind, made, number, plain_number, three}
 use Rattle.smt_text.proofs.OneReading.{question_before}
-use Rattle.smt_text.proofs.TermsBack.{five_pieces}
-use Rattle.smt_text.proofs.Words.{behind_word, number_back, starts_plain, three_back}
+use Rattle.text_parts.proofs.Joined.{five_pieces}
+use Rattle.text_parts.proofs.Words.{behind_word, number_back, starts_plain, three_back}
 use Rattle.report_text.specs.Learnt.{conflicts_text, hint_text, learnt_heading, learnt_line, literal_text}
 use Rattle.report_text.specs.Legible.{IsLegibleLearnt}
 use Rattle.report_text.proofs.ListsBack.{all_go_on, items_told, lines_told}

@@ -4,7 +4,7 @@ use Rattle.std.specs.Prelude.{All}
 use Rattle.std.specs.List.{flat_map}
 use Rattle.std.proofs.lemmas.List.Elements.{All-head, All-tail}
 use Rattle.std.proofs.lemmas.Option.{none-some, same_Some}
-use Rattle.smt_text.specs.Pieces.{Reader}
+use Rattle.text_parts.specs.Pieces.{Reader}
 
 -- the same text, split behind its first item
 split_first : {X : Type 0} (print : X → List ℕ) (x : X) (xs : List X) (more : List ℕ) →

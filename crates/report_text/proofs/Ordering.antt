@@ -13,7 +13,8 @@ use Rattle.tree_core.specs.declared.choice.Choice.{Choice}
 use Rattle.tree_core.specs.declared.node.Status.{Status}
 use Rattle.tree_core.specs.declared.node.Status.TheVariants.{Free, Held, Parted, Leaf as IsLeaf}
 use Rattle.fork_spec.specs.Histories.{is_leaf_status}
-use Rattle.fork_spec.specs.Partings.{AreNodesApart, ArePlacesApart, FirstDiffer, Place}
+use Rattle.fork_spec.specs.Partings.{ArePlacesApart, FirstDiffer, Place}
+use Rattle.fork_tree.specs.NodesApart.{AreNodesApart}
 use Rattle.fork_spec.specs.Parts.{Part}
 use Rattle.rv_spec.specs.Decisions.{Decision}
 use Rattle.fork_tree.specs.Contents.{place_in}

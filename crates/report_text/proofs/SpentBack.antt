@@ -8,12 +8,12 @@ use Rattle.std.proofs.lemmas.List.Elements.{All-head, All-tail}
 use Rattle.std.proofs.lemmas.Option.{same_Some}
 use Rattle.hex.specs.Hex.{IsBytes, encode_lower, encode_with, lower_digits}
 use Rattle.fork_spec.specs.Evidence.{Found, Spent}
-use Rattle.smt_text.specs.Names.{eight_digits}
-use Rattle.smt_text.specs.Pieces.{eight, two}
-use Rattle.smt_text.proofs.DigitsBack.{bytes_by_digits, none_at}
-use Rattle.smt_text.proofs.ItemsBack.{eight_back}
-use Rattle.smt_text.proofs.TermsBack.{five_pieces}
-use Rattle.smt_text.proofs.Words.{two_back}
+use Rattle.text_parts.specs.Names.{eight_digits}
+use Rattle.text_parts.specs.Pieces.{eight, two}
+use Rattle.text_parts.proofs.DigitsBack.{bytes_by_digits, none_at}
+use Rattle.text_parts.proofs.ItemsBack.{eight_back}
+use Rattle.text_parts.proofs.Joined.{five_pieces}
+use Rattle.text_parts.proofs.Words.{two_back}
 use Rattle.report_text.specs.Legible.{IsLegibleFound, IsLegibleSpent}
 use Rattle.report_text.specs.Spent.{found_text, targets_text}
 use Rattle.report_text.proofs.ListsBack.{lines_told}

@@ -15,8 +15,8 @@ use Rattle.tree_core.specs.declared.event.Deed.TheVariants.{Claim, Split, Finish
 use Rattle.tree_core.specs.Stories.{left_by}
 use Rattle.fork_spec.specs.Leaves.{IsSmall, IsSmallChoice}
 use Rattle.fork_spec.specs.Walks.{Line, Side, Sides, Standing, are_branch_sides, are_sides, are_small, are_values, births, cut_by, done_on, is_in_form, is_increasing, is_one_cut_at_most, is_rest, is_rest_cut, may_come, open_value, step, value_before, values_first, walk_from}
-use Rattle.smt_text.proofs.Options.{then_from}
-use Rattle.smt_text.proofs.Phases.{lt_from}
+use Rattle.text_parts.proofs.Options.{then_from}
+use Rattle.text_parts.proofs.Tests.{lt_from}
 use Rattle.report_text.specs.Legible.{AreLegible, IsLegibleDeed, IsLegibleLine}
 use Rattle.report_text.proofs.Ranked.{same_are_equal}
 

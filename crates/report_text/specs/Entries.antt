@@ -14,7 +14,7 @@ use Rattle.fork_spec.specs.Leaves.{Leaf}
 use Rattle.fork_spec.specs.Partings.{Place, place_of}
 use Rattle.fork_spec.specs.Parts.{Evidence, IsRight, OnConflicts, OnTargets, Part}
 use Rattle.fork_spec.specs.Ranks.{AreRanked}
-use Rattle.fork_spec.specs.Written.{lines_of}
+use Rattle.fork_tree.specs.Written.{lines_of}
 use Rattle.fork_tree.specs.Contents.{cut_in}
 use Rattle.fork_tree.specs.Works.{Rules}
 use Rattle.tool_io.specs.Told.{Put}

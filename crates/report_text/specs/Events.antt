@@ -5,7 +5,7 @@ use Rattle.tree_core.specs.declared.cause.Cause.{Cause}
 use Rattle.tree_core.specs.declared.event.Deed.{Deed}
 use Rattle.tree_core.specs.declared.event.Deed.TheVariants.{Claim, Split, Finish, Cut, Release}
 use Rattle.fork_spec.specs.Walks.{Line, Side, Sides}
-use Rattle.smt_text.specs.Names.{cause_text, choice_text}
+use Rattle.text_parts.specs.Names.{cause_text, choice_text}
 
 -- why a leaf was cut, and nothing where it was not
 abbrev pub cut_text : Option Cause → List ℕ

@@ -2,7 +2,7 @@
 use Rattle.std.specs.Prelude.{ℕ, List, ◌++◌, codes, decimal, length}
 use Rattle.std.specs.List.{flat_map}
 use Rattle.hex.specs.Hex.{encode_lower}
-use Rattle.smt_text.specs.Names.{eight_digits}
+use Rattle.text_parts.specs.Names.{eight_digits}
 use Rattle.fork_spec.specs.Evidence.{Found, Spent}
 
 -- a value, and the bytes of the assignment

@@ -1,14 +1,14 @@
 //! The lines of events.
 
 ghost use Rattle.std.specs.Prelude.{◌≡◌, ◌+◌, ◌≤◌, ◌++◌, IfOk, codes, decimal, if◌then◌else◌, length, map, None, string_bytes};
-ghost use Rattle.fork_spec.specs.Written.{born_by, choice_in, lines_of, nodes_after, side_born, written};
+ghost use Rattle.fork_tree.specs.Written.{born_by, choice_in, lines_of, nodes_after, side_born, written};
 ghost use Rattle.report_text.specs.Events as spec;
 
 use crate::marked::Marked;
+use byte_list::Bytes;
 use itoa::Buffer;
-use smt_text::{cause_name, write_choice};
 use std::alloc::{AllocError as NoMemory, Global};
-use tool_io::Bytes;
+use text_parts::{cause_name, write_choice};
 use tree_core::{Cause, Choice, Deed, Node, Noted, Origin};
 
 /// Why a leaf was cut; nothing where it was not.

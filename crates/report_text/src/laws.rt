@@ -11,7 +11,7 @@ ghost use Rattle.tree_core.specs.declared.event.Event.{Event};
 ghost use Rattle.fork_spec.specs.Evidence.{Learnt, Spent};
 ghost use Rattle.fork_spec.specs.Histories.{ReleaseOnce};
 ghost use Rattle.fork_spec.specs.Walks.{Line};
-ghost use Rattle.fork_spec.specs.Written.{lines_of};
+ghost use Rattle.fork_tree.specs.Written.{lines_of};
 ghost use Rattle.fork_tree.specs.Contents.{cut_in, place_in};
 ghost use Rattle.fork_tree.specs.Drains.{IsDrained};
 ghost use Rattle.fork_tree.specs.declared.content.Content.{Content};

@@ -7,11 +7,12 @@ ghost use Rattle.fork_spec.specs.Leaves.{IsSmall};
 ghost use Rattle.report_text.specs.Learnt.{conflicts_text, hint_text, learnt_heading, learnt_line, literal_text};
 ghost use Rattle.report_text.specs.Legible.{HasSmallNumbers};
 
+use byte_list::Bytes;
 use cnf_form::{Lit, LogStep};
-use smt_text::{print_query, push_numbered};
+use leaf_part::Learnt;
+use smt_text::print_query;
 use std::alloc::{AllocError as NoMemory, Global};
-use sym_state::Learnt;
-use tool_io::Bytes;
+use text_parts::push_numbered;
 
 /// Appends a literal, behind a blank.
 fn write_literal(text: &mut String, literal: Lit) -> Result<(), NoMemory>

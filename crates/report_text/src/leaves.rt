@@ -12,8 +12,8 @@ use crate::ranking::{RankedLeaf, sort_by_rank};
 use crate::reported::Reported;
 use fork_spec::LeafEnd;
 use fork_tree::{Tree, Work};
+use leaf_part::LeafPart;
 use std::alloc::{AllocError as NoMemory, Global};
-use sym_state::LeafPart;
 use tree_core::{Choice, Status};
 
 /// What has a leaf, with what shows it.

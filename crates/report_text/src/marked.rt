@@ -7,7 +7,7 @@ ghost use Rattle.tree_core.specs.declared.cause.Cause.{Cause};
 
 use fork_spec::LeafEnd;
 use fork_tree::Content;
-use sym_state::LeafPart;
+use leaf_part::LeafPart;
 use tree_core::Cause;
 
 /// What may be a leaf that was cut.

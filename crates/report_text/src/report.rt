@@ -1,7 +1,7 @@
 //! The report of a tree that is done: its files, and the line that is said.
 
 ghost use Rattle.std.specs.Prelude.{◌≡◌, ◌<◌, ◌^◌, ◌++◌, ◌∷◌, [], All, IfOk, OnOk, length, map};
-ghost use Rattle.fork_spec.specs.Written.{lines_of, nodes_after};
+ghost use Rattle.fork_tree.specs.Written.{lines_of, nodes_after};
 ghost use Rattle.fork_tree.specs.Contents.{cut_in};
 ghost use Rattle.fork_tree.specs.Drains.{IsDrained};
 ghost use Rattle.report_text.specs.Entries.{AreReportable, IsPlacedByPart, IsReportOfTree, IsReportable, beside_of, entries_of, node_of};
@@ -17,13 +17,14 @@ use crate::report_json::write_report;
 use crate::sample_test::make_test;
 use crate::spent::write_targets;
 use crate::summary::{summarize, summary_line};
+use byte_list::Bytes;
 use elf_load::Regions;
 use fork_tree::{Tree, Work};
+use leaf_part::{Evidence, LeafPart};
 use smt_text::print_parts;
 use std::alloc::{AllocError as NoMemory, Global};
-use sym_state::{Evidence, LeafPart};
 use test_files::write_test;
-use tool_io::{Bytes, NamedFile};
+use tool_io::NamedFile;
 use tree_core::Budgets;
 
 /// What is put and said of the leaves of a program.

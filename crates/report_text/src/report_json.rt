@@ -2,18 +2,18 @@
 
 ghost use Rattle.std.specs.Prelude.{◌≡◌, ◌<◌, ◌^◌, IfOk, length, map, string_bytes};
 ghost use Rattle.serde_json.specs.View.{view};
-ghost use Rattle.smt_text.specs.Names.{choices_text};
+ghost use Rattle.text_parts.specs.Names.{choices_text};
 ghost use Rattle.report_text.specs.ReportData.{budgets_data, leaf_node_data, leaf_nodes_data, object_data, report_data, totals_data};
 ghost use Rattle.report_text.specs.Reports.{report_text};
 
 use crate::reported::Reported;
 use crate::summary::{Summary, summarize};
+use byte_list::Bytes;
 use elf_load::Regions;
 use serde_json::{Value, json};
-use smt_text::{end_name, kind_name, write_choices};
 use std::alloc::{AllocError as NoMemory, Global};
 use test_files::region_list;
-use tool_io::Bytes;
+use text_parts::{end_name, kind_name, write_choices};
 use tree_core::{Budgets, Choice};
 
 /// The choices, with nothing between.

@@ -6,13 +6,13 @@ ghost use Rattle.report_text.specs.Files.{test_of};
 ghost use Rattle.report_text.specs.Samples.{IsByteEnd, end_in};
 
 use bv_dag::Word;
+use byte_list::Bytes;
 use elf_load::Regions;
 use fork_spec::LeafEnd;
+use leaf_part::LeafPart;
 use rv_decode::End;
 use std::alloc::{AllocError as NoMemory, Global};
-use sym_state::LeafPart;
 use test_files::Test;
-use tool_io::Bytes;
 
 /// The byte that a term of eight bits is worth.
 fn byte_at(words: &[Word], id: usize) -> u8

@@ -4,10 +4,10 @@ ghost use Rattle.std.specs.Prelude.{◌≡◌, IfOk, string_bytes};
 ghost use Rattle.std.specs.List.{flat_map};
 ghost use Rattle.report_text.specs.Spent.{found_text, targets_text};
 
+use byte_list::Bytes;
 use itoa::Buffer;
+use leaf_part::{Found, Spent};
 use std::alloc::{AllocError as NoMemory, Global};
-use sym_state::{Found, Spent};
-use tool_io::Bytes;
 
 /// The line of a value and its assignment.
 fn found_line(alloc: Global, found: &Found) -> Result<String, NoMemory>

@@ -7,10 +7,10 @@ ghost use Rattle.report_text.specs.Summaries as spec;
 ghost use Rattle.report_text.specs.Summaries.{HasRoom, count, summary_text};
 
 use crate::reported::Reported;
+use byte_list::Bytes;
 use fork_spec::LeafEnd;
 use itoa::Buffer;
 use std::alloc::{AllocError as NoMemory, Global};
-use tool_io::Bytes;
 use tree_core::Cause;
 
 /// How many leaves of which sort there are.

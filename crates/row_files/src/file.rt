@@ -3,8 +3,8 @@
 ghost use Rattle.std.specs.Prelude.{◌≡◌, ◌<◌, ◌^◌, ◌++◌, IfOk, OnOk, length};
 ghost use Rattle.row_files.specs.RowFiles.{elf_header, row_file, words_bytes};
 
+use byte_list::Bytes;
 use std::alloc::{AllocError as NoMemory, Global};
-use tool_io::Bytes;
 
 // An executable of RISC-V whose entry is 0x10000, with two program headers right behind.
 const ELF_HEADER: [u8; 52] = [

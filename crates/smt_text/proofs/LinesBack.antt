@@ -14,17 +14,19 @@ use Rattle.tree_core.specs.declared.cause.Cause.TheVariants.{Steps, Targets, Con
 use Rattle.smt_text.specs.Grammar.{Reading, graph_of, is_wide, stands}
 use Rattle.smt_text.specs.LineReading.{endings, kind_said, kinds, line_at, node_line, word_said}
 use Rattle.smt_text.specs.Lines.{LeafLine, FormatLine, KindLine, ChoicesLine, PathLine, StepsLine, EndLine, InputsLine, NodesLine, OutputsLine, LogicLine, InputLine, BaseLine, NodeLine, StatusLine, OutputLine, AssertLine, CheckLine, ExitLine, line_text}
-use Rattle.smt_text.specs.Names.{Kind, finished, cut, EndWord, exit, trap, running, choices_text, kind_text, path_text, word_text}
+use Rattle.text_parts.specs.Names.{Kind, finished, cut, EndWord, exit, trap, running, choices_text, kind_text, path_text, word_text}
 use Rattle.smt_text.specs.NodeFits.{fits}
 use Rattle.smt_text.specs.NodeText.{node_text}
-use Rattle.smt_text.specs.Pieces.{before, behind, list_end, made, named, one}
+use Rattle.text_parts.specs.Pieces.{before, behind, list_end, made, named, one}
 use Rattle.smt_text.specs.declared.spot.Spot.{Spot}
 use Rattle.smt_text.specs.declared.spot.Spot.TheVariants.{AtFormat, AtKind, AtChoices, AtPath, AtSteps, AtEnd, AtInputs, AtNodes, AtOutputs, AtLogic, AmongInputs, AtBase, AmongNodes, AtStatus, AmongOutputs, AmongAssertions, AtExit}
-use Rattle.smt_text.proofs.ItemsBack.{choices_back, steps_back}
+use Rattle.text_parts.proofs.ItemsBack.{choices_back, steps_back}
 use Rattle.smt_text.specs.Phases.{Counted, IsWithin}
-use Rattle.smt_text.proofs.Phases.{fits_from, lt_from, small_choices, small_path}
-use Rattle.smt_text.proofs.TermsBack.{IsSmallNode, five_pieces, seven_pieces, term_back, three_pieces}
-use Rattle.smt_text.proofs.Words.{behind_word, one_back, starts_plain, two_back}
+use Rattle.smt_text.proofs.Phases.{fits_from, small_choices, small_path}
+use Rattle.text_parts.proofs.Tests.{lt_from}
+use Rattle.smt_text.proofs.TermsBack.{IsSmallNode, term_back}
+use Rattle.text_parts.proofs.Joined.{five_pieces, seven_pieces, three_pieces}
+use Rattle.text_parts.proofs.Words.{behind_word, one_back, starts_plain, two_back}
 
 -- ---- the numbers of a node that fits
 

@@ -16,7 +16,7 @@ use Rattle.fork_spec.specs.declared.end.LeafEnd.TheVariants.{Exits, Traps, Cut}
 use Rattle.smt_text.specs.Grammar.{Reading, agree, behind_inputs, behind_nodes, behind_outputs, end_of, exits, graph_of, is_wide, leaf_of, read_lines, stands, start, with_line}
 use Rattle.smt_text.specs.LeafLines.{counts_heading, input_lines, leaf_lines, node_lines, output_lines, runs_heading, status_lines}
 use Rattle.smt_text.specs.Lines.{LeafLine, FormatLine, KindLine, ChoicesLine, PathLine, StepsLine, EndLine, InputsLine, NodesLine, OutputsLine, LogicLine, InputLine, BaseLine, NodeLine, StatusLine, OutputLine, AssertLine, CheckLine, ExitLine}
-use Rattle.smt_text.specs.Names.{Kind, finished, cut, EndWord, exit, trap, running}
+use Rattle.text_parts.specs.Names.{Kind, finished, cut, EndWord, exit, trap, running}
 use Rattle.smt_text.specs.NodeFits.{fits}
 use Rattle.smt_text.specs.Phases.{Counted, IsSound}
 use Rattle.smt_text.specs.declared.spot.Spot.{Spot}

@@ -16,7 +16,7 @@ use Rattle.smt_text.specs.Grammar.{Reading, leaf_of, next_state, read_lines, sta
 use Rattle.smt_text.specs.LeafLines.{assertions, counts_heading, leaf_lines, leaf_text, query_lines, query_text, runs_heading, term_lines}
 use Rattle.smt_text.specs.LineReading.{line_at, node_line}
 use Rattle.smt_text.specs.Lines.{LeafLine, CheckLine, ExitLine, line_text, lines_text}
-use Rattle.smt_text.specs.Pieces.{behind}
+use Rattle.text_parts.specs.Pieces.{behind}
 use Rattle.smt_text.specs.declared.spot.Spot.{Spot}
 use Rattle.smt_text.specs.declared.spot.Spot.TheVariants.{AtFormat, AtKind, AtChoices, AtPath, AtSteps, AtEnd, AtInputs, AtNodes, AtOutputs, AtLogic, AmongInputs, AtBase, AmongNodes, AtStatus, AmongOutputs, AmongAssertions, AtExit, Closed}
 use Rattle.smt_text.proofs.LinesBack.{line_back}

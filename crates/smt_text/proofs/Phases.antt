@@ -24,11 +24,9 @@ use Rattle.smt_text.specs.NodeFits.{fits}
 use Rattle.smt_text.specs.Phases.{Counted, IsWithin}
 use Rattle.smt_text.specs.declared.spot.Spot.{Spot}
 use Rattle.smt_text.specs.declared.spot.Spot.TheVariants.{AtFormat, AtKind, AtChoices, AtPath, AtSteps, AtEnd, AtInputs, AtNodes, AtOutputs, AtLogic, AmongInputs, AtBase, AmongNodes, AtStatus, AmongOutputs, AmongAssertions, AtExit}
+use Rattle.text_parts.proofs.Tests.{lt_from}
 
 -- ---- what the tests say
-
-pub lt_from : (a b : ℕ) → nat_lt a b ≡ true → a < b
-lt_from a b h = grind (arith, nat_tests)
 
 small_choice : (c : Choice) → is_small_choice c ≡ true → IsSmallChoice c
 small_choice No h = tt

@@ -19,7 +19,7 @@ use Rattle.smt_text.specs.Grammar.{Reading, IsTextOf, agree, end_of, graph_of, i
 use Rattle.smt_text.specs.LeafLines.{heading, assertions, input_lines, node_lines, output_lines, status_lines, leaf_text, leaf_lines}
 use Rattle.fork_spec.specs.Leaves.{IsByteStatus, IsFull, IsSmallChoice, IsSmallStep, Leaf}
 use Rattle.smt_text.specs.Lines.{LeafLine, LogicLine, InputLine, BaseLine, NodeLine, StatusLine, OutputLine, AssertLine, CheckLine, ExitLine}
-use Rattle.smt_text.specs.Names.{kind_of, word_of}
+use Rattle.text_parts.specs.Names.{kind_of, word_of}
 use Rattle.fork_spec.specs.declared.end.LeafEnd.{LeafEnd}
 use Rattle.fork_spec.specs.declared.end.LeafEnd.TheVariants.{Exits, Traps, Cut}
 use Rattle.smt_text.proofs.Fitting.{fits_here, width_here}

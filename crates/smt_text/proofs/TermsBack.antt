@@ -1,5 +1,5 @@
 -- The text of a term is read back.
-use Rattle.std.proofs.Common.{◌≡◌, ◌∙◌, ℕ, ◌<◌, ◌^◌, true, false, nat_lt, List, ◌++◌, None, Some, refl, ap, arith, codes, decimal, append_assoc}
+use Rattle.std.proofs.Common.{◌≡◌, ◌∙◌, ℕ, ◌<◌, ◌^◌, true, false, nat_lt, List, ◌++◌, None, Some, refl, ap, arith, codes, decimal}
 use Rattle.std.proofs.lemmas.Bool.Decides.{nat_tests}
 use Rattle.bv_dag.specs.declared.nodes.BinaryOp.{BinaryOp}
 use Rattle.bv_dag.specs.declared.nodes.BinaryOp.TheVariants.{Add, Sub, Mul, Udiv, Urem, And, Or, Xor, Shl, Lshr, Ashr}
@@ -8,10 +8,11 @@ use Rattle.bv_dag.specs.declared.nodes.Node.{Node}
 use Rattle.bv_dag.specs.declared.nodes.Node.TheVariants.{Num, Input, Not, Neg, Binary, Compare, Ite, Extract, Extend, Concat}
 use Rattle.smt_text.specs.LineReading.{answers, heads, operands, term}
 use Rattle.smt_text.specs.NodeText.{binary_name, node_text}
-use Rattle.smt_text.specs.Pieces.{behind, named}
+use Rattle.text_parts.specs.Pieces.{behind, named}
 use Rattle.smt_text.specs.declared.head.Head.{Head}
 use Rattle.smt_text.specs.declared.head.Head.TheVariants as head
-use Rattle.smt_text.proofs.Words.{not_two, number_back, one_back, starts_plain, three_back, two_back}
+use Rattle.text_parts.proofs.Joined.{five_pieces, seven_pieces, three_pieces, two_pieces}
+use Rattle.text_parts.proofs.Words.{not_two, number_back, one_back, starts_plain, three_back, two_back}
 
 -- the numbers of a term fit 64 bits, and the widths in it 32
 abbrev pub IsSmallNode : Node → Type 0
@@ -31,21 +32,6 @@ lt_true a b h = grind (arith, nat_tests)
 
 wide : (n : ℕ) → n < 2 ^ 32 → n < 2 ^ 64
 wide n h = omega arith
-
--- the same pieces, with the first in front
-pub two_pieces : (h a rest : List ℕ) → (h ++ a) ++ rest ≡ h ++ (a ++ rest)
-two_pieces h a rest = simp append_assoc
-
-pub three_pieces : (h a e rest : List ℕ) → ((h ++ a) ++ e) ++ rest ≡ h ++ (a ++ (e ++ rest))
-three_pieces h a e rest = simp append_assoc
-
-pub five_pieces : (h a m b e rest : List ℕ) →
-    ((((h ++ a) ++ m) ++ b) ++ e) ++ rest ≡ h ++ (a ++ (m ++ (b ++ (e ++ rest))))
-five_pieces h a m b e rest = simp append_assoc
-
-pub seven_pieces : (h a m b n c e rest : List ℕ) →
-    ((((((h ++ a) ++ m) ++ b) ++ n) ++ c) ++ e) ++ rest ≡ h ++ (a ++ (m ++ (b ++ (n ++ (c ++ (e ++ rest))))))
-seven_pieces h a m b n c e rest = simp append_assoc
 
 -- a term whose head and whose operands are read
 with_head : (word text : List ℕ) (found : Head) (node : Node) (rest : List ℕ) →

@@ -11,7 +11,7 @@ use Rattle.tree_core.specs.declared.choice.Choice.{Choice}
 use Rattle.tree_core.specs.declared.choice.Choice.TheVariants.{Value}
 use Rattle.fork_spec.specs.Leaves.{Leaf}
 use Rattle.smt_text.specs.Lines.{LeafLine, FormatLine, KindLine, ChoicesLine, PathLine, StepsLine, EndLine, InputsLine, NodesLine, OutputsLine, LogicLine, InputLine, BaseLine, NodeLine, StatusLine, OutputLine, AssertLine, CheckLine, ExitLine, lines_text}
-use Rattle.smt_text.specs.Names.{Kind, finished, cut, EndWord, exit, trap, running}
+use Rattle.text_parts.specs.Names.{Kind, finished, cut, EndWord, exit, trap, running}
 use Rattle.smt_text.specs.NodeFits.{fits}
 use Rattle.smt_text.specs.declared.spot.Spot.{Spot}
 use Rattle.smt_text.specs.declared.spot.Spot.TheVariants.{AtFormat, AtKind, AtChoices, AtPath, AtSteps, AtEnd, AtInputs, AtNodes, AtOutputs, AtLogic, AmongInputs, AtBase, AmongNodes, AtStatus, AmongOutputs, AmongAssertions, AtExit, Closed}
@@ -206,3 +206,10 @@ pub record IsTextOf (text : List ℕ) (leaf : Leaf) : Type 0 where
   pub lines : List LeafLine
   pub read_as : ReadAs lines leaf
   pub is_theirs : text ≡ lines_text lines
+
+-- all of the text was read as lines that may stand, up to the exit
+pub record IsWhole (text : List ℕ) (reading : Reading) : Type 0 where
+  pub lines : List LeafLine
+  pub all_stand : read_lines start lines ≡ Some reading
+  pub is_theirs : text ≡ lines_text lines
+  pub to_the_end : reading.place ≡ Closed

@@ -1,12 +1,7 @@
-pub mod Names
 pub mod NodeText
 pub mod Lines
 pub mod LeafLines
 pub mod NodeFits
 pub mod Grammar
-pub mod Digits
-pub mod Pieces
 pub mod LineReading
 pub mod Phases
-pub mod ReadingState
-pub mod Refusals

@@ -1,28 +1,24 @@
 -- The line that a text begins with, at each place of a leaf's text. It may stand there where the grammar
 -- says so.
-use Rattle.std.specs.Prelude.{◌≡◌, ℕ, suc, ◌^◌, Bool, true, false, nat_lt, if◌then◌else◌, List, [], ◌∷◌, length, Option, None, Some, codes, option_map, option_and_then}
+use Rattle.std.specs.Prelude.{ℕ, ◌^◌, true, false, nat_lt, if◌then◌else◌, List, [], ◌∷◌, Option, None, Some, codes, option_map, option_and_then}
 use Rattle.std.specs.Option.{option_or}
 use Rattle.bv_dag.specs.declared.nodes.BinaryOp.TheVariants.{Add, Sub, Mul, Udiv, Urem, And, Or, Xor, Shl, Lshr, Ashr}
 use Rattle.bv_dag.specs.declared.nodes.Comparison.TheVariants.{Ult, Slt, Eq}
 use Rattle.bv_dag.specs.declared.nodes.Node.{Node}
 use Rattle.bv_dag.specs.declared.nodes.Node.TheVariants.{Num, Input, Not, Neg, Binary, Compare, Ite, Extract, Extend, Concat}
-use Rattle.rv_decode.specs.declared.ends.PathStep.{PathStep}
-use Rattle.rv_decode.specs.declared.ends.PathStep.TheVariants.{Taken, NotTaken, Target}
 use Rattle.rv_decode.specs.declared.ends.Trap.TheVariants.{Illegal, FetchMisaligned, FetchAccess, LoadMisaligned, LoadAccess, StoreMisaligned, StoreAccess, Break, Call}
 use Rattle.tree_core.specs.declared.cause.Cause.{Cause}
 use Rattle.tree_core.specs.declared.cause.Cause.TheVariants.{Steps, Targets, Conflicts}
-use Rattle.tree_core.specs.declared.choice.Choice.{Choice}
-use Rattle.tree_core.specs.declared.choice.Choice.TheVariants.{No, Yes, Value, Rest}
 use Rattle.fork_spec.specs.declared.end.LeafEnd.{LeafEnd}
-use Rattle.smt_text.specs.Grammar.{Reading, agree, behind_nodes, end_of, next_state, stands, with_line}
+use Rattle.smt_text.specs.Grammar.{Reading, agree, end_of, next_state}
 use Rattle.smt_text.specs.Lines.{LeafLine, FormatLine, KindLine, ChoicesLine, PathLine, StepsLine, EndLine, InputsLine, NodesLine, OutputsLine, LogicLine, InputLine, BaseLine, NodeLine, StatusLine, OutputLine, AssertLine, CheckLine, ExitLine, line_text}
-use Rattle.smt_text.specs.Names.{Kind, finished, cut, EndWord, exit, trap, running}
-use Rattle.smt_text.specs.Pieces.{Reader, before, behind, eight, items, made, named, number, one, three, two}
+use Rattle.text_parts.specs.Names.{Kind, finished, cut, EndWord, exit, trap, running}
+use Rattle.text_parts.specs.Items.{all_choices, all_steps}
+use Rattle.text_parts.specs.Pieces.{Reader, before, behind, made, named, number, one, three, two}
 use Rattle.smt_text.specs.declared.ending.Ending.{Ending}
 use Rattle.smt_text.specs.declared.ending.Ending.TheVariants as ending
 use Rattle.smt_text.specs.declared.head.Head.{Head}
 use Rattle.smt_text.specs.declared.head.Head.TheVariants as head
-use Rattle.smt_text.specs.declared.take_terms.NodeSaid.{NodeSaid}
 use Rattle.smt_text.specs.declared.spot.Spot.{Spot}
 use Rattle.smt_text.specs.declared.spot.Spot.TheVariants.{AtFormat, AtKind, AtChoices, AtPath, AtSteps, AtEnd, AtInputs, AtNodes, AtOutputs, AtLogic, AmongInputs, AtBase, AmongNodes, AtStatus, AmongOutputs, AmongAssertions, AtExit, Closed}
 
@@ -73,39 +69,6 @@ abbrev pub end_said : Option Cause → Ending → Option LeafEnd
 end_said kind said =
     if agree (kind_said kind) (word_said said) then Some (end_of (kind_said kind) (word_said said))
     else None
-
--- a choice
-abbrev pub plain_choices : List (List ℕ × Choice)
-plain_choices = (codes "N", No) ∷ (codes "Y", Yes) ∷ (codes "R", Rest) ∷ []
-
-abbrev pub plain_choice : Reader Choice
-plain_choice text = named plain_choices text
-
-abbrev pub value_choice : Reader Choice
-value_choice text = made Value (option_and_then eight (behind (codes "=") text))
-
-unfoldable pub choice : Reader Choice
-choice text = option_or (plain_choice text) (value_choice text)
-
--- an entry of a path
-abbrev pub branches : List (List ℕ × PathStep)
-branches = (codes "T", Taken) ∷ (codes "N", NotTaken) ∷ []
-
-abbrev pub branch : Reader PathStep
-branch text = named branches text
-
-abbrev pub target : Reader PathStep
-target text = made Target (option_and_then eight (behind (codes "@") text))
-
-unfoldable pub step : Reader PathStep
-step text = option_or (branch text) (target text)
-
--- all choices, and all entries, of a list; each takes a byte or more
-abbrev pub all_choices : Reader (List Choice)
-all_choices text = items choice (suc (length text)) text
-
-abbrev pub all_steps : Reader (List PathStep)
-all_steps text = items step (suc (length text)) text
 
 -- ---- terms
 
@@ -177,10 +140,6 @@ operands head.Concat text = made (λ (a, b). Concat a b) (two (codes " n") (code
 unfoldable pub term : Reader Node
 term text = option_and_then (λ (head, rest). operands head rest) (term_head text)
 
--- the line of a node, by its number, its width and the node
-abbrev pub line_said : NodeSaid → LeafLine
-line_said said = NodeLine said.id said.width said.node
-
 unfoldable pub node_line : Reader LeafLine
 node_line text =
     option_and_then (λ ((id, width), rest). made (NodeLine id width) (before term (codes ")\n") rest))
@@ -238,11 +197,6 @@ line_at AmongAssertions text =
     option_or (made AssertLine (assertion_said text)) (fixed CheckLine text)
 line_at AtExit text = fixed ExitLine text
 line_at Closed text = None
-
--- whether the line may stand, where it is read with it
-abbrev pub IsPushed : Reading → LeafLine → Reading → Bool → Type 0
-IsPushed old line new true = (stands AmongNodes old line ≡ true) × (record new { place = behind_nodes new } ≡ with_line old line)
-IsPushed old line new false = stands AmongNodes old line ≡ false
 
 -- what is read with the line that the text begins with, where it may stand, and what is behind it
 unfoldable pub next_line : Reading → Reader Reading

@@ -5,7 +5,7 @@ use Rattle.std.specs.List.{flat_map}
 use Rattle.bv_dag.specs.declared.nodes.Node.{Node}
 use Rattle.rv_decode.specs.declared.ends.PathStep.{PathStep}
 use Rattle.tree_core.specs.declared.choice.Choice.{Choice}
-use Rattle.smt_text.specs.Names.{Kind, EndWord, kind_text, word_text, path_text, choices_text}
+use Rattle.text_parts.specs.Names.{Kind, EndWord, kind_text, word_text, path_text, choices_text}
 use Rattle.smt_text.specs.NodeText.{node_text}
 
 -- One case for each kind of line. The first nine are comments, the others commands.

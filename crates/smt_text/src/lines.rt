@@ -5,10 +5,10 @@ ghost use Rattle.smt_text.specs.LeafLines as spec;
 ghost use Rattle.smt_text.specs.Lines.{AssertLine, InputLine, NodeLine, OutputLine, line_text, lines_text};
 
 use crate::node_text::write_node;
-use crate::numbered::push_numbered;
 use bv_dag::{Dag, Node};
 use fork_spec::LeafEnd;
 use std::alloc::AllocError as NoMemory;
+use text_parts::push_numbered;
 
 /// The room that is made for the line of a term, which most lines fit in.
 const BYTES_A_TERM: usize = 64;

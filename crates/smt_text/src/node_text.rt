@@ -3,9 +3,9 @@
 ghost use Rattle.std.specs.Prelude.{◌≡◌, ◌++◌, OnOk, string_bytes};
 ghost use Rattle.smt_text.specs.NodeText.{binary_name, comparison_name, extension_name, node_text};
 
-use crate::numbered::{push_closed, push_numbered};
 use bv_dag::{BinaryOp, Comparison, Node};
 use std::alloc::AllocError as NoMemory;
+use text_parts::{push_closed, push_numbered};
 
 /// The name of an operation.
 fn name_of_binary(op: BinaryOp) -> &'static str

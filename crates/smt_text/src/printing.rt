@@ -8,13 +8,12 @@ use crate::leaf::LeafText;
 use crate::lines::{
     write_assert_lines, write_input_lines, write_node_lines, write_output_lines, write_status_lines,
 };
-use crate::names::{end_name, kind_name, write_choices, write_path};
-use crate::numbered::push_numbered;
 use bv_dag::{Dag, Query};
+use byte_list::Bytes;
 use fork_spec::LeafEnd;
 use rv_decode::PathStep;
 use std::alloc::{AllocError as NoMemory, Global};
-use tool_io::Bytes;
+use text_parts::{end_name, kind_name, push_numbered, write_choices, write_path};
 use tree_core::Choice;
 
 /// Appends what runs a leaf is about: its kind, choices, path, steps and end.

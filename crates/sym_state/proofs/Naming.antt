@@ -1,6 +1,6 @@
 -- What the node of a term says of it: a number is that number, and any other is none.
 use Rattle.std.proofs.Common.{◌≡◌, ◌≢◌, ℕ, zero, suc, ◌-◌, ◌<◌, ◌^◌, List, refl, sym, ap, subst, ◌∙◌, arith}
-use Rattle.std.specs.Prelude.{◌==◌, All, not, None, Some, Result, Ok, Err, IfOk, slice_get}
+use Rattle.std.specs.Prelude.{◌==◌, not, None, Some, Result, Ok, Err, IfOk, slice_get}
 use Rattle.bv_dag.specs.BitVectors.{BitVector, IsBitVector, bvnot}
 use Rattle.bv_dag.specs.Graphs.{Graph, IsDag, number_of, val, width_of}
 use Rattle.bv_dag.specs.declared.nodes.Node.{Node}
@@ -10,7 +10,7 @@ use Rattle.term_simplify.specs.Builds.{BuildsNode}
 use Rattle.term_simplify.specs.Simplified.{tree_number}
 use Rattle.term_trees.specs.Trees.{Tree, Constant, IsTerm, node_tree, tree_of, tree_value, tree_width}
 use Rattle.rv_spec.specs.Arithmetic.{one_where}
-use Rattle.term_trees.proofs.Ranges.{in_range}
+use Rattle.term_trees.proofs.Numbers.{number_fits}
 use Rattle.term_trees.proofs.Terms.{is_term}
 use Rattle.term_trees.proofs.TreeLaws.{tree_by_cases, value-tree_of, width-tree_of}
 use Rattle.sym_state.specs.Values.{GivesTerm, IsUnknown}
@@ -60,14 +60,6 @@ other_bit : (n : ℕ) → n < 2 → 1 - n ≡ one_where (not (n == 1))
 other_bit zero small = refl
 other_bit (suc zero) small = refl
 other_bit (suc (suc n)) small = absurd (omega (arith, small))
-
--- a number is below what its bits can hold
-pub number_fits : (g : Graph) (id w : ℕ) (input : List ℕ) → IsTerm g.inputs (tree_of g id) → width_of g id ≡ w
-    → All (λ b. b < 256) input → number_of g id input < 2 ^ w
-number_fits g id w input term width bytes =
-    let fits = in_range g.inputs input bytes (tree_of g id) term in
-    subst (λ (x : BitVector). x.number < 2 ^ w) (value-tree_of g id input)
-    (subst (λ n. (tree_value input (tree_of g id)).number < 2 ^ n) (width-tree_of g id ∙ width) fits.in_range)
 
 pub not_gives : {E : Type 0} (g h : Graph) (id : ℕ) (r : Result ℕ E) → IsTerm g.inputs (tree_of g id)
     → width_of g id ≡ 1 → IfOk r (BuildsNode g h (Not id))

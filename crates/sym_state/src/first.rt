@@ -13,13 +13,13 @@ use crate::known::Known;
 use crate::program::Program;
 use crate::state::State;
 use crate::value::Value;
+use byte_list::Bytes;
 use cow_pages::{Byte, Pages};
 use cow_vec::CowVec;
 use elf_load::{Image, Region};
 use std::alloc::{AllocError as NoMemory, Global};
 use term_simplify::Builder;
 use term_table::Terms;
-use tool_io::Bytes;
 
 /// What the stack pointer, x2, is at the start.
 const STACK_POINTER: u32 = 0x7FFF_FFF0;

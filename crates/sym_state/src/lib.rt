@@ -1,5 +1,5 @@
 //! Symbolic runs: numbers and terms that stand for one run of the machine for each assignment of the input bytes that meets a
-//! condition; and the leaves that they become.
+//! condition.
 //!
 //! - `value`: what registers hold, and what tests give
 //! - `state`: a run, and what it holds
@@ -12,18 +12,15 @@
 //! - `first`: the run of all assignments
 //! - `program`: what is run
 //! - `decided`, `known`: what is known of a decision, and of those of a step
-//! - `leaf_part`, `evidence`: a leaf, and what shows it
 //! - `laws`: what holds of the terms of runs
 #![tactic(auto)]
 
 mod bytes;
 mod code;
 mod decided;
-mod evidence;
 mod first;
 mod known;
 pub mod laws;
-mod leaf_part;
 mod lists;
 mod moves;
 mod operations;
@@ -34,8 +31,6 @@ mod values;
 
 pub use code::Code;
 pub use decided::Decided;
-pub use evidence::{Evidence, Found, Learnt, Spent};
-pub use leaf_part::LeafPart;
 pub use lists::listed;
 pub use program::Program;
 pub use state::State;

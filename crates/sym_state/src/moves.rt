@@ -11,10 +11,10 @@ ghost use Rattle.sym_state.specs.Values.{IsByte, IsWide};
 use crate::decided::Decided;
 use crate::state::State;
 use crate::value::Value;
+use byte_list::Bytes;
 use cow_pages::Byte;
 use rv_decode::{PathStep, Register};
 use std::alloc::AllocError as NoMemory;
-use tool_io::Bytes;
 use tree_core::Choice;
 
 impl State {

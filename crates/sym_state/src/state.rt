@@ -9,15 +9,15 @@ ghost use Rattle.sym_state.specs.Values.{IsByte, IsWide};
 use crate::decided::Decided;
 use crate::known::Known;
 use crate::value::Value;
+use byte_list::Bytes;
 use cow_pages::{Byte, Pages};
 use cow_vec::CowVec;
-use fork_tree::Placed;
+use fork_spec::Placed;
 use rv_decode::{PathStep, Register};
 use std::alloc::{AllocError as NoMemory, Global};
 use std::marker::Model;
 use term_simplify::Builder;
 use term_table::Terms;
-use tool_io::Bytes;
 use tree_core::Choice;
 
 /// The bytes of a page.

@@ -3,3 +3,4 @@ pub mod Terms
 pub mod Ranges
 pub mod Conditions
 pub mod InputLaws
+pub mod Numbers

@@ -10,14 +10,14 @@ use Rattle.rv_decode.specs.declared.ends.PathStep.TheVariants.{Taken, NotTaken, 
 use Rattle.rv_decode.specs.declared.ends.Trap.TheVariants.{Illegal, FetchMisaligned, FetchAccess, LoadMisaligned, LoadAccess, StoreMisaligned, StoreAccess, Break, Call}
 use Rattle.serde_json.specs.Data.{string}
 use Rattle.serde_json.specs.View.{items_of}
-use Rattle.smt_text.specs.Names.{eight_digits, path_text, step_text}
-use Rattle.smt_text.specs.Digits.{hex_number}
+use Rattle.text_parts.specs.Names.{eight_digits, path_text, step_text}
+use Rattle.text_parts.specs.Digits.{hex_number}
 use Rattle.elf_load.specs.Regions.{put_first, region_with}
 use Rattle.test_files.specs.Forms.{end_of, exit_with, path_of, region_of, short_number}
 use Rattle.test_files.specs.Reading.{regions_of}
 use Rattle.test_files.specs.Tests.{end_text, region_text}
 use Rattle.test_files.specs.Writable.{HasStatus, HasTarget}
-use Rattle.smt_text.proofs.DigitsBack.{hex_back, length_eight}
+use Rattle.text_parts.proofs.DigitsBack.{hex_back, length_eight}
 use Rattle.test_files.proofs.ShortNumbers.{short_back}
 use Rattle.test_files.proofs.PathForms.{branch_at}
 

@@ -3,7 +3,7 @@ use Rattle.std.proofs.Common.{◌≡◌, ◌∙◌, sym, ap, codes}
 use Rattle.std.proofs.lemmas.Option.{same_Some}
 use Rattle.hex.specs.Hex.{encode_lower}
 use Rattle.serde_json.specs.Read.{read}
-use Rattle.smt_text.proofs.DigitsBack.{bytes_by_digits}
+use Rattle.text_parts.proofs.DigitsBack.{bytes_by_digits}
 use Rattle.test_files.specs.Reading.{end_in, number_at, path_in, regions_in, text_at}
 use Rattle.test_files.specs.TestData.{test_data}
 use Rattle.test_files.specs.Tests.{Test, test_text}

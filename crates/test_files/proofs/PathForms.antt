@@ -4,7 +4,7 @@ use Rattle.std.proofs.lemmas.Bool.Decides.{nat_tests}
 use Rattle.rv_decode.specs.declared.ends.PathStep.{PathStep}
 use Rattle.rv_decode.specs.declared.ends.PathStep.TheVariants.{Target}
 use Rattle.test_files.proofs.RegionForms.{to_end}
-use Rattle.smt_text.specs.Digits.{hex_number}
+use Rattle.text_parts.specs.Digits.{hex_number}
 use Rattle.elf_load.specs.Regions.{put_first}
 use Rattle.test_files.specs.Forms.{branch_of, path_of}
 

@@ -2,7 +2,7 @@
 use Rattle.std.proofs.Common.{ℕ, ◌≢◌, List, ◌≡◌, ◌<◌, ◌-◌, true, false, ◌==◌, length, length-drop, take, take_all, drop, get_or, Option, None, refl, arith}
 use Rattle.std.proofs.lemmas.Bool.Decides.{nat_tests}
 use Rattle.std.proofs.lemmas.List.{get_or_past}
-use Rattle.smt_text.specs.Digits.{hex_number}
+use Rattle.text_parts.specs.Digits.{hex_number}
 use Rattle.elf_load.specs.Regions.{region_with}
 use Rattle.test_files.specs.Forms.{region_of, short_number}
 

@@ -8,8 +8,8 @@ use Rattle.std.proofs.lemmas.Bool.Decides.{nat_tests}
 use Rattle.std.proofs.lemmas.Fmt.{decimal_is_IsNumeral, length-decimal-le}
 use Rattle.std.proofs.lemmas.Int.Digits.{digits_value-lt}
 use Rattle.std.proofs.lemmas.List.Folds.{list_all_at}
-use Rattle.smt_text.specs.Digits.{has_leading_zero}
-use Rattle.smt_text.proofs.DigitsBack.{no_leading_zero}
+use Rattle.text_parts.specs.Digits.{has_leading_zero}
+use Rattle.text_parts.proofs.DigitsBack.{no_leading_zero}
 use Rattle.test_files.specs.Forms.{short_number}
 
 -- there is room for one digit more

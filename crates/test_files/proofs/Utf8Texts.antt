@@ -18,7 +18,7 @@ use Rattle.rv_decode.specs.declared.ends.PathStep.{PathStep}
 use Rattle.rv_decode.specs.declared.ends.PathStep.TheVariants.{Taken, NotTaken, Target}
 use Rattle.rv_decode.specs.declared.ends.Trap.{Trap}
 use Rattle.rv_decode.specs.declared.ends.Trap.TheVariants.{Illegal, FetchMisaligned, FetchAccess, LoadMisaligned, LoadAccess, StoreMisaligned, StoreAccess, Break, Call}
-use Rattle.smt_text.specs.Names.{path_text, step_text}
+use Rattle.text_parts.specs.Names.{path_text, step_text}
 use Rattle.test_files.specs.Tests.{Test, end_text, quoted_all, region_text, test_text}
 use Rattle.test_files.specs.Writable.{HasStatus}
 

@@ -13,7 +13,7 @@ use Rattle.rv_decode.specs.declared.ends.PathStep.{PathStep}
 use Rattle.rv_decode.specs.declared.ends.PathStep.TheVariants.{Taken, NotTaken, Target}
 use Rattle.rv_decode.specs.declared.ends.Trap.{Trap}
 use Rattle.rv_decode.specs.declared.ends.Trap.TheVariants.{Illegal, FetchMisaligned, FetchAccess, LoadMisaligned, LoadAccess, StoreMisaligned, StoreAccess, Break, Call}
-use Rattle.smt_text.specs.Digits.{has_leading_zero, hex_number}
+use Rattle.text_parts.specs.Digits.{has_leading_zero, hex_number}
 
 -- ---- numbers
 

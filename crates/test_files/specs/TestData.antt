@@ -4,7 +4,7 @@ use Rattle.hex.specs.Hex.{encode_lower}
 use Rattle.serde_json.specs.Data.{Data, number, unsigned, string, array, object, member, no_members}
 use Rattle.serde_json.specs.View.{items_of}
 use Rattle.elf_load.specs.declared.region.Region.{Region}
-use Rattle.smt_text.specs.Names.{path_text}
+use Rattle.text_parts.specs.Names.{path_text}
 use Rattle.test_files.specs.Tests.{Test, end_text, region_text}
 
 -- the regions, each as a string

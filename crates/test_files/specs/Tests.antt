@@ -7,7 +7,7 @@ use Rattle.rv_decode.specs.Ends.{trap_name}
 use Rattle.rv_decode.specs.declared.ends.End.{End}
 use Rattle.rv_decode.specs.declared.ends.End.TheVariants.{Exit, Trapped}
 use Rattle.rv_decode.specs.declared.ends.PathStep.{PathStep}
-use Rattle.smt_text.specs.Names.{eight_digits, path_text}
+use Rattle.text_parts.specs.Names.{eight_digits, path_text}
 
 pub record Test : Type 0 where
   -- the rank of its leaf

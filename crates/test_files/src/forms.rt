@@ -8,7 +8,7 @@ ghost use Rattle.test_files.specs.Forms.{end_of, exit_with, region_of, short_num
 
 use elf_load::Region;
 use rv_decode::{End, Trap};
-use smt_text::{has_leading_zero, hex_number};
+use text_parts::{has_leading_zero, hex_number};
 
 /// The most digits of a short number.
 const MOST_DIGITS: usize = 4;

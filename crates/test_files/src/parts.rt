@@ -3,7 +3,7 @@
 ghost use Rattle.std.specs.Prelude.{◌≡◌, IfOk, map, string_bytes};
 ghost use Rattle.serde_json.specs.Data.{string};
 ghost use Rattle.serde_json.specs.View.{view};
-ghost use Rattle.smt_text.specs.Names.{path_text};
+ghost use Rattle.text_parts.specs.Names.{path_text};
 ghost use Rattle.test_files.specs.TestData.{regions_data};
 ghost use Rattle.test_files.specs.Tests.{end_text as text_of_end, region_text as text_of_region};
 
@@ -11,8 +11,8 @@ use elf_load::Region;
 use itoa::Buffer;
 use rv_decode::{End, PathStep};
 use serde_json::Value;
-use smt_text::write_path;
 use std::alloc::{AllocError as NoMemory, Global};
+use text_parts::write_path;
 
 /// How the run ends: `exit N`, `trap NAME` or `running`.
 pub fn end_text(alloc: Global, end: Option<End>) -> Result<String, NoMemory>

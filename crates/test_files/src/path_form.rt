@@ -5,8 +5,8 @@ ghost use Rattle.elf_load.specs.Regions.{put_first};
 ghost use Rattle.test_files.specs.Forms.{branch_of, path_of};
 
 use rv_decode::PathStep;
-use smt_text::hex_number;
 use std::alloc::{AllocError as NoMemory, Global};
+use text_parts::hex_number;
 
 /// What a branch does: T or N.
 fn read_branch(letter: u8) -> Option<PathStep>

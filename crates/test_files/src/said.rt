@@ -11,12 +11,12 @@ use crate::fields::{end_at, path_at, read_between, read_text, regions_at};
 use crate::refused::TestRefused;
 use crate::test::Test;
 use crate::test_error::TestError;
+use byte_list::Bytes;
 use elf_load::{Region, Regions};
 use hex::FromHexError;
 use rv_decode::{End, PathStep};
 use serde_json::Value;
 use std::alloc::Global;
-use tool_io::Bytes;
 
 /// The most that a leaf's rank may be: up to here a float has each integer.
 const MOST_LEAF: u64 = 1 << 53;

@@ -1,9 +1,9 @@
 //! A test.
 
+use byte_list::Bytes;
 use elf_load::Regions;
 use rv_decode::{End, PathStep};
 use std::marker::Model;
-use tool_io::Bytes;
 
 /// An assignment of the input bytes, and what the run of it does.
 #[derive(Debug)]

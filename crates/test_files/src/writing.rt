@@ -7,9 +7,9 @@ ghost use Rattle.test_files.specs.Tests.{test_text};
 
 use crate::parts::{end_text, path_string, region_list};
 use crate::test::Test;
+use byte_list::Bytes;
 use serde_json::{Value, json};
 use std::alloc::{AllocError as NoMemory, Global};
-use tool_io::Bytes;
 
 /// The test as a JSON object.
 fn test_value(alloc: Global, test: &Test) -> Result<Value, NoMemory>

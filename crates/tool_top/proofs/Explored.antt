@@ -12,7 +12,7 @@ use Rattle.tree_core.specs.declared.event.Event.{Event}
 use Rattle.fork_spec.specs.Histories.{ReleaseOnce, cause_of}
 use Rattle.fork_spec.specs.Leaves.{IsSmall, are_bytes}
 use Rattle.fork_spec.specs.Parts.{Part}
-use Rattle.fork_spec.specs.Written.{lines_of}
+use Rattle.fork_tree.specs.Written.{lines_of}
 use Rattle.fork_spec.proofs.ByteLists.{are_bytes-of}
 use Rattle.fork_tree.specs.Calls.{IsOpening}
 use Rattle.fork_tree.specs.Contents.{cut_in, place_in}

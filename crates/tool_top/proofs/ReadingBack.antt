@@ -16,9 +16,8 @@ use Rattle.report_text.proofs.SpentBack.{spent_told}
 use Rattle.report_text.specs.Claims.{Beside, Entry, IsReport, Learning, Spending, Tested, leaf_nodes_of}
 use Rattle.report_text.specs.Files.{beside_put, events_put, files_from, files_of, leaf_put, report_put}
 use Rattle.report_text.specs.Legible.{HasSmallCounts, IsLegibleBeside}
-use Rattle.smt_text.specs.Grammar.{IsTextOf}
+use Rattle.smt_text.specs.Grammar.{IsTextOf, IsWhole}
 use Rattle.smt_text.specs.LeafLines.{leaf_text}
-use Rattle.smt_text.specs.ReadingState.{IsWhole}
 use Rattle.smt_text.proofs.OneReading.{one_leaf}
 use Rattle.smt_text.proofs.Reading.{text_reads}
 use Rattle.smt_text.proofs.Whole.{whole_full, whole_text}

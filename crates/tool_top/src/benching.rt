@@ -9,6 +9,7 @@ ghost use Rattle.tool_top.specs.Plan.{IsBenched};
 
 use crate::exploring::plan_report;
 use crate::plan::Plan;
+use byte_list::Bytes;
 use elf_load::{Image, LoadError, load};
 use itoa::Buffer;
 use node_split::Worker;
@@ -17,7 +18,6 @@ use std::alloc::{AllocError as NoMemory, Global};
 use std::sync::Wait;
 use std::thread::Threads;
 use sym_state::Program;
-use tool_io::Bytes;
 use tool_words::{CONFLICTS, STEPS, TARGETS};
 use tree_core::Budgets;
 use work_gate::Gate;

@@ -10,11 +10,12 @@ use crate::exploring::plan_explore;
 use crate::refusals::{say_refused, say_unfit};
 use crate::replaying::plan_replay;
 use crate::verdict::Verdict;
+use byte_list::Bytes;
 use elf_load::{Refused, Unfit};
 use std::alloc::{AllocError as NoMemory, Global};
 use std::sync::Wait;
 use std::thread::Threads;
-use tool_io::{Bytes, Files, NamedFile};
+use tool_io::{Files, NamedFile};
 use tool_words::{Job, WordsError, read_words};
 use work_gate::Gate;
 

@@ -12,11 +12,12 @@ ghost use Rattle.tool_top.specs.Replaying.{IsReplayable, most_test_bytes};
 use crate::plan::{MOST_BYTES, Plan, refuse, refuse_input, says_only};
 use crate::refusals::say_test_refused;
 use crate::verdict::Verdict;
+use byte_list::Bytes;
 use elf_load::{Image, LoadError, fit, load};
 use replay_core::{Replayed, replay, write_difference};
 use std::alloc::{AllocError as NoMemory, Global};
 use test_files::{Test, TestError, read_test};
-use tool_io::{Bytes, Fault, Files};
+use tool_io::{Fault, Files};
 
 // The most bytes of a test's file that are read.
 const MOST_TEST_BYTES: usize = 16_777_217;

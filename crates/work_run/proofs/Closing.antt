@@ -6,7 +6,7 @@ use Rattle.std.proofs.lemmas.List.Elements.{All-append, All-weaker}
 use Rattle.tree_core.specs.Cores.{held_count}
 use Rattle.tree_core.specs.Stories.{Story}
 use Rattle.tree_core.specs.declared.event.Event.{Event}
-use Rattle.fork_spec.proofs.Releases.{releases-own}
+use Rattle.fork_tree.proofs.Releases.{releases-own}
 use Rattle.fork_spec.specs.Histories.{ReleaseOnce}
 use Rattle.fork_tree.specs.Calls.{IsOpening}
 use Rattle.fork_tree.specs.Drains.{GrowsBy}

@@ -1,5 +1,5 @@
 use Rattle.std.proofs.Common.{◌≡◌, take}
-use Rattle.bit_blast.specs.Circuits.{with_asserted}
+use Rattle.circuit_spec.specs.Circuits.{with_asserted}
 use Rattle.bit_blast.proofs.circuit.assert_each.Given as goal
 
 abbrev pub invariant-loop-id : goal.invariant-loop-id

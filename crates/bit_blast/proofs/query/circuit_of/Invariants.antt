@@ -1,5 +1,5 @@
 use Rattle.std.proofs.Common.{◌≡◌, take, fold}
-use Rattle.bit_blast.specs.Circuits.{with_node, no_terms}
+use Rattle.circuit_spec.specs.Circuits.{with_node, no_terms}
 use Rattle.bit_blast.proofs.query.circuit_of.Given as goal
 
 abbrev pub invariant-loop-node : goal.invariant-loop-node

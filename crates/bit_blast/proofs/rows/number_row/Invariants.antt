@@ -1,5 +1,5 @@
 use Rattle.std.proofs.Common.{◌≡◌, ◌++◌, ◌-◌}
-use Rattle.bit_blast.specs.Rows.{number_row}
+use Rattle.circuit_spec.specs.Rows.{number_row}
 use Rattle.bit_blast.proofs.rows.number_row.Given as goal
 
 abbrev pub invariant-loop-place : goal.invariant-loop-place

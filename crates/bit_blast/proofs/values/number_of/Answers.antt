@@ -1,6 +1,6 @@
 use Rattle.std.proofs.Common.{◌∙◌, ◌-◌, ◌*◌, ◌+◌, ap, arith, length}
 use Rattle.cnf_form.specs.Valuations.{valuation}
-use Rattle.bit_blast.specs.Bytes.{bit_of}
+use Rattle.circuit_spec.specs.Bytes.{bit_of}
 use Rattle.bit_blast.proofs.Reading.{number_more, number_start, high_bound}
 use Rattle.bit_blast.proofs.values.number_of.Goals as goal
 

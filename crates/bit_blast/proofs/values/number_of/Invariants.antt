@@ -1,6 +1,6 @@
 use Rattle.std.proofs.Common.{◌≡◌, drop}
 use Rattle.cnf_form.specs.Valuations.{valuation}
-use Rattle.bit_blast.specs.Bytes.{number_of_row}
+use Rattle.circuit_spec.specs.Bytes.{number_of_row}
 use Rattle.bit_blast.proofs.values.number_of.Given as goal
 
 abbrev pub invariant-loop-i : goal.invariant-loop-i

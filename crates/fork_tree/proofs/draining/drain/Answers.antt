@@ -1,5 +1,5 @@
 use Rattle.std.proofs.Common.{Ok, refl, ap, subst, ◌∙◌}
-use Rattle.fork_spec.proofs.Releases.{none_then_one}
+use Rattle.fork_tree.proofs.Releases.{none_then_one}
 use Rattle.fork_tree.specs.Calls.{IsQuiet}
 use Rattle.fork_tree.specs.Drains.{IsDrained}
 use Rattle.fork_tree.proofs.Entering.{grows-none, grows-both, on_err}

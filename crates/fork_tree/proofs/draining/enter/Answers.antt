@@ -5,7 +5,7 @@ use Rattle.tree_core.specs.declared.cause.Cause.TheVariants.{Steps}
 use Rattle.fork_tree.specs.Contents.{choices_in}
 use Rattle.fork_tree.specs.declared.content.Content.{Content}
 use Rattle.fork_tree.specs.declared.work.Parts.TheVariants.{CutSteps, Finished, Kids}
-use Rattle.fork_spec.proofs.Releases.{releases_kept, releases_more}
+use Rattle.fork_tree.proofs.Releases.{releases_kept, releases_more}
 use Rattle.fork_tree.specs.Calls.{IsSplitFit, finish_event, cut_event, release_event, split_event}
 use Rattle.fork_tree.proofs.Entering.{held-less, leaf-less, kids-less}
 use Rattle.fork_tree.proofs.Fitting.{end_fits, split_fits, worked_by}

@@ -1,7 +1,7 @@
 use Rattle.std.proofs.Common.{◌≡◌, ℕ, ◌+◌, ◌^◌, ◌<◌, subst, sym, refl, ap, ◌∙◌, arith}
 use Rattle.tree_core.specs.Stories.{Story, content}
 use Rattle.tree_core.specs.Cores.{held_count}
-use Rattle.fork_spec.proofs.Releases.{none_so_one, none_then_one, releases_kept, releases_same}
+use Rattle.fork_tree.proofs.Releases.{none_so_one, none_then_one, releases_kept, releases_same}
 use Rattle.fork_tree.specs.Calls.{IsClaim, claim_event}
 use Rattle.fork_tree.specs.Nodes.{StateIs}
 use Rattle.fork_tree.specs.Drains.{fuel}

@@ -2,9 +2,9 @@ use Rattle.std.proofs.Common.{◌≡◌, ◌∙◌, true, ap, map}
 use Rattle.cnf_form.proofs.Soundness.{no_valuation}
 use Rattle.cnf_form.specs.Valuations.{satisfies, valuation}
 use Rattle.bv_dag.specs.Queries.{holds}
-use Rattle.bit_blast.specs.Bytes.{bytes_of, byte_of}
-use Rattle.bit_blast.specs.Circuits.{clauses}
-use Rattle.bit_blast.proofs.Solutions.{solution}
+use Rattle.circuit_spec.specs.Bytes.{bytes_of, byte_of}
+use Rattle.circuit_spec.specs.Circuits.{clauses}
+use Rattle.circuit_spec.proofs.Solutions.{solution}
 use Rattle.query_decide.proofs.Failing.{refuted_fails}
 use Rattle.query_decide.proofs.deciding.decide_by_clauses.Goals as goal
 

@@ -1,6 +1,6 @@
 use Rattle.std.proofs.Common.{◌≡◌, ◌∙◌, ◌++◌, ap, codes, string_bytes}
 use Rattle.std.specs.Prelude.{decimal}
-use Rattle.smt_text.specs.Names.{path_text}
+use Rattle.text_parts.specs.Names.{path_text}
 use Rattle.replay_core.proofs.Telling.{joined, of_run}
 use Rattle.replay_core.proofs.difference.write_difference.Goals as goal
 

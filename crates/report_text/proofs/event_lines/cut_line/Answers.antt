@@ -1,4 +1,4 @@
-use Rattle.smt_text.proofs.TextLines.{made_text}
+use Rattle.text_parts.proofs.Made.{made_text}
 use Rattle.report_text.proofs.EventTexts.{text_of_cut}
 use Rattle.report_text.proofs.event_lines.cut_line.Goals as goal
 

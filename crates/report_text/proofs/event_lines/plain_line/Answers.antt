@@ -1,4 +1,4 @@
-use Rattle.smt_text.proofs.TextLines.{made_text}
+use Rattle.text_parts.proofs.Made.{made_text}
 use Rattle.report_text.proofs.EventTexts.{plain_text}
 use Rattle.report_text.proofs.event_lines.plain_line.Goals as goal
 

@@ -1,5 +1,5 @@
 use Rattle.std.proofs.Common.{◌≡◌, map, string_bytes, take}
-use Rattle.fork_spec.specs.Written.{side_born}
+use Rattle.fork_tree.specs.Written.{side_born}
 use Rattle.report_text.specs.Events.{sides_text}
 use Rattle.report_text.proofs.event_lines.sides_string.Given as goal
 

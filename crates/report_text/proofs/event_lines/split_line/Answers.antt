@@ -1,6 +1,6 @@
 use Rattle.std.proofs.Common.{map}
-use Rattle.fork_spec.specs.Written.{side_born}
-use Rattle.smt_text.proofs.TextLines.{made_text}
+use Rattle.fork_tree.specs.Written.{side_born}
+use Rattle.text_parts.proofs.Made.{made_text}
 use Rattle.report_text.proofs.EventTexts.{text_of_split}
 use Rattle.report_text.proofs.event_lines.split_line.Goals as goal
 

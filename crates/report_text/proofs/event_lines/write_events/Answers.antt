@@ -1,8 +1,8 @@
 use Rattle.std.proofs.Common.{◌≡◌, ◌∙◌, ◌+◌, ◌≤◌, ◌++◌, Vec, Global, ap, arith, drop, get_or, length, string_bytes, sym, ℕ}
 use Rattle.tree_core.specs.declared.event.Event.{Event}
-use Rattle.fork_spec.specs.Written.{born_by, lines_from, nodes_after, written}
+use Rattle.fork_tree.specs.Written.{born_by, lines_from, nodes_after, written}
 use Rattle.report_text.specs.Events.{deed_text, events_text}
-use Rattle.smt_text.proofs.TextLines.{pushed}
+use Rattle.text_parts.proofs.Made.{pushed}
 use Rattle.report_text.proofs.EventTexts.{events_end, events_next, fits_in, nodes_next}
 use Rattle.report_text.proofs.event_lines.write_events.Goals as goal
 

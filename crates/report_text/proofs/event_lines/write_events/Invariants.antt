@@ -1,5 +1,5 @@
 use Rattle.std.proofs.Common.{◌≡◌, ◌++◌, drop, length, string_bytes}
-use Rattle.fork_spec.specs.Written.{lines_from, nodes_after}
+use Rattle.fork_tree.specs.Written.{lines_from, nodes_after}
 use Rattle.report_text.specs.Events.{events_text}
 use Rattle.report_text.proofs.event_lines.write_events.Given as goal
 

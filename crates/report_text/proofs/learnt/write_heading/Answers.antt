@@ -2,7 +2,7 @@ use Rattle.std.proofs.Common.{◌≡◌, ◌∙◌, ◌++◌, ℕ, List, ap, app
 use Rattle.bv_dag.specs.Graphs.{Graph}
 use Rattle.cnf_form.specs.Refutations.{Step}
 use Rattle.fork_spec.specs.Evidence.{Learnt}
-use Rattle.smt_text.proofs.TextLines.{appended}
+use Rattle.text_parts.proofs.Made.{appended}
 use Rattle.report_text.specs.Learnt.{learnt_heading}
 use Rattle.report_text.proofs.learnt.write_heading.Goals as goal
 

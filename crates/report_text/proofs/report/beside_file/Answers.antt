@@ -2,9 +2,9 @@ use Rattle.std.proofs.Common.{◌≡◌, Option, Some, ap, subst, sym, ◌∙◌
 use Rattle.std.specs.Prelude.{All}
 use Rattle.fork_spec.specs.Evidence.{Learnt}
 use Rattle.fork_spec.specs.Parts.{Evidence}
-use Rattle.sym_state.specs.Places.{evidence_of}
-use Rattle.sym_state.specs.declared.evidence.Evidence.{Evidence as Held}
-use Rattle.sym_state.specs.declared.evidence.Evidence.TheVariants.{Conflicts}
+use Rattle.leaf_part.specs.Evidences.{evidence_of}
+use Rattle.leaf_part.specs.declared.evidence.Evidence.{Evidence as Held}
+use Rattle.leaf_part.specs.declared.evidence.Evidence.TheVariants.{Conflicts}
 use Rattle.report_text.specs.Legible.{HasSmallLog, HasSmallNumbers}
 use Rattle.report_text.proofs.report.beside_file.Goals as goal
 

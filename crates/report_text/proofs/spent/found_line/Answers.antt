@@ -2,8 +2,8 @@ use Rattle.std.proofs.Common.{◌≡◌, ◌∙◌, ◌++◌, List, ℕ, ap, app
 use Rattle.std.specs.Int.{to_be_bytes, w32}
 use Rattle.hex.specs.Hex.{encode_lower}
 use Rattle.fork_spec.specs.Evidence.{Found}
-use Rattle.smt_text.specs.Names.{eight_digits}
-use Rattle.smt_text.proofs.TextLines.{made_text}
+use Rattle.text_parts.specs.Names.{eight_digits}
+use Rattle.text_parts.proofs.Made.{made_text}
 use Rattle.report_text.proofs.spent.found_line.Goals as goal
 
 regroup : (v value s input e : List ℕ) → v ++ (value ++ (s ++ (input ++ e)))

@@ -1,5 +1,5 @@
 use Rattle.std.proofs.Common.{append_assoc, codes, string_bytes}
-use Rattle.smt_text.proofs.TextLines.{appended}
+use Rattle.text_parts.proofs.Made.{appended}
 use Rattle.smt_text.proofs.lines.write_input_line.Goals as goal
 
 pub returns : goal.returns

@@ -2,7 +2,8 @@ use Rattle.std.proofs.Common.{◌≡◌, ◌∙◌, ◌<◌, ap, get_or, length}
 use Rattle.bv_dag.specs.Graphs.{width_of}
 use Rattle.bv_dag.specs.declared.nodes.Node.TheVariants.{Num}
 use Rattle.smt_text.specs.Lines.{NodeLine, line_text}
-use Rattle.smt_text.proofs.TextLines.{no_lines, numbered_step, pushed}
+use Rattle.smt_text.proofs.TextLines.{no_lines, numbered_step}
+use Rattle.text_parts.proofs.Made.{pushed}
 use Rattle.smt_text.proofs.lines.write_node_lines.Goals as goal
 
 pub loop-id-init : goal.loop-id-init

@@ -1,7 +1,8 @@
 use Rattle.std.proofs.Common.{◌≡◌, ◌++◌, ◌∙◌, ap, append_assoc, codes, inl, inr, refl, string_bytes, sym}
 use Rattle.smt_text.specs.LeafLines.{status_lines}
 use Rattle.smt_text.specs.Lines.{StatusLine, line_text, lines_text}
-use Rattle.smt_text.proofs.TextLines.{appended, no_lines, one_line}
+use Rattle.smt_text.proofs.TextLines.{no_lines, one_line}
+use Rattle.text_parts.proofs.Made.{appended}
 use Rattle.smt_text.proofs.lines.write_status_lines.Goals as goal
 
 pub returns-in_ok-push_numbered-in-Exits : goal.returns-in_ok-push_numbered-in-Exits

@@ -1,5 +1,5 @@
 use Rattle.std.proofs.Common.{append_assoc}
-use Rattle.smt_text.proofs.TextLines.{behind}
+use Rattle.text_parts.proofs.Made.{behind}
 use Rattle.smt_text.proofs.node_text.write_node.Goals as goal
 
 pub returns-in_ok-push_numbered-in-Extract-2 : goal.returns-in_ok-push_numbered-in-Extract-2

@@ -2,7 +2,7 @@ use Rattle.std.proofs.Common.{◌≡◌, ◌∙◌, Global, Vec, ap, length, map
 use Rattle.bv_dag.specs.Graphs.{Graph}
 use Rattle.smt_text.specs.LeafLines.{counts_heading, definitions, leaf_lines, leaf_text}
 use Rattle.smt_text.specs.Lines.{AssertLine, lines_text}
-use Rattle.smt_text.proofs.TextLines.{pushed}
+use Rattle.text_parts.proofs.Made.{pushed}
 use Rattle.smt_text.proofs.TextParts.{whole_text}
 use Rattle.smt_text.proofs.printing.print_parts.Goals as goal
 

@@ -1,5 +1,5 @@
 use Rattle.smt_text.specs.LeafLines.{output_lines, status_lines, term_lines}
-use Rattle.smt_text.proofs.TextLines.{behind}
+use Rattle.text_parts.proofs.Made.{behind}
 use Rattle.smt_text.proofs.TextParts.{behind_text}
 use Rattle.smt_text.proofs.printing.write_definitions.Goals as goal
 

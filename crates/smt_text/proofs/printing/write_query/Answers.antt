@@ -1,7 +1,7 @@
 use Rattle.std.proofs.Common.{◌≡◌, ◌++◌, ◌∷◌, ◌∙◌, [], ap, codes, map, string_bytes}
 use Rattle.smt_text.specs.LeafLines.{assertions, query_lines, query_text, term_lines}
 use Rattle.smt_text.specs.Lines.{AssertLine, CheckLine, ExitLine, lines_text}
-use Rattle.smt_text.proofs.TextLines.{appended, pushed}
+use Rattle.text_parts.proofs.Made.{appended, pushed}
 use Rattle.smt_text.proofs.TextParts.{behind_text, check_text}
 use Rattle.smt_text.proofs.printing.write_query.Goals as goal
 

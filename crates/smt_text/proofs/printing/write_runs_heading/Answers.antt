@@ -1,5 +1,5 @@
 use Rattle.std.proofs.Common.{codes, string_bytes}
-use Rattle.smt_text.proofs.TextLines.{appended}
+use Rattle.text_parts.proofs.Made.{appended}
 use Rattle.smt_text.proofs.TextParts.{runs_text}
 use Rattle.smt_text.proofs.printing.write_runs_heading.Goals as goal
 

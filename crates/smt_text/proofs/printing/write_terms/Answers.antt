@@ -1,7 +1,7 @@
 use Rattle.std.proofs.Common.{◌≡◌, ap}
 use Rattle.smt_text.specs.LeafLines.{input_lines, node_lines}
 use Rattle.smt_text.specs.Lines.{lines_text}
-use Rattle.smt_text.proofs.TextLines.{behind, pushed}
+use Rattle.text_parts.proofs.Made.{behind, pushed}
 use Rattle.smt_text.proofs.TextParts.{terms_text}
 use Rattle.smt_text.proofs.printing.write_terms.Goals as goal
 

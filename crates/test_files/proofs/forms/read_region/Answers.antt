@@ -1,5 +1,5 @@
 use Rattle.std.proofs.Common.{rules, ◌≡◌, ◌==◌, true, take, drop, get_or, Some, None}
-use Rattle.smt_text.specs.Digits.{hex_number}
+use Rattle.text_parts.specs.Digits.{hex_number}
 use Rattle.test_files.specs.Forms.{short_number}
 use Rattle.test_files.proofs.RegionForms.{no_colon, no_start, too_short, region_there, to_end}
 use Rattle.test_files.proofs.forms.read_region.Goals.{then-text-lt9-via-then-text-lt9, then-text-lt9-via-else-text-lt9+then-text-ne58}

@@ -1,7 +1,7 @@
 use Rattle.std.proofs.Common.{rules, arith, ◌<◌, ◌≤◌, ◌≡◌, false, get_or, length}
 use Rattle.std.specs.Char.{digit_value}
 use Rattle.std.proofs.lemmas.Int.Digits.{digits_more, digits_value_more}
-use Rattle.smt_text.specs.Digits.{has_leading_zero}
+use Rattle.text_parts.specs.Digits.{has_leading_zero}
 use Rattle.test_files.proofs.ShortNumbers.{short_absent, short_there, nothing, room, too_long, zero_first}
 use Rattle.test_files.proofs.forms.read_short_number.Goals.{then-is_empty-via-then-is_empty, then-is_empty-via-else-is_empty+then-digits-gt-MOST_DIGITS, then-is_empty-via-else-is_empty+else-digits-gt-MOST_DIGITS+then-has_leading_zero}
 use Rattle.test_files.proofs.forms.read_short_number.Goals as goal

@@ -1,5 +1,5 @@
 use Rattle.std.proofs.Common.{append_assoc}
-use Rattle.smt_text.proofs.TextLines.{made_text}
+use Rattle.text_parts.proofs.Made.{made_text}
 use Rattle.test_files.proofs.parts.region_text.Goals as goal
 
 pub returns : goal.returns

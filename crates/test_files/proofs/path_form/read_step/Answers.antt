@@ -1,5 +1,5 @@
 use Rattle.std.proofs.Common.{rules, arith, ◌≡◌, ◌≤◌, None, Some, drop, get_or, length, take}
-use Rattle.smt_text.specs.Digits.{hex_number}
+use Rattle.text_parts.specs.Digits.{hex_number}
 use Rattle.elf_load.specs.Regions.{put_first}
 use Rattle.test_files.specs.Forms.{branch_of, path_of}
 use Rattle.test_files.proofs.PathForms.{branch_at, short_at, target_at, with_address, with_branch}

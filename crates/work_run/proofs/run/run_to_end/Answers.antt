@@ -1,4 +1,4 @@
-use Rattle.fork_spec.proofs.Releases.{once_kept}
+use Rattle.fork_tree.proofs.Releases.{once_kept}
 use Rattle.work_run.proofs.Closing.{few_grown, goes_grown}
 use Rattle.work_run.proofs.run.run_to_end.Goals as goal
 

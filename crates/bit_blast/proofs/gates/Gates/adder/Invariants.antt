@@ -1,5 +1,5 @@
 use Rattle.std.proofs.Common.{◌≡◌, drop}
-use Rattle.bit_blast.specs.Rows.{adder}
+use Rattle.circuit_spec.specs.Rows.{adder}
 use Rattle.bit_blast.proofs.Walks.{with_sums}
 use Rattle.bit_blast.proofs.gates.Gates.adder.Given as goal
 

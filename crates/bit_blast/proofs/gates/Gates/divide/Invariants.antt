@@ -1,7 +1,7 @@
 use Rattle.std.proofs.Common.{◌≡◌, ◌∷◌, ◌++◌, [], false, drop, length, reverse}
-use Rattle.bit_blast.specs.Formulas.{constant}
-use Rattle.bit_blast.specs.Rows.{zeros}
-use Rattle.bit_blast.specs.Products.{division}
+use Rattle.circuit_spec.specs.Formulas.{constant}
+use Rattle.circuit_spec.specs.Rows.{zeros}
+use Rattle.circuit_spec.specs.Products.{division}
 use Rattle.bit_blast.proofs.gates.Gates.divide.Given as goal
 
 abbrev pub invariant-loop-i : goal.invariant-loop-i

@@ -1,5 +1,5 @@
 use Rattle.std.proofs.Common.{◌∙◌, arith}
-use Rattle.bit_blast.specs.Gates.{gate_of}
+use Rattle.circuit_spec.specs.Gates.{gate_of}
 use Rattle.bit_blast.proofs.Walks.{each_more, each_end}
 use Rattle.bit_blast.proofs.gates.Gates.each.Goals as goal
 

@@ -1,6 +1,6 @@
 use Rattle.std.proofs.Common.{◌≡◌, drop}
-use Rattle.bit_blast.specs.Gates.{gate_of}
-use Rattle.bit_blast.specs.Rows.{each}
+use Rattle.circuit_spec.specs.Gates.{gate_of}
+use Rattle.circuit_spec.specs.Rows.{each}
 use Rattle.bit_blast.proofs.Walks.{with_before}
 use Rattle.bit_blast.proofs.gates.Gates.each.Given as goal
 

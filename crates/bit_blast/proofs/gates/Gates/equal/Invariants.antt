@@ -1,5 +1,5 @@
 use Rattle.std.proofs.Common.{◌≡◌, drop}
-use Rattle.bit_blast.specs.Rows.{equal_gate, equal_from}
+use Rattle.circuit_spec.specs.Rows.{equal_gate, equal_from}
 use Rattle.bit_blast.proofs.gates.Gates.equal.Given as goal
 
 abbrev pub invariant-loop-i : goal.invariant-loop-i

@@ -1,5 +1,5 @@
 use Rattle.std.proofs.Common.{◌≡◌, ◌-◌}
-use Rattle.bit_blast.specs.Rows.{fresh_row}
+use Rattle.circuit_spec.specs.Rows.{fresh_row}
 use Rattle.bit_blast.proofs.Walks.{with_before}
 use Rattle.bit_blast.proofs.gates.Gates.fresh_row.Given as goal
 

@@ -1,5 +1,5 @@
 use Rattle.std.proofs.Common.{◌≡◌, drop}
-use Rattle.bit_blast.specs.Products.{products, mul_row}
+use Rattle.circuit_spec.specs.Products.{products, mul_row}
 use Rattle.bit_blast.proofs.gates.Gates.mul.Given as goal
 
 abbrev pub invariant-loop-i : goal.invariant-loop-i

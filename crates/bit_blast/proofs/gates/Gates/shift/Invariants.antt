@@ -1,6 +1,6 @@
 use Rattle.std.proofs.Common.{◌≡◌, false, take, fold, length}
-use Rattle.bit_blast.specs.Formulas.{constant}
-use Rattle.bit_blast.specs.Shifts.{next_stage}
+use Rattle.circuit_spec.specs.Formulas.{constant}
+use Rattle.circuit_spec.specs.Shifts.{next_stage}
 use Rattle.bit_blast.specs.Staging.{stage_of}
 use Rattle.bit_blast.proofs.gates.Gates.shift.Given as goal
 

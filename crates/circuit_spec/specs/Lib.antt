@@ -1,0 +1,9 @@
+pub mod Formulas
+pub mod Gates
+pub mod Rows
+pub mod Shifts
+pub mod Products
+pub mod Circuits
+pub mod Bytes
+pub mod Meaning
+pub mod Budgets

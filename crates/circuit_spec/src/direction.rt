@@ -1,0 +1,8 @@
+//! The ends of a row.
+
+/// Towards the high end of a row, or the low one.
+#[derive(Clone, Copy, Debug)]
+pub enum Direction {
+    Up,
+    Down,
+}

@@ -1,5 +1,0 @@
-use Rattle.fork_spec.proofs.Apart.{apart-noted}
-use Rattle.fork_spec.proofs.laws.nodes_without_kids_stay_apart.Goals as goal
-
-pub returns-clause-noted : goal.returns-clause-noted
-returns-clause-noted g c = apart-noted

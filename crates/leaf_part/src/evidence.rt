@@ -1,0 +1,90 @@
+//! What shows the budget that was spent on a leaf.
+
+use bv_dag::Query;
+use byte_list::Bytes;
+use cnf_form::Log;
+use std::marker::Model;
+
+/// A value, and an assignment on which a term has it.
+#[derive(Debug)]
+pub struct Found {
+    pub value: u32,
+    /// One byte for each input.
+    pub input: Bytes,
+}
+
+impl Drop for Found {
+    fn drop(self) {
+        let Self {
+            value: _value,
+            input: _input,
+        } = self;
+    }
+}
+
+impl Model for Found {
+    ghost use Rattle.fork_spec.specs.Evidence as spec;
+
+    ghost Value = { spec.Found };
+
+    ghost view = { λ f. record { value = f.value; input = f.input } };
+}
+
+/// The values on which the budget of targets was spent, by increasing value.
+#[derive(Debug)]
+pub struct Spent {
+    /// The term that takes them.
+    pub term: usize,
+    pub found: Vec<Found>,
+}
+
+impl Drop for Spent {
+    fn drop(self) {
+        let Self {
+            term: _term,
+            found: _found,
+        } = self;
+    }
+}
+
+impl Model for Spent {
+    ghost use Rattle.fork_spec.specs.Evidence as spec;
+
+    ghost Value = { spec.Spent };
+
+    ghost view = { λ s. record { term = s.term; found = s.found.items } };
+}
+
+/// A question on which the budget of conflicts was spent, and the clauses that were learnt for it.
+#[derive(Debug)]
+pub struct Learnt {
+    /// The part of a leaf's condition that matters for its last assertion.
+    pub question: Query,
+    pub log: Log,
+}
+
+impl Drop for Learnt {
+    fn drop(self) {
+        let Self {
+            question: _question,
+            log: _log,
+        } = self;
+    }
+}
+
+impl Model for Learnt {
+    ghost use Rattle.fork_spec.specs.Evidence as spec;
+
+    ghost Value = { spec.Learnt };
+
+    ghost view = { λ l. record { question = l.question; log = l.log } };
+}
+
+/// What shows the budget that was spent, where steps alone don't.
+#[derive(Debug, Drop)]
+pub enum Evidence {
+    /// The values on which the budget of targets was spent.
+    Targets(Spent),
+    /// The question on which the budget of conflicts was spent.
+    Conflicts(Learnt),
+}

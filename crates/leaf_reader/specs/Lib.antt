@@ -1,0 +1,2 @@
+pub mod ReadingState
+pub mod Refusals

@@ -1,0 +1,13 @@
+//! Reading the texts of leaves: a text is a leaf's, or is refused at its first line that may not stand.
+#![tactic(auto)]
+
+mod cursor;
+mod leaf_reader;
+mod leaf_reading;
+mod lists;
+mod take_counts;
+mod take_heading;
+mod take_terms;
+mod term;
+
+pub use leaf_reader::{SmtRefused, read_leaf};

@@ -1,6 +1,0 @@
-use Rattle.std.proofs.Common.{◌≡◌, string_bytes, take}
-use Rattle.smt_text.specs.Names.{choices_text}
-use Rattle.smt_text.proofs.names.write_choices.Given as goal
-
-abbrev pub invariant-loop-choice : goal.invariant-loop-choice
-invariant-loop-choice l = string_bytes l.entries ≡ choices_text (take l.choice-index l.choices)

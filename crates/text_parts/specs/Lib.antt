@@ -1,0 +1,4 @@
+pub mod Names
+pub mod Digits
+pub mod Pieces
+pub mod Items
