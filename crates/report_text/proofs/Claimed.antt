@@ -46,7 +46,7 @@ use Rattle.fork_tree.specs.Trees.{choices_at}
 use Rattle.fork_tree.specs.Works.{Rules}
 use Rattle.fork_tree.specs.declared.content.Content.{Content}
 use Rattle.fork_tree.specs.declared.content.Content.TheVariants.{Shut}
-use Rattle.report_text.specs.Claims.{ArePartedAll, Beside, Entry, HasHistory, HasSpent, IsExactCover, IsReport, IsRun, IsTested, Learning, Spending, Tested, leaf_nodes_of, leaves_of}
+use Rattle.report_text.specs.Claims.{ArePartedAll, Beside, Entry, HasHistory, HasSpent, IsExactCover, IsReport, IsRun, IsTested, Learning, Report, Spending, Tested, leaf_nodes_of, leaves_of}
 use Rattle.report_text.specs.Entries.{AreEntries, AskAsClaimed, IsBeside, IsEntry, IsLeafAt, leaf_numbers, numbers_where}
 use Rattle.report_text.specs.Files.{test_of}
 
@@ -227,6 +227,10 @@ module _ {S L : Type 0} (part_of : L → Part) (rules : Rules S L) (state_place 
   abbrev lines : List Line
   lines = lines_of (cut_in rules.cut) s
 
+  -- the report of the tree, by so many workers
+  abbrev report : ℕ → Report
+  report workers = record { image = image; regions = regions; budgets = budgets; workers = workers; lines = lines; entries = entries }
+
   abbrev shut : L → Content S L
   shut l = Shut l
 
@@ -269,8 +273,8 @@ module _ {S L : Type 0} (part_of : L → Part) (rules : Rules S L) (state_place 
   all_leaves P each = all_items P (leaves_of entries) (λ i leaf at. let found : (e : Entry) × (slice_get entries i ≡ Some e) × (e.leaf ≡ leaf) = mapped_at (λ (e : Entry). e.leaf) entries i leaf at in
       subst P found.2 (each i found.0 found.1))
 
-  exact_cover : ((input : List ℕ) → IsAssignment regions input → covered covers_at (root_content s) input ≡ true) → IsExactCover regions (leaves_of entries)
-  exact_cover rooted input assignment =
+  exact_cover : ((input : List ℕ) → IsAssignment regions input → covered covers_at (root_content s) input ≡ true) → (workers : ℕ) → IsExactCover (report workers)
+  exact_cover rooted workers input assignment =
       count_by-map (λ leaf. covers leaf input) (λ (e : Entry). e.leaf) entries
       ∙ count_same (λ (e : Entry). covers e.leaf input) (λ (e : Entry). covered covers_at (content s e.node) input) entries same
       ∙ sym (count_by-map (λ m. covered covers_at (content s m) input) (λ (e : Entry). e.node) entries)
@@ -316,8 +320,8 @@ module _ {S L : Type 0} (part_of : L → Part) (rules : Rules S L) (state_place 
       by_order (inl lt) = ranks_differ i j a b lt at other_at (one_leaf i j a b at other_at same)
       by_order (inr le) = ranks_differ j i b a (omega (arith, le, ne)) other_at at (sym (one_leaf i j a b at other_at same))
 
-  parted : ArePartedAll image regions budgets (leaves_of entries)
-  parted i j leaf other ne at other_at = record {
+  parted : (workers : ℕ) → ArePartedAll (report workers)
+  parted workers i j leaf other ne at other_at = record {
     c = apart.c;
     d = apart.d;
     first = apart.first;
@@ -348,7 +352,7 @@ module _ {S L : Type 0} (part_of : L → Part) (rules : Rules S L) (state_place 
       covered_place : (l : Leaf) (input : List ℕ) → IsAssignment regions input → IsTrue (covers l input) → IsTrue ((place_of l).covers input)
       covered_place l input assignment is = ap (λ x. x && covers l input) (are_bytes-of input assignment.1) ∙ is
 
-  history : (workers : ℕ) → All (λ (x : Event (Content S L) ℕ). x.by < workers) s.events → HasHistory budgets workers lines entries
+  history : (workers : ℕ) → All (λ (x : Event (Content S L) ℕ). x.by < workers) s.events → HasHistory (report workers)
   history workers all = subst (λ t. IsHistory workers t lines (leaf_nodes_of entries)) asks.targets (record {
     nodes = led.nodes;
     walked = led.walked;
@@ -406,14 +410,14 @@ module _ {S L : Type 0} (part_of : L → Part) (rules : Rules S L) (state_place 
 
   pub are_a_report : ((input : List ℕ) → IsAssignment regions input → covered covers_at (root_content s) input ≡ true)
       → (workers : ℕ) → All (λ (x : Event (Content S L) ℕ). x.by < workers) s.events → ReleaseOnce s.events
-      → IsReport image regions budgets workers lines entries
+      → IsReport (report workers)
   are_a_report rooted workers all once = record {
     full = all_leaves IsFull (λ rank e at. (right_entry rank e at).right.full);
     inputs = all_leaves (λ leaf. leaf.condition.graph.inputs ≡ count_of regions) (λ rank e at. (right_entry rank e at).right.inputs);
-    exact_cover = exact_cover rooted;
+    exact_cover = exact_cover rooted workers;
     faithful = all_leaves (IsFaithful image regions budgets.steps) (λ rank e at. (right_entry rank e at).right.faithful);
     alike = all_leaves (DecidesAlike image regions) (λ rank e at. (right_entry rank e at).right.alike);
-    parted = parted;
+    parted = parted workers;
     runs = λ rank e at. let r : IsRightEntry rank e = right_entry rank e at in
         tested_beside image regions budgets r.sides e.leaf rank e.leaf.end r.part.sample r.part.evidence e.beside r.right.faithful r.right.shown r.beside;
     cuts = all_items (λ (e : Entry). HasSpent regions budgets lines e.node e.leaf e.leaf.end e.beside) entries (λ rank e at. let r : IsRightEntry rank e = right_entry rank e at in

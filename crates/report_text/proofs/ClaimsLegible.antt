@@ -14,20 +14,19 @@ use Rattle.term_trees.proofs.Terms.{is_term}
 use Rattle.rv_decode.specs.declared.ends.PathStep.{PathStep}
 use Rattle.rv_decode.specs.declared.ends.PathStep.TheVariants.{Taken, NotTaken, Target}
 use Rattle.rv_spec.specs.Runs.{Run, run}
-use Rattle.tree_core.specs.declared.budgets.Budgets.{Budgets}
 use Rattle.tree_core.specs.declared.cause.Cause.TheVariants.{Conflicts, Steps, Targets}
 use Rattle.tree_core.specs.declared.choice.Choice.{Choice}
 use Rattle.fork_spec.specs.Evidence.{Found, Learnt, Spent, SpendsConflicts, SpendsTargets}
 use Rattle.fork_spec.specs.Histories.{is_leaf}
 use Rattle.fork_spec.specs.Leaves.{IsByteStatus, IsFull, IsSmall, IsSmallStep, Leaf, worth}
 use Rattle.fork_spec.specs.Runs.{IsFaithful, end_on}
-use Rattle.fork_spec.specs.Walks.{Line, root}
+use Rattle.fork_spec.specs.Walks.{root}
 use Rattle.fork_spec.specs.declared.end.LeafEnd.{LeafEnd}
 use Rattle.fork_spec.specs.declared.end.LeafEnd.TheVariants.{Exits, Traps, Cut}
 use Rattle.term_trees.proofs.Numbers.{number_fits}
 use Rattle.test_files.specs.Tests.{Test}
 use Rattle.test_files.specs.Writable.{HasStatus, HasTarget, IsLegible}
-use Rattle.report_text.specs.Claims.{Beside, Entry, HasSpent, IsReport, IsRun, IsTested, Learning, Spending, Tested, leaf_nodes_of, leaves_of}
+use Rattle.report_text.specs.Claims.{Beside, Entry, HasSpent, IsReport, IsRun, IsTested, Learning, Report, Spending, Tested, leaf_nodes_of, leaves_of}
 use Rattle.report_text.specs.Legible.{AreLegible, HasSmallCounts, HasSmallLogBeside, IsLegibleBeside, IsLegibleLearnt, IsLegibleSpent}
 use Rattle.report_text.proofs.SpentBack.{bytes_of}
 use Rattle.report_text.proofs.WalkedLines.{legible_from}
@@ -103,47 +102,46 @@ learnt_legible regions conflicts leaf learnt few small is = record {
 
 -- ---- the report
 
-module _ (image : Image) (regions : List Region) (budgets : Budgets) (workers : ℕ) (lines : List Line) (entries : List Entry)
-    (claims : IsReport image regions budgets workers lines entries) (counts : HasSmallCounts budgets workers lines entries) where
+module _ (r : Report) (claims : IsReport r) (counts : HasSmallCounts r) where
   few_nodes : IsSmall (length claims.history.nodes)
   few_nodes = counts.few_nodes claims.history.nodes claims.history.walked
 
-  pub lines_legible : AreLegible lines
-  lines_legible = (legible_from workers budgets.targets (root ∷ []) claims.history.nodes lines counts.few_workers claims.history.walked few_nodes).0
+  pub lines_legible : AreLegible r.lines
+  lines_legible = (legible_from r.workers r.budgets.targets (root ∷ []) claims.history.nodes r.lines counts.few_workers claims.history.walked few_nodes).0
 
-  few_entries : IsSmall (length entries)
+  few_entries : IsSmall (length r.entries)
   few_entries =
-      let same : length (leaf_nodes_of entries) ≡ length entries = length-map entries (λ (e : Entry). record { leaf = e.leaf; node = e.node }) in
+      let same : length (leaf_nodes_of r.entries) ≡ length r.entries = length-map r.entries (λ (e : Entry). record { leaf = e.leaf; node = e.node }) in
       omega (arith, few_nodes, claims.history.as_many, count_by-le-length is_leaf claims.history.nodes, same)
 
   -- what holds of all leaves holds of that of an entry
-  pub at_leaf : (P : Leaf → Type 0) (rank : ℕ) (e : Entry) → All P (leaves_of entries) → slice_get entries rank ≡ Some e → P e.leaf
+  pub at_leaf : (P : Leaf → Type 0) (rank : ℕ) (e : Entry) → All P (leaves_of r.entries) → slice_get r.entries rank ≡ Some e → P e.leaf
   at_leaf P rank e all at =
-      holds_at P (leaves_of entries) rank e.leaf all (slice_get-map (λ (x : Entry). x.leaf) entries rank ∙ ap (option_map (λ (x : Entry). x.leaf)) at)
+      holds_at P (leaves_of r.entries) rank e.leaf all (slice_get-map (λ (x : Entry). x.leaf) r.entries rank ∙ ap (option_map (λ (x : Entry). x.leaf)) at)
 
-  module _ (starts : All (λ (region : Region). region.start < 2 ^ 32) regions) (sizes : All (λ (region : Region). region.count ≤ 9999) regions) where
-    beside_legible : (leaf : Leaf) (node rank : ℕ) (end : LeafEnd) (b : Beside) → IsFull leaf → IsFaithful image regions budgets.steps leaf → IsSmall rank →
-        IsTested image regions leaf end rank b → HasSpent regions budgets lines node leaf end b → HasSmallLogBeside b → IsLegibleBeside b
-    beside_legible leaf node rank (Exits status) (Tested test) full faithful low is spent small = test_legible image regions budgets.steps leaf rank test full faithful starts sizes low is
+  module _ (starts : All (λ (region : Region). region.start < 2 ^ 32) r.regions) (sizes : All (λ (region : Region). region.count ≤ 9999) r.regions) where
+    beside_legible : (leaf : Leaf) (node rank : ℕ) (end : LeafEnd) (b : Beside) → IsFull leaf → IsFaithful r.image r.regions r.budgets.steps leaf → IsSmall rank →
+        IsTested r.image r.regions leaf end rank b → HasSpent r.regions r.budgets r.lines node leaf end b → HasSmallLogBeside b → IsLegibleBeside b
+    beside_legible leaf node rank (Exits status) (Tested test) full faithful low is spent small = test_legible r.image r.regions r.budgets.steps leaf rank test full faithful starts sizes low is
     beside_legible leaf node rank (Exits status) (Spending found) full faithful low is spent small = absurd is
     beside_legible leaf node rank (Exits status) (Learning learnt) full faithful low is spent small = absurd is
-    beside_legible leaf node rank (Traps trap) (Tested test) full faithful low is spent small = test_legible image regions budgets.steps leaf rank test full faithful starts sizes low is
+    beside_legible leaf node rank (Traps trap) (Tested test) full faithful low is spent small = test_legible r.image r.regions r.budgets.steps leaf rank test full faithful starts sizes low is
     beside_legible leaf node rank (Traps trap) (Spending found) full faithful low is spent small = absurd is
     beside_legible leaf node rank (Traps trap) (Learning learnt) full faithful low is spent small = absurd is
-    beside_legible leaf node rank (Cut Steps) (Tested test) full faithful low is spent small = test_legible image regions budgets.steps leaf rank test full faithful starts sizes low is
+    beside_legible leaf node rank (Cut Steps) (Tested test) full faithful low is spent small = test_legible r.image r.regions r.budgets.steps leaf rank test full faithful starts sizes low is
     beside_legible leaf node rank (Cut Steps) (Spending found) full faithful low is spent small = absurd is
     beside_legible leaf node rank (Cut Steps) (Learning learnt) full faithful low is spent small = absurd is
     beside_legible leaf node rank (Cut Targets) (Tested test) full faithful low is spent small = absurd is
-    beside_legible leaf node rank (Cut Targets) (Spending found) full faithful low is spent small = spent_legible regions budgets.targets spent.0 leaf found full counts.few_targets spent.2
+    beside_legible leaf node rank (Cut Targets) (Spending found) full faithful low is spent small = spent_legible r.regions r.budgets.targets spent.0 leaf found full counts.few_targets spent.2
     beside_legible leaf node rank (Cut Targets) (Learning learnt) full faithful low is spent small = absurd is
     beside_legible leaf node rank (Cut Conflicts) (Tested test) full faithful low is spent small = absurd is
     beside_legible leaf node rank (Cut Conflicts) (Spending found) full faithful low is spent small = absurd is
-    beside_legible leaf node rank (Cut Conflicts) (Learning learnt) full faithful low is spent small = learnt_legible regions budgets.conflicts leaf learnt counts.few_conflicts small spent
+    beside_legible leaf node rank (Cut Conflicts) (Learning learnt) full faithful low is spent small = learnt_legible r.regions r.budgets.conflicts leaf learnt counts.few_conflicts small spent
 
-    pub entry_legible : (rank : ℕ) (e : Entry) → slice_get entries rank ≡ Some e → IsLegibleBeside e.beside
+    pub entry_legible : (rank : ℕ) (e : Entry) → slice_get r.entries rank ≡ Some e → IsLegibleBeside e.beside
     entry_legible rank e at =
-        let low : IsSmall rank = omega (arith, few_entries, slice_get_within entries rank e at) in
-        beside_legible e.leaf e.node rank e.leaf.end e.beside (at_leaf IsFull rank e claims.full at) (at_leaf (IsFaithful image regions budgets.steps) rank e claims.faithful at) low
+        let low : IsSmall rank = omega (arith, few_entries, slice_get_within r.entries rank e at) in
+        beside_legible e.leaf e.node rank e.leaf.end e.beside (at_leaf IsFull rank e claims.full at) (at_leaf (IsFaithful r.image r.regions r.budgets.steps) rank e claims.faithful at) low
         (claims.runs rank e at)
-        (holds_at (λ (x : Entry). HasSpent regions budgets lines x.node x.leaf x.leaf.end x.beside) entries rank e claims.cuts at)
-        (holds_at (λ (x : Entry). HasSmallLogBeside x.beside) entries rank e counts.small_logs at)
+        (holds_at (λ (x : Entry). HasSpent r.regions r.budgets r.lines x.node x.leaf x.leaf.end x.beside) r.entries rank e claims.cuts at)
+        (holds_at (λ (x : Entry). HasSmallLogBeside x.beside) r.entries rank e counts.small_logs at)

@@ -40,30 +40,43 @@ leaves_of entries = map (λ (e : Entry). e.leaf) entries
 abbrev pub leaf_nodes_of : List Entry → List LeafNode
 leaf_nodes_of entries = map (λ (e : Entry). record { leaf = e.leaf; node = e.node }) entries
 
+-- A report: the image of a program, the regions of its input bytes, what may be spent and by how many workers, and what was
+-- written: the events, and the entries, that is, the leaves with what stands beside them.
+pub record Report : Type 0 where
+  pub image : Image
+  pub regions : List Region
+  pub budgets : Budgets
+  pub workers : ℕ
+  pub lines : List Line
+  pub entries : List Entry
+
+abbrev pub leaves : Report → List Leaf
+leaves r = leaves_of r.entries
+
 -- each leaf is one in full
-abbrev pub AreFull : List Leaf → Type 0
-AreFull leaves = All IsFull leaves
+abbrev pub AreFull : Report → Type 0
+AreFull r = All IsFull (leaves r)
 
 -- each leaf is over the bytes of the regions
-abbrev pub HaveInputs : List Region → List Leaf → Type 0
-HaveInputs regions leaves = All (λ (leaf : Leaf). leaf.condition.graph.inputs ≡ count_of regions) leaves
+abbrev pub HaveInputs : Report → Type 0
+HaveInputs r = All (λ (leaf : Leaf). leaf.condition.graph.inputs ≡ count_of r.regions) (leaves r)
 
 -- each assignment is covered by exactly one of the leaves
-abbrev pub IsExactCover : List Region → List Leaf → Type 0
-IsExactCover regions leaves = (input : List ℕ) → IsAssignment regions input → count_by (λ leaf. covers leaf input) leaves ≡ 1
+abbrev pub IsExactCover : Report → Type 0
+IsExactCover r = (input : List ℕ) → IsAssignment r.regions input → count_by (λ leaf. covers leaf input) (leaves r) ≡ 1
 
 -- the runs of each leaf are as it says, within the budget of steps
-abbrev pub AreFaithful : Image → List Region → Budgets → List Leaf → Type 0
-AreFaithful image regions budgets leaves = All (IsFaithful image regions budgets.steps) leaves
+abbrev pub AreFaithful : Report → Type 0
+AreFaithful r = All (IsFaithful r.image r.regions r.budgets.steps) (leaves r)
 
 -- all that one leaf covers decide alike
-abbrev pub AreAlike : Image → List Region → List Leaf → Type 0
-AreAlike image regions leaves = All (DecidesAlike image regions) leaves
+abbrev pub AreAlike : Report → Type 0
+AreAlike r = All (DecidesAlike r.image r.regions) (leaves r)
 
 -- any two leaves part by a decision of their runs
-abbrev pub ArePartedAll : Image → List Region → Budgets → List Leaf → Type 0
-ArePartedAll image regions budgets leaves = (i j : ℕ) (leaf other : Leaf) → i ≢ j → slice_get leaves i ≡ Some leaf → slice_get leaves j ≡ Some other →
-    ArePartedLeaves image regions budgets.steps leaf other
+abbrev pub ArePartedAll : Report → Type 0
+ArePartedAll r = (i j : ℕ) (leaf other : Leaf) → i ≢ j → slice_get (leaves r) i ≡ Some leaf → slice_get (leaves r) j ≡ Some other →
+    ArePartedLeaves r.image r.regions r.budgets.steps leaf other
 
 -- the test is a run of this leaf, which has this rank: its input is one that the leaf covers, and its run is as the test says
 pub record IsRun (image : Image) (regions : List Region) (leaf : Leaf) (rank : ℕ) (test : Test) : Type 0 where
@@ -85,8 +98,8 @@ IsTested image regions leaf (Cut Conflicts) rank (Learning learnt) = Unit {0}
 IsTested image regions leaf _ rank _ = ⊥
 
 -- this holds at each rank
-abbrev pub AreRuns : Image → List Region → List Entry → Type 0
-AreRuns image regions entries = (rank : ℕ) (e : Entry) → slice_get entries rank ≡ Some e → IsTested image regions e.leaf e.leaf.end rank e.beside
+abbrev pub AreRuns : Report → Type 0
+AreRuns r = (rank : ℕ) (e : Entry) → slice_get r.entries rank ≡ Some e → IsTested r.image r.regions e.leaf e.leaf.end rank e.beside
 
 -- a cut leaf has spent its budget: it has made all steps; or beside it stand as many values of a term as it may have,
 -- which are the other sides of the split of which, by the events, its node is a side; or beside it stands the question on
@@ -100,23 +113,31 @@ HasSpent regions budgets lines node leaf (Cut Targets) (Spending spent) =
 HasSpent regions budgets lines node leaf (Cut Conflicts) (Learning learnt) = SpendsConflicts regions budgets.conflicts leaf learnt
 HasSpent regions budgets lines node leaf (Cut _) beside = ⊥
 
-abbrev pub ShowBudgets : List Region → Budgets → List Line → List Entry → Type 0
-ShowBudgets regions budgets lines entries = All (λ (e : Entry). HasSpent regions budgets lines e.node e.leaf e.leaf.end e.beside) entries
+abbrev pub ShowBudgets : Report → Type 0
+ShowBudgets r = All (λ (e : Entry). HasSpent r.regions r.budgets r.lines e.node e.leaf e.leaf.end e.beside) r.entries
 
 -- the events are one run of so many workers through the fork tree that leaves nothing to be done, and the leaves of its tree are those that are written
-abbrev pub HasHistory : Budgets → (workers : ℕ) → List Line → List Entry → Type 0
-HasHistory budgets workers lines entries = IsHistory workers budgets.targets lines (leaf_nodes_of entries)
+abbrev pub HasHistory : Report → Type 0
+HasHistory r = IsHistory r.workers r.budgets.targets r.lines (leaf_nodes_of r.entries)
 
--- all of the claims, for these budgets and so many workers
-pub record IsReport (image : Image) (regions : List Region) (budgets : Budgets) (workers : ℕ) (lines : List Line) (entries : List Entry) : Type 0 where
-  pub full : AreFull (leaves_of entries)
-  pub inputs : HaveInputs regions (leaves_of entries)
-  pub exact_cover : IsExactCover regions (leaves_of entries)
-  pub faithful : AreFaithful image regions budgets (leaves_of entries)
-  pub alike : AreAlike image regions (leaves_of entries)
-  pub parted : ArePartedAll image regions budgets (leaves_of entries)
-  pub runs : AreRuns image regions entries
-  pub cuts : ShowBudgets regions budgets lines entries
-  pub history : HasHistory budgets workers lines entries
-  pub releases : ReleaseOnce lines
-  pub ranked : AreRanked (leaves_of entries)
+-- by which each worker gave up one node at most
+abbrev pub GiveUpOnce : Report → Type 0
+GiveUpOnce r = ReleaseOnce r.lines
+
+-- the leaves stand in the order of their choices
+abbrev pub StandByRank : Report → Type 0
+StandByRank r = AreRanked (leaves r)
+
+-- all of the claims
+pub record IsReport (r : Report) : Type 0 where
+  pub full : AreFull r
+  pub inputs : HaveInputs r
+  pub exact_cover : IsExactCover r
+  pub faithful : AreFaithful r
+  pub alike : AreAlike r
+  pub parted : ArePartedAll r
+  pub runs : AreRuns r
+  pub cuts : ShowBudgets r
+  pub history : HasHistory r
+  pub releases : GiveUpOnce r
+  pub ranked : StandByRank r

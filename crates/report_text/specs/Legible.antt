@@ -1,6 +1,5 @@
 -- Events and evidence that their texts tell from all others: those of which each number, choice and byte has a text of its own.
-use Rattle.std.specs.Prelude.{◌≡◌, ℕ, ◌<◌, ◌^◌, List, All, None, Option, Some, length}
-use Rattle.tree_core.specs.declared.budgets.Budgets.{Budgets}
+use Rattle.std.specs.Prelude.{◌≡◌, ◌<◌, ◌^◌, List, All, None, Option, Some, length}
 use Rattle.cnf_form.specs.Clauses.{IsClause}
 use Rattle.cnf_form.specs.Literals.{Literal}
 use Rattle.cnf_form.specs.Refutations.{Step}
@@ -12,7 +11,7 @@ use Rattle.fork_spec.specs.Leaves.{IsCount, IsSmall, IsSmallChoice}
 use Rattle.fork_spec.specs.Parts.{Evidence, OnConflicts, OnTargets}
 use Rattle.fork_spec.specs.Walks.{Line, Side, Sides, Standing, walk}
 use Rattle.test_files.specs.Writable.{IsLegible}
-use Rattle.report_text.specs.Claims.{Beside, Entry, Learning, Spending, Tested}
+use Rattle.report_text.specs.Claims.{Beside, Entry, Learning, Report, Spending, Tested}
 
 -- the numbers of sides and their values have 32 bits, and the line of what is finished says of no cut
 abbrev pub IsLegibleDeed : Deed (Option Cause) Sides → Type 0
@@ -69,9 +68,9 @@ HasSmallLogBeside (Learning learnt) = All HasSmallNumbers learnt.log
 
 -- The numbers of a report that its claims leave open: of workers, of what the budgets allow, of the nodes that the events make, and in
 -- the logs beside its leaves.
-pub record HasSmallCounts (budgets : Budgets) (workers : ℕ) (lines : List Line) (entries : List Entry) : Type 0 where
-  pub few_workers : IsSmall workers
-  pub few_targets : IsSmall budgets.targets
-  pub few_conflicts : IsSmall budgets.conflicts
-  pub few_nodes : (nodes : List Standing) → walk workers budgets.targets lines ≡ Some nodes → IsSmall (length nodes)
-  pub small_logs : All (λ (e : Entry). HasSmallLogBeside e.beside) entries
+pub record HasSmallCounts (r : Report) : Type 0 where
+  pub few_workers : IsSmall r.workers
+  pub few_targets : IsSmall r.budgets.targets
+  pub few_conflicts : IsSmall r.budgets.conflicts
+  pub few_nodes : (nodes : List Standing) → walk r.workers r.budgets.targets r.lines ≡ Some nodes → IsSmall (length nodes)
+  pub small_logs : All (λ (e : Entry). HasSmallLogBeside e.beside) r.entries

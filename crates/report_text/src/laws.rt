@@ -44,7 +44,7 @@ where
         → AskAsClaimed W.Leaf.part (W.rules worker) W.Leaf.place image regions budgets → IsDrained (W.rules worker) W.State.place W.Leaf.place s → AreEntries W.Leaf.part regions s entries
         → ((input : List ℕ) → IsAssignment regions input → covered (λ c. (place_in W.State.place W.Leaf.place c).covers) (root_content s) input ≡ true)
         → All (λ (e : Event (Content W.State W.Leaf) ℕ). e.by < workers) s.events → ReleaseOnce s.events
-        → IsReport image regions budgets workers (lines_of (cut_in (W.rules worker).cut) s) entries }
+        → IsReport (record { image = image; regions = regions; budgets = budgets; workers = workers; lines = lines_of (cut_in (W.rules worker).cut) s; entries = entries }) }
 {}
 
 /// Leaves that stand by rank are the entries of their tree.

@@ -3,7 +3,6 @@ use Rattle.std.proofs.Common.{◌≡◌, ◌≢◌, ◌⊎◌, ℕ, List, [], in
 use Rattle.std.specs.Prelude.{Option, None, Some, IfSome, if◌then◌else◌, ◌==◌}
 use Rattle.tool_io.specs.Told.{Told, Seen, Put, Deeds, Gives, after, says, puts_all, IsPrefix, names_since}
 use Rattle.tool_io.specs.Causes.{Rose}
-use Rattle.fork_spec.specs.Walks.{Line}
 use Rattle.tool_io.proofs.Deeds.{then_says, then_all, IsPrefix-nothing, IsPrefix-whole}
 use Rattle.tool_io.proofs.Since.{names_since-after, puts_since-after, said_since-after}
 use Rattle.elf_load.specs.Fits.{unfit}
@@ -14,7 +13,7 @@ use Rattle.elf_load.specs.declared.unfit.Unfit.{Unfit as WhyUnfit}
 use Rattle.prog_gen.specs.Generated.{generated_file, generated_regions}
 use Rattle.tool_words.specs.Job.{Job, Bench, Explore, Replay}
 use Rattle.tool_words.specs.Limits.{default_budgets}
-use Rattle.tool_top.specs.Lines.{bench_line, no_memory}
+use Rattle.tool_top.specs.Lines.{no_memory}
 use Rattle.tool_top.specs.Reports.{IsReportOf}
 use Rattle.tool_top.specs.Plan.{Plan, names_of, IsPlan, IsPlanned, IsReadFault, IsReported, IsRefusal, IsMisfit, Means, OnlyReads, most_bytes}
 use Rattle.elf_load.specs.Images.{Image, Loads}
@@ -23,9 +22,9 @@ use Rattle.tree_core.specs.declared.budgets.Budgets.{Budgets}
 use Rattle.replay_core.specs.Replays.{IsAsSaid}
 use Rattle.tool_top.proofs.BenchEndings.{benched, not_benched}
 use Rattle.tool_top.proofs.ReplayEndings.{given_held, replay_fault, replay_kept, replay_no_job, replay_misfit, replay_no_program, replay_no_test, replay_other, replay_puts, replay_same}
-use Rattle.report_text.specs.Claims.{Entry, IsReport}
+use Rattle.report_text.specs.Claims.{IsReport, Report}
 use Rattle.report_text.specs.Files.{files_of, summary_of}
-use Rattle.tool_top.specs.Answer.{Answered, status_of, IsAnswered, IsFaulted, IsWanting, IsCarriedOut, IsCutByFault, IsWritten, OnWritten, OnReplayed, HoldsProgram, HoldsNoProgram, HoldsMisfit, HoldsNoTest, HoldsOther, HoldsTest, verdict_status}
+use Rattle.tool_top.specs.Answer.{Answered, Asked, Ran, named, numbered, line_with, status_of, IsAnswered, IsFaulted, IsFile, IsWanting, IsCarriedOut, IsCutByFault, IsWritten, WritesFor, OnReplayed, HoldsProgram, HoldsNoProgram, HoldsMisfit, HoldsNoTest, HoldsOther, HoldsTest, verdict_status}
 use Rattle.tool_top.specs.ReadBack.{AreReadBack}
 use Rattle.tool_top.proofs.ReadingBack.{read_back}
 use Rattle.tool_top.specs.declared.verdict.Verdict.{Verdict}
@@ -200,14 +199,17 @@ answered_names old new job WriteFault h = names_since-after _ _ (record { names 
 answered_names old new job NoMemory h = names_since-after _ _ (record { names = h.names; puts = h.out.puts; said = h.out.said }) _ h.out.changes h.reading
 
 -- what was written, where the plan is done and all was put and said
-written : (old new : Seen) (IsFile : List ℕ → Type 0) (line : List ℕ → List ℕ) (out bytes : List ℕ) (image : Image) (asked : List Region) (budgets : Budgets) (workers : ℕ)
-    (Claim : Image → List Region → Budgets → ℕ → List Line → List Entry → Type 0) (plan : Plan) (summary : List ℕ)
-    → ((lines : List Line) (entries : List Entry) → IsReport image asked budgets workers lines entries → Claim image asked budgets workers lines entries)
-    → IsFile bytes → Loads bytes image → unfit image asked ≡ None → IsReportOf out image asked budgets workers plan.puts summary → plan.text ≡ line summary
-    → IsCarriedOut old new Done plan.puts plan.text plan.names → IsWritten old.told new.told IsFile line out asked budgets workers Claim
-written old new IsFile line out bytes image asked budgets workers Claim plan summary claims given loads fits report text carried =
+written : (r : Ran) (asked : Asked) (bytes : List ℕ) (image : Image) (Claim : Report → Type 0) (plan : Plan) (summary : List ℕ)
+    → ((report : Report) → IsReport report → Claim report)
+    → IsFile r.old.told asked.source bytes → Loads bytes image → unfit image asked.regions ≡ None
+    → IsReportOf asked.out image asked.regions asked.budgets asked.workers plan.puts summary → plan.text ≡ line_with asked.source summary
+    → IsCarriedOut r.old r.new Done plan.puts plan.text plan.names → IsWritten r asked Claim
+written r asked bytes image Claim plan summary claims given loads fits report text carried =
+    let old = r.old.told in
+    let new = r.new.told in
     let deeds : Deeds = record { names = plan.names; puts = plan.puts; said = carried.said } in
     let said : carried.said ≡ plan.text = elim carried.whole [ inl all ↦ all | inr cut ↦ absurd (cut.1 refl) ] in
+    let whole : Report = record { image = image; regions = asked.regions; budgets = asked.budgets; workers = asked.workers; lines = report.lines; entries = report.entries } in
     record {
       image = image;
       lines = report.lines;
@@ -216,27 +218,29 @@ written old new IsFile line out bytes image asked budgets workers Claim plan sum
       given = given;
       loads = loads;
       fits = fits;
-      files = puts_since-after old.told new.told deeds (λ puts. puts ≡ files_of out budgets workers asked report.lines report.entries) carried.changes report.files;
+      files = puts_since-after old new deeds (λ puts. puts ≡ files_of asked.out asked.budgets asked.workers asked.regions report.lines report.entries) carried.changes report.files;
       read_back =
-          puts_since-after old.told new.told deeds (λ puts. AreReadBack out puts report.lines report.entries) carried.changes
-          (subst (λ puts. AreReadBack out puts report.lines report.entries) (sym report.files)
-          (read_back out image asked budgets workers report.lines report.entries report.claims report.counts fits));
-      summary = said_since-after old.told new.told deeds (λ said. said ≡ line (summary_of report.entries)) carried.changes (said ∙ text ∙ ap line report.summary);
-      claim = claims report.lines report.entries report.claims;
+          puts_since-after old new deeds (λ puts. AreReadBack asked.out puts report.lines report.entries) carried.changes
+          (subst (λ puts. AreReadBack asked.out puts report.lines report.entries) (sym report.files)
+          (read_back asked.out whole report.claims report.counts fits));
+      summary = said_since-after old new deeds (λ said. said ≡ line_with asked.source (summary_of report.entries)) carried.changes (said ∙ text ∙ ap (line_with asked.source) report.summary);
+      claim = claims whole report.claims;
     }
 
-pub done_written : (old new : Seen) (job : Option Job) (Claim : Image → List Region → Budgets → ℕ → List Line → List Entry → Type 0)
-    → ((image : Image) (regions : List Region) (budgets : Budgets) (workers : ℕ) (lines : List Line) (entries : List Entry) → IsReport image regions budgets workers lines entries → Claim image regions budgets workers lines entries) → IsAnswered old new job Done → OnWritten old.told new.told job Claim
+pub done_written : (old new : Seen) (job : Option Job) (Claim : Report → Type 0) → ((report : Report) → IsReport report → Claim report)
+    → IsAnswered old new job Done → WritesFor (record { old = old; new = new; job = job }) job Claim
 done_written old new None Claim claims h = none_other old new h.plan Done h.is (λ e. cc) h.planned
 done_written old new (Some (Explore program out asked budgets workers)) Claim claims h =
     let r = done_reported old new program out asked budgets workers h.plan h.is h.planned in
-    written old new (Gives old.told program most_bytes) (λ summary. summary) out r.0 r.2.image asked budgets workers Claim h.plan h.plan.text
-    (claims r.2.image asked budgets workers) r.1 r.2.loads r.2.fits r.2.report refl h.out
+    written (record { old = old; new = new; job = Some (Explore program out asked budgets workers) })
+    (record { source = named program; out = out; regions = asked; budgets = budgets; workers = workers }) r.0 r.2.image Claim h.plan h.plan.text
+    claims r.1 r.2.loads r.2.fits r.2.report refl h.out
 done_written old new (Some (Replay program test)) Claim claims h = tt
 done_written old new (Some (Bench number workers out)) Claim claims h =
     let is = benched old new number workers out h.plan h.planned in
-    written old new (λ bytes. bytes ≡ generated_file number) (bench_line number) out (generated_file number) is.image (generated_regions number) default_budgets workers Claim h.plan is.summary
-    (claims is.image (generated_regions number) default_budgets workers) refl is.loads is.fits is.report is.line h.out
+    written (record { old = old; new = new; job = Some (Bench number workers out) })
+    (record { source = numbered number; out = out; regions = generated_regions number; budgets = default_budgets; workers = workers }) (generated_file number) is.image Claim h.plan is.summary
+    claims refl is.loads is.fits is.report is.line h.out
 
 -- what was the same, and what was not
 pub done_same : (old new : Seen) (job : Option Job) → IsAnswered old new job Done → OnReplayed old.told job IsAsSaid

@@ -5,15 +5,12 @@ use Rattle.std.specs.List.{Contains}
 use Rattle.std.proofs.lemmas.List.Elements.{Contains-append_left}
 use Rattle.std.proofs.lemmas.Option.{none-some, same_Some}
 use Rattle.elf_load.specs.Fits.{unfit}
-use Rattle.elf_load.specs.Images.{Image}
-use Rattle.elf_load.specs.declared.region.Region.{Region}
 use Rattle.fork_spec.specs.Leaves.{IsFull, Leaf}
-use Rattle.fork_spec.specs.Walks.{Line}
 use Rattle.report_text.proofs.ClaimsLegible.{at_leaf, entry_legible, lines_legible}
 use Rattle.report_text.proofs.EventsBack.{events_told}
 use Rattle.report_text.proofs.LearntBack.{learnt_told}
 use Rattle.report_text.proofs.SpentBack.{spent_told}
-use Rattle.report_text.specs.Claims.{Beside, Entry, IsReport, Learning, Spending, Tested, leaf_nodes_of}
+use Rattle.report_text.specs.Claims.{Beside, Entry, IsReport, Learning, Report, Spending, Tested, leaf_nodes_of}
 use Rattle.report_text.specs.Files.{beside_put, events_put, files_from, files_of, leaf_put, report_put}
 use Rattle.report_text.specs.Legible.{HasSmallCounts, IsLegibleBeside}
 use Rattle.smt_text.specs.Grammar.{IsTextOf, IsWhole}
@@ -23,7 +20,6 @@ use Rattle.smt_text.proofs.Reading.{text_reads}
 use Rattle.smt_text.proofs.Whole.{whole_full, whole_text}
 use Rattle.test_files.proofs.OneTest.{test_by_text}
 use Rattle.tool_io.specs.Told.{Put}
-use Rattle.tree_core.specs.declared.budgets.Budgets.{Budgets}
 use Rattle.tool_top.specs.ReadBack.{AreReadBack, HasOwnText, ReadsAs}
 use Rattle.tool_top.proofs.Plans.{region_starts, short_regions}
 
@@ -85,25 +81,24 @@ own_text (Spending spent) legible = λ other is e. spent_told other spent is leg
 own_text (Learning learnt) legible = λ other is e. learnt_told other learnt is legible e
 
 -- each leaf is what its file reads as, and the other files are those of these events, tests and evidence alone, where the claims hold
-pub read_back : (out : List ℕ) (image : Image) (regions : List Region) (budgets : Budgets) (workers : ℕ) (lines : List Line) (entries : List Entry)
-    → IsReport image regions budgets workers lines entries → HasSmallCounts budgets workers lines entries → unfit image regions ≡ None
-    → AreReadBack out (files_of out budgets workers regions lines entries) lines entries
-read_back out image regions budgets workers lines entries claims counts fits =
-    let last : List Put = report_put out budgets workers regions (leaf_nodes_of entries) ∷ [] in
-    let files : List Put = files_from out 0 entries in
-    let among : (p : Put) → Contains files p → Contains (files_of out budgets workers regions lines entries) p =
-    λ p there. further (events_put out lines) p (files ++ last) (Contains-append_left files last p there) in
+pub read_back : (out : List ℕ) (r : Report) → IsReport r → HasSmallCounts r → unfit r.image r.regions ≡ None
+    → AreReadBack out (files_of out r.budgets r.workers r.regions r.lines r.entries) r.lines r.entries
+read_back out r claims counts fits =
+    let last : List Put = report_put out r.budgets r.workers r.regions (leaf_nodes_of r.entries) ∷ [] in
+    let files : List Put = files_from out 0 r.entries in
+    let among : (p : Put) → Contains files p → Contains (files_of out r.budgets r.workers r.regions r.lines r.entries) p =
+    λ p there. further (events_put out r.lines) p (files ++ last) (Contains-append_left files last p there) in
     record {
       events = (0, omega arith, refl);
-      alone = λ others legible e. events_told others lines legible (lines_legible image regions budgets workers lines entries claims counts) e;
+      alone = λ others legible e. events_told others r.lines legible (lines_legible r claims counts) e;
       each = λ rank e at.
           let number : 0 + rank ≡ rank = omega arith in
-          let there : ArePut out files rank e = subst (λ n. ArePut out files n e) number (put_from out 0 entries rank e at) in
-          let full : IsFull e.leaf = at_leaf image regions budgets workers lines entries claims counts IsFull rank e claims.full at in
+          let there : ArePut out files rank e = subst (λ n. ArePut out files n e) number (put_from out 0 r.entries rank e at) in
+          let full : IsFull e.leaf = at_leaf r claims counts IsFull rank e claims.full at in
           record {
             leaf = record { bytes = leaf_text e.leaf; is_put = among (leaf_put out rank e.leaf) there.leaf; reads = reads_as e.leaf full };
             beside = among (beside_put out rank e.beside) there.beside;
             alone = own_text e.beside
-                (entry_legible image regions budgets workers lines entries claims counts (region_starts image regions fits) (short_regions image regions fits) rank e at);
+                (entry_legible r claims counts (region_starts r.image r.regions fits) (short_regions r.image r.regions fits) rank e at);
           };
     }

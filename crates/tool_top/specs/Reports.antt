@@ -13,7 +13,7 @@ use Rattle.report_text.specs.Legible.{HasSmallCounts}
 pub record IsReportOf (out : List ℕ) (image : Image) (regions : List Region) (budgets : Budgets) (workers : ℕ) (puts : List Put) (text : List ℕ) : Type 0 where
   pub lines : List Line
   pub entries : List Entry
-  pub claims : IsReport image regions budgets workers lines entries
-  pub counts : HasSmallCounts budgets workers lines entries
+  pub claims : IsReport (record { image = image; regions = regions; budgets = budgets; workers = workers; lines = lines; entries = entries })
+  pub counts : HasSmallCounts (record { image = image; regions = regions; budgets = budgets; workers = workers; lines = lines; entries = entries })
   pub files : puts ≡ files_of out budgets workers regions lines entries
   pub summary : text ≡ summary_of entries

@@ -20,37 +20,37 @@ returns-clause-unfit_where g c = λ four.
 
 pub returns-clause-exact_cover : goal.returns-clause-exact_cover
 returns-clause-exact_cover g c = λ zero.
-    done_written _ _ _ _ (λ image regions budgets workers lines entries report. report.exact_cover)
+    done_written _ _ _ _ (λ report claims. claims.exact_cover)
     (answered_as _ _ _ c.run_words.result Done _ c.run_words.ensures c.status.ensures zero)
 
 pub returns-clause-faithful : goal.returns-clause-faithful
 returns-clause-faithful g c = λ zero.
-    done_written _ _ _ _ (λ image regions budgets workers lines entries report. report.faithful)
+    done_written _ _ _ _ (λ report claims. claims.faithful)
     (answered_as _ _ _ c.run_words.result Done _ c.run_words.ensures c.status.ensures zero)
 
 pub returns-clause-tests_are_runs : goal.returns-clause-tests_are_runs
 returns-clause-tests_are_runs g c = λ zero.
-    done_written _ _ _ _ (λ image regions budgets workers lines entries report. report.runs)
+    done_written _ _ _ _ (λ report claims. claims.runs)
     (answered_as _ _ _ c.run_words.result Done _ c.run_words.ensures c.status.ensures zero)
 
 pub returns-clause-cuts_show_their_budget : goal.returns-clause-cuts_show_their_budget
 returns-clause-cuts_show_their_budget g c = λ zero.
-    done_written _ _ _ _ (λ image regions budgets workers lines entries report. report.cuts)
+    done_written _ _ _ _ (λ report claims. claims.cuts)
     (answered_as _ _ _ c.run_words.result Done _ c.run_words.ensures c.status.ensures zero)
 
 pub returns-clause-history : goal.returns-clause-history
 returns-clause-history g c = λ zero.
-    done_written _ _ _ _ (λ image regions budgets workers lines entries report. report.history)
+    done_written _ _ _ _ (λ report claims. claims.history)
     (answered_as _ _ _ c.run_words.result Done _ c.run_words.ensures c.status.ensures zero)
 
 pub returns-clause-by_rank : goal.returns-clause-by_rank
 returns-clause-by_rank g c = λ zero.
-    done_written _ _ _ _ (λ image regions budgets workers lines entries report. report.ranked)
+    done_written _ _ _ _ (λ report claims. claims.ranked)
     (answered_as _ _ _ c.run_words.result Done _ c.run_words.ensures c.status.ensures zero)
 
 pub returns-clause-files_and_summary : goal.returns-clause-files_and_summary
 returns-clause-files_and_summary g c = λ zero.
-    done_written _ _ _ IsReport (λ image regions budgets workers lines entries report. report)
+    done_written _ _ _ IsReport (λ report claims. claims)
     (answered_as _ _ _ c.run_words.result Done _ c.run_words.ensures c.status.ensures zero)
 
 pub returns-clause-complete : goal.returns-clause-complete
@@ -85,25 +85,25 @@ returns-clause-read_where g c = λ five. read_rose _ _ _ (answered_as _ _ _ c.ru
 
 pub returns-clause-leaves_are_full : goal.returns-clause-leaves_are_full
 returns-clause-leaves_are_full g c = λ zero.
-    done_written _ _ _ _ (λ image regions budgets workers lines entries report. report.full)
+    done_written _ _ _ _ (λ report claims. claims.full)
     (answered_as _ _ _ c.run_words.result Done _ c.run_words.ensures c.status.ensures zero)
 
 pub returns-clause-alike : goal.returns-clause-alike
 returns-clause-alike g c = λ zero.
-    done_written _ _ _ _ (λ image regions budgets workers lines entries report. report.alike)
+    done_written _ _ _ _ (λ report claims. claims.alike)
     (answered_as _ _ _ c.run_words.result Done _ c.run_words.ensures c.status.ensures zero)
 
 pub returns-clause-parted : goal.returns-clause-parted
 returns-clause-parted g c = λ zero.
-    done_written _ _ _ _ (λ image regions budgets workers lines entries report. report.parted)
+    done_written _ _ _ _ (λ report claims. claims.parted)
     (answered_as _ _ _ c.run_words.result Done _ c.run_words.ensures c.status.ensures zero)
 
 pub returns-clause-input_bytes : goal.returns-clause-input_bytes
 returns-clause-input_bytes g c = λ zero.
-    done_written _ _ _ _ (λ image regions budgets workers lines entries report. report.inputs)
+    done_written _ _ _ _ (λ report claims. claims.inputs)
     (answered_as _ _ _ c.run_words.result Done _ c.run_words.ensures c.status.ensures zero)
 
 pub returns-clause-releases : goal.returns-clause-releases
 returns-clause-releases g c = λ zero.
-    done_written _ _ _ _ (λ image regions budgets workers lines entries report. report.releases)
+    done_written _ _ _ _ (λ report claims. claims.releases)
     (answered_as _ _ _ c.run_words.result Done _ c.run_words.ensures c.status.ensures zero)
