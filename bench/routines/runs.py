@@ -15,7 +15,10 @@ from interpreter import INPUT, Machine, load
 
 HERE = pathlib.Path(__file__).resolve().parent
 # The routines of more than one input byte, with their number. They are wide.py's.
-WIDE = {"base64": 4, "decimal": 4, "gcd": 2, "packet": 6, "pin": 4, "records": 8, "sort": 4}
+WIDE = {
+    "base64": 4, "battery": 2, "bubble": 5, "crc16": 4, "crc32": 4, "crc8b": 4, "date": 4, "decimal": 4, "dns": 8, "gcd": 2,
+    "isqrt16": 2, "lz": 4, "modbus": 6, "packet": 6, "pin": 4, "q15": 2, "records": 8, "rle": 4, "sort": 4, "temp": 2, "tlv": 5,
+}
 # Those of which the first two bytes alone are input, too.
 FIRST_TWO = ["decimal", "records"]
 STEPS, TARGETS = 10_000, 16

@@ -28,13 +28,18 @@ def tables():
 
 
 def seeds(name, count):
-    """Where the search begins. A packet with its CRC, which nothing else would find, begins it for each command."""
+    """Where the search begins. What nothing else would find begins it too: a packet with its CRC for each command, the input
+    that `crc16` and `crc32` name in their C files, and a request of each function, broadcast and not, for one register."""
     r = random.Random(name)
     yield bytes(count)
     yield from (r.randbytes(count) for _ in range(RANDOM))
     if name == "packet":
         for head in itertools.product([0xA5], range(256), range(2), range(2)):
             yield bytes(head) + binascii.crc_hqx(bytes(head), 0xFFFF).to_bytes(2, "big")
+    if name in ("crc16", "crc32"):
+        yield b"boot"
+    if name == "modbus":
+        yield from (bytes([unit, function, 0, 0, 0, 1]) for unit in (0, 17) for function in range(256))
 
 
 def beside(values):
