@@ -1,7 +1,7 @@
 //! The literals of terms, each from those of earlier ones.
 
 ghost use Rattle.std.specs.Prelude.{◌≡◌, ◌+◌, ◌∷◌, [], IfOk, OnOk, take, drop, replicate, None, slice_index_or};
-ghost use Rattle.circuit_spec.specs.Circuits.{row_at, lowest_of, binary_row, compare_gate, extension_of, with_row, with_input, with_node, no_terms, with_asserted};
+ghost use Rattle.circuit_spec.specs.Circuits.{row_at, lowest_of, binary_row, compare_gate, extension_of, with_row, with_input, circuit_with, no_terms, with_asserted};
 ghost use Rattle.circuit_spec.specs.Gates.{mux_gate};
 ghost use Rattle.circuit_spec.specs.Rows.{each};
 
@@ -175,9 +175,9 @@ impl Circuit {
     }
 
     /// The literals of one more term.
-    #[tactic(auto, unfolding(circuit_spec::specs::Circuits::with_node))]
+    #[tactic(auto, unfolding(circuit_spec::specs::Circuits::circuit_with))]
     pub fn push_node(&mut self, alloc: Global, node: &Node) -> Result<(), NoMemory>
-        ensures { OnOk result (self.new ≡ with_node self.old node.now) }
+        ensures { OnOk result (self.new ≡ circuit_with self.old node.now) }
     {
         match *node {
             Node::Num { width, value } => {

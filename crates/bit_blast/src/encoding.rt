@@ -2,7 +2,7 @@
 
 ghost use Rattle.std.specs.Prelude.{◌≡◌, IfOk, map};
 ghost use Rattle.cnf_form.specs.Valuations.{valuation};
-ghost use Rattle.circuit_spec.specs.Bytes.{byte_of};
+ghost use Rattle.circuit_spec.specs.Bytes.{input_byte};
 
 use crate::row::Row;
 use crate::values::{low_eight, number_of};
@@ -37,7 +37,7 @@ impl Model for Encoding {
 
 // What an input byte is, and 0 where it doesn't occur.
 fn byte_of(input: &Option<Row>, values: &Val) -> u8
-    ensures { result ≡ byte_of (valuation values.now) input.now }
+    ensures { result ≡ input_byte (valuation values.now) input.now }
 {
     match input {
         Some(row) => number_of(low_eight(&row.literals), values),
@@ -61,7 +61,7 @@ impl Encoding {
 
     /// The input bytes that a valuation of the clauses means: 0 for a byte that doesn't occur.
     pub fn bytes(&self, alloc: Global, values: &Val) -> Result<Bytes, NoMemory>
-        ensures { IfOk result (λ bytes. bytes ≡ map (byte_of (valuation values.now)) self.now.inputs) }
+        ensures { IfOk result (λ bytes. bytes ≡ map (input_byte (valuation values.now)) self.now.inputs) }
     {
         let bytes = self
             .inputs

@@ -9,7 +9,7 @@ use Rattle.cnf_form.specs.Literals.{Literal}
 use Rattle.cnf_form.specs.Clauses.{are_increasing}
 use Rattle.cnf_form.specs.Propagation.{unassigned}
 use Rattle.cdcl_core.specs.declared.trail.Entry.{Entry}
-use Rattle.cdcl_core.specs.Trails.{values_of, IsTrail, AreCalm, IsCalm, IsDecisionAt, IsCalmBefore}
+use Rattle.cdcl_core.specs.Trails.{trail_values, IsTrail, AreCalm, IsCalm, IsDecisionAt, IsCalmBefore}
 use Rattle.cdcl_core.proofs.Lists.{got_take, take_shorter}
 use Rattle.cdcl_core.proofs.Values.{trail_with, calm_before, first_is_trail}
 use Rattle.cdcl_core.proofs.Scanning.{is_beside, any_more, any_last, beside, calm_open, front_is_below}
@@ -20,8 +20,8 @@ is_open a l = is_none (a l.variable)
 
 -- the numbers of a walk over literals: before its entry one of them has no value, and before the second's two
 pub record IsSecond (entries : List Entry) (p : List Literal) (first second : ℕ) : Type 0 where
-  pub one : (n : ℕ) → n < first → list_any (is_open (values_of (take n entries))) p ≡ true
-  pub two : (n x : ℕ) → n < second → list_any (is_beside (values_of (take n entries)) x) p ≡ true
+  pub one : (n : ℕ) → n < first → list_any (is_open (trail_values (take n entries))) p ≡ true
+  pub two : (n x : ℕ) → n < second → list_any (is_beside (trail_values (take n entries)) x) p ≡ true
   pub order : second ≤ first
 
 open_beside : (a : ℕ → Option Bool) (x : ℕ) (p : List Literal) → list_all (λ j. nat_lt j.variable x) p ≡ true → list_any (is_open a) p ≡ true → list_any (is_beside a x) p ≡ true
@@ -50,26 +50,26 @@ open_last a p k free = any_last (is_open a) p k (ap (λ (o : Option Bool). is_no
 
 -- a literal whose number is above the first, between the two, or below
 abbrev AreFree : List Entry → ℕ → Literal → Type 0
-AreFree entries number l = (n : ℕ) → n < number → values_of (take n entries) l.variable ≡ None
+AreFree entries number l = (n : ℕ) → n < number → trail_values (take n entries) l.variable ≡ None
 
 above : (entries : List Entry) (p : List Literal) (k : Literal) (first second number : ℕ) → IsSecond entries p first second → list_all (λ j. nat_lt j.variable k.variable) p ≡ true → AreFree entries number k → first < number → IsSecond entries (p ++ k ∷ []) number first
 above entries p k first second number s below free less = record {
-  one = λ n early. open_last (values_of (take n entries)) p k (free n early);
-  two = λ n x early. both (values_of (take n entries)) x p k (s.one n early) (free n (omega (arith, early, less))) below;
+  one = λ n early. open_last (trail_values (take n entries)) p k (free n early);
+  two = λ n x early. both (trail_values (take n entries)) x p k (s.one n early) (free n (omega (arith, early, less))) below;
   order = omega (arith, less);
 }
 
 between : (entries : List Entry) (p : List Literal) (k : Literal) (first second number : ℕ) → IsSecond entries p first second → list_all (λ j. nat_lt j.variable k.variable) p ≡ true → AreFree entries number k → number ≤ first → IsSecond entries (p ++ k ∷ []) first number
 between entries p k first second number s below free less = record {
-  one = λ n early. any_more (is_open (values_of (take n entries))) p k (s.one n early);
-  two = λ n x early. both (values_of (take n entries)) x p k (s.one n (omega (arith, early, less))) (free n early) below;
+  one = λ n early. any_more (is_open (trail_values (take n entries))) p k (s.one n early);
+  two = λ n x early. both (trail_values (take n entries)) x p k (s.one n (omega (arith, early, less))) (free n early) below;
   order = less;
 }
 
 beneath : (entries : List Entry) (p : List Literal) (k : Literal) (first second : ℕ) → IsSecond entries p first second → IsSecond entries (p ++ k ∷ []) first second
 beneath entries p k first second s = record {
-  one = λ n early. any_more (is_open (values_of (take n entries))) p k (s.one n early);
-  two = λ n x early. any_more (is_beside (values_of (take n entries)) x) p k (s.two n x early);
+  one = λ n early. any_more (is_open (trail_values (take n entries))) p k (s.one n early);
+  two = λ n x early. any_more (is_beside (trail_values (take n entries)) x) p k (s.two n x early);
   order = s.order;
 }
 
@@ -81,11 +81,11 @@ at_place entries seen i l first second within at s =
 front_below : (seen : List Literal) (i : ℕ) (l : Literal) → i < length seen → l ≡ get_or seen i l → are_increasing seen ≡ true → list_all (λ j. nat_lt j.variable l.variable) (take i seen) ≡ true
 front_below seen i l within at order = ap (λ (k : Literal). list_all (λ j. nat_lt j.variable k.variable) (take i seen)) at ∙ front_is_below seen i l within order
 
-pub walk_above : (entries : List Entry) (seen : List Literal) (i : ℕ) (l : Literal) (first second number : ℕ) → are_increasing seen ≡ true → i < length seen → l ≡ get_or seen i l → ((n : ℕ) → n < number → values_of (take n entries) l.variable ≡ None) → IsSecond entries (take i seen) first second → first < number → IsSecond entries (take (i + 1) seen) number first
+pub walk_above : (entries : List Entry) (seen : List Literal) (i : ℕ) (l : Literal) (first second number : ℕ) → are_increasing seen ≡ true → i < length seen → l ≡ get_or seen i l → ((n : ℕ) → n < number → trail_values (take n entries) l.variable ≡ None) → IsSecond entries (take i seen) first second → first < number → IsSecond entries (take (i + 1) seen) number first
 walk_above entries seen i l first second number order within at free s less =
     at_place entries seen i l number first within at (above entries (take i seen) l first second number s (front_below seen i l within at order) free less)
 
-pub walk_between : (entries : List Entry) (seen : List Literal) (i : ℕ) (l : Literal) (first second number : ℕ) → are_increasing seen ≡ true → i < length seen → l ≡ get_or seen i l → ((n : ℕ) → n < number → values_of (take n entries) l.variable ≡ None) → IsSecond entries (take i seen) first second → number ≤ first → IsSecond entries (take (i + 1) seen) first number
+pub walk_between : (entries : List Entry) (seen : List Literal) (i : ℕ) (l : Literal) (first second number : ℕ) → are_increasing seen ≡ true → i < length seen → l ≡ get_or seen i l → ((n : ℕ) → n < number → trail_values (take n entries) l.variable ≡ None) → IsSecond entries (take i seen) first second → number ≤ first → IsSecond entries (take (i + 1) seen) first number
 walk_between entries seen i l first second number order within at free s less =
     at_place entries seen i l first number within at (between entries (take i seen) l first second number s (front_below seen i l within at order) free less)
 
@@ -101,20 +101,20 @@ walk_begun entries = record {
 
 pub walk_done : (entries : List Entry) (c seen : List Literal) (i first second : ℕ) → seen ≡ c → length seen ≤ i → IsSecond entries (take i seen) first second → IsCalmBefore second entries c
 walk_done entries c seen i first second same past s n early =
-    calm_open (values_of (take n entries)) c (λ x.
-    ap (list_any (is_beside (values_of (take n entries)) x)) (sym (take_all i seen past ∙ same)) ∙ s.two n x early)
+    calm_open (trail_values (take n entries)) c (λ x.
+    ap (list_any (is_beside (trail_values (take n entries)) x)) (sym (take_all i seen past ∙ same)) ∙ s.two n x early)
 
 -- a trail up to a decision, with a clause that is calm before each earlier one
 pub cut_trail : (clauses : List (List Literal)) (es : List Entry) (c : List Literal) (place start : ℕ) → IsTrail clauses es → IsCalmBefore start es c → ((p : ℕ) → p < place → IsDecisionAt es p → p < start) → IsTrail (clauses ++ c ∷ []) (take place es)
-unfolding values_of
+unfolding trail_values
 cut_trail clauses es c place start h calm first =
     trail_with clauses (take place es) unassigned c (first_is_trail clauses es unassigned place h) (λ p is.
     let there : (p < place) × (slice_get es p ≡ Some is.0) = got_take es place p is.0 is.1 in
-    subst (λ (ds : List Entry). IsCalm (values_of ds) c) (sym (take_shorter es p place (omega (arith, there.0))))
+    subst (λ (ds : List Entry). IsCalm (trail_values ds) c) (sym (take_shorter es p place (omega (arith, there.0))))
     (calm p (first p there.0 (is.0, there.1, is.2))))
 
-pub cut_calm : (clauses : List (List Literal)) (es : List Entry) (place : ℕ) → IsTrail clauses es → IsDecisionAt es place → AreCalm (values_of (take place es)) clauses
-unfolding values_of
+pub cut_calm : (clauses : List (List Literal)) (es : List Entry) (place : ℕ) → IsTrail clauses es → IsDecisionAt es place → AreCalm (trail_values (take place es)) clauses
+unfolding trail_values
 cut_calm clauses es place h is = calm_before clauses es unassigned place h is
 
 -- an entry that isn't a decision

@@ -10,7 +10,7 @@ use Rattle.cnf_form.specs.Propagation.{unassigned, is_falsified, unit_literal, n
 use Rattle.cnf_form.specs.Variables.{is_below, occurs}
 use Rattle.cdcl_core.specs.declared.trail.Entry.{Entry}
 use Rattle.cdcl_core.specs.declared.propagation.State.TheVariants.{Forces}
-use Rattle.cdcl_core.specs.Trails.{Assignment, with_entry, values_of, IsTrail, AreCalm, free_count}
+use Rattle.cdcl_core.specs.Trails.{Assignment, with_entry, trail_values, IsTrail, AreCalm, free_count}
 use Rattle.cdcl_core.specs.Passes.{IsState, IsFollowed}
 use Rattle.cdcl_core.proofs.Values.{trail_more}
 use Rattle.cdcl_core.proofs.Scanning.{all_at}
@@ -34,24 +34,24 @@ unit_at : (clauses : List (List Literal)) (a : ℕ → Option Bool) (i : ℕ) (c
 unit_at clauses a i c l within at h =
     ap (unit_of_hint a) (numbered_at clauses i within ∙ ap (λ (d : List Literal). Some d) (sym (read clauses i c within at))) ∙ h
 
-trail_forced : (clauses : List (List Literal)) (es : List Entry) (e : Entry) (l : Literal) (k : ℕ) → IsTrail clauses es → e ≡ record { literal = l; reason = Some k } → values_of es l.variable ≡ None → unit_of_hint (values_of es) (numbered clauses k) ≡ Some l → IsTrail clauses (es ++ e ∷ [])
-unfolding values_of
+trail_forced : (clauses : List (List Literal)) (es : List Entry) (e : Entry) (l : Literal) (k : ℕ) → IsTrail clauses es → e ≡ record { literal = l; reason = Some k } → trail_values es l.variable ≡ None → unit_of_hint (trail_values es) (numbered clauses k) ≡ Some l → IsTrail clauses (es ++ e ∷ [])
+unfolding trail_values
 trail_forced clauses es e l k h is free forced =
     subst (λ (d : Entry). IsTrail clauses (es ++ d ∷ [])) (sym is) (trail_more clauses es unassigned (record { literal = l; reason = Some k }) h free forced)
 
-pub trail_decided : (clauses : List (List Literal)) (es : List Entry) (l : Literal) → IsTrail clauses es → values_of es l.variable ≡ None → AreCalm (values_of es) clauses → occurs clauses l.variable ≡ true → IsTrail clauses (es ++ record { literal = l; reason = None } ∷ [])
-unfolding values_of
+pub trail_decided : (clauses : List (List Literal)) (es : List Entry) (l : Literal) → IsTrail clauses es → trail_values es l.variable ≡ None → AreCalm (trail_values es) clauses → occurs clauses l.variable ≡ true → IsTrail clauses (es ++ record { literal = l; reason = None } ∷ [])
+unfolding trail_values
 trail_decided clauses es l h free calm occurring =
     trail_more clauses es unassigned (record { literal = l; reason = None }) h free (calm, occurring)
 
 -- a literal that one clause forces
-pub followed_forced : (clauses : List (List Literal)) (old after : Assignment) (i : ℕ) (c : List Literal) (l : Literal) → IsTrail clauses old.entries → i < length clauses → c ≡ get_or clauses i c → IsState (values_of old.entries) (length old.marks) c (Forces l)
+pub followed_forced : (clauses : List (List Literal)) (old after : Assignment) (i : ℕ) (c : List Literal) (l : Literal) → IsTrail clauses old.entries → i < length clauses → c ≡ get_or clauses i c → IsState (trail_values old.entries) (length old.marks) c (Forces l)
     → after ≡ with_entry old (record { literal = l; reason = Some (i + 1) }) → free_count after.marks < free_count old.marks → IsFollowed clauses old after
 followed_forced clauses old after i c l h within at forced made less =
     let long : length after.entries ≡ length old.entries + 1 = ap (λ (t : Assignment). length t.entries) made ∙ length-append old.entries (record { literal = l; reason = Some (i + 1) } ∷ []) in
     record {
       trail = subst (λ (t : Assignment). IsTrail clauses t.entries) (sym made)
-          (trail_forced clauses old.entries (record { literal = l; reason = Some (i + 1) }) l (i + 1) h refl forced.1.1 (unit_at clauses (values_of old.entries) i c l within at forced.0));
+          (trail_forced clauses old.entries (record { literal = l; reason = Some (i + 1) }) l (i + 1) h refl forced.1.1 (unit_at clauses (trail_values old.entries) i c l within at forced.0));
       size = ap (λ (t : Assignment). length t.marks) made ∙ length-set old.marks l.variable (Some l.positive);
       longer = omega (arith, long);
       no_more = omega (arith, less, long);

@@ -6,13 +6,13 @@ use Rattle.cnf_form.specs.Literals.{Literal}
 use Rattle.cnf_form.specs.Propagation.{assign, is_falsified, numbered, unit_of_hint, hint_is_falsified, and_then_holds, reaches_conflict}
 use Rattle.cnf_form.specs.Variables.{occurs}
 use Rattle.cdcl_core.specs.declared.trail.Entry.{Entry}
-use Rattle.cdcl_core.specs.Trails.{assigned, IsMadeTrue, IsTrailFrom, if_decided, decisions, if_forced, reasons}
+use Rattle.cdcl_core.specs.Trails.{assigned, IsMadeTrue, IsTrailFrom, if_decided, decided_literals, if_forced, reasons}
 use Rattle.cdcl_core.proofs.Lists.{none_from}
 use Rattle.cdcl_core.proofs.Values.{Extends, assign-same, assign-other, assign-extends, differ, hint_kept}
 
 -- the assignment with the decisions of these entries, and no others of them
 abbrev pub with_decisions : (ℕ → Option Bool) → List Entry → ℕ → Option Bool
-with_decisions a es = fold assign a (decisions es)
+with_decisions a es = fold assign a (decided_literals es)
 
 -- the decisions to come don't touch a variable that has a value now
 elsewhere_by : (ls : List Literal) (a b : ℕ → Option Bool) (l : Literal) (o : Option ℕ) (x : ℕ) (t : Bool) → a x ≡ Some t → a l.variable ≡ None → ((c : ℕ → Option Bool) → fold assign c ls x ≡ c x) → fold assign b (if_decided o l ls) x ≡ b x
@@ -20,10 +20,10 @@ elsewhere_by ls a b l None x t has free rest = rest (assign b l) ∙ assign-othe
 elsewhere_by ls a b l (Some n) x t has free rest = rest b
 
 pub elsewhere : (clauses : List (List Literal)) (es : List Entry) (a b : ℕ → Option Bool) (x : ℕ) (t : Bool) → IsTrailFrom clauses a es → a x ≡ Some t → with_decisions b es x ≡ b x
-unfolding IsTrailFrom decisions
+unfolding IsTrailFrom decided_literals
 elsewhere clauses [] a b x t h has = refl
 elsewhere clauses (e ∷ es) a b x t h has =
-    elsewhere_by (decisions es) a b e.literal e.reason x t has h.0
+    elsewhere_by (decided_literals es) a b e.literal e.reason x t has h.0
     (λ c. elsewhere clauses es (assign a e.literal) c x t h.2 (assign-extends a e.literal h.0 x t has))
 
 -- nor does it matter whether a literal is made true before them or after them
@@ -36,7 +36,7 @@ commute clauses es a c l t h has =
     fun_ext (λ x.
     elim (cases_eq x l.variable) [
       | inl same ↦ elsewhere clauses es c (assign a l) x t h (ap c same ∙ has) ∙ assign-same a l x same ∙ sym (assign-same (with_decisions a es) l x same)
-      | inr other ↦ agree (decisions es) (assign a l) a x (assign-other a l x other) ∙ sym (assign-other (with_decisions a es) l x other)
+      | inr other ↦ agree (decided_literals es) (assign a l) a x (assign-other a l x other) ∙ sym (assign-other (with_decisions a es) l x other)
     ])
 
 pub stays_free : (clauses : List (List Literal)) (es : List Entry) (a : ℕ → Option Bool) (l : Literal) → a l.variable ≡ None → IsTrailFrom clauses (assign a l) es → with_decisions a es l.variable ≡ None
@@ -58,7 +58,7 @@ reaches_step clauses h k (m ∷ ms) a = refl
 
 conflict_by : (clauses : List (List Literal)) (es : List Entry) (a : ℕ → Option Bool) (l : Literal) (o : Option ℕ) (k : ℕ) → a l.variable ≡ None → IsMadeTrue clauses a l o → IsTrailFrom clauses (assign a l) es
     → reaches_conflict clauses (reasons es ++ k ∷ []) (with_decisions (assign a l) es) ≡ true
-    → reaches_conflict clauses (if_forced o (reasons es) ++ k ∷ []) (fold assign a (if_decided o l (decisions es))) ≡ true
+    → reaches_conflict clauses (if_forced o (reasons es) ++ k ∷ []) (fold assign a (if_decided o l (decided_literals es))) ≡ true
 conflict_by clauses es a l None k free made h rest = rest
 conflict_by clauses es a l (Some n) k free made h rest =
     let extends : Extends a (with_decisions a es) = λ x t has. elsewhere clauses es (assign a l) a x t h (assign-extends a l free x t has) ∙ has in
@@ -69,7 +69,7 @@ conflict_by clauses es a l (Some n) k free made h rest =
     ∙ rest
 
 pub conflict : (clauses : List (List Literal)) (es : List Entry) (a : ℕ → Option Bool) (k : ℕ) → IsTrailFrom clauses a es → hint_is_falsified (assigned a es) (numbered clauses k) ≡ true → reaches_conflict clauses (reasons es ++ k ∷ []) (with_decisions a es) ≡ true
-unfolding IsTrailFrom reaches_conflict decisions reasons
+unfolding IsTrailFrom reaches_conflict decided_literals reasons
 conflict clauses [] a k h fails = fails
 conflict clauses (e ∷ es) a k h fails =
     conflict_by clauses es a e.literal e.reason k h.0 h.1 h.2 (conflict clauses es (assign a e.literal) k h.2 fails)
@@ -78,20 +78,20 @@ conflict clauses (e ∷ es) a k h fails =
 abbrev pub HasCalm : List (List Literal) → (ℕ → Option Bool) → Type 0
 HasCalm clauses a = (b : ℕ → Option Bool) × (list_any (is_falsified b) clauses ≡ false) × Extends a b
 
-calm_by : (clauses : List (List Literal)) (es : List Entry) (a : ℕ → Option Bool) (l : Literal) (o : Option ℕ) (ls : List Literal) → decisions es ≡ ls → a l.variable ≡ None → IsMadeTrue clauses a l o → IsTrailFrom clauses (assign a l) es
-    → ((decisions es ≡ [] → ⊥) → HasCalm clauses (with_decisions (assign a l) es))
-    → (if_decided o l (decisions es) ≡ [] → ⊥) → HasCalm clauses (fold assign a (if_decided o l (decisions es)))
+calm_by : (clauses : List (List Literal)) (es : List Entry) (a : ℕ → Option Bool) (l : Literal) (o : Option ℕ) (ls : List Literal) → decided_literals es ≡ ls → a l.variable ≡ None → IsMadeTrue clauses a l o → IsTrailFrom clauses (assign a l) es
+    → ((decided_literals es ≡ [] → ⊥) → HasCalm clauses (with_decisions (assign a l) es))
+    → (if_decided o l (decided_literals es) ≡ [] → ⊥) → HasCalm clauses (fold assign a (if_decided o l (decided_literals es)))
 calm_by clauses es a l None [] is free made h rest some = (assign a l, none_from (is_falsified (assign a l)) clauses (λ k c at. made.0 k c at l free), λ x t has. sym (ap (λ ks. fold assign (assign a l) ks x) is) ∙ has)
 calm_by clauses es a l None (d ∷ ds) is free made h rest some = rest (λ none. cc)
 calm_by clauses es a l (Some n) ls is free made h rest some =
     let calm : HasCalm clauses (with_decisions (assign a l) es) = rest some in
     (calm.0, calm.1, λ x t has. calm.2 x t (decisions_extend clauses es a l free h x t has))
 
-pub last_decision : (clauses : List (List Literal)) (es : List Entry) (a : ℕ → Option Bool) → IsTrailFrom clauses a es → (decisions es ≡ [] → ⊥) → HasCalm clauses (with_decisions a es)
-unfolding IsTrailFrom decisions
+pub last_decision : (clauses : List (List Literal)) (es : List Entry) (a : ℕ → Option Bool) → IsTrailFrom clauses a es → (decided_literals es ≡ [] → ⊥) → HasCalm clauses (with_decisions a es)
+unfolding IsTrailFrom decided_literals
 last_decision clauses [] a h some = absurd (some refl)
 last_decision clauses (e ∷ es) a h some =
-    calm_by clauses es a e.literal e.reason (decisions es) refl h.0 h.1 h.2 (last_decision clauses es (assign a e.literal) h.2) some
+    calm_by clauses es a e.literal e.reason (decided_literals es) refl h.0 h.1 h.2 (last_decision clauses es (assign a e.literal) h.2) some
 
 -- each decision is of a variable that occurs
 abbrev HasOccurring : List (List Literal) → (ℕ → Option Bool) → Type 0
@@ -109,10 +109,10 @@ occurring_by clauses a b l None ls made before rest = rest (assign b l) (occurri
 occurring_by clauses a b l (Some n) ls made before rest = rest b before
 
 pub decisions_occur : (clauses : List (List Literal)) (es : List Entry) (a b : ℕ → Option Bool) → IsTrailFrom clauses a es → HasOccurring clauses b → HasOccurring clauses (with_decisions b es)
-unfolding IsTrailFrom decisions
+unfolding IsTrailFrom decided_literals
 decisions_occur clauses [] a b h before = before
 decisions_occur clauses (e ∷ es) a b h before =
-    occurring_by clauses a b e.literal e.reason (decisions es) h.1 before (λ c still. decisions_occur clauses es (assign a e.literal) c h.2 still)
+    occurring_by clauses a b e.literal e.reason (decided_literals es) h.1 before (λ c still. decisions_occur clauses es (assign a e.literal) c h.2 still)
 
 -- each decision is of a variable that had no value
 abbrev pub AreFresh : (ℕ → Option Bool) → List Literal → Type 0
@@ -130,8 +130,8 @@ fresh_by a b l None ls less free rest =
     (less l.variable free, rest (assign b l) (λ x none. let k : (x ≡ l.variable → ⊥) × (b x ≡ None) = fresh_later a b l x less none in assign-other b l x k.0 ∙ k.1))
 fresh_by a b l (Some n) ls less free rest = rest b (λ x none. (fresh_later a b l x less none).1)
 
-pub fresh_decisions : (clauses : List (List Literal)) (es : List Entry) (a b : ℕ → Option Bool) → IsTrailFrom clauses a es → ((x : ℕ) → a x ≡ None → b x ≡ None) → AreFresh b (decisions es)
-unfolding IsTrailFrom decisions
+pub fresh_decisions : (clauses : List (List Literal)) (es : List Entry) (a b : ℕ → Option Bool) → IsTrailFrom clauses a es → ((x : ℕ) → a x ≡ None → b x ≡ None) → AreFresh b (decided_literals es)
+unfolding IsTrailFrom decided_literals
 fresh_decisions clauses [] a b h less = tt
 fresh_decisions clauses (e ∷ es) a b h less =
-    fresh_by a b e.literal e.reason (decisions es) less h.0 (λ c still. fresh_decisions clauses es (assign a e.literal) c h.2 still)
+    fresh_by a b e.literal e.reason (decided_literals es) less h.0 (λ c still. fresh_decisions clauses es (assign a e.literal) c h.2 still)

@@ -10,7 +10,7 @@ use Rattle.cnf_form.specs.Valuations.{literal_value, satisfies_clause, satisfies
 use Rattle.cnf_form.specs.Variables.{is_below, is_over}
 use Rattle.cnf_form.proofs.Occurs.{below_if_over, over_before}
 use Rattle.proof_check.proofs.Chains.{at_more}
-use Rattle.cdcl_core.specs.Trails.{Assignment, values_of, IsTrail, AreCalmFirst}
+use Rattle.cdcl_core.specs.Trails.{Assignment, trail_values, IsTrail, AreCalmFirst}
 use Rattle.cdcl_core.specs.Passes.{has_true}
 use Rattle.cdcl_core.specs.Searches.{IsSearch, IsLesson, IsDescent}
 use Rattle.cdcl_core.proofs.Values.{no_trail}
@@ -88,7 +88,7 @@ calm_more clauses a c n within calm k d early at =
     ]
 
 pub learns : (f clauses more : List (List Literal)) (log longer : List Step) (old now : Assignment) (s : Step) (m n : ℕ) → IsSearch f clauses log old m → IsLesson clauses s → is_empty_clause s.clause ≡ false
-    → IsTrail (clauses ++ s.clause ∷ []) now.entries → length now.marks ≡ length old.marks → n ≤ length clauses → AreCalmFirst n (values_of now.entries) clauses → more ≡ clauses ++ s.clause ∷ [] → longer ≡ log ++ s ∷ [] → IsSearch f more longer now n
+    → IsTrail (clauses ++ s.clause ∷ []) now.entries → length now.marks ≡ length old.marks → n ≤ length clauses → AreCalmFirst n (trail_values now.entries) clauses → more ≡ clauses ++ s.clause ∷ [] → longer ≡ log ++ s ∷ [] → IsSearch f more longer now n
 learns f clauses more log longer old now s m n h lesson some trail size count calm made put =
     rw (made, put) record {
       all = ap (λ (cs : List (List Literal)). cs ++ s.clause ∷ []) h.all ∙ append_assoc f (clauses_of log) (s.clause ∷ []) ∙ ap (λ (cs : List (List Literal)). f ++ cs) (sym (clauses_more log s));
@@ -98,7 +98,7 @@ learns f clauses more log longer old now s m n h lesson some trail size count ca
       over = over_more f clauses log s h.all h.over lesson.over;
       below = list_all-append (is_below (length now.marks)) clauses (s.clause ∷ []) ∙ and_from _ _ (rw size h.below) (and_from _ _ (rw size (below_if_over (length old.marks) clauses s.clause h.below lesson.over)) refl);
       trail = trail;
-      calm = calm_more clauses (values_of now.entries) s.clause n count calm;
+      calm = calm_more clauses (trail_values now.entries) s.clause n count calm;
     }
 
 pub ends : (f clauses : List (List Literal)) (log longer : List Step) (now : Assignment) (n : ℕ) (s : Step) → IsSearch f clauses log now n → IsLesson clauses s → is_empty_clause s.clause ≡ true → longer ≡ log ++ s ∷ [] → refutes f longer ≡ true
@@ -129,6 +129,6 @@ unfolding satisfies
 is_found v a f clauses log all means h =
     (and_parts _ _ (sym (list_all-append (satisfies_clause v) f (clauses_of log)) ∙ ap (list_all (satisfies_clause v)) (sym all) ∙ satisfied_by v a clauses means h)).0
 
-pub is_found_at : (v : ℕ → Bool) (f clauses : List (List Literal)) (log : List Step) (now : Assignment) (n : ℕ) (o : Option ℕ) → IsSearch f clauses log now n → ((l : Literal) → is_true (values_of now.entries) l ≡ true → literal_value v l ≡ true) → IsDescent clauses (values_of now.entries) o → ((k : ℕ) → o ≡ Some k → ⊥) → satisfies v f ≡ true
-is_found_at v f clauses log now n None h means all never = is_found v (values_of now.entries) f clauses log h.all means all
+pub is_found_at : (v : ℕ → Bool) (f clauses : List (List Literal)) (log : List Step) (now : Assignment) (n : ℕ) (o : Option ℕ) → IsSearch f clauses log now n → ((l : Literal) → is_true (trail_values now.entries) l ≡ true → literal_value v l ≡ true) → IsDescent clauses (trail_values now.entries) o → ((k : ℕ) → o ≡ Some k → ⊥) → satisfies v f ≡ true
+is_found_at v f clauses log now n None h means all never = is_found v (trail_values now.entries) f clauses log h.all means all
 is_found_at v f clauses log now n (Some k) h means all never = absurd (never k refl)

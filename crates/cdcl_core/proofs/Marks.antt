@@ -10,7 +10,7 @@ use Rattle.cnf_form.specs.Propagation.{unassigned, assign}
 use Rattle.proof_check.specs.Marking.{marked}
 use Rattle.proof_check.proofs.Chains.{at_more}
 use Rattle.cdcl_core.specs.declared.trail.Entry.{Entry}
-use Rattle.cdcl_core.specs.Trails.{assigned, values_of, IsKept, free_count}
+use Rattle.cdcl_core.specs.Trails.{assigned, trail_values, IsKept, free_count}
 use Rattle.cdcl_core.proofs.Lists.{got_more, got_last, got_take}
 use Rattle.cdcl_core.proofs.Values.{assign-same, assign-other}
 
@@ -21,24 +21,24 @@ unmarked n v =
       | inr beyond ↦ get_or-eq_default (replicate n None) None (omega (arith, length-replicate {A = Option Bool} n None, beyond))
     ]
 
-pub none_marked : (n : ℕ) (marks : List (Option Bool)) (es : List Entry) → marks ≡ replicate n None → es ≡ [] → marked marks ≡ values_of es
-unfolding values_of
+pub none_marked : (n : ℕ) (marks : List (Option Bool)) (es : List Entry) → marks ≡ replicate n None → es ≡ [] → marked marks ≡ trail_values es
+unfolding trail_values
 none_marked n marks es none first = ap marked none ∙ fun_ext (unmarked n) ∙ ap (λ ds. assigned unassigned ds) (sym first)
 
-pub values_more : (es : List Entry) (e : Entry) → values_of (es ++ e ∷ []) ≡ assign (values_of es) e.literal
-unfolding values_of
+pub values_more : (es : List Entry) (e : Entry) → trail_values (es ++ e ∷ []) ≡ assign (trail_values es) e.literal
+unfolding trail_values
 values_more es e = fold-append (λ b (d : Entry). assign b d.literal) unassigned es (e ∷ [])
 
-pub marked_more : (marks : List (Option Bool)) (es : List Entry) (e : Entry) (v : ℕ) (value : Option Bool) → marked marks ≡ values_of es → v ≡ e.literal.variable → v < length marks → value ≡ Some e.literal.positive → marked (set marks v value) ≡ values_of (es ++ e ∷ [])
+pub marked_more : (marks : List (Option Bool)) (es : List Entry) (e : Entry) (v : ℕ) (value : Option Bool) → marked marks ≡ trail_values es → v ≡ e.literal.variable → v < length marks → value ≡ Some e.literal.positive → marked (set marks v value) ≡ trail_values (es ++ e ∷ [])
 marked_more marks es e v value is variable within made =
     fun_ext (λ w.
     elim (cases_eq w v) [
       | inl same ↦
           ap (λ k. get_or (set marks v value) k None) same ∙ get_or-set_same marks v value None within ∙ made
-          ∙ sym (ap (λ (a : ℕ → Option Bool). a w) (values_more es e) ∙ assign-same (values_of es) e.literal w (same ∙ variable))
+          ∙ sym (ap (λ (a : ℕ → Option Bool). a w) (values_more es e) ∙ assign-same (trail_values es) e.literal w (same ∙ variable))
       | inr other ↦
           get_or-set_other marks v w value None other ∙ ap (λ (a : ℕ → Option Bool). a w) is
-          ∙ sym (ap (λ (a : ℕ → Option Bool). a w) (values_more es e) ∙ assign-other (values_of es) e.literal w (λ h. other (h ∙ sym variable)))
+          ∙ sym (ap (λ (a : ℕ → Option Bool). a w) (values_more es e) ∙ assign-other (trail_values es) e.literal w (λ h. other (h ∙ sym variable)))
     ])
 
 pub has_place : (marks : List (Option Bool)) (v : ℕ) (t : Bool) → marked marks v ≡ Some t → v < length marks
@@ -48,22 +48,22 @@ has_place marks v t has =
       | inr beyond ↦ let none : marked marks v ≡ None = get_or-eq_default marks None beyond in cc
     ]
 
-pub last_has_place : (marks : List (Option Bool)) (es all : List Entry) (e : Entry) (v : ℕ) → marked marks ≡ values_of all → all ≡ es ++ e ∷ [] → v ≡ e.literal.variable → v < length marks
+pub last_has_place : (marks : List (Option Bool)) (es all : List Entry) (e : Entry) (v : ℕ) → marked marks ≡ trail_values all → all ≡ es ++ e ∷ [] → v ≡ e.literal.variable → v < length marks
 last_has_place marks es all e v is parts variable =
     has_place marks v e.literal.positive
-    (ap (λ (a : ℕ → Option Bool). a v) (is ∙ ap values_of parts ∙ values_more es e) ∙ assign-same (values_of es) e.literal v variable)
+    (ap (λ (a : ℕ → Option Bool). a v) (is ∙ ap trail_values parts ∙ values_more es e) ∙ assign-same (trail_values es) e.literal v variable)
 
-pub marked_less : (marks : List (Option Bool)) (es all : List Entry) (e : Entry) (v : ℕ) → marked marks ≡ values_of all → all ≡ es ++ e ∷ [] → v ≡ e.literal.variable → values_of es e.literal.variable ≡ None → marked (set marks v None) ≡ values_of es
+pub marked_less : (marks : List (Option Bool)) (es all : List Entry) (e : Entry) (v : ℕ) → marked marks ≡ trail_values all → all ≡ es ++ e ∷ [] → v ≡ e.literal.variable → trail_values es e.literal.variable ≡ None → marked (set marks v None) ≡ trail_values es
 marked_less marks es all e v is parts variable free =
     let within : v < length marks = last_has_place marks es all e v is parts variable in
-    let more : values_of all ≡ assign (values_of es) e.literal = ap values_of parts ∙ values_more es e in
+    let more : trail_values all ≡ assign (trail_values es) e.literal = ap trail_values parts ∙ values_more es e in
     fun_ext (λ w.
     elim (cases_eq w v) [
       | inl same ↦
           ap (λ k. get_or (set marks v None) k None) same ∙ get_or-set_same marks v None None within
-          ∙ sym (ap (values_of es) (same ∙ variable) ∙ free)
+          ∙ sym (ap (trail_values es) (same ∙ variable) ∙ free)
       | inr other ↦
-          get_or-set_other marks v w None None other ∙ ap (λ (a : ℕ → Option Bool). a w) (is ∙ more) ∙ assign-other (values_of es) e.literal w (λ h. other (h ∙ sym variable))
+          get_or-set_other marks v w None None other ∙ ap (λ (a : ℕ → Option Bool). a w) (is ∙ more) ∙ assign-other (trail_values es) e.literal w (λ h. other (h ∙ sym variable))
     ])
 
 -- a variable that has an entry has a value
@@ -82,8 +82,8 @@ valued (e ∷ es) a zero d at =
     valued_from es (assign a e.literal) d.literal.variable e.literal.positive (assign-same a e.literal d.literal.variable (ap (λ (k : Entry). k.literal.variable) (sym same)))
 valued (e ∷ es) a (suc p) d at = valued es (assign a e.literal) p d at
 
-has_none : (es : List Entry) (p : ℕ) (d : Entry) (v : ℕ) → slice_get es p ≡ Some d → values_of es v ≡ None → d.literal.variable ≡ v → ⊥
-unfolding values_of
+has_none : (es : List Entry) (p : ℕ) (d : Entry) (v : ℕ) → slice_get es p ≡ Some d → trail_values es v ≡ None → d.literal.variable ≡ v → ⊥
+unfolding trail_values
 has_none es p d v at free same =
     let some : (u : Bool) × (assigned unassigned es d.literal.variable ≡ Some u) = valued es unassigned p d at in
     let both : Some some.0 ≡ None = sym some.1 ∙ ap (assigned unassigned es) same ∙ free in
@@ -95,15 +95,15 @@ valueless [] a v free none = free
 valueless (e ∷ es) a v free none = valueless es (assign a e.literal) v (assign-other a e.literal v (λ same. none 0 e refl (sym same)) ∙ free) (λ p. none (suc p))
 
 -- before its entry a variable has no value
-pub free_before : (marks : List (Option Bool)) (numbers : List ℕ) (es : List Entry) (v number n : ℕ) → IsKept marks numbers es → number ≡ get_or numbers v 0 → n < number → values_of (take n es) v ≡ None
-unfolding values_of
+pub free_before : (marks : List (Option Bool)) (numbers : List ℕ) (es : List Entry) (v number n : ℕ) → IsKept marks numbers es → number ≡ get_or numbers v 0 → n < number → trail_values (take n es) v ≡ None
+unfolding trail_values
 free_before marks numbers es v number n kept is early =
     valueless (take n es) unassigned v refl (λ p d at same.
     let there : (p < n) × (slice_get es p ≡ Some d) = got_take es n p d at in
     absurd (omega (arith, there.0, early, is, kept.numbered p d there.1, ap (λ w. get_or numbers w 0) same)))
 
-last_is_free : (marks : List (Option Bool)) (numbers : List ℕ) (es all : List Entry) (e : Entry) → IsKept marks numbers all → all ≡ es ++ e ∷ [] → values_of es e.literal.variable ≡ None
-unfolding values_of
+last_is_free : (marks : List (Option Bool)) (numbers : List ℕ) (es all : List Entry) (e : Entry) → IsKept marks numbers all → all ≡ es ++ e ∷ [] → trail_values es e.literal.variable ≡ None
+unfolding trail_values
 last_is_free marks numbers es all e kept parts =
     let last : get_or numbers e.literal.variable 0 ≡ length es + 1 = kept.numbered (length es) e (ap (λ (ds : List Entry). slice_get ds (length es)) parts ∙ got_last es e) in
     valueless es unassigned e.literal.variable refl (λ p d at same.
@@ -117,7 +117,7 @@ kept_less marks numbers es all e v kept parts variable = record {
   numbered = λ p d at. kept.numbered p d (ap (λ (ds : List Entry). slice_get ds p) parts ∙ got_more es (e ∷ []) p d at);
 }
 
-number_more : (numbers : List ℕ) (es : List Entry) (e : Entry) (v number : ℕ) → ((p : ℕ) (d : Entry) → slice_get es p ≡ Some d → get_or numbers d.literal.variable 0 ≡ p + 1) → v ≡ e.literal.variable → v < length numbers → values_of es e.literal.variable ≡ None → number ≡ length es + 1
+number_more : (numbers : List ℕ) (es : List Entry) (e : Entry) (v number : ℕ) → ((p : ℕ) (d : Entry) → slice_get es p ≡ Some d → get_or numbers d.literal.variable 0 ≡ p + 1) → v ≡ e.literal.variable → v < length numbers → trail_values es e.literal.variable ≡ None → number ≡ length es + 1
     → (p : ℕ) (d : Entry) → slice_get (es ++ e ∷ []) p ≡ Some d → get_or (set numbers v number) d.literal.variable 0 ≡ p + 1
 number_more numbers es e v number numbered variable within free is p d at =
     elim (at_more es e d p at) [
@@ -127,7 +127,7 @@ number_more numbers es e v number numbered variable within free is p d at =
           ∙ get_or-set_same numbers v number 0 within ∙ is ∙ ap (λ n. n + 1) end.0
     ]
 
-pub kept_more : (marks : List (Option Bool)) (numbers : List ℕ) (es more : List Entry) (e : Entry) (v number : ℕ) (value : Option Bool) → IsKept marks numbers es → v ≡ e.literal.variable → v < length marks → value ≡ Some e.literal.positive → values_of es e.literal.variable ≡ None → number ≡ length es + 1 → more ≡ es ++ e ∷ []
+pub kept_more : (marks : List (Option Bool)) (numbers : List ℕ) (es more : List Entry) (e : Entry) (v number : ℕ) (value : Option Bool) → IsKept marks numbers es → v ≡ e.literal.variable → v < length marks → value ≡ Some e.literal.positive → trail_values es e.literal.variable ≡ None → number ≡ length es + 1 → more ≡ es ++ e ∷ []
     → IsKept (set marks v value) (set numbers v number) more
 kept_more marks numbers es more e v number value kept variable within made free is put =
     subst (λ (ds : List Entry). IsKept (set marks v value) (set numbers v number) ds) (sym put)
@@ -151,6 +151,6 @@ fewer_by (Some t ∷ ms) zero b within free = cc
 fewer_by (None ∷ ms) (suc v) b within free = omega (arith, fewer_by ms v b (omega (arith, within)) free)
 fewer_by (Some t ∷ ms) (suc v) b within free = fewer_by ms v b (omega (arith, within)) free
 
-pub fewer : (marks : List (Option Bool)) (es : List Entry) (v x : ℕ) (b : Bool) → marked marks ≡ values_of es → v ≡ x → x < length marks → values_of es x ≡ None → free_count (set marks v (Some b)) < free_count marks
+pub fewer : (marks : List (Option Bool)) (es : List Entry) (v x : ℕ) (b : Bool) → marked marks ≡ trail_values es → v ≡ x → x < length marks → trail_values es x ≡ None → free_count (set marks v (Some b)) < free_count marks
 fewer marks es v x b is same within free =
-    fewer_by marks v b (omega (arith, same, within)) (ap (λ (a : ℕ → Option Bool). a v) is ∙ ap (values_of es) same ∙ free)
+    fewer_by marks v b (omega (arith, same, within)) (ap (λ (a : ℕ → Option Bool). a v) is ∙ ap (trail_values es) same ∙ free)

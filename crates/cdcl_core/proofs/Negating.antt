@@ -10,7 +10,7 @@ use Rattle.cnf_form.specs.Variables.{occurs, is_over}
 use Rattle.cnf_form.proofs.Inserting.{mapped, all_above, above_later, increasing-insert}
 use Rattle.cnf_form.proofs.Meaning.{truths}
 use Rattle.cdcl_core.specs.declared.trail.Entry.{Entry}
-use Rattle.cdcl_core.specs.Trails.{values_of, IsTrail, decisions, reasons}
+use Rattle.cdcl_core.specs.Trails.{trail_values, IsTrail, decided_literals, reasons}
 use Rattle.cdcl_core.proofs.Values.{Extends, assign-same, assign-other, all_false_kept}
 use Rattle.cdcl_core.proofs.Leading.{with_decisions, conflict, last_decision, decisions_occur, AreFresh, fresh_decisions}
 
@@ -146,28 +146,28 @@ pub record IsNegation (es : List Entry) (s : List Literal) : Type 0 where
   pub order : are_increasing s ≡ true
   pub denies : falsify s ≡ with_decisions unassigned es
 
-pub negated : (clauses : List (List Literal)) (es : List Entry) → IsTrail clauses es → (s : List Literal) × (clause_of (map negation (decisions es)) ≡ Some s) × IsNegation es s
+pub negated : (clauses : List (List Literal)) (es : List Entry) → IsTrail clauses es → (s : List Literal) × (clause_of (map negation (decided_literals es)) ≡ Some s) × IsNegation es s
 unfolding clause_of falsify
 negated clauses es h =
-    let found : (s : List Literal) × (fold with_literal (Some []) (map negation (decisions es)) ≡ Some s) × IsDenial s (fold assign unassigned (decisions es))
-    = denial (decisions es) [] none_increasing (fresh_decisions clauses es unassigned unassigned h (λ x none. none)) in
+    let found : (s : List Literal) × (fold with_literal (Some []) (map negation (decided_literals es)) ≡ Some s) × IsDenial s (fold assign unassigned (decided_literals es))
+    = denial (decided_literals es) [] none_increasing (fresh_decisions clauses es unassigned unassigned h (λ x none. none)) in
     (found.0, found.1, record { order = found.2.0; denies = found.2.1 })
 
-pub is_negation : (clauses : List (List Literal)) (es : List Entry) (s : List Literal) → IsTrail clauses es → clause_of (map negation (decisions es)) ≡ Some s → IsNegation es s
+pub is_negation : (clauses : List (List Literal)) (es : List Entry) (s : List Literal) → IsTrail clauses es → clause_of (map negation (decided_literals es)) ≡ Some s → IsNegation es s
 is_negation clauses es s h is =
-    let found : (r : List Literal) × (clause_of (map negation (decisions es)) ≡ Some r) × IsNegation es r = negated clauses es h in
+    let found : (r : List Literal) × (clause_of (map negation (decided_literals es)) ≡ Some r) × IsNegation es r = negated clauses es h in
     let same : found.0 ≡ s = cc in
     subst (λ (r : List Literal). IsNegation es r) same found.2
 
-pub is_some_clause : (clauses : List (List Literal)) (es : List Entry) → IsTrail clauses es → clause_of (map negation (decisions es)) ≡ None → ⊥
+pub is_some_clause : (clauses : List (List Literal)) (es : List Entry) → IsTrail clauses es → clause_of (map negation (decided_literals es)) ≡ None → ⊥
 is_some_clause clauses es h none =
-    let found : (r : List Literal) × (clause_of (map negation (decisions es)) ≡ Some r) × IsNegation es r = negated clauses es h in
+    let found : (r : List Literal) × (clause_of (map negation (decided_literals es)) ≡ Some r) × IsNegation es r = negated clauses es h in
     let both : Some found.0 ≡ None = sym found.1 ∙ none in
     cc
 
 -- it follows
-pub negation_follows : (clauses : List (List Literal)) (es : List Entry) (s : List Literal) (k : ℕ) → IsTrail clauses es → IsNegation es s → hint_is_falsified (values_of es) (numbered clauses k) ≡ true → follows clauses s (reasons es ++ k ∷ []) ≡ true
-unfolding follows values_of
+pub negation_follows : (clauses : List (List Literal)) (es : List Entry) (s : List Literal) (k : ℕ) → IsTrail clauses es → IsNegation es s → hint_is_falsified (trail_values es) (numbered clauses k) ≡ true → follows clauses s (reasons es ++ k ∷ []) ≡ true
+unfolding follows trail_values
 negation_follows clauses es s k h is fails = ap (reaches_conflict clauses (reasons es ++ k ∷ [])) is.denies ∙ conflict clauses es unassigned k h fails
 
 -- it is false where the decisions are true
@@ -223,7 +223,7 @@ no_subset a (d ∷ ds) s all none =
     or_from _ _ (false_from_ne_true (is_subset d s) (λ yes. true≢false (sym (subset_falsified a d s all yes) ∙ parts.0))) (no_subset a ds s all parts.1)
 
 -- it is new, if there is a decision
-pub negation_is_new : (clauses : List (List Literal)) (es : List Entry) (s : List Literal) → IsTrail clauses es → IsNegation es s → (decisions es ≡ [] → ⊥) → is_new clauses s ≡ true
+pub negation_is_new : (clauses : List (List Literal)) (es : List Entry) (s : List Literal) → IsTrail clauses es → IsNegation es s → (decided_literals es ≡ [] → ⊥) → is_new clauses s ≡ true
 unfolding is_new
 negation_is_new clauses es s h is some =
     let calm : (b : ℕ → Option Bool) × (list_any (is_falsified b) clauses ≡ false) × Extends (with_decisions unassigned es) b = last_decision clauses es unassigned h some in

@@ -9,7 +9,7 @@ use Rattle.cnf_form.specs.Literals.{Literal, negation, same_truth, same_literal}
 use Rattle.cnf_form.specs.Propagation.{assign, has_value, is_true, is_false, is_falsified, open_literals, only_literal, unit_literal}
 use Rattle.cdcl_core.specs.declared.trail.Entry.{Entry}
 use Rattle.cdcl_core.specs.Places.{is_among}
-use Rattle.cdcl_core.specs.Trails.{values_of, IsCalm, AreCalm, AreCalmFirst}
+use Rattle.cdcl_core.specs.Trails.{trail_values, IsCalm, AreCalm, AreCalmFirst}
 use Rattle.cdcl_core.specs.Passes.{has_true, IsLiteralAt, IsTouched, ArePending}
 use Rattle.cdcl_core.proofs.Lists.{got_more, got_last}
 use Rattle.cdcl_core.proofs.Values.{assign-same, assign-other}
@@ -90,9 +90,9 @@ forced_true a c l is =
           false≢true (sym (ap not (now_true a l)) ∙ not_true))
     ]
 
-pub forced_calm : (es : List Entry) (e : Entry) (c : List Literal) (l : Literal) → e.literal ≡ l → unit_literal (values_of es) c ≡ Some l → IsCalm (values_of (es ++ e ∷ [])) c
+pub forced_calm : (es : List Entry) (e : Entry) (c : List Literal) (l : Literal) → e.literal ≡ l → unit_literal (trail_values es) c ≡ Some l → IsCalm (trail_values (es ++ e ∷ [])) c
 forced_calm es e c l same is =
-    subst (λ (a : ℕ → Option Bool). IsCalm a c) (ap (assign (values_of es)) (sym same) ∙ sym (values_more es e)) (calm_satisfied (assign (values_of es) l) c (forced_true (values_of es) c l is))
+    subst (λ (a : ℕ → Option Bool). IsCalm a c) (ap (assign (trail_values es)) (sym same) ∙ sym (values_more es e)) (calm_satisfied (assign (trail_values es) l) c (forced_true (trail_values es) c l is))
 
 -- places of lists
 pub none_past : {X : Type 0} (xs : List X) (i : ℕ) (x : X) → length xs ≤ i → slice_get xs i ≡ Some x → ⊥
@@ -123,15 +123,15 @@ touched_last : (es : List Entry) (e : Entry) (first : ℕ) (c : List Literal) �
 touched_last es e first c late has = record { place = length es; entry = e; late = late; there = got_last es e; has = has }
 
 -- a clause that was calm before the last entry
-calm_last : (es : List Entry) (e : Entry) (first : ℕ) (c : List Literal) (P : Type 0) → first ≤ length es → IsCalm (values_of es) c → IsCalm (values_of (es ++ e ∷ [])) c ⊎ IsTouched (es ++ e ∷ []) first c ⊎ P
+calm_last : (es : List Entry) (e : Entry) (first : ℕ) (c : List Literal) (P : Type 0) → first ≤ length es → IsCalm (trail_values es) c → IsCalm (trail_values (es ++ e ∷ [])) c ⊎ IsTouched (es ++ e ∷ []) first c ⊎ P
 calm_last es e first c P late calm =
-    elim (calm_or_touched (values_of es) e.literal c calm) [
+    elim (calm_or_touched (trail_values es) e.literal c calm) [
       | inl still ↦ inl (subst (λ (a : ℕ → Option Bool). IsCalm a c) (sym (values_more es e)) still)
       | inr has ↦ inr (inl (touched_last es e first c late has))
     ]
 
 -- the clause at a place was looked at, and is calm
-pub looked : (clauses : List (List Literal)) (es : List Entry) (first place : ℕ) (ks : ℕ → Bool) → ((c : List Literal) → slice_get clauses place ≡ Some c → IsCalm (values_of es) c) → ArePending clauses es first (λ k. (place == k) || ks k) → ArePending clauses es first ks
+pub looked : (clauses : List (List Literal)) (es : List Entry) (first place : ℕ) (ks : ℕ → Bool) → ((c : List Literal) → slice_get clauses place ≡ Some c → IsCalm (trail_values es) c) → ArePending clauses es first (λ k. (place == k) || ks k) → ArePending clauses es first ks
 looked clauses es first place ks calm pending k c at =
     elim (pending k c at) [
       | inl is ↦ inl is
@@ -142,12 +142,12 @@ looked clauses es first place ks calm pending k c at =
       ]
     ]
 
-pub looked_within : (clauses : List (List Literal)) (es : List Entry) (first place : ℕ) (ks : ℕ → Bool) (c : List Literal) → place < length clauses → c ≡ get_or clauses place c → IsCalm (values_of es) c → ArePending clauses es first (λ k. (place == k) || ks k) → ArePending clauses es first ks
+pub looked_within : (clauses : List (List Literal)) (es : List Entry) (first place : ℕ) (ks : ℕ → Bool) (c : List Literal) → place < length clauses → c ≡ get_or clauses place c → IsCalm (trail_values es) c → ArePending clauses es first (λ k. (place == k) || ks k) → ArePending clauses es first ks
 looked_within clauses es first place ks c within at calm pending =
-    looked clauses es first place ks (λ d got. subst (λ (b : List Literal). IsCalm (values_of es) b) (sym (clause_at clauses place c d within at got)) calm) pending
+    looked clauses es first place ks (λ d got. subst (λ (b : List Literal). IsCalm (trail_values es) b) (sym (clause_at clauses place c d within at got)) calm) pending
 
 -- and it forced a literal
-pub looked_forced : (clauses : List (List Literal)) (es : List Entry) (e : Entry) (first place : ℕ) (ks : ℕ → Bool) (c : List Literal) → first ≤ length es → place < length clauses → c ≡ get_or clauses place c → IsCalm (values_of (es ++ e ∷ [])) c
+pub looked_forced : (clauses : List (List Literal)) (es : List Entry) (e : Entry) (first place : ℕ) (ks : ℕ → Bool) (c : List Literal) → first ≤ length es → place < length clauses → c ≡ get_or clauses place c → IsCalm (trail_values (es ++ e ∷ [])) c
     → ArePending clauses es first (λ k. (place == k) || ks k) → ArePending clauses (es ++ e ∷ []) first ks
 looked_forced clauses es e first place ks c late within at calm pending =
     looked_within clauses (es ++ e ∷ []) first place ks c within at calm (λ k d got.
@@ -204,7 +204,7 @@ from_end clauses es first i past pending k c at =
       | inr (inr late) ↦ absurd (omega (arith, past, slice_get_within clauses k c at, leb-true i k late))
     ]
 
-pub from_first : (clauses : List (List Literal)) (es : List Entry) (first n : ℕ) → AreCalmFirst n (values_of es) clauses → ArePending clauses es first (nat_le n)
+pub from_first : (clauses : List (List Literal)) (es : List Entry) (first n : ℕ) → AreCalmFirst n (trail_values es) clauses → ArePending clauses es first (nat_le n)
 from_first clauses es first n calm k c at =
     elim (cases_lt k n) [
       | inl early ↦ inl (calm k c early at)
@@ -212,11 +212,11 @@ from_first clauses es first n calm k c at =
     ]
 
 -- a decision, where each clause is calm
-pub decided : (clauses : List (List Literal)) (es : List Entry) (e : Entry) → AreCalm (values_of es) clauses → ArePending clauses (es ++ e ∷ []) (length es) (λ k. false)
+pub decided : (clauses : List (List Literal)) (es : List Entry) (e : Entry) → AreCalm (trail_values es) clauses → ArePending clauses (es ++ e ∷ []) (length es) (λ k. false)
 decided clauses es e calm k c at = calm_last es e (length es) c (false ≡ true) (omega arith) (calm k c at)
 
 -- no entry is left
-pub all_looked : (clauses : List (List Literal)) (es : List Entry) (place : ℕ) → length es ≤ place → ArePending clauses es place (λ k. false) → AreCalm (values_of es) clauses
+pub all_looked : (clauses : List (List Literal)) (es : List Entry) (place : ℕ) → length es ≤ place → ArePending clauses es place (λ k. false) → AreCalm (trail_values es) clauses
 all_looked clauses es place past pending k c at =
     elim (pending k c at) [
       | inl is ↦ is

@@ -9,7 +9,7 @@ use Rattle.cdcl_core.specs.declared.propagation.State.{State}
 use Rattle.cdcl_core.specs.declared.propagation.State.TheVariants.{Falsified, Forces, Open, Satisfied}
 use Rattle.cdcl_core.specs.declared.descent.Settled.{Settled}
 use Rattle.cdcl_core.specs.declared.descent.Settled.TheVariants.{AtConflict, AtChoice, AtEnd}
-use Rattle.cdcl_core.specs.Trails.{Assignment, values_of, IsTrail, IsCalm, AreCalm, free_count}
+use Rattle.cdcl_core.specs.Trails.{Assignment, trail_values, IsTrail, IsCalm, AreCalm, free_count}
 
 -- a literal of a variable below n that has no value
 abbrev pub IsFree : (ℕ → Option Bool) → ℕ → Literal → Type 0
@@ -40,7 +40,7 @@ pub record IsTouched (entries : List Entry) (first : ℕ) (c : List Literal) : T
 
 -- each clause is calm, or has yet to be looked at: for an entry from this place on, or since it is one of those to come
 abbrev pub ArePending : List (List Literal) → List Entry → (first : ℕ) → (to_come : ℕ → Bool) → Type 0
-ArePending clauses entries first to_come = (k : ℕ) (c : List Literal) → slice_get clauses k ≡ Some c → IsCalm (values_of entries) c ⊎ IsTouched entries first c ⊎ (to_come k ≡ true)
+ArePending clauses entries first to_come = (k : ℕ) (c : List Literal) → slice_get clauses k ≡ Some c → IsCalm (trail_values entries) c ⊎ IsTouched entries first c ⊎ (to_come k ≡ true)
 
 -- where unit propagation ends: at a clause that is false, at a choice of a variable that occurs, with each clause calm, or
 -- with each satisfied

@@ -7,7 +7,7 @@ use Rattle.cnf_form.specs.Refutations.{Step, clauses_of, follows_all, has_no_emp
 use Rattle.cnf_form.specs.Variables.{is_below, is_over}
 use Rattle.cdcl_core.specs.declared.solver.Answer.{Answer}
 use Rattle.cdcl_core.specs.declared.solver.Answer.TheVariants.{Found, Refuted, Spent}
-use Rattle.cdcl_core.specs.Trails.{Assignment, values_of, IsTrail, AreCalmFirst}
+use Rattle.cdcl_core.specs.Trails.{Assignment, trail_values, IsTrail, AreCalmFirst}
 use Rattle.cdcl_core.specs.Passes.{has_true}
 
 -- what holds of a valuation that was found
@@ -44,7 +44,7 @@ pub record IsSearch (formula : List (List Literal)) (clauses : List (List Litera
   pub over : list_all (is_over formula) (clauses_of log) ≡ true
   pub below : list_all (is_below (length now.marks)) clauses ≡ true
   pub trail : IsTrail clauses now.entries
-  pub calm : AreCalmFirst n (values_of now.entries) clauses
+  pub calm : AreCalmFirst n (trail_values now.entries) clauses
 
 -- where choices and propagation end: at a clause that is false, or with each clause satisfied
 abbrev pub IsDescent : List (List Literal) → (ℕ → Option Bool) → Option ℕ → Type 0

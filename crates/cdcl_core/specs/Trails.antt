@@ -11,8 +11,8 @@ abbrev pub assigned : (ℕ → Option Bool) → List Entry → ℕ → Option Bo
 assigned a entries = fold (λ b e. assign b e.literal) a entries
 
 -- the partial assignment under which the literals of a trail are true
-unfoldable pub values_of : List Entry → ℕ → Option Bool
-values_of entries = assigned unassigned entries
+unfoldable pub trail_values : List Entry → ℕ → Option Bool
+trail_values entries = assigned unassigned entries
 
 -- a trail, and the values of the variables by number
 pub record Assignment : Type 0 where
@@ -25,7 +25,7 @@ with_entry t e = record { marks = slice_set t.marks e.literal.variable (Some e.l
 
 -- the values by number are those of the trail, and each of its variables has the number of its entry, from 1
 pub record IsKept (marks : List (Option Bool)) (numbers : List ℕ) (entries : List Entry) : Type 0 where
-  pub values : marked marks ≡ values_of entries
+  pub values : marked marks ≡ trail_values entries
   pub room : length numbers ≡ length marks
   pub numbered : (p : ℕ) (e : Entry) → slice_get entries p ≡ Some e → slice_index_or numbers e.literal.variable 0 ≡ p + 1
 
@@ -61,7 +61,7 @@ IsDecisionAt entries p = (e : Entry) × (slice_get entries p ≡ Some e) × (e.r
 
 -- the clause is calm before each of the first entries
 abbrev pub IsCalmBefore : ℕ → List Entry → List Literal → Type 0
-IsCalmBefore n entries c = (p : ℕ) → p < n → IsCalm (values_of (take p entries)) c
+IsCalmBefore n entries c = (p : ℕ) → p < n → IsCalm (trail_values (take p entries)) c
 
 -- a literal in front of others, if it was decided
 abbrev pub if_decided : Option ℕ → Literal → List Literal → List Literal
@@ -69,9 +69,9 @@ if_decided None l ls = l ∷ ls
 if_decided (Some n) l ls = ls
 
 -- the literals that were decided, in their order
-unfoldable pub decisions : List Entry → List Literal
-decisions [] = []
-decisions (e ∷ es) = if_decided e.reason e.literal (decisions es)
+unfoldable pub decided_literals : List Entry → List Literal
+decided_literals [] = []
+decided_literals (e ∷ es) = if_decided e.reason e.literal (decided_literals es)
 
 -- a number in front of others, if there is one
 abbrev pub if_forced : Option ℕ → List ℕ → List ℕ

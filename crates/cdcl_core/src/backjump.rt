@@ -2,7 +2,7 @@
 //! were false. There each clause was calm, and the learnt one is calm before each decision that stays.
 
 ghost use Rattle.std.specs.Prelude.{◌≡◌, ℕ, ◌≤◌, ◌<◌, ◌++◌, ◌∷◌, [], None, IfSome, length};
-ghost use Rattle.cdcl_core.specs.Trails.{values_of, IsTrail, AreCalmFirst, IsDecisionAt, IsCalmBefore};
+ghost use Rattle.cdcl_core.specs.Trails.{trail_values, IsTrail, AreCalmFirst, IsDecisionAt, IsCalmBefore};
 
 use crate::order::Order;
 use crate::trail::Trail;
@@ -53,7 +53,7 @@ pub fn go_back(
     requires { IsTrail clauses.now trail.old.entries }
     ensures trail { IsTrail (clauses.now ++ clause.now ∷ []) trail.new.entries }
     ensures size { length trail.new.marks ≡ length trail.old.marks }
-    ensures calm { AreCalmFirst result (values_of trail.new.entries) clauses.now }
+    ensures calm { AreCalmFirst result (trail_values trail.new.entries) clauses.now }
     ensures count { result ≤ length clauses.now }
 {
     let start = if is_restart { 0 } else { second(trail, clause) };

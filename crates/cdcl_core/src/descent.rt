@@ -6,7 +6,7 @@ ghost use Rattle.std.specs.Prelude.{◌≡◌, ◌<◌, true, length, IfOk, IfSo
 ghost use Rattle.std.specs.List.{list_all};
 ghost use Rattle.cnf_form.specs.Propagation.{numbered, hint_is_falsified};
 ghost use Rattle.cnf_form.specs.Variables.{is_below, occurs};
-ghost use Rattle.cdcl_core.specs.Trails.{values_of, IsTrail, AreCalm, AreCalmFirst, free_count};
+ghost use Rattle.cdcl_core.specs.Trails.{trail_values, IsTrail, AreCalm, AreCalmFirst, free_count};
 ghost use Rattle.cdcl_core.specs.Passes.{IsFree, IsSettled};
 ghost use Rattle.cdcl_core.specs.Searches.{IsDescent};
 
@@ -33,8 +33,8 @@ pub enum Settled {
 // A literal without a value of a clause that isn't satisfied, where each clause is calm.
 fn open_literal(trail: &Trail, clauses: &Clauses) -> Settled
     requires below { list_all (is_below (length trail.now.marks)) clauses.now ≡ true }
-    requires calm { AreCalm (values_of trail.now.entries) clauses.now }
-    ensures { IsSettled clauses.now (length trail.now.marks) (values_of trail.now.entries) result }
+    requires calm { AreCalm (trail_values trail.now.entries) clauses.now }
+    ensures { IsSettled clauses.now (length trail.now.marks) (trail_values trail.now.entries) result }
 {
     let mut spot = Spot::new(0, 0);
     for i in 0..clauses.len() {
@@ -52,8 +52,8 @@ fn open_literal(trail: &Trail, clauses: &Clauses) -> Settled
 // satisfied.
 fn next_choice(trail: &Trail, clauses: &ClauseList, order: &mut Order) -> Settled
     requires below { list_all (is_below (length trail.now.marks)) clauses.now ≡ true }
-    requires calm { AreCalm (values_of trail.now.entries) clauses.now }
-    ensures { IsSettled clauses.now (length trail.now.marks) (values_of trail.now.entries) result }
+    requires calm { AreCalm (trail_values trail.now.entries) clauses.now }
+    ensures { IsSettled clauses.now (length trail.now.marks) (trail_values trail.now.entries) result }
 {
     match order.pick(trail, clauses) {
         Some(literal) => Settled::AtChoice(literal),
@@ -71,14 +71,14 @@ fn choose(
 ) -> Result<Option<usize>, NoMemory>
     requires below { list_all (is_below (length trail.old.marks)) clauses.now ≡ true }
     requires trail { IsTrail clauses.now trail.old.entries }
-    requires calm { AreCalm (values_of trail.old.entries) clauses.now }
-    requires free { IsFree (values_of trail.old.entries) (length trail.old.marks) literal }
+    requires calm { AreCalm (trail_values trail.old.entries) clauses.now }
+    requires free { IsFree (trail_values trail.old.entries) (length trail.old.marks) literal }
     requires occurs { occurs clauses.now literal.variable ≡ true }
     ensures trail { OnOk result (IsTrail clauses.now trail.new.entries) }
     ensures size { OnOk result (length trail.new.marks ≡ length trail.old.marks) }
     ensures fewer { OnOk result (free_count trail.new.marks < free_count trail.old.marks) }
-    ensures conflict { IfOk result (λ o. IfSome o (λ k. hint_is_falsified (values_of trail.new.entries) (numbered clauses.now k) ≡ true)) }
-    ensures calm { IfOk result (λ o. o ≡ None → AreCalm (values_of trail.new.entries) clauses.now) }
+    ensures conflict { IfOk result (λ o. IfSome o (λ k. hint_is_falsified (trail_values trail.new.entries) (numbered clauses.now k) ≡ true)) }
+    ensures calm { IfOk result (λ o. o ≡ None → AreCalm (trail_values trail.new.entries) clauses.now) }
 {
     let first = trail.entries().len();
     trail.push(Entry {
@@ -97,10 +97,10 @@ fn descend_from(
 ) -> Result<Option<usize>, NoMemory>
     requires below { list_all (is_below (length trail.old.marks)) clauses.now ≡ true }
     requires trail { IsTrail clauses.now trail.old.entries }
-    requires calm { AreCalm (values_of trail.old.entries) clauses.now }
+    requires calm { AreCalm (trail_values trail.old.entries) clauses.now }
     ensures trail { OnOk result (IsTrail clauses.now trail.new.entries) }
     ensures size { OnOk result (length trail.new.marks ≡ length trail.old.marks) }
-    ensures descent { IfOk result (IsDescent clauses.now (values_of trail.new.entries)) }
+    ensures descent { IfOk result (IsDescent clauses.now (trail_values trail.new.entries)) }
 {
     'choices: loop {
         match next_choice(trail, clauses, order) {
@@ -126,10 +126,10 @@ pub fn descend(
 ) -> Result<Option<usize>, NoMemory>
     requires below { list_all (is_below (length trail.old.marks)) clauses.now ≡ true }
     requires trail { IsTrail clauses.now trail.old.entries }
-    requires calm { AreCalmFirst calm (values_of trail.old.entries) clauses.now }
+    requires calm { AreCalmFirst calm (trail_values trail.old.entries) clauses.now }
     ensures trail { OnOk result (IsTrail clauses.now trail.new.entries) }
     ensures size { OnOk result (length trail.new.marks ≡ length trail.old.marks) }
-    ensures descent { IfOk result (IsDescent clauses.now (values_of trail.new.entries)) }
+    ensures descent { IfOk result (IsDescent clauses.now (trail_values trail.new.entries)) }
 {
     if let Some(number) = settle(trail, clauses, spots, calm)? {
         return Ok(Some(number));

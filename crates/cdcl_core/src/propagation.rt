@@ -4,7 +4,7 @@
 ghost use Rattle.std.specs.Prelude.{◌≡◌, true, length};
 ghost use Rattle.cnf_form.specs.Clauses.{are_increasing};
 ghost use Rattle.cnf_form.specs.Variables.{is_below};
-ghost use Rattle.cdcl_core.specs.Trails.{values_of};
+ghost use Rattle.cdcl_core.specs.Trails.{trail_values};
 ghost use Rattle.cdcl_core.specs.Passes.{IsState};
 
 use crate::spots::Spot;
@@ -29,7 +29,7 @@ pub enum State {
 pub fn state_of(trail: &Trail, clause: &[Lit], spot: &mut Spot) -> State
     requires in_order { are_increasing clause.now ≡ true }
     requires below { is_below (length trail.now.marks) clause.now ≡ true }
-    ensures { IsState (values_of trail.now.entries) (length trail.now.marks) clause.now result }
+    ensures { IsState (trail_values trail.now.entries) (length trail.now.marks) clause.now result }
 {
     let mut open = None;
     let mut first = 0;

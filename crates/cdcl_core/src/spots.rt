@@ -4,7 +4,7 @@
 //! The places are hints: what they are is tested each time, and nothing rests on them.
 
 ghost use Rattle.std.specs.Prelude.{◌≡◌, IsTrue, slice_get};
-ghost use Rattle.cdcl_core.specs.Trails.{values_of, IsCalm};
+ghost use Rattle.cdcl_core.specs.Trails.{trail_values, IsCalm};
 ghost use Rattle.cdcl_core.specs.Spots.{keep_calm};
 
 use crate::trail::Trail;
@@ -33,7 +33,7 @@ fn get_literal(clause: &[Lit], place: u16) -> Option<Lit>
 
 // Whether a clause with these literals is calm by them: one is true, or they are of two variables without a value.
 fn keep_calm(trail: &Trail, first: Lit, second: Lit) -> bool
-    ensures { result ≡ keep_calm (values_of trail.now.entries) first second }
+    ensures { result ≡ keep_calm (trail_values trail.now.entries) first second }
 {
     trail.is_true(first)
         || trail.is_true(second)
@@ -52,7 +52,7 @@ impl Spot {
 
     /// Whether the literals at these places show that the clause is calm.
     pub fn shows_calm(self, trail: &Trail, clause: &[Lit]) -> bool
-        ensures { IsTrue result → IsCalm (values_of trail.now.entries) clause.now }
+        ensures { IsTrue result → IsCalm (trail_values trail.now.entries) clause.now }
     {
         let Some(first) = get_literal(clause, self.first) else {
             return false;

@@ -4,7 +4,7 @@ ghost use Rattle.std.specs.Prelude.{◌≡◌, ℕ, ◌-◌, ◌<◌, ◌↔◌,
 ghost use Rattle.cnf_form.specs.Literals.{Literal};
 ghost use Rattle.cnf_form.specs.Valuations.{literal_value, valuation};
 ghost use Rattle.cnf_form.specs.Propagation.{is_true, is_false};
-ghost use Rattle.cdcl_core.specs.Trails.{values_of, with_entry, free_count};
+ghost use Rattle.cdcl_core.specs.Trails.{trail_values, with_entry, free_count};
 ghost use Rattle.cdcl_core.specs.Passes.{IsFree};
 
 use cnf_form::{Lit, Val};
@@ -73,7 +73,7 @@ impl Trail {
 
     /// The value of a variable, if it has one.
     pub fn value(&self, variable: u32) -> Option<bool>
-        ensures { result ≡ values_of self.now.entries variable }
+        ensures { result ≡ trail_values self.now.entries variable }
     {
         match self.marks.get(variable as usize) {
             Some(value) => *value,
@@ -82,7 +82,7 @@ impl Trail {
     }
 
     pub fn is_true(&self, literal: Lit) -> bool
-        ensures { result ≡ is_true (values_of self.now.entries) literal }
+        ensures { result ≡ is_true (trail_values self.now.entries) literal }
     {
         match self.value(literal.variable()) {
             Some(value) => value == literal.is_positive(),
@@ -91,7 +91,7 @@ impl Trail {
     }
 
     pub fn is_false(&self, literal: Lit) -> bool
-        ensures { result ≡ is_false (values_of self.now.entries) literal }
+        ensures { result ≡ is_false (trail_values self.now.entries) literal }
     {
         match self.value(literal.variable()) {
             Some(value) => value == !literal.is_positive(),
@@ -101,14 +101,14 @@ impl Trail {
 
     /// The number, from 1, of the entry that gave the literal's variable its value.
     pub fn number(&self, literal: Lit) -> usize
-        ensures { (n : ℕ) → n < result → values_of (take n self.now.entries) literal.variable ≡ None }
+        ensures { (n : ℕ) → n < result → trail_values (take n self.now.entries) literal.variable ≡ None }
     {
         number_of(&self.numbers, literal.variable())
     }
 
     /// Makes a literal true.
     pub fn push(&mut self, entry: Entry) -> Result<(), NoMemory>
-        requires { IsFree (values_of self.old.entries) (length self.old.marks) entry.literal }
+        requires { IsFree (trail_values self.old.entries) (length self.old.marks) entry.literal }
         ensures ok { OnOk result (self.new ≡ with_entry self.old entry) }
         ensures err { OnErr result (self.new ≡ self.old) }
         ensures fewer { OnOk result (free_count self.new.marks < free_count self.old.marks) }
@@ -145,14 +145,14 @@ impl Trail {
 
     /// Whether the literal's variable may have a value, and has none.
     pub fn is_free(&self, literal: Lit) -> bool
-        ensures { IsTrue result ↔ IsFree (values_of self.now.entries) (length self.now.marks) literal }
+        ensures { IsTrue result ↔ IsFree (trail_values self.now.entries) (length self.now.marks) literal }
     {
         (literal.variable() as usize) < self.size() && self.value(literal.variable()).is_none()
     }
 
     /// A valuation in which each literal is true that is true here.
     pub fn valuation(&self, alloc: Global) -> Result<Val, NoMemory>
-        ensures { IfOk result (λ v. (l : Literal) → is_true (values_of self.now.entries) l ≡ true → literal_value (valuation v) l ≡ true) }
+        ensures { IfOk result (λ v. (l : Literal) → is_true (trail_values self.now.entries) l ≡ true → literal_value (valuation v) l ≡ true) }
     {
         Ok(Val::new(values(alloc, &self.marks)?))
     }

@@ -11,7 +11,7 @@ use Rattle.circuit_spec.specs.Formulas.{Formula, constant, next_variable, with_v
 use Rattle.circuit_spec.specs.Gates.{mux_gate}
 use Rattle.circuit_spec.specs.Rows.{negations, zeros, number_row, fresh_row, each, neg_row}
 use Rattle.circuit_spec.specs.Bytes.{bit_of, number_of_row}
-use Rattle.circuit_spec.specs.Circuits.{Circuit, row_at, lowest_of, extension_of, binary_row, compare_gate, with_row, with_new_input, with_input, with_node, no_terms, circuit_of}
+use Rattle.circuit_spec.specs.Circuits.{Circuit, row_at, lowest_of, extension_of, binary_row, compare_gate, with_row, with_new_input, with_input, circuit_with, no_terms, circuit_of}
 use Rattle.circuit_spec.proofs.EarlierClauses.{Holds}
 use Rattle.circuit_spec.proofs.GateMeaning.{one_added}
 use Rattle.circuit_spec.proofs.Truths.{same_true}
@@ -139,8 +139,8 @@ test_has bytes c made is one =
     row_has bytes c (made.0 ∷ [], made.1) is (one.0, All-cons (Below made.1.variables) made.0 [] one.1 (All-nil (Below made.1.variables)))
 
 -- one more term
-node_has : (bytes : List ℕ) (c : Circuit) (node : Node) → All (λ b. b < 256) bytes → HasBytes bytes c → HasBytes bytes (with_node c node)
-unfolding with_node
+node_has : (bytes : List ℕ) (c : Circuit) (node : Node) → All (λ b. b < 256) bytes → HasBytes bytes c → HasBytes bytes (circuit_with c node)
+unfolding circuit_with
 node_has bytes c (Num w k) small is = same_has bytes c (number_row w k) is (number_row_below c.formula.variables w k is.scoped.first)
 node_has bytes c (Input i) small is = input_has bytes c i (input_at c.inputs i) small is refl
 node_has bytes c (Not a) small is = same_has bytes c (negations (row_at c.rows a)) is (negations_below c.formula.variables (row_at c.rows a) (row_within bytes c a is))
@@ -176,9 +176,9 @@ node_has bytes c (Concat high low) small is =
     same_has bytes c (row_at c.rows low ++ row_at c.rows high) is
     (All-append P (row_at c.rows low) (row_at c.rows high) (row_within bytes c low is) (row_within bytes c high is))
 
-nodes_has : (bytes : List ℕ) (nodes : List Node) (c : Circuit) → All (λ b. b < 256) bytes → HasBytes bytes c → HasBytes bytes (fold with_node c nodes)
+nodes_has : (bytes : List ℕ) (nodes : List Node) (c : Circuit) → All (λ b. b < 256) bytes → HasBytes bytes c → HasBytes bytes (fold circuit_with c nodes)
 nodes_has bytes [] c small is = is
-nodes_has bytes (node ∷ nodes) c small is = nodes_has bytes nodes (with_node c node) small (node_has bytes c node small is)
+nodes_has bytes (node ∷ nodes) c small is = nodes_has bytes nodes (circuit_with c node) small (node_has bytes c node small is)
 
 -- the one variable that there is at first
 no_clauses : Formula

@@ -9,7 +9,7 @@ use Rattle.circuit_spec.specs.Bytes.{bit_of, number_of_row}
 use Rattle.circuit_spec.specs.Formulas.{Formula, constant}
 use Rattle.circuit_spec.specs.Gates.{and_gate, xor_gate}
 use Rattle.circuit_spec.specs.Rows.{adder, negations, top_of, with_top_negated, ult_gate, slt_gate, equal_from, equal_gate}
-use Rattle.circuit_spec.specs.Meaning.{differ, word_of}
+use Rattle.circuit_spec.specs.Meaning.{is_xor, row_value}
 use Rattle.circuit_spec.proofs.Truths.{and_true, and_assoc, value_not, constant_value}
 use Rattle.circuit_spec.proofs.EarlierClauses.{Holds, and_before, equal_before}
 use Rattle.circuit_spec.proofs.GateValues.{and_says, xor_says}
@@ -42,7 +42,7 @@ by_sides x m n false is = ne_eqb (x + 2 * m) (x + 2 * n) (λ e. eqb-false m n is
 same_halves : (x m n : ℕ) → (x + 2 * m == x + 2 * n) ≡ (m == n)
 same_halves x m n = by_sides x m n (m == n) refl
 
-two_same : (x y : Bool) (m n : ℕ) → (bit_of x + 2 * m == bit_of y + 2 * n) ≡ (not (differ x y) && (m == n))
+two_same : (x y : Bool) (m n : ℕ) → (bit_of x + 2 * m == bit_of y + 2 * n) ≡ (not (is_xor x y) && (m == n))
 two_same true true m n = same_halves 1 m n
 two_same true false m n = ne_eqb (1 + 2 * m) (0 + 2 * n) (λ e. absurd (omega (arith, e)))
 two_same false true m n = ne_eqb (0 + 2 * m) (1 + 2 * n) (λ e. absurd (omega (arith, e)))
@@ -58,10 +58,10 @@ equal_from_says v e (x ∷ a) (y ∷ b) f same h =
     let d : Literal × Formula = xor_gate x y f in
     let o : Literal × Formula = and_gate e (negation d.0) d.1 in
     let after : Holds v o.1 = equal_before v o.0 a b o.1 h in
-    let not_apart : literal_value v (negation d.0) ≡ not (differ (literal_value v x) (literal_value v y)) = value_not v d.0 ∙ ap not (xor_says v x y f (and_before v e (negation d.0) d.1 after)) in
+    let not_apart : literal_value v (negation d.0) ≡ not (is_xor (literal_value v x) (literal_value v y)) = value_not v d.0 ∙ ap not (xor_says v x y f (and_before v e (negation d.0) d.1 after)) in
     equal_from_says v o.0 a b o.1 (omega arith) h
     ∙ ap (λ t. t && (number_of_row v a == number_of_row v b)) (and_says v e (negation d.0) d.1 after ∙ ap (λ t. literal_value v e && t) not_apart)
-    ∙ and_assoc (literal_value v e) (not (differ (literal_value v x) (literal_value v y))) (number_of_row v a == number_of_row v b)
+    ∙ and_assoc (literal_value v e) (not (is_xor (literal_value v x) (literal_value v y))) (number_of_row v a == number_of_row v b)
     ∙ ap (λ t. literal_value v e && t) (sym (two_same (literal_value v x) (literal_value v y) (number_of_row v a) (number_of_row v b)))
     ∙ ap (λ m. literal_value v e && (m == bit_of (literal_value v y) + 2 * number_of_row v b)) (sym (number_cons v x a))
     ∙ ap (λ m. literal_value v e && (number_of_row v (x ∷ a) == m)) (sym (number_cons v y b))
@@ -100,15 +100,15 @@ slt_number v a b p q low_a low_b same x y =
     rw (x.negated, z.negated, x.sign, y.sign, x.number, z.number) (signed_order low_a low_b p (literal_value v (top_of a)) (literal_value v (top_of b)) x.small z.small)
 
 -- so these tests are the standard's
-pub ult_row_means : (v : ℕ → Bool) (a b : List Literal) (f : Formula) → v 1 ≡ true → length a ≡ length b → Holds v (ult_gate a b f).1 → word_of v ((ult_gate a b f).0 ∷ []) ≡ bvult (word_of v a) (word_of v b)
+pub ult_row_means : (v : ℕ → Bool) (a b : List Literal) (f : Formula) → v 1 ≡ true → length a ≡ length b → Holds v (ult_gate a b f).1 → row_value v ((ult_gate a b f).0 ∷ []) ≡ bvult (row_value v a) (row_value v b)
 unfolding bvult
 ult_row_means v a b f truth same h = one_row v (ult_gate a b f).0 _ (ult_means v a b f truth same h)
 
-pub equal_row_means : (v : ℕ → Bool) (a b : List Literal) (f : Formula) → v 1 ≡ true → length a ≡ length b → Holds v (equal_gate a b f).1 → word_of v ((equal_gate a b f).0 ∷ []) ≡ equal (word_of v a) (word_of v b)
+pub equal_row_means : (v : ℕ → Bool) (a b : List Literal) (f : Formula) → v 1 ≡ true → length a ≡ length b → Holds v (equal_gate a b f).1 → row_value v ((equal_gate a b f).0 ∷ []) ≡ equal (row_value v a) (row_value v b)
 unfolding equal
 equal_row_means v a b f truth same h = one_row v (equal_gate a b f).0 _ (equal_says v truth a b f same h)
 
-pub slt_row_means : (v : ℕ → Bool) (a b : List Literal) (f : Formula) → v 1 ≡ true → 0 < length a → length a ≡ length b → Holds v (slt_gate a b f).1 → word_of v ((slt_gate a b f).0 ∷ []) ≡ bvslt (word_of v a) (word_of v b)
+pub slt_row_means : (v : ℕ → Bool) (a b : List Literal) (f : Formula) → v 1 ≡ true → 0 < length a → length a ≡ length b → Holds v (slt_gate a b f).1 → row_value v ((slt_gate a b f).0 ∷ []) ≡ bvslt (row_value v a) (row_value v b)
 unfolding bvslt
 slt_row_means v a b f truth some same h =
     let x : Topped v a (2 ^ (length a - 1)) (number_of_row v (take (length a - 1) a)) = topped v a some in

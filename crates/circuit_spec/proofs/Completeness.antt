@@ -13,7 +13,7 @@ use Rattle.bv_dag.specs.declared.nodes.Node.{Node}
 use Rattle.bv_dag.specs.declared.nodes.Node.TheVariants.{Num, Input, Not, Neg, Binary, Compare, Ite, Extract, Extend, Concat}
 use Rattle.circuit_spec.specs.Rows.{fresh_row}
 use Rattle.circuit_spec.specs.Bytes.{number_of_row, bytes_of, MeansBytes}
-use Rattle.circuit_spec.specs.Circuits.{Circuit, with_input, with_node, no_terms, circuit_of, clauses}
+use Rattle.circuit_spec.specs.Circuits.{Circuit, with_input, circuit_with, no_terms, circuit_of, clauses}
 use Rattle.circuit_spec.proofs.InputBytes.{Inputs, input_at, AreBytes, AreKept, byte_is, bytes_in, no_bytes, nodes_bytes, nodes_kept}
 use Rattle.circuit_spec.proofs.CircuitMeaning.{FitFrom, fits_later, values_from}
 use Rattle.circuit_spec.proofs.Solutions.{asserted_means, circuit_words, in_turn, start_fits}
@@ -26,8 +26,8 @@ input_there c i (Some row) is within = (row, is)
 
 -- Terms are worth the same on bytes that agree where they occur.
 module _ (v : ℕ → Bool) (input : List ℕ) (all : Inputs) (agree : (i : ℕ) (row : List Literal) → input_at all i ≡ Some row → slice_index (bytes_in v all) i ≡ slice_index input i) where
-  node_same : (c : Circuit) (n : Node) (before : List ℕ) (operand : ℕ → BitVector) → Fits (length c.inputs) before n → AreKept (with_node c n).inputs all → node_value (bytes_in v all) operand n ≡ node_value input operand n
-  unfolding with_node
+  node_same : (c : Circuit) (n : Node) (before : List ℕ) (operand : ℕ → BitVector) → Fits (length c.inputs) before n → AreKept (circuit_with c n).inputs all → node_value (bytes_in v all) operand n ≡ node_value input operand n
+  unfolding circuit_with
   node_same c (Num w m) before operand fits kept = refl
   node_same c (Input i) before operand fits kept =
       let there = input_there c i (input_at c.inputs i) refl fits in
@@ -41,12 +41,12 @@ module _ (v : ℕ → Bool) (input : List ℕ) (all : Inputs) (agree : (i : ℕ)
   node_same c (Extend by signed a) before operand fits kept = refl
   node_same c (Concat high low) before operand fits kept = refl
 
-  nodes_same : (nodes : List Node) (c : Circuit) (before : List ℕ) (words : List BitVector) → FitFrom (length c.inputs) before nodes → (fold with_node c nodes).inputs ≡ all → values_from (bytes_in v all) words nodes ≡ values_from input words nodes
+  nodes_same : (nodes : List Node) (c : Circuit) (before : List ℕ) (words : List BitVector) → FitFrom (length c.inputs) before nodes → (fold circuit_with c nodes).inputs ≡ all → values_from (bytes_in v all) words nodes ≡ values_from input words nodes
   nodes_same [] c before words fits ends = refl
   nodes_same (n ∷ nodes) c before words fits ends =
-      let kept : AreKept (with_node c n).inputs all = subst (λ (k : Inputs). AreKept (with_node c n).inputs k) ends (nodes_kept nodes (with_node c n)) in
+      let kept : AreKept (circuit_with c n).inputs all = subst (λ (k : Inputs). AreKept (circuit_with c n).inputs k) ends (nodes_kept nodes (circuit_with c n)) in
       let one = node_same c n before (vector_at words) (fits 0 n refl) kept in
-      nodes_same nodes (with_node c n) (before ++ node_width before n ∷ []) (words ++ node_value (bytes_in v all) (vector_at words) n ∷ []) (fits_later c n nodes before fits) ends
+      nodes_same nodes (circuit_with c n) (before ++ node_width before n ∷ []) (words ++ node_value (bytes_in v all) (vector_at words) n ∷ []) (fits_later c n nodes before fits) ends
       ∙ ap (λ (w : BitVector). values_from input (words ++ w ∷ []) nodes) one
 
 circuit_bytes : (q : Condition) → AreBytes (circuit_of q).inputs

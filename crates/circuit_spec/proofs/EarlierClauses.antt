@@ -17,7 +17,7 @@ use Rattle.circuit_spec.specs.Gates.{and_gate, or_gate, xor_gate, mux_gate, xor3
 use Rattle.circuit_spec.specs.Rows.{negations, zeros, top_of, with_top_negated, fresh_row, each, adder, add_row, equal_from}
 use Rattle.circuit_spec.specs.Shifts.{Stage, with_moved, with_big, moved, next_stage, shift_end, shift_row}
 use Rattle.circuit_spec.specs.Products.{partial_row, products, Division, brought_down, division_step, division}
-use Rattle.circuit_spec.specs.Circuits.{Circuit, row_at, lowest_of, binary_row, compare_gate, with_input, with_node, with_asserted, no_terms, circuit_of, clauses}
+use Rattle.circuit_spec.specs.Circuits.{Circuit, row_at, lowest_of, binary_row, compare_gate, with_input, circuit_with, with_asserted, no_terms, circuit_of, clauses}
 use Rattle.circuit_spec.proofs.Truths.{same_true}
 use Rattle.circuit_spec.proofs.GateMeaning.{added, one_added, and_means, or_means, xor_means, mux_means, xor3_means, majority_means}
 
@@ -153,8 +153,8 @@ input_before v None c i h = fresh_before v 8 c.formula h
 input_before v (Some row) c i h = h
 
 -- and so does a term
-pub node_before : (v : ℕ → Bool) (c : Circuit) (n : Node) → Holds v (with_node c n).formula → Holds v c.formula
-unfolding with_node
+pub node_before : (v : ℕ → Bool) (c : Circuit) (n : Node) → Holds v (circuit_with c n).formula → Holds v c.formula
+unfolding circuit_with
 node_before v c (Num w n) h = h
 node_before v c (Input i) h = input_before v (slice_index_or c.inputs i None) c i h
 node_before v c (Not a) h = h
@@ -166,9 +166,9 @@ node_before v c (Extract high low a) h = h
 node_before v c (Extend by signed a) h = h
 node_before v c (Concat high low) h = h
 
-pub nodes_before : (v : ℕ → Bool) (nodes : List Node) (c : Circuit) → Holds v (fold with_node c nodes).formula → Holds v c.formula
+pub nodes_before : (v : ℕ → Bool) (nodes : List Node) (c : Circuit) → Holds v (fold circuit_with c nodes).formula → Holds v c.formula
 nodes_before v [] c h = h
-nodes_before v (n ∷ nodes) c h = node_before v c n (nodes_before v nodes (with_node c n) h)
+nodes_before v (n ∷ nodes) c h = node_before v c n (nodes_before v nodes (circuit_with c n) h)
 
 pub asserted_before : (v : ℕ → Bool) (rows : List (List Literal)) (ids : List ℕ) (f : Formula) → Holds v (with_asserted rows ids f) → Holds v f
 unfolding with_asserted

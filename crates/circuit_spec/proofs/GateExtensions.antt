@@ -5,7 +5,7 @@ use Rattle.cnf_form.specs.Literals.{Literal, negation, same_truth}
 use Rattle.cnf_form.specs.Valuations.{literal_value, satisfies}
 use Rattle.circuit_spec.specs.Formulas.{Formula, next_variable, with_variable}
 use Rattle.circuit_spec.specs.Gates.{gate, and_clauses, xor_clauses, mux_clauses, xor3_clauses, majority_clauses, and_gate, or_gate, xor_gate, mux_gate, xor3_gate, majority_gate}
-use Rattle.circuit_spec.specs.Meaning.{differ, sum_bit, carry_bit}
+use Rattle.circuit_spec.specs.Meaning.{is_xor, sum_bit, carry_bit}
 use Rattle.circuit_spec.proofs.Truths.{twice, same_itself}
 use Rattle.circuit_spec.proofs.GateMeaning.{and_means, xor_means, mux_means, xor3_means, majority_means}
 use Rattle.circuit_spec.proofs.Scopes.{Agree, Below, IsScoped, MakesLiteral, agree_fewer, literal_same, changed, changed_at, changed_above, clauses_variables}
@@ -85,7 +85,7 @@ ors a b f more is x y = ands (negation a) (negation b) f more is x y
 pub xors : Extends 0 xor_gate
 unfolding xor_gate
 xors a b f more is x y =
-    made_by (xor_clauses a b) (λ v. differ (literal_value v a) (literal_value v b)) f is (λ v w same. same_two differ v w f.variables a b same x y) (λ v. xor_means v a b f)
+    made_by (xor_clauses a b) (λ v. is_xor (literal_value v a) (literal_value v b)) f is (λ v w same. same_two is_xor v w f.variables a b same x y) (λ v. xor_means v a b f)
 
 pub muxes : (n : ℕ) (c : Literal) → Below n c → Extends n (mux_gate c)
 unfolding mux_gate

@@ -8,7 +8,7 @@ use Rattle.cnf_form.specs.Valuations.{literal_value, satisfies_clause, satisfies
 use Rattle.cnf_form.proofs.Meaning.{clause_means, tautology_means}
 use Rattle.circuit_spec.specs.Formulas.{Formula, next_variable, with_variable, with_kept, with_clause, with_clauses}
 use Rattle.circuit_spec.specs.Gates.{and_clauses, xor_clauses, mux_clauses, xor3_clauses, majority_clauses, and_gate, or_gate, xor_gate, mux_gate, xor3_gate, majority_gate, gate}
-use Rattle.circuit_spec.specs.Meaning.{differ, sum_bit, carry_bit}
+use Rattle.circuit_spec.specs.Meaning.{is_xor, sum_bit, carry_bit}
 use Rattle.circuit_spec.proofs.Truths.{and_true, and_assoc, or_false, value_not}
 
 added_by : (v : ℕ → Bool) (c : List Literal) (f : Formula) (o : Option (List Literal)) → clause_of c ≡ o → satisfies v (with_kept o f).clauses ≡ (satisfies v f.clauses && satisfies_clause v c)
@@ -54,7 +54,7 @@ pub and_means : (v : ℕ → Bool) (a b : Literal) (f : Formula) → satisfies v
 unfolding and_gate satisfies_clause
 and_means v a b f = gate_means v (and_clauses a b) f (literal_value v a && literal_value v b) (λ o. rw (value_not v o, value_not v a, value_not v b) (and_table (literal_value v o) (literal_value v a) (literal_value v b)))
 
-xor_table : (o a b : Bool) → ((not o || (a || (b || false))) && ((not o || (not a || (not b || false))) && ((o || (not a || (b || false))) && ((o || (a || (not b || false))) && true)))) ≡ same_truth o (differ a b)
+xor_table : (o a b : Bool) → ((not o || (a || (b || false))) && ((not o || (not a || (not b || false))) && ((o || (not a || (b || false))) && ((o || (a || (not b || false))) && true)))) ≡ same_truth o (is_xor a b)
 xor_table true true true = refl
 xor_table true true false = refl
 xor_table true false true = refl
@@ -64,9 +64,9 @@ xor_table false true false = refl
 xor_table false false true = refl
 xor_table false false false = refl
 
-pub xor_means : (v : ℕ → Bool) (a b : Literal) (f : Formula) → satisfies v (xor_gate a b f).1.clauses ≡ (satisfies v f.clauses && same_truth (literal_value v (xor_gate a b f).0) (differ (literal_value v a) (literal_value v b)))
+pub xor_means : (v : ℕ → Bool) (a b : Literal) (f : Formula) → satisfies v (xor_gate a b f).1.clauses ≡ (satisfies v f.clauses && same_truth (literal_value v (xor_gate a b f).0) (is_xor (literal_value v a) (literal_value v b)))
 unfolding xor_gate satisfies_clause
-xor_means v a b f = gate_means v (xor_clauses a b) f (differ (literal_value v a) (literal_value v b)) (λ o. rw (value_not v o, value_not v a, value_not v b) (xor_table (literal_value v o) (literal_value v a) (literal_value v b)))
+xor_means v a b f = gate_means v (xor_clauses a b) f (is_xor (literal_value v a) (literal_value v b)) (λ o. rw (value_not v o, value_not v a, value_not v b) (xor_table (literal_value v o) (literal_value v a) (literal_value v b)))
 
 mux_table : (o c a b : Bool) → ((not c || (not a || (o || false))) && ((not c || (a || (not o || false))) && ((c || (not b || (o || false))) && ((c || (b || (not o || false))) && true)))) ≡ same_truth o (if c then a else b)
 mux_table true true true true = refl

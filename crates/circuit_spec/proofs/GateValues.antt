@@ -6,7 +6,7 @@ use Rattle.cnf_form.specs.Valuations.{literal_value}
 use Rattle.cnf_form.proofs.Meaning.{truths}
 use Rattle.circuit_spec.specs.Formulas.{Formula}
 use Rattle.circuit_spec.specs.Gates.{and_gate, or_gate, xor_gate, mux_gate, xor3_gate, majority_gate}
-use Rattle.circuit_spec.specs.Meaning.{differ, sum_bit, carry_bit}
+use Rattle.circuit_spec.specs.Meaning.{is_xor, sum_bit, carry_bit}
 use Rattle.circuit_spec.proofs.GateMeaning.{and_means, or_means, xor_means, mux_means, xor3_means, majority_means}
 use Rattle.circuit_spec.proofs.EarlierClauses.{Holds}
 
@@ -19,7 +19,7 @@ and_says v a b f h = has_value _ _ _ _ (and_means v a b f) h
 pub or_says : (v : ℕ → Bool) (a b : Literal) (f : Formula) → Holds v (or_gate a b f).1 → literal_value v (or_gate a b f).0 ≡ (literal_value v a || literal_value v b)
 or_says v a b f h = has_value _ _ _ _ (or_means v a b f) h
 
-pub xor_says : (v : ℕ → Bool) (a b : Literal) (f : Formula) → Holds v (xor_gate a b f).1 → literal_value v (xor_gate a b f).0 ≡ differ (literal_value v a) (literal_value v b)
+pub xor_says : (v : ℕ → Bool) (a b : Literal) (f : Formula) → Holds v (xor_gate a b f).1 → literal_value v (xor_gate a b f).0 ≡ is_xor (literal_value v a) (literal_value v b)
 xor_says v a b f h = has_value _ _ _ _ (xor_means v a b f) h
 
 pub mux_says : (v : ℕ → Bool) (c a b : Literal) (f : Formula) → Holds v (mux_gate c a b f).1 → literal_value v (mux_gate c a b f).0 ≡ (if literal_value v c then literal_value v a else literal_value v b)

@@ -7,9 +7,9 @@ use Rattle.cnf_form.specs.Literals.{Literal}
 use Rattle.bv_dag.specs.declared.nodes.Node.{Node}
 use Rattle.bv_dag.specs.declared.nodes.Node.TheVariants.{Num, Input, Not, Neg, Binary, Compare, Ite, Extract, Extend, Concat}
 use Rattle.circuit_spec.specs.Formulas.{Formula, with_variable}
-use Rattle.circuit_spec.specs.Bytes.{number_of_row, byte_of}
+use Rattle.circuit_spec.specs.Bytes.{number_of_row, input_byte}
 use Rattle.circuit_spec.specs.Rows.{fresh_row}
-use Rattle.circuit_spec.specs.Circuits.{Circuit, with_input, with_node}
+use Rattle.circuit_spec.specs.Circuits.{Circuit, with_input, circuit_with}
 
 abbrev pub Inputs : Type 0
 Inputs = List (Option (List Literal))
@@ -69,8 +69,8 @@ input_case : (P : Inputs → Type 0) (c : Circuit) (i : ℕ) (o : Option (List L
 input_case P c i None is old new = new is
 input_case P c i (Some row) is old new = old
 
-node_case : (P : Inputs → Type 0) (c : Circuit) (n : Node) → P c.inputs → ((i : ℕ) → input_at c.inputs i ≡ None → P (set c.inputs i (Some (fresh_row 8 c.formula).0))) → P (with_node c n).inputs
-unfolding with_node
+node_case : (P : Inputs → Type 0) (c : Circuit) (n : Node) → P c.inputs → ((i : ℕ) → input_at c.inputs i ≡ None → P (set c.inputs i (Some (fresh_row 8 c.formula).0))) → P (circuit_with c n).inputs
+unfolding circuit_with
 node_case P c (Num w m) old new = old
 node_case P c (Input i) old new = input_case P c i (input_at c.inputs i) refl old (new i)
 node_case P c (Not a) old new = old
@@ -83,26 +83,26 @@ node_case P c (Extend by signed a) old new = old
 node_case P c (Concat high low) old new = old
 
 -- a term keeps the input bytes that have occurred, their number, and that each has eight literals
-node_kept : (c : Circuit) (n : Node) → AreKept c.inputs (with_node c n).inputs
+node_kept : (c : Circuit) (n : Node) → AreKept c.inputs (circuit_with c n).inputs
 node_kept c n = node_case (AreKept c.inputs) c n (record { each = λ i row is. is }) (λ i none. new_kept c.inputs i (fresh_row 8 c.formula).0 none)
 
-pub node_count : (c : Circuit) (n : Node) → length (with_node c n).inputs ≡ length c.inputs
+pub node_count : (c : Circuit) (n : Node) → length (circuit_with c n).inputs ≡ length c.inputs
 node_count c n = node_case (λ inputs. length inputs ≡ length c.inputs) c n refl (λ i none. length-set c.inputs i (Some (fresh_row 8 c.formula).0))
 
-pub node_bytes : (c : Circuit) (n : Node) → AreBytes c.inputs → AreBytes (with_node c n).inputs
+pub node_bytes : (c : Circuit) (n : Node) → AreBytes c.inputs → AreBytes (circuit_with c n).inputs
 node_bytes c n bytes = node_case AreBytes c n bytes (λ i none. new_bytes c.inputs i (fresh_row 8 c.formula).0 bytes (length_fresh 8 c.formula))
 
-pub nodes_kept : (nodes : List Node) (c : Circuit) → AreKept c.inputs (fold with_node c nodes).inputs
+pub nodes_kept : (nodes : List Node) (c : Circuit) → AreKept c.inputs (fold circuit_with c nodes).inputs
 nodes_kept [] c = record { each = λ i row is. is }
-nodes_kept (n ∷ nodes) c = record { each = λ i row is. (nodes_kept nodes (with_node c n)).each i row ((node_kept c n).each i row is) }
+nodes_kept (n ∷ nodes) c = record { each = λ i row is. (nodes_kept nodes (circuit_with c n)).each i row ((node_kept c n).each i row is) }
 
-pub nodes_count : (nodes : List Node) (c : Circuit) → length (fold with_node c nodes).inputs ≡ length c.inputs
+pub nodes_count : (nodes : List Node) (c : Circuit) → length (fold circuit_with c nodes).inputs ≡ length c.inputs
 nodes_count [] c = refl
-nodes_count (n ∷ nodes) c = nodes_count nodes (with_node c n) ∙ node_count c n
+nodes_count (n ∷ nodes) c = nodes_count nodes (circuit_with c n) ∙ node_count c n
 
-pub nodes_bytes : (nodes : List Node) (c : Circuit) → AreBytes c.inputs → AreBytes (fold with_node c nodes).inputs
+pub nodes_bytes : (nodes : List Node) (c : Circuit) → AreBytes c.inputs → AreBytes (fold circuit_with c nodes).inputs
 nodes_bytes [] c bytes = bytes
-nodes_bytes (n ∷ nodes) c bytes = nodes_bytes nodes (with_node c n) (node_bytes c n bytes)
+nodes_bytes (n ∷ nodes) c bytes = nodes_bytes nodes (circuit_with c n) (node_bytes c n bytes)
 
 -- none has occurred at first
 none_yet : (n i : ℕ) → input_at (replicate n None) i ≡ None
@@ -118,12 +118,12 @@ no_bytes n = record { each = λ i row is. absurd (none_occurs n i row is) }
 
 -- the bytes that inputs mean
 abbrev pub bytes_in : (ℕ → Bool) → Inputs → List ℕ
-bytes_in v inputs = map (byte_of v) inputs
+bytes_in v inputs = map (input_byte v) inputs
 
-byte_at : (v : ℕ → Bool) (inputs : Inputs) (i : ℕ) → slice_index (bytes_in v inputs) i ≡ byte_of v (input_at inputs i)
+byte_at : (v : ℕ → Bool) (inputs : Inputs) (i : ℕ) → slice_index (bytes_in v inputs) i ≡ input_byte v (input_at inputs i)
 byte_at v [] i = refl
 byte_at v (o ∷ inputs) zero = refl
 byte_at v (o ∷ inputs) (suc i) = byte_at v inputs i
 
 pub byte_is : (v : ℕ → Bool) (inputs : Inputs) (i : ℕ) (row : List Literal) → length row ≡ 8 → input_at inputs i ≡ Some row → slice_index (bytes_in v inputs) i ≡ number_of_row v row
-byte_is v inputs i row eight is = byte_at v inputs i ∙ ap (byte_of v) is ∙ ap (number_of_row v) (take_all 8 row (omega arith))
+byte_is v inputs i row eight is = byte_at v inputs i ∙ ap (input_byte v) is ∙ ap (number_of_row v) (take_all 8 row (omega arith))

@@ -14,7 +14,7 @@ use Rattle.circuit_spec.specs.Formulas.{Formula}
 use Rattle.circuit_spec.specs.Gates.{and_gate, or_gate, xor_gate, mux_gate}
 use Rattle.circuit_spec.specs.Rows.{each}
 use Rattle.circuit_spec.specs.Circuits.{lowest_of}
-use Rattle.circuit_spec.specs.Meaning.{differ, word_of}
+use Rattle.circuit_spec.specs.Meaning.{is_xor, row_value}
 use Rattle.circuit_spec.proofs.EarlierClauses.{Holds, and_before, or_before, xor_before, mux_before, each_before}
 use Rattle.circuit_spec.proofs.GateValues.{and_says, or_says, xor_says, mux_says}
 use Rattle.circuit_spec.proofs.Numbers.{bit_small, half_of, number_nil, number_cons, number_below, number_falses, number_trues}
@@ -70,7 +70,7 @@ max_bit true false = refl
 max_bit false true = refl
 max_bit false false = refl
 
-odd_bit : (x y : Bool) → (bit_of x + bit_of y) % 2 ≡ bit_of (differ x y)
+odd_bit : (x y : Bool) → (bit_of x + bit_of y) % 2 ≡ bit_of (is_xor x y)
 odd_bit true true = refl
 odd_bit true false = refl
 odd_bit false true = refl
@@ -91,8 +91,8 @@ and_by_bits = record { none = refl; more = λ x y m n. same_from_bits _ _ (by_bi
 or_by_bits : IsByBits (λ a b. a || b) bit_or
 or_by_bits = record { none = refl; more = λ x y m n. same_from_bits _ _ (by_bits (λ a b. a || b) bit_or max bit_at_or max_bit x y m n) }
 
-xor_by_bits : IsByBits differ bit_xor
-xor_by_bits = record { none = refl; more = λ x y m n. same_from_bits _ _ (by_bits differ bit_xor (λ s t. (s + t) % 2) bit_at_xor odd_bit x y m n) }
+xor_by_bits : IsByBits is_xor bit_xor
+xor_by_bits = record { none = refl; more = λ x y m n. same_from_bits _ _ (by_bits is_xor bit_xor (λ s t. (s + t) % 2) bit_at_xor odd_bit x y m n) }
 
 -- a choice of two numbers is one at each bit
 choice_more : (c x y : Bool) (m n : ℕ) → (if c then bit_of x + 2 * m else bit_of y + 2 * n) ≡ bit_of (if c then x else y) + 2 * (if c then m else n)
@@ -127,22 +127,22 @@ masked_row_number v b a n f long h =
     and_row_number v a (replicate n b) f (long ∙ sym (length-replicate n b)) h ∙ with_copies v b (number_of_row v a) n (literal_value v b) (number_below v a n long) refl
 
 -- so these rows are the standard's
-pub and_row_means : (v : ℕ → Bool) (a b : List Literal) (f : Formula) → length a ≡ length b → Holds v (each and_gate a b f).1 → word_of v (each and_gate a b f).0 ≡ bvand (word_of v a) (word_of v b)
+pub and_row_means : (v : ℕ → Bool) (a b : List Literal) (f : Formula) → length a ≡ length b → Holds v (each and_gate a b f).1 → row_value v (each and_gate a b f).0 ≡ bvand (row_value v a) (row_value v b)
 unfolding bvand
 and_row_means v a b f same h = word _ _ _ _ (length_each and_gate a b f same) (and_row_number v a b f same h)
 
-pub or_row_means : (v : ℕ → Bool) (a b : List Literal) (f : Formula) → length a ≡ length b → Holds v (each or_gate a b f).1 → word_of v (each or_gate a b f).0 ≡ bvor (word_of v a) (word_of v b)
+pub or_row_means : (v : ℕ → Bool) (a b : List Literal) (f : Formula) → length a ≡ length b → Holds v (each or_gate a b f).1 → row_value v (each or_gate a b f).0 ≡ bvor (row_value v a) (row_value v b)
 unfolding bvor
 or_row_means v a b f same h =
     word _ _ _ _ (length_each or_gate a b f same) (each_says v or_gate (λ a b. a || b) bit_or (record { before = or_before v; value = or_says v }) or_by_bits a b f same h)
 
-pub xor_row_means : (v : ℕ → Bool) (a b : List Literal) (f : Formula) → length a ≡ length b → Holds v (each xor_gate a b f).1 → word_of v (each xor_gate a b f).0 ≡ bvxor (word_of v a) (word_of v b)
+pub xor_row_means : (v : ℕ → Bool) (a b : List Literal) (f : Formula) → length a ≡ length b → Holds v (each xor_gate a b f).1 → row_value v (each xor_gate a b f).0 ≡ bvxor (row_value v a) (row_value v b)
 unfolding bvxor
 xor_row_means v a b f same h =
-    word _ _ _ _ (length_each xor_gate a b f same) (each_says v xor_gate differ bit_xor (record { before = xor_before v; value = xor_says v }) xor_by_bits a b f same h)
+    word _ _ _ _ (length_each xor_gate a b f same) (each_says v xor_gate is_xor bit_xor (record { before = xor_before v; value = xor_says v }) xor_by_bits a b f same h)
 
 pub ite_means : (v : ℕ → Bool) (t a b : List Literal) (f : Formula) → length t ≡ 1 → length a ≡ length b → Holds v (each (mux_gate (lowest_of t)) a b f).1
-    → word_of v (each (mux_gate (lowest_of t)) a b f).0 ≡ ite (word_of v t) (word_of v a) (word_of v b)
+    → row_value v (each (mux_gate (lowest_of t)) a b f).0 ≡ ite (row_value v t) (row_value v a) (row_value v b)
 unfolding ite
 ite_means v t a b f one same h =
     word _ _ _ _ (length_each (mux_gate (lowest_of t)) a b f same)

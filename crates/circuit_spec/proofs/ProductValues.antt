@@ -10,7 +10,7 @@ use Rattle.circuit_spec.specs.Gates.{and_gate}
 use Rattle.circuit_spec.specs.Rows.{zeros, each, adder, Sum}
 use Rattle.circuit_spec.specs.Products.{partial_row, products, mul_row}
 use Rattle.bv_dag.specs.BitVectors.{bvmul}
-use Rattle.circuit_spec.specs.Meaning.{word_of}
+use Rattle.circuit_spec.specs.Meaning.{row_value}
 use Rattle.circuit_spec.specs.Bytes.{bit_of, number_of_row}
 use Rattle.circuit_spec.proofs.Truths.{constant_value}
 use Rattle.circuit_spec.proofs.EarlierClauses.{Holds, adder_before, products_before}
@@ -90,6 +90,6 @@ mul_number v a b f truth same h =
     let small : number_of_row v (mul_row a b f).0 < 2 ^ length a = number_below v (mul_row a b f).0 (length a) (mul_length a b f same) in
     modulo (length a) (number_of_row v (mul_row a b f).0) made.0 (number_of_row v a * number_of_row v b) small (made.1 ∙ rw none (omega arith))
 
-pub mul_means : (v : ℕ → Bool) (a b : List Literal) (f : Formula) → v 1 ≡ true → length a ≡ length b → Holds v (mul_row a b f).1 → word_of v (mul_row a b f).0 ≡ bvmul (word_of v a) (word_of v b)
+pub mul_means : (v : ℕ → Bool) (a b : List Literal) (f : Formula) → v 1 ≡ true → length a ≡ length b → Holds v (mul_row a b f).1 → row_value v (mul_row a b f).0 ≡ bvmul (row_value v a) (row_value v b)
 unfolding bvmul
 mul_means v a b f truth same h = word _ _ _ _ (mul_length a b f same) (mul_number v a b f truth same h)

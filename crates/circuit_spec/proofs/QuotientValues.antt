@@ -11,7 +11,7 @@ use Rattle.circuit_spec.specs.Gates.{mux_gate}
 use Rattle.circuit_spec.specs.Rows.{negations, zeros, each, adder, Sum}
 use Rattle.circuit_spec.specs.Products.{Division, Restored, brought_down, division_step, division, divided, udiv_row, urem_row}
 use Rattle.bv_dag.specs.BitVectors.{bvudiv, bvurem}
-use Rattle.circuit_spec.specs.Meaning.{word_of}
+use Rattle.circuit_spec.specs.Meaning.{row_value}
 use Rattle.circuit_spec.specs.Bytes.{bit_of, number_of_row}
 use Rattle.circuit_spec.proofs.Truths.{constant_value}
 use Rattle.circuit_spec.proofs.EarlierClauses.{Holds, mux_before, each_before, step_before}
@@ -184,10 +184,10 @@ urem_number v a b f truth same h =
 urem_length : (a b : List Literal) (f : Formula) → length a ≡ length b → length (urem_row a b f).0 ≡ length a
 urem_length a b f same = length-take-le (length a) (divided a b f).rest (omega (arith, divided_length a b f))
 
-pub udiv_means : (v : ℕ → Bool) (a b : List Literal) (f : Formula) → v 1 ≡ true → length a ≡ length b → Holds v (udiv_row a b f).1 → word_of v (udiv_row a b f).0 ≡ bvudiv (word_of v a) (word_of v b)
+pub udiv_means : (v : ℕ → Bool) (a b : List Literal) (f : Formula) → v 1 ≡ true → length a ≡ length b → Holds v (udiv_row a b f).1 → row_value v (udiv_row a b f).0 ≡ bvudiv (row_value v a) (row_value v b)
 unfolding bvudiv
 udiv_means v a b f truth same h = word _ _ _ _ (udiv_length a b f) (quotient_by _ _ _ _ _ (number_of_row v b == 0) refl (divided_number v a b f truth same h))
 
-pub urem_means : (v : ℕ → Bool) (a b : List Literal) (f : Formula) → v 1 ≡ true → length a ≡ length b → Holds v (urem_row a b f).1 → word_of v (urem_row a b f).0 ≡ bvurem (word_of v a) (word_of v b)
+pub urem_means : (v : ℕ → Bool) (a b : List Literal) (f : Formula) → v 1 ≡ true → length a ≡ length b → Holds v (urem_row a b f).1 → row_value v (urem_row a b f).0 ≡ bvurem (row_value v a) (row_value v b)
 unfolding bvurem
 urem_means v a b f truth same h = word _ _ _ _ (urem_length a b f same) (urem_number v a b f truth same h)

@@ -11,7 +11,7 @@ use Rattle.circuit_spec.specs.Formulas.{Formula, constant}
 use Rattle.circuit_spec.specs.Rows.{top_of}
 use Rattle.circuit_spec.specs.Shifts.{shift_row}
 use Rattle.circuit_spec.specs.declared.direction.Direction.TheVariants.{Up, Down}
-use Rattle.circuit_spec.specs.Meaning.{word_of}
+use Rattle.circuit_spec.specs.Meaning.{row_value}
 use Rattle.circuit_spec.proofs.Truths.{constant_value}
 use Rattle.circuit_spec.proofs.EarlierClauses.{Holds}
 use Rattle.circuit_spec.proofs.Numbers.{number_bound}
@@ -37,7 +37,7 @@ lshr_number : (w n far : ℕ) → n < 2 ^ w → down n far ≡ (if nat_lt far w 
 lshr_number w n far small = by_distance w down 0 (down_is w) n far small (nat_lt far w) refl
 
 pub shl_means : (v : ℕ → Bool) (a b : List Literal) (f : Formula) → v 1 ≡ true → Holds v (shift_row Up (constant false) a b f).1
-    → word_of v (shift_row Up (constant false) a b f).0 ≡ bvshl (word_of v a) (word_of v b)
+    → row_value v (shift_row Up (constant false) a b f).0 ≡ bvshl (row_value v a) (row_value v b)
 unfolding bvshl
 shl_means v a b f truth h =
     let made : Shifted v (shift_row Up (constant false) a b f) (length a) (up (length a) (number_of_row v a) (number_of_row v b))
@@ -45,7 +45,7 @@ shl_means v a b f truth h =
     word _ _ _ _ made.width_is (made.is ∙ shl_number (length a) (number_of_row v a) (number_of_row v b) (number_bound v a))
 
 down_says : (v : ℕ → Bool) → v 1 ≡ true → (fill : Literal) → literal_value v fill ≡ false → (a b : List Literal) (f : Formula) → Holds v (shift_row Down fill a b f).1
-    → word_of v (shift_row Down fill a b f).0 ≡ bvlshr (word_of v a) (word_of v b)
+    → row_value v (shift_row Down fill a b f).0 ≡ bvlshr (row_value v a) (row_value v b)
 unfolding bvlshr
 down_says v truth fill is a b f h =
     let made : Shifted v (shift_row Down fill a b f) (length a) (down (number_of_row v a) (number_of_row v b))
@@ -53,11 +53,11 @@ down_says v truth fill is a b f h =
     word _ _ _ _ made.width_is (made.is ∙ lshr_number (length a) (number_of_row v a) (number_of_row v b) (number_bound v a))
 
 pub lshr_means : (v : ℕ → Bool) (a b : List Literal) (f : Formula) → v 1 ≡ true → Holds v (shift_row Down (constant false) a b f).1
-    → word_of v (shift_row Down (constant false) a b f).0 ≡ bvlshr (word_of v a) (word_of v b)
+    → row_value v (shift_row Down (constant false) a b f).0 ≡ bvlshr (row_value v a) (row_value v b)
 lshr_means v a b f truth h = down_says v truth (constant false) (constant_value v truth false) a b f h
 
 down_ones_says : (v : ℕ → Bool) → v 1 ≡ true → (fill : Literal) → literal_value v fill ≡ true → (a b : List Literal) (f : Formula) → Holds v (shift_row Down fill a b f).1
-    → word_of v (shift_row Down fill a b f).0 ≡ bvnot (bvlshr (bvnot (word_of v a)) (word_of v b))
+    → row_value v (shift_row Down fill a b f).0 ≡ bvnot (bvlshr (bvnot (row_value v a)) (row_value v b))
 unfolding bvlshr bvnot
 down_ones_says v truth fill is a b f h =
     let w : ℕ = length a in
@@ -71,8 +71,8 @@ ashr_by s t r true is ones zeros = rw is (ones refl)
 ashr_by s t r false is ones zeros = rw is (zeros refl)
 
 pub ashr_means : (v : ℕ → Bool) (a b : List Literal) (f : Formula) → v 1 ≡ true → 0 < length a → Holds v (shift_row Down (top_of a) a b f).1
-    → word_of v (shift_row Down (top_of a) a b f).0 ≡ bvashr (word_of v a) (word_of v b)
+    → row_value v (shift_row Down (top_of a) a b f).0 ≡ bvashr (row_value v a) (row_value v b)
 ashr_means v a b f truth some h =
     let top : Topped v a (2 ^ (length a - 1)) (number_of_row v (take (length a - 1) a)) = topped v a some in
-    ashr_by (word_of v a) (word_of v b) (word_of v (shift_row Down (top_of a) a b f).0) (literal_value v (top_of a)) top.sign
+    ashr_by (row_value v a) (row_value v b) (row_value v (shift_row Down (top_of a) a b f).0) (literal_value v (top_of a)) top.sign
     (λ is. down_ones_says v truth (top_of a) is a b f h) (λ is. down_says v truth (top_of a) is a b f h)

@@ -9,7 +9,7 @@ use Rattle.bv_dag.specs.BitVectors.{nat2bv, bvnot, extract, zero_extend, sign_ex
 use Rattle.circuit_spec.specs.Bytes.{number_of_row}
 use Rattle.circuit_spec.specs.Formulas.{constant}
 use Rattle.circuit_spec.specs.Rows.{negations, number_row, top_of}
-use Rattle.circuit_spec.specs.Meaning.{word_of}
+use Rattle.circuit_spec.specs.Meaning.{row_value}
 use Rattle.circuit_spec.proofs.Truths.{constant_value}
 use Rattle.circuit_spec.proofs.Words.{word}
 use Rattle.circuit_spec.proofs.Numbers.{number_number_row, number_append, falses_above, number_trues, number_take, number_drop}
@@ -21,10 +21,10 @@ unfolding number_row
 length_number_row zero n = refl
 length_number_row (suc w) n = ap suc (length_number_row w (n / 2))
 
-pub number_means : (v : ℕ → Bool) (w n : ℕ) → v 1 ≡ true → word_of v (number_row w n) ≡ nat2bv w n
+pub number_means : (v : ℕ → Bool) (w n : ℕ) → v 1 ≡ true → row_value v (number_row w n) ≡ nat2bv w n
 number_means v w n truth = word _ _ _ _ (length_number_row w n) (number_number_row v truth w n)
 
-pub not_means : (v : ℕ → Bool) (a : List Literal) → word_of v (negations a) ≡ bvnot (word_of v a)
+pub not_means : (v : ℕ → Bool) (a : List Literal) → row_value v (negations a) ≡ bvnot (row_value v a)
 unfolding bvnot
 not_means v a = word _ _ _ _ (length-map a negation) (negated_number v a (length a) refl)
 
@@ -35,7 +35,7 @@ part_length high low n order is = omega arith
 part_places : (high low : ℕ) → low ≤ high → high + 1 ≡ (high - low + 1) + low
 part_places high low order = omega arith
 
-pub extract_means : (v : ℕ → Bool) (high low : ℕ) (a : List Literal) → low ≤ high → high < length a → word_of v (drop low (take (high + 1) a)) ≡ extract high low (word_of v a)
+pub extract_means : (v : ℕ → Bool) (high low : ℕ) (a : List Literal) → low ≤ high → high < length a → row_value v (drop low (take (high + 1) a)) ≡ extract high low (row_value v a)
 unfolding extract
 extract_means v high low a order within =
     word _ _ _ _
@@ -47,7 +47,7 @@ extract_means v high low a order within =
 copies_length : (a : List Literal) (by : ℕ) (l : Literal) → length (a ++ replicate by l) ≡ length a + by
 copies_length a by l = length-append a (replicate by l) ∙ ap (λ k. length a + k) (length-replicate by l)
 
-pub zero_extend_means : (v : ℕ → Bool) (by : ℕ) (a : List Literal) → v 1 ≡ true → word_of v (a ++ replicate by (constant false)) ≡ zero_extend by (word_of v a)
+pub zero_extend_means : (v : ℕ → Bool) (by : ℕ) (a : List Literal) → v 1 ≡ true → row_value v (a ++ replicate by (constant false)) ≡ zero_extend by (row_value v a)
 unfolding zero_extend
 zero_extend_means v by a truth =
     word _ _ _ _ (copies_length a by (constant false)) (falses_above v a by (constant false) (constant_value v truth false))
@@ -68,14 +68,14 @@ extended v by a l true is =
     (ones_whole (2 ^ length a) (2 ^ by) (number_of_row v (replicate by l)) (2 ^ (length a + by)) (number_trues v by l is) (pow-add 2 (length a) by))
 extended v by a l false is = falses_above v a by l is
 
-pub sign_extend_means : (v : ℕ → Bool) (by : ℕ) (a : List Literal) → 0 < length a → word_of v (a ++ replicate by (top_of a)) ≡ sign_extend by (word_of v a)
+pub sign_extend_means : (v : ℕ → Bool) (by : ℕ) (a : List Literal) → 0 < length a → row_value v (a ++ replicate by (top_of a)) ≡ sign_extend by (row_value v a)
 unfolding sign_extend
 sign_extend_means v by a some =
     let top : Topped v a (2 ^ (length a - 1)) (number_of_row v (take (length a - 1) a)) = topped v a some in
     word _ _ _ _ (copies_length a by (top_of a)) (extended v by a (top_of a) (nat_le (2 ^ (length a - 1)) (number_of_row v a)) (sym top.sign))
 
 -- one row above another
-pub concat_means : (v : ℕ → Bool) (high low : List Literal) → word_of v (low ++ high) ≡ concat (word_of v high) (word_of v low)
+pub concat_means : (v : ℕ → Bool) (high low : List Literal) → row_value v (low ++ high) ≡ concat (row_value v high) (row_value v low)
 unfolding concat
 concat_means v high low =
     word _ _ _ _ (length-append low high ∙ add_comm (length low) (length high))

@@ -12,8 +12,8 @@ use Rattle.bv_dag.specs.Queries.{Condition, AreBits, holds}
 use Rattle.bv_dag.specs.declared.nodes.Node.{Node}
 use Rattle.bv_dag.proofs.Values.{map-width-values}
 use Rattle.circuit_spec.specs.Formulas.{Formula, with_clause}
-use Rattle.circuit_spec.specs.Bytes.{number_of_row, byte_of, bytes_of}
-use Rattle.circuit_spec.specs.Circuits.{Circuit, row_at, lowest_of, with_node, no_terms, circuit_of, with_asserted, clauses}
+use Rattle.circuit_spec.specs.Bytes.{number_of_row, input_byte, bytes_of}
+use Rattle.circuit_spec.specs.Circuits.{Circuit, row_at, lowest_of, circuit_with, no_terms, circuit_of, with_asserted, clauses}
 use Rattle.circuit_spec.proofs.Truths.{and_true, and_assoc}
 use Rattle.circuit_spec.proofs.GateMeaning.{one_added}
 use Rattle.circuit_spec.proofs.EarlierClauses.{Holds, asserted_before, truth_before}
@@ -37,14 +37,14 @@ pub circuit_words : (q : Condition) (v : ℕ → Bool) → IsDag q.graph → v 1
 unfolding circuit_of bytes_of
 circuit_words q v dag truth h =
     let start : Circuit = no_terms q.graph.inputs in
-    rows_mean v (fold with_node start q.graph.nodes).inputs q.graph.nodes start truth (no_bytes q.graph.inputs) (start_fits q dag) refl h
-    ∙ sym (in_turn (bytes_in v (fold with_node start q.graph.nodes).inputs) q.graph.nodes)
+    rows_mean v (fold circuit_with start q.graph.nodes).inputs q.graph.nodes start truth (no_bytes q.graph.inputs) (start_fits q dag) refl h
+    ∙ sym (in_turn (bytes_in v (fold circuit_with start q.graph.nodes).inputs) q.graph.nodes)
 
 -- there is a byte for each input
 pub bytes_count : (q : Condition) (v : ℕ → Bool) → length (bytes_of q v) ≡ q.graph.inputs
 unfolding circuit_of bytes_of
 bytes_count q v =
-    length-map (circuit_of q).inputs (byte_of v) ∙ nodes_count q.graph.nodes (no_terms q.graph.inputs) ∙ length-replicate q.graph.inputs None
+    length-map (circuit_of q).inputs (input_byte v) ∙ nodes_count q.graph.nodes (no_terms q.graph.inputs) ∙ length-replicate q.graph.inputs None
 
 -- a condition's clauses say that its terms are made so, and that each is 1 that is asserted
 asserted_bit : (v : ℕ → Bool) (graph : Graph) (input : List ℕ) (rows : List (List Literal)) (id : ℕ) → words_of v rows ≡ values input graph.nodes → width_of graph id ≡ 1

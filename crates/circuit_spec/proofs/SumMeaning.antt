@@ -7,7 +7,7 @@ use Rattle.bv_dag.specs.BitVectors.{bvadd, bvsub, bvneg, nat2bv}
 use Rattle.circuit_spec.specs.Formulas.{Formula, constant}
 use Rattle.circuit_spec.specs.Rows.{adder, negations, zeros, add_row, sub_row, neg_row}
 use Rattle.circuit_spec.specs.Bytes.{bit_of, number_of_row}
-use Rattle.circuit_spec.specs.Meaning.{word_of}
+use Rattle.circuit_spec.specs.Meaning.{row_value}
 use Rattle.circuit_spec.proofs.EarlierClauses.{Holds}
 use Rattle.circuit_spec.proofs.Truths.{constant_value}
 use Rattle.circuit_spec.proofs.Numbers.{modulo, number_below, number_falses, number_negations}
@@ -20,7 +20,7 @@ sums_number v a b c f same is =
     modulo (length a) (number_of_row v (adder a b c f).sums) (bit_of (literal_value v (adder a b c f).carry)) (number_of_row v a + number_of_row v b + bit_of (literal_value v c))
     (number_below v (adder a b c f).sums (length a) (adder_length a b c f same)) (adder_number v a b c f same is)
 
-pub add_means : (v : ℕ → Bool) (a b : List Literal) (f : Formula) → v 1 ≡ true → length a ≡ length b → Holds v (add_row a b f).1 → word_of v (add_row a b f).0 ≡ bvadd (word_of v a) (word_of v b)
+pub add_means : (v : ℕ → Bool) (a b : List Literal) (f : Formula) → v 1 ≡ true → length a ≡ length b → Holds v (add_row a b f).1 → row_value v (add_row a b f).0 ≡ bvadd (row_value v a) (row_value v b)
 unfolding bvadd
 add_means v a b f truth same is =
     word _ _ _ _ (adder_length a b (constant false) f same)
@@ -30,7 +30,7 @@ add_means v a b f truth same is =
 with_carry : (a m b p c : ℕ) → c ≡ 1 → m + b + 1 ≡ p → a + m + c ≡ a + (p - b)
 with_carry a m b p c one all = omega arith
 
-pub sub_means : (v : ℕ → Bool) (a b : List Literal) (f : Formula) → v 1 ≡ true → length a ≡ length b → Holds v (sub_row a b f).1 → word_of v (sub_row a b f).0 ≡ bvsub (word_of v a) (word_of v b)
+pub sub_means : (v : ℕ → Bool) (a b : List Literal) (f : Formula) → v 1 ≡ true → length a ≡ length b → Holds v (sub_row a b f).1 → row_value v (sub_row a b f).0 ≡ bvsub (row_value v a) (row_value v b)
 unfolding bvsub
 sub_means v a b f truth same is =
     let same_negated : length a ≡ length (negations b) = same ∙ sym (length-map b negation) in
@@ -41,7 +41,7 @@ sub_means v a b f truth same is =
 from_zero : (n m w x : ℕ) → n ≡ 0 → w ≡ x → nat2bv w (n + m) ≡ nat2bv x m
 from_zero n m w x none widths = rw (none, widths) (ap (λ k. nat2bv x k) (zero-add m))
 
-pub neg_means : (v : ℕ → Bool) (a : List Literal) (f : Formula) → v 1 ≡ true → Holds v (neg_row a f).1 → word_of v (neg_row a f).0 ≡ bvneg (word_of v a)
+pub neg_means : (v : ℕ → Bool) (a : List Literal) (f : Formula) → v 1 ≡ true → Holds v (neg_row a f).1 → row_value v (neg_row a f).0 ≡ bvneg (row_value v a)
 unfolding bvneg bvsub
 neg_means v a f truth is =
     sub_means v (zeros (length a)) a f truth (length-replicate (length a) (constant false)) is

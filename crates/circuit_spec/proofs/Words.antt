@@ -7,7 +7,7 @@ use Rattle.bv_dag.specs.Nodes.{vector_at, width}
 use Rattle.bv_dag.proofs.Values.{width-vector_at}
 use Rattle.circuit_spec.specs.Bytes.{bit_of, number_of_row}
 use Rattle.circuit_spec.specs.Circuits.{row_at, lowest_of}
-use Rattle.circuit_spec.specs.Meaning.{word_of}
+use Rattle.circuit_spec.specs.Meaning.{row_value}
 use Rattle.circuit_spec.proofs.Numbers.{number_one}
 
 pub word : (w x n m : ℕ) → w ≡ x → n ≡ m → let made : BitVector = record { width = w; number = n } in made ≡ record { width = x; number = m }
@@ -26,17 +26,17 @@ bit_number : (b : Bool) → bit_of b ≡ (if b then 1 else 0)
 bit_number true = refl
 bit_number false = refl
 
-pub one_row : (v : ℕ → Bool) (l : Literal) (t : Bool) → literal_value v l ≡ t → word_of v (l ∷ []) ≡ bit t
+pub one_row : (v : ℕ → Bool) (l : Literal) (t : Bool) → literal_value v l ≡ t → row_value v (l ∷ []) ≡ bit t
 one_row v l t is = word 1 1 _ _ refl (number_one v l ∙ ap bit_of is ∙ bit_number t)
 
 abbrev pub words_of : (ℕ → Bool) → List (List Literal) → List BitVector
-words_of v rows = map (word_of v) rows
+words_of v rows = map (row_value v) rows
 
-no_row : (v : ℕ → Bool) → word_of v [] ≡ record { width = 0; number = 0 }
+no_row : (v : ℕ → Bool) → row_value v [] ≡ record { width = 0; number = 0 }
 unfolding number_of_row
 no_row v = refl
 
-pub row_word : (v : ℕ → Bool) (rows : List (List Literal)) (id : ℕ) → word_of v (row_at rows id) ≡ vector_at (words_of v rows) id
+pub row_word : (v : ℕ → Bool) (rows : List (List Literal)) (id : ℕ) → row_value v (row_at rows id) ≡ vector_at (words_of v rows) id
 row_word v [] id = no_row v
 row_word v (r ∷ rows) zero = refl
 row_word v (r ∷ rows) (suc id) = row_word v rows id

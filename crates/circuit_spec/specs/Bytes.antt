@@ -15,13 +15,13 @@ number_of_row v [] = 0
 number_of_row v (l ∷ ls) = bit_of (literal_value v l) + 2 * number_of_row v ls
 
 -- what an input byte is, and 0 where it doesn't occur
-abbrev pub byte_of : (ℕ → Bool) → Option (List Literal) → ℕ
-byte_of v None = 0
-byte_of v (Some row) = number_of_row v (take 8 row)
+abbrev pub input_byte : (ℕ → Bool) → Option (List Literal) → ℕ
+input_byte v None = 0
+input_byte v (Some row) = number_of_row v (take 8 row)
 
 -- the input bytes that a valuation of a condition's formula means
 unfoldable pub bytes_of : Condition → (ℕ → Bool) → List ℕ
-bytes_of q v = map (byte_of v) (circuit_of q).inputs
+bytes_of q v = map (input_byte v) (circuit_of q).inputs
 
 -- the valuation means just these input bytes, wherever one occurs
 abbrev pub MeansBytes : Condition → (ℕ → Bool) → List ℕ → Type 0

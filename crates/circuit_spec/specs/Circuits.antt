@@ -69,17 +69,17 @@ with_input (Some row) c i = with_row c (row, c.formula)
 with_input None c i = with_new_input c i (fresh_row 8 c.formula)
 
 -- One more term, by its case.
-unfoldable pub with_node : Circuit → Node → Circuit
-with_node c (Num w v) = with_row c (number_row w v, c.formula)
-with_node c (Input i) = with_input (slice_index_or c.inputs i None) c i
-with_node c (Not a) = with_row c (negations (row_at c.rows a), c.formula)
-with_node c (Neg a) = with_row c (neg_row (row_at c.rows a) c.formula)
-with_node c (Binary op a b) = with_row c (binary_row op (row_at c.rows a) (row_at c.rows b) c.formula)
-with_node c (Compare op a b) = with_row c (one_literal (compare_gate op (row_at c.rows a) (row_at c.rows b) c.formula))
-with_node c (Ite t a b) = with_row c (each (mux_gate (lowest_of (row_at c.rows t))) (row_at c.rows a) (row_at c.rows b) c.formula)
-with_node c (Extract high low a) = with_row c (drop low (take (high + 1) (row_at c.rows a)), c.formula)
-with_node c (Extend by signed a) = with_row c (row_at c.rows a ++ replicate by (extension_of signed (row_at c.rows a)), c.formula)
-with_node c (Concat high low) = with_row c (row_at c.rows low ++ row_at c.rows high, c.formula)
+unfoldable pub circuit_with : Circuit → Node → Circuit
+circuit_with c (Num w v) = with_row c (number_row w v, c.formula)
+circuit_with c (Input i) = with_input (slice_index_or c.inputs i None) c i
+circuit_with c (Not a) = with_row c (negations (row_at c.rows a), c.formula)
+circuit_with c (Neg a) = with_row c (neg_row (row_at c.rows a) c.formula)
+circuit_with c (Binary op a b) = with_row c (binary_row op (row_at c.rows a) (row_at c.rows b) c.formula)
+circuit_with c (Compare op a b) = with_row c (one_literal (compare_gate op (row_at c.rows a) (row_at c.rows b) c.formula))
+circuit_with c (Ite t a b) = with_row c (each (mux_gate (lowest_of (row_at c.rows t))) (row_at c.rows a) (row_at c.rows b) c.formula)
+circuit_with c (Extract high low a) = with_row c (drop low (take (high + 1) (row_at c.rows a)), c.formula)
+circuit_with c (Extend by signed a) = with_row c (row_at c.rows a ++ replicate by (extension_of signed (row_at c.rows a)), c.formula)
+circuit_with c (Concat high low) = with_row c (row_at c.rows low ++ row_at c.rows high, c.formula)
 
 -- no terms yet, over so many input bytes
 abbrev pub no_terms : ℕ → Circuit
@@ -87,7 +87,7 @@ no_terms inputs = record { formula = only_truth; inputs = replicate inputs None;
 
 -- the terms of a condition, in turn
 unfoldable pub circuit_of : Condition → Circuit
-circuit_of q = fold with_node (no_terms q.graph.inputs) q.graph.nodes
+circuit_of q = fold circuit_with (no_terms q.graph.inputs) q.graph.nodes
 
 -- and for each that is asserted a clause of its literal
 unfoldable pub with_asserted : List (List Literal) → List ℕ → Formula → Formula

@@ -7,18 +7,18 @@ use Rattle.circuit_spec.specs.Bytes.{number_of_row}
 -- What gates are to be worth.
 
 -- whether just one of two is true
-abbrev pub differ : Bool → Bool → Bool
-differ true b = not b
-differ false b = b
+abbrev pub is_xor : Bool → Bool → Bool
+is_xor true b = not b
+is_xor false b = b
 
 -- the sum and the carry of a full adder
 abbrev pub sum_bit : Bool → Bool → Bool → Bool
-sum_bit a b c = differ a (differ b c)
+sum_bit a b c = is_xor a (is_xor b c)
 
 abbrev pub carry_bit : Bool → Bool → Bool → Bool
 carry_bit true b c = b || c
 carry_bit false b c = b && c
 
 -- the bit-vector that a row is under a valuation
-abbrev pub word_of : (ℕ → Bool) → List Literal → BitVector
-word_of v row = record { width = length row; number = number_of_row v row }
+abbrev pub row_value : (ℕ → Bool) → List Literal → BitVector
+row_value v row = record { width = length row; number = number_of_row v row }

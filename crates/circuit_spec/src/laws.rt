@@ -16,7 +16,7 @@ ghost use Rattle.circuit_spec.specs.Formulas.{Formula, with_clause};
 ghost use Rattle.circuit_spec.specs.Gates.{and_gate, or_gate, xor_gate, mux_gate, xor3_gate, majority_gate};
 ghost use Rattle.circuit_spec.specs.Rows.{add_row, sub_row, neg_row, ult_gate};
 ghost use Rattle.circuit_spec.specs.Bytes.{number_of_row};
-ghost use Rattle.circuit_spec.specs.Meaning.{differ, sum_bit, carry_bit, word_of};
+ghost use Rattle.circuit_spec.specs.Meaning.{is_xor, sum_bit, carry_bit, row_value};
 
 /// One more clause is one more condition, also where it is left out since it is always true.
 pub fn a_clause_is_one_more_condition()
@@ -28,7 +28,7 @@ pub fn a_clause_is_one_more_condition()
 pub fn gates_have_their_values()
     ensures and { (v : ℕ → Bool) (a b : Literal) (f : Formula) → satisfies v (and_gate a b f).1.clauses ≡ (satisfies v f.clauses && same_truth (literal_value v (and_gate a b f).0) (literal_value v a && literal_value v b)) }
     ensures or { (v : ℕ → Bool) (a b : Literal) (f : Formula) → satisfies v (or_gate a b f).1.clauses ≡ (satisfies v f.clauses && same_truth (literal_value v (or_gate a b f).0) (literal_value v a || literal_value v b)) }
-    ensures xor { (v : ℕ → Bool) (a b : Literal) (f : Formula) → satisfies v (xor_gate a b f).1.clauses ≡ (satisfies v f.clauses && same_truth (literal_value v (xor_gate a b f).0) (differ (literal_value v a) (literal_value v b))) }
+    ensures xor { (v : ℕ → Bool) (a b : Literal) (f : Formula) → satisfies v (xor_gate a b f).1.clauses ≡ (satisfies v f.clauses && same_truth (literal_value v (xor_gate a b f).0) (is_xor (literal_value v a) (literal_value v b))) }
     ensures mux { (v : ℕ → Bool) (c a b : Literal) (f : Formula) → satisfies v (mux_gate c a b f).1.clauses ≡ (satisfies v f.clauses && same_truth (literal_value v (mux_gate c a b f).0) (if literal_value v c then literal_value v a else literal_value v b)) }
     ensures sum { (v : ℕ → Bool) (a b c : Literal) (f : Formula) → satisfies v (xor3_gate a b c f).1.clauses ≡ (satisfies v f.clauses && same_truth (literal_value v (xor3_gate a b c f).0) (sum_bit (literal_value v a) (literal_value v b) (literal_value v c))) }
     ensures carry { (v : ℕ → Bool) (a b c : Literal) (f : Formula) → satisfies v (majority_gate a b c f).1.clauses ≡ (satisfies v f.clauses && same_truth (literal_value v (majority_gate a b c f).0) (carry_bit (literal_value v a) (literal_value v b) (literal_value v c))) }
@@ -36,8 +36,8 @@ pub fn gates_have_their_values()
 
 /// Where variable 1 is true and the clauses are satisfied, a sum is the standard's `bvadd` of its rows, and so on.
 pub fn sums_are_the_standards()
-    ensures add { (v : ℕ → Bool) (a b : List Literal) (f : Formula) → v 1 ≡ true → length a ≡ length b → satisfies v (add_row a b f).1.clauses ≡ true → word_of v (add_row a b f).0 ≡ bvadd (word_of v a) (word_of v b) }
-    ensures sub { (v : ℕ → Bool) (a b : List Literal) (f : Formula) → v 1 ≡ true → length a ≡ length b → satisfies v (sub_row a b f).1.clauses ≡ true → word_of v (sub_row a b f).0 ≡ bvsub (word_of v a) (word_of v b) }
-    ensures neg { (v : ℕ → Bool) (a : List Literal) (f : Formula) → v 1 ≡ true → satisfies v (neg_row a f).1.clauses ≡ true → word_of v (neg_row a f).0 ≡ bvneg (word_of v a) }
+    ensures add { (v : ℕ → Bool) (a b : List Literal) (f : Formula) → v 1 ≡ true → length a ≡ length b → satisfies v (add_row a b f).1.clauses ≡ true → row_value v (add_row a b f).0 ≡ bvadd (row_value v a) (row_value v b) }
+    ensures sub { (v : ℕ → Bool) (a b : List Literal) (f : Formula) → v 1 ≡ true → length a ≡ length b → satisfies v (sub_row a b f).1.clauses ≡ true → row_value v (sub_row a b f).0 ≡ bvsub (row_value v a) (row_value v b) }
+    ensures neg { (v : ℕ → Bool) (a : List Literal) (f : Formula) → v 1 ≡ true → satisfies v (neg_row a f).1.clauses ≡ true → row_value v (neg_row a f).0 ≡ bvneg (row_value v a) }
     ensures ult { (v : ℕ → Bool) (a b : List Literal) (f : Formula) → v 1 ≡ true → length a ≡ length b → satisfies v (ult_gate a b f).1.clauses ≡ true → literal_value v (ult_gate a b f).0 ≡ nat_lt (number_of_row v a) (number_of_row v b) }
 {}

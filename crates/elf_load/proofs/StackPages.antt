@@ -9,10 +9,10 @@ use Rattle.elf_load.specs.declared.refused.Refused.{Refused}
 use Rattle.elf_load.specs.Areas.{end_of, first_page, last_page, touches, is_touched, touches_stack, IsPlaced}
 use Rattle.elf_load.specs.Fields.{headers, segments}
 use Rattle.elf_load.specs.Images.{Image, Loads, IsStackPage, stack, areas, page_flags, gives_byte, byte_at}
-use Rattle.elf_load.specs.Refusals.{header_refusal, program_refusal, segment_refusal, refusal, first_of, refused_file_over_memory, refused_bytes_past_end, refused_address_range}
+use Rattle.elf_load.specs.Refusals.{header_refusal, program_refusal, segment_refusal, refusal, first_refusal, refused_file_over_memory, refused_bytes_past_end, refused_address_range}
 use Rattle.elf_load.proofs.Rows.{all_fail, segments_placed}
 
-neither : (a b : Option Refused) → first_of a b ≡ None → (a ≡ None) × (b ≡ None)
+neither : (a b : Option Refused) → first_refusal a b ≡ None → (a ≡ None) × (b ≡ None)
 neither None b h = (refl, h)
 neither (Some r) b h = cc
 

@@ -9,12 +9,12 @@ use Rattle.elf_load.specs.declared.unfit.Unfit.{Unfit}
 use Rattle.elf_load.specs.declared.unfit.Unfit.TheVariants.{TooMany, Empty, TooLong, Unmapped, Overlap}
 
 -- an address of memory, on a mapped page
-abbrev pub is_mapped : Image → ℕ → Bool
-is_mapped image address = nat_lt address 4294967296 && contains_key image.pages (address / 256)
+abbrev pub is_in_image : Image → ℕ → Bool
+is_in_image image address = nat_lt address 4294967296 && contains_key image.pages (address / 256)
 
 -- one of its bytes is on no mapped page
 abbrev pub is_unmapped : Image → Region → Bool
-is_unmapped image r = list_any (λ address. not (is_mapped image address)) (range_with_len r.start r.count)
+is_unmapped image r = list_any (λ address. not (is_in_image image address)) (range_with_len r.start r.count)
 
 -- two regions share an address
 abbrev pub share_byte : Region → Region → Bool

@@ -116,13 +116,13 @@ segment_refusal ss =
     None
 
 -- the first where there is one, and else the second
-abbrev pub first_of : Option Refused → Option Refused → Option Refused
-first_of None second = second
-first_of (Some refused) second = Some refused
+abbrev pub first_refusal : Option Refused → Option Refused → Option Refused
+first_refusal None second = second
+first_refusal (Some refused) second = Some refused
 
 -- why a file is refused: the first row whose test holds
 unfoldable pub refusal : List ℕ → Option Refused
-refusal bytes = first_of (header_refusal bytes) (first_of (program_refusal (length bytes) (headers bytes)) (segment_refusal (segments bytes)))
+refusal bytes = first_refusal (header_refusal bytes) (first_refusal (program_refusal (length bytes) (headers bytes)) (segment_refusal (segments bytes)))
 
 -- a load may end in this error: it was refused memory, or the file is refused so
 abbrev pub MayFail : Option Refused → LoadError → Type 0

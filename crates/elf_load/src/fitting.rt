@@ -3,7 +3,7 @@
 ghost use Rattle.std.specs.Prelude.{◌≡◌, ◌≤◌, length, sum_by};
 ghost use Rattle.std.specs.Result.{result_err};
 ghost use Rattle.std.specs.List.{list_any};
-ghost use Rattle.elf_load.specs.Fits.{is_mapped, is_unmapped, share_byte, unfit_empty, unfit_unmapped, unfit_overlap, unfit};
+ghost use Rattle.elf_load.specs.Fits.{is_in_image, is_unmapped, share_byte, unfit_empty, unfit_unmapped, unfit_overlap, unfit};
 
 use crate::image::Image;
 use crate::region::{Region, Regions};
@@ -31,7 +31,7 @@ fn count_bytes(regions: &[Region]) -> u64
 
 /// Whether this is an address of memory, on a mapped page.
 fn is_on_page(image: &Image, address: u64) -> bool
-    ensures { result ≡ is_mapped image.now address }
+    ensures { result ≡ is_in_image image.now address }
 {
     address < 1 << 32 && image.page((address / 256) as u32).is_some()
 }

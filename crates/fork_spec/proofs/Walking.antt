@@ -2,7 +2,7 @@ use Rattle.std.proofs.Common.{◌≡◌, ◌∙◌, ◌≤◌, ℕ, Bool, true, 
 use Rattle.std.proofs.lemmas.Bool.Decides.{nat_tests}
 use Rattle.std.proofs.lemmas.List.{append-nil, length-append, length-map}
 use Rattle.tree_core.specs.declared.cause.Cause.{Cause}
-use Rattle.fork_spec.specs.Walks.{Line, Side, Standing, are_branch_sides, are_sides, are_small, are_values, is_increasing, is_rest, is_rest_cut, rest_side, step, value_side, values_first, walk_from}
+use Rattle.fork_spec.specs.Walks.{Line, Side, Standing, are_branch_sides, are_sides, are_small, are_values, is_increasing, is_rest, is_rest_cut, rest_side, walk_step, value_side, values_first, walk_from}
 
 -- a walk that goes on, from where the first line leads if it leads anywhere
 after_step : (workers targets : ℕ) (more : List Line) (first : List Line) →
@@ -18,7 +18,7 @@ pub walk_goes_on : (workers targets : ℕ) (nodes : List Standing) (first more :
 unfolding walk_from
 walk_goes_on workers targets nodes [] more = refl
 walk_goes_on workers targets nodes (event ∷ first) more =
-    after_step workers targets more first (λ next. walk_goes_on workers targets next first more) (step workers targets nodes event)
+    after_step workers targets more first (λ next. walk_goes_on workers targets next first more) (walk_step workers targets nodes event)
 
 -- the values come first, whatever else comes behind them
 values_then : (values : List ℕ) (behind : List Side) → values_first behind ≡ [] → values_first (map value_side values ++ behind) ≡ values

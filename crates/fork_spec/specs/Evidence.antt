@@ -44,7 +44,7 @@ abbrev pub all_but_last : ℕ → Leaf → Condition
 all_but_last count leaf = record { graph = leaf.condition.graph; asserted = take (length leaf.condition.asserted - count) leaf.condition.asserted }
 
 -- on its assignment the other assertions hold, and the term has the value
-pub record IsReached (regions : List Region) (leaf : Leaf) (count term : ℕ) (f : Found) : Type 0 where
+pub record IsWitness (regions : List Region) (leaf : Leaf) (count term : ℕ) (f : Found) : Type 0 where
   pub assignment : IsAssignment regions f.input
   pub holds_others : holds (all_but_last count leaf) f.input ≡ true
   pub has_value : worth leaf f.input term ≡ f.value
@@ -55,7 +55,7 @@ pub record SpendsTargets (regions : List Region) (targets : ℕ) (sides : List C
   pub each : length spent.found ≡ targets
   pub asserted : targets ≤ length leaf.condition.asserted
   pub increasing : AreIncreasing (values_of spent.found)
-  pub reached : All (IsReached regions leaf targets spent.term) spent.found
+  pub reached : All (IsWitness regions leaf targets spent.term) spent.found
   pub rest : (input : List ℕ) → IsAssignment regions input →
       covers leaf input ≡ (holds (all_but_last targets leaf) input && not (is_among (values_of spent.found) (worth leaf input spent.term)))
   pub some : (input : List ℕ) × IsAssignment regions input × IsTrue (covers leaf input)

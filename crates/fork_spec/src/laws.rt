@@ -27,7 +27,7 @@ pub fn a_node_may_part_into_values_and_the_rest()
 {}
 
 /// Two walks, followed by hand: with two workers and a budget of two values.
-#[tactic(auto, unfolding(crate::specs::Walks::walk_from, crate::specs::Walks::step, crate::specs::Walks::are_values, crate::specs::Walks::values_first))]
+#[tactic(auto, unfolding(crate::specs::Walks::walk_from, crate::specs::Walks::walk_step, crate::specs::Walks::are_values, crate::specs::Walks::values_first))]
 pub fn worked_walks()
     ensures branch { walk 2 2 branch_lines ≡ Some branch_nodes }
     ensures branch_is_quiet { IsTrue (is_quiet branch_nodes) }
@@ -36,7 +36,7 @@ pub fn worked_walks()
 {}
 
 /// Events that may not come, first of all or once worker 0 has claimed the root.
-#[tactic(auto, unfolding(crate::specs::Walks::walk_from, crate::specs::Walks::step, crate::specs::Walks::are_values, crate::specs::Walks::values_first))]
+#[tactic(auto, unfolding(crate::specs::Walks::walk_from, crate::specs::Walks::walk_step, crate::specs::Walks::are_values, crate::specs::Walks::values_first))]
 pub fn worked_refusals()
     ensures third_worker { walk 2 2 (line 2 0 Claim ∷ []) ≡ None }
     ensures no_such_node { walk 2 2 (line 0 1 Claim ∷ []) ≡ None }

@@ -16,19 +16,19 @@ use Rattle.tree_core.specs.declared.event.Deed.TheVariants.{Claim, Split, Finish
 use Rattle.tree_core.specs.declared.event.Kid.{Kid}
 use Rattle.tree_core.specs.declared.node.Status.{Status}
 use Rattle.tree_core.specs.declared.node.Status.TheVariants.{Free, Held, Parted, Leaf}
-use Rattle.tree_core.specs.Replays.{allows, deed_kept, is_allowed, kids_of, noted, opening}
+use Rattle.tree_core.specs.Replays.{allows, deed_kept, is_allowed, kids_of, with_event, opening}
 use Rattle.tree_core.specs.Stories.{Story, content, content_by, last_on, left_by, status}
 use Rattle.tree_core.specs.Stories as stories
 use Rattle.tree_core.proofs.Standing.{content-kid, content-noted, open_content, status-noted}
 use Rattle.fork_spec.specs.Partings.{ArePlacesApart, Place}
-use Rattle.fork_tree.specs.NodesApart.{AreKidsApart, AreNodesApart, IsUnder, KeepsApart}
+use Rattle.fork_tree.specs.NodesApart.{AreKidsApart, AreNodesApart, IsBelow, KeepsApart}
 use Rattle.fork_tree.proofs.Walked.{no_kid_content, none_is_some, same_held}
 
 -- what is under one of two places that are apart is apart from the other
 longer : (front back more cs : List Choice) (c : Choice) → cs ≡ front ++ c ∷ back → cs ++ more ≡ front ++ c ∷ (back ++ more)
 longer front back more cs c is = ap (λ l. l ++ more) is ∙ append_assoc front (c ∷ back) more
 
-under_left : (decides : List ℕ → List Decision) (p q low : Place) → ArePlacesApart decides p q → IsUnder low p → ArePlacesApart decides low q
+under_left : (decides : List ℕ → List Decision) (p q low : Place) → ArePlacesApart decides p q → IsBelow low p → ArePlacesApart decides low q
 under_left decides p q low apart under = record {
   c = apart.c;
   d = apart.d;
@@ -43,7 +43,7 @@ under_left decides p q low apart under = record {
   part = λ a b covered other. apart.part a b (under.within a covered) other;
 }
 
-under_right : (decides : List ℕ → List Decision) (p q low : Place) → ArePlacesApart decides p q → IsUnder low q → ArePlacesApart decides p low
+under_right : (decides : List ℕ → List Decision) (p q low : Place) → ArePlacesApart decides p q → IsBelow low q → ArePlacesApart decides p low
 under_right decides p q low apart under = record {
   c = apart.c;
   d = apart.d;
@@ -58,7 +58,7 @@ under_right decides p q low apart under = record {
   part = λ a b covered other. apart.part a b covered (under.within b other);
 }
 
-under_itself : (p : Place) → IsUnder p p
+under_itself : (p : Place) → IsBelow p p
 under_itself p = record { more = []; choices = sym (append-nil p.choices); within = λ input covered. covered }
 
 module _ {R : Type 0} (place : R → Place) (decides : List ℕ → List Decision) where
@@ -79,17 +79,17 @@ module _ {R : Type 0} (place : R → Place) (decides : List ℕ → List Decisio
   no_kids by (Cut leaf) live = refl
   no_kids by Release live = refl
 
-  left_under : (r q : R) (d : Deed R (Vec (Kid R))) → KeepsApart place decides r d → content_by (Some r) (deed_kept d) ≡ Some q → IsUnder (place q) (place r)
-  left_under r q Claim keeps e = subst (λ x. IsUnder (place x) (place r)) (same_held r q e) (under_itself (place r))
-  left_under r q (Split kids) keeps e = subst (λ x. IsUnder (place x) (place r)) (same_held r q e) (under_itself (place r))
-  left_under r q (Finish leaf) keeps e = subst (λ x. IsUnder (place x) (place r)) (same_held leaf q e) keeps
-  left_under r q (Cut leaf) keeps e = subst (λ x. IsUnder (place x) (place r)) (same_held leaf q e) keeps
-  left_under r q Release keeps e = subst (λ x. IsUnder (place x) (place r)) (same_held r q e) (under_itself (place r))
+  left_under : (r q : R) (d : Deed R (Vec (Kid R))) → KeepsApart place decides r d → content_by (Some r) (deed_kept d) ≡ Some q → IsBelow (place q) (place r)
+  left_under r q Claim keeps e = subst (λ x. IsBelow (place x) (place r)) (same_held r q e) (under_itself (place r))
+  left_under r q (Split kids) keeps e = subst (λ x. IsBelow (place x) (place r)) (same_held r q e) (under_itself (place r))
+  left_under r q (Finish leaf) keeps e = subst (λ x. IsBelow (place x) (place r)) (same_held leaf q e) keeps
+  left_under r q (Cut leaf) keeps e = subst (λ x. IsBelow (place x) (place r)) (same_held leaf q e) keeps
+  left_under r q Release keeps e = subst (λ x. IsBelow (place x) (place r)) (same_held r q e) (under_itself (place r))
 
-  kid_under : (r : R) (d : Deed R (Vec (Kid R))) (i : ℕ) (kid : Kid R) → KeepsApart place decides r d → slice_get (kids_of d) i ≡ Some kid → IsUnder (place kid.content) (place r)
+  kid_under : (r : R) (d : Deed R (Vec (Kid R))) (i : ℕ) (kid : Kid R) → KeepsApart place decides r d → slice_get (kids_of d) i ≡ Some kid → IsBelow (place kid.content) (place r)
   kid_under r Claim i kid keeps at = absurd (none_is_some kid at)
   kid_under r (Split kids) i kid (under, apart) at =
-      subst (λ (k : Kid R). IsUnder (place k.content) (place r)) (get_or_from_slice_get kids.items i kid kid at) (under i kid (slice_get_within kids.items i kid at))
+      subst (λ (k : Kid R). IsBelow (place k.content) (place r)) (get_or_from_slice_get kids.items i kid kid at) (under i kid (slice_get_within kids.items i kid at))
   kid_under r (Finish leaf) i kid keeps at = absurd (none_is_some kid at)
   kid_under r (Cut leaf) i kid keeps at = absurd (none_is_some kid at)
   kid_under r Release i kid keeps at = absurd (none_is_some kid at)
@@ -115,7 +115,7 @@ module _ {R : Type 0} (place : R → Place) (decides : List ℕ → List Decisio
 
     record IsItself (m : ℕ) (q : R) : Type 0 where
       same : e.node ≡ m
-      under : IsUnder (place q) (place r)
+      under : IsBelow (place q) (place r)
       childless : kids_of e.deed ≡ []
 
     record IsBorn (m : ℕ) (q : R) : Type 0 where
@@ -128,7 +128,7 @@ module _ {R : Type 0} (place : R → Place) (decides : List ℕ → List Decisio
     abbrev Comes : ℕ → R → Type 0
     Comes m q = WasThere m q ⊎ IsItself m q ⊎ IsBorn m q
 
-    was_there : (m : ℕ) (q : R) → m < length s.nodes → e.node ≢ m → is_live (status (noted s e) m) ≡ true → content (noted s e) m ≡ Some q → WasThere m q
+    was_there : (m : ℕ) (q : R) → m < length s.nodes → e.node ≢ m → is_live (status (with_event s e) m) ≡ true → content (with_event s e) m ≡ Some q → WasThere m q
     was_there m q lt ne live has = record {
       within = lt;
       other = ne;
@@ -139,7 +139,7 @@ module _ {R : Type 0} (place : R → Place) (decides : List ℕ → List Decisio
         miss : eqb e.node m ≡ false
         miss = ne_eqb e.node m ne
 
-    is_itself : (q : R) → is_live (status (noted s e) e.node) ≡ true → content (noted s e) e.node ≡ Some q → IsItself e.node q
+    is_itself : (q : R) → is_live (status (with_event s e) e.node) ≡ true → content (with_event s e) e.node ≡ Some q → IsItself e.node q
     is_itself q live has = record {
       same = refl;
       under = left_under r q e.deed keeps
@@ -155,7 +155,7 @@ module _ {R : Type 0} (place : R → Place) (decides : List ℕ → List Decisio
         birth : option_map (λ n. n.content) (slice_get s.nodes e.node) ≡ Some r
         birth = sym (open_content (option_map (λ n. n.content) (slice_get s.nodes e.node)) (stories.born_as (slice_get s.nodes e.node)) (last_on e.node s.events) e.by e.deed may) ∙ is
 
-    is_born : (i : ℕ) (q : R) → content (noted s e) (length s.nodes + i) ≡ Some q → (o : Option (Kid R)) → slice_get (kids_of e.deed) i ≡ o → IsBorn (length s.nodes + i) q
+    is_born : (i : ℕ) (q : R) → content (with_event s e) (length s.nodes + i) ≡ Some q → (o : Option (Kid R)) → slice_get (kids_of e.deed) i ≡ o → IsBorn (length s.nodes + i) q
     is_born i q has None at = absurd (none_is_some q (sym (no_kid_content s e i named there at) ∙ has))
     is_born i q has (Some kid) at = record {
       i = i;
@@ -166,9 +166,9 @@ module _ {R : Type 0} (place : R → Place) (decides : List ℕ → List Decisio
     }
 
     abbrev ComesThere : R → ℕ → Type 0
-    ComesThere q m = is_live (status (noted s e) m) ≡ true → content (noted s e) m ≡ Some q → Comes m q
+    ComesThere q m = is_live (status (with_event s e) m) ≡ true → content (with_event s e) m ≡ Some q → Comes m q
 
-    comes : (m : ℕ) (q : R) → is_live (status (noted s e) m) ≡ true → content (noted s e) m ≡ Some q → Comes m q
+    comes : (m : ℕ) (q : R) → is_live (status (with_event s e) m) ≡ true → content (with_event s e) m ≡ Some q → Comes m q
     comes m q live has = by_place (cases_lt m (length s.nodes))
       where
         by_place : (m < length s.nodes) ⊎ (length s.nodes ≤ m) → Comes m q
@@ -181,16 +181,16 @@ module _ {R : Type 0} (place : R → Place) (decides : List ℕ → List Decisio
     no_kid_of_none : (kids : List (Kid R)) (i : ℕ) (kid : Kid R) → kids ≡ [] → slice_get kids i ≡ Some kid → ⊥
     no_kid_of_none kids i kid none at = none_is_some kid (ap (λ ks. slice_get ks i) (sym none) ∙ at)
 
-    born_under : (m : ℕ) (q : R) → IsBorn m q → IsUnder (place q) (place r)
-    born_under m q b = subst (λ x. IsUnder (place x) (place r)) b.has (kid_under r e.deed b.i b.kid keeps b.at)
+    born_under : (m : ℕ) (q : R) → IsBorn m q → IsBelow (place q) (place r)
+    born_under m q b = subst (λ x. IsBelow (place x) (place r)) b.has (kid_under r e.deed b.i b.kid keeps b.at)
 
-    pub apart-noted : AreNodesApart place decides s → AreNodesApart place decides (noted s e)
+    pub apart-noted : AreNodesApart place decides s → AreNodesApart place decides (with_event s e)
     apart-noted old m k a b ne mlt klt mlive klive mhas khas = by_cases (comes m a mlive mhas) (comes k b klive khas)
       where
-        from_left : WasThere m a → IsUnder (place b) (place r) → ArePlacesApart decides (place a) (place b)
+        from_left : WasThere m a → IsBelow (place b) (place r) → ArePlacesApart decides (place a) (place b)
         from_left w under = under_right decides (place a) (place r) (place b) (old m e.node a r (λ is. w.other (sym is)) w.within there w.live live_there w.had is) under
 
-        from_right : IsUnder (place a) (place r) → WasThere k b → ArePlacesApart decides (place a) (place b)
+        from_right : IsBelow (place a) (place r) → WasThere k b → ArePlacesApart decides (place a) (place b)
         from_right under w = under_left decides (place r) (place b) (place a) (old e.node k r b w.other there w.within live_there w.live is w.had) under
 
         both_born : IsBorn m a → IsBorn k b → ArePlacesApart decides (place a) (place b)

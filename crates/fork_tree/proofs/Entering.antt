@@ -14,7 +14,7 @@ use Rattle.tree_core.specs.declared.node.Status.{Status}
 use Rattle.tree_core.specs.declared.node.Status.TheVariants.{Free, Held}
 use Rattle.tree_core.specs.Stories.{Story, status, content, left_by, content_by}
 use Rattle.fork_tree.specs.Calls.{claim_event}
-use Rattle.tree_core.specs.Replays.{allows, is_held_by, births, kids_of, deed_kept, kept, noted}
+use Rattle.tree_core.specs.Replays.{allows, is_held_by, births, kids_of, deed_kept, kept, with_event}
 use Rattle.tree_core.specs.Cores.{held_count, takes, ends}
 use Rattle.tree_core.proofs.Sharing.{held_count-noted}
 use Rattle.fork_tree.specs.Nodes.{StateIs}
@@ -32,25 +32,25 @@ on_err (Err e) p = p
 
 module _ {R : Type 0} where
   -- one node less is held
-  pub held-less : (s t : Story R) (e : Coming R) → t ≡ noted s e → AreThere s →
+  pub held-less : (s t : Story R) (e : Coming R) → t ≡ with_event s e → AreThere s →
       e.node < length s.nodes → status s e.node ≡ Held e.by →
       ((st : Status) (by : ℕ) → allows st by e.deed ≡ is_held_by by st) → ends e.deed ≡ 1 →
       takes e.deed ≡ 0 → held_count t + 1 ≡ held_count s
   held-less s t e is named there held allow one zero =
       subst (λ (x : Story R). held_count x + 1 ≡ held_count s) (sym is)
-      (balance (held_count (noted s e)) (held_count s) (ends e.deed) (takes e.deed)
+      (balance (held_count (with_event s e)) (held_count s) (ends e.deed) (takes e.deed)
       (held_count-noted s e named there (held-allows s e held allow)) one zero)
     where
       balance : (a b d t : ℕ) → a + d ≡ b + t → d ≡ 1 → t ≡ 0 → a + 1 ≡ b
       balance a b d t x y z = omega arith
 
   -- one node more is held
-  pub held-more : (s t : Story R) (e : Coming R) → t ≡ noted s e → AreThere s →
+  pub held-more : (s t : Story R) (e : Coming R) → t ≡ with_event s e → AreThere s →
       e.node < length s.nodes → status s e.node ≡ Free → e.deed ≡ Claim → ends e.deed ≡ 0 →
       takes e.deed ≡ 1 → held_count t ≡ held_count s + 1
   held-more s t e is named there free claims zero one =
       subst (λ (x : Story R). held_count x ≡ held_count s + 1) (sym is)
-      (balance (held_count (noted s e)) (held_count s) (ends e.deed) (takes e.deed)
+      (balance (held_count (with_event s e)) (held_count s) (ends e.deed) (takes e.deed)
       (held_count-noted s e named there (allowed-claim s e claims free)) zero one)
     where
       balance : (a b d t : ℕ) → a + d ≡ b + t → d ≡ 0 → t ≡ 1 → a ≡ b + 1
@@ -67,7 +67,7 @@ module _ {R : Type 0} where
     All-nil (λ (e : Event R ℕ). e.by ≡ by),
   )
 
-  pub grows-one : (by : ℕ) (s t : Story R) (e : Coming R) → t ≡ noted s e → e.by ≡ by →
+  pub grows-one : (by : ℕ) (s t : Story R) (e : Coming R) → t ≡ with_event s e → e.by ≡ by →
       GrowsBy by s t
   grows-one by s t e is own = (
     births e.node e.deed,
@@ -90,7 +90,7 @@ module _ {R : Type 0} where
 
 module _ {S L : Type 0} (rules : Rules S L) where
   -- a leaf adds no weight
-  pub leaf-less : (s t : Story (Content S L)) (e : Coming (Content S L)) (x : S) → t ≡ noted s e →
+  pub leaf-less : (s t : Story (Content S L)) (e : Coming (Content S L)) (x : S) → t ≡ with_event s e →
       AreThere s → e.node < length s.nodes → status s e.node ≡ Held e.by →
       ((st : Status) (by : ℕ) → allows st by e.deed ≡ is_held_by by st) →
       heft rules (left_by e.by (deed_kept e.deed))
@@ -101,7 +101,7 @@ module _ {S L : Type 0} (rules : Rules S L) where
       let kids : sum_by (kid_heft rules) (kids_of e.deed) ≡ 0 = ap (sum_by (kid_heft rules)) none in
       subst (λ (y : Story (Content S L)). fuel rules y < fuel rules s + (rules.targets + 2) ^
       rules.left x) (sym is)
-      (below (fuel rules (noted s e)) (fuel rules s) (sum_by (kid_heft rules) (kids_of e.deed))
+      (below (fuel rules (with_event s e)) (fuel rules s) (sum_by (kid_heft rules) (kids_of e.deed))
       ((rules.targets + 2) ^ rules.left x) all kids
       (one-le-pow (rules.left x) (rules.targets + 2) (omega arith)))
     where
@@ -111,7 +111,7 @@ module _ {S L : Type 0} (rules : Rules S L) where
   -- kids add less than what they came from
   pub kids-less : (choices : List Choice) (s t : Story (Content S L)) (e : Coming (Content S L))
       (x : S) →
-      t ≡ noted s e → AreThere s → e.node < length s.nodes → status s e.node ≡ Held e.by →
+      t ≡ with_event s e → AreThere s → e.node < length s.nodes → status s e.node ≡ Held e.by →
       ((st : Status) (by : ℕ) → allows st by e.deed ≡ is_held_by by st) →
       heft rules (left_by e.by (deed_kept e.deed))
       (content_by (content s e.node) (deed_kept e.deed)) ≡ 0 →
@@ -123,7 +123,7 @@ module _ {S L : Type 0} (rules : Rules S L) where
       let all = fuel-end rules s e named there (held-allows s e held allow) held now in
       subst (λ (y : Story (Content S L)). fuel rules y < fuel rules s + (rules.targets + 2) ^
       rules.left x) (sym is)
-      (below (fuel rules (noted s e)) (fuel rules s) (sum_by (kid_heft rules) (kids_of e.deed))
+      (below (fuel rules (with_event s e)) (fuel rules s) (sum_by (kid_heft rules) (kids_of e.deed))
       ((rules.targets + 2) ^ rules.left x) all
       (kids_light rules (rules.left x) choices (kids_of e.deed) parts few))
     where
@@ -132,13 +132,13 @@ module _ {S L : Type 0} (rules : Rules S L) where
 
 module _ {S L : Type 0} where
   -- a node that was claimed
-  pub claimed-status : (s t : Story (Content S L)) (by m : ℕ) → t ≡ noted s (claim_event by m) →
+  pub claimed-status : (s t : Story (Content S L)) (by m : ℕ) → t ≡ with_event s (claim_event by m) →
       m < length s.nodes → status t m ≡ Held by
   claimed-status s t by m is lt =
       ap (λ (x : Story (Content S L)). status x m) is ∙ status-here s (claim_event by m) lt
 
   pub claimed-state : (s t : Story (Content S L)) (by m : ℕ) (x : S) →
-      t ≡ noted s (claim_event by m) → m < length s.nodes → status s m ≡ Free →
+      t ≡ with_event s (claim_event by m) → m < length s.nodes → status s m ≡ Free →
       StateIs (content s m) x → StateIs (content t m) x
   claimed-state s t by m x is lt free state =
       let e : Coming (Content S L) = claim_event by m in
@@ -149,15 +149,15 @@ module _ {S L : Type 0} where
 
   -- a claim, and what is entered for it, take weight away
   pub round-less : (rules : Rules S L) (s t u : Story (Content S L)) (by m : ℕ) (x : S) →
-      t ≡ noted s (claim_event by m) → AreThere s → m < length s.nodes → status s m ≡ Free →
+      t ≡ with_event s (claim_event by m) → AreThere s → m < length s.nodes → status s m ≡ Free →
       StateIs (content s m) x → fuel rules u < fuel rules t + (rules.targets + 2) ^ rules.left x →
       fuel rules u < fuel rules s
   round-less rules s t u by m x is named lt free state less =
       let e : Coming (Content S L) = claim_event by m in
-      let out : fuel rules (noted s e) + (rules.targets + 2) ^ rules.left x ≡ fuel rules s =
+      let out : fuel rules (with_event s e) + (rules.targets + 2) ^ rules.left x ≡ fuel rules s =
       fuel-claim rules s e x named lt (allowed-claim s e refl free) refl free state in
-      let same : fuel rules t ≡ fuel rules (noted s e) = ap (fuel rules) is in
-      chained (fuel rules u) (fuel rules t) (fuel rules (noted s e)) (fuel rules s)
+      let same : fuel rules t ≡ fuel rules (with_event s e) = ap (fuel rules) is in
+      chained (fuel rules u) (fuel rules t) (fuel rules (with_event s e)) (fuel rules s)
       ((rules.targets + 2) ^ rules.left x) less same out
     where
       chained : (u t n s p : ℕ) → u < t + p → t ≡ n → n + p ≡ s → u < s

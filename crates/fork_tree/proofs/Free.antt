@@ -11,7 +11,7 @@ use Rattle.tree_core.specs.declared.node.Status.{Status}
 use Rattle.tree_core.specs.declared.node.Status.TheVariants.{Free, Leaf}
 use Rattle.tree_core.specs.Stories.{Story, status, left_by}
 use Rattle.tree_core.specs.Covers.{one_if}
-use Rattle.tree_core.specs.Replays.{is_free, births, kids_of, deed_kept, noted, node_of}
+use Rattle.tree_core.specs.Replays.{is_free, births, kids_of, deed_kept, with_event, node_of}
 use Rattle.tree_core.proofs.Places.{get_before, get_behind}
 use Rattle.tree_core.proofs.Standing.{status-kid}
 use Rattle.fork_tree.specs.Trees.{HasBorn, free_if_there, stands_free, born_free}
@@ -41,13 +41,13 @@ kid_free (Some kid) = not kid.is_leaf
 
 module _ {R : Type 0} where
   pub free-old : (s : Story R) (e : Coming R) (k : ℕ) → k < length s.nodes → k ≢ e.node →
-      stands_free (noted s e) k ≡ stands_free s k
+      stands_free (with_event s e) k ≡ stands_free s k
   free-old s e k lt ne =
       λ i. free_if_there (get_before s.nodes (births e.node e.deed) k lt i)
       (status-other s e k lt (λ is. ne (sym is)) i)
 
   pub free-here : (s : Story R) (e : Coming R) → e.node < length s.nodes →
-      stands_free (noted s e) e.node ≡ is_free (left_by e.by (deed_kept e.deed))
+      stands_free (with_event s e) e.node ≡ is_free (left_by e.by (deed_kept e.deed))
   free-here s e there =
       (λ i. free_if_there (get_before s.nodes (births e.node e.deed) e.node there i)
       (status-here s e there i))
@@ -69,17 +69,17 @@ module _ {R : Type 0} where
       ∙ ap (option_map (node_of e.node)) at)
 
   pub free-behind : (s : Story R) (e : Coming R) (i : ℕ) → AreThere s → e.node < length s.nodes →
-      stands_free (noted s e) (length s.nodes + i) ≡ kid_free (slice_get (kids_of e.deed) i)
+      stands_free (with_event s e) (length s.nodes + i) ≡ kid_free (slice_get (kids_of e.deed) i)
   free-behind s e i named there = by_kid (slice_get (kids_of e.deed) i) refl
     where
       by_kid : (o : Option (Kid R)) → slice_get (kids_of e.deed) i ≡ o →
-          stands_free (noted s e) (length s.nodes + i) ≡ kid_free o
+          stands_free (with_event s e) (length s.nodes + i) ≡ kid_free o
       by_kid None at =
           let none : slice_get (s.nodes ++ births e.node e.deed) (length s.nodes + i) ≡ None =
           get_behind s.nodes (births e.node e.deed) i
           ∙ (slice_get-map (node_of e.node) (kids_of e.deed) i
           ∙ ap (option_map (node_of e.node)) at) in
-          ap (λ (o : Option (Node R)). free_if_there o (status (noted s e) (length s.nodes + i)))
+          ap (λ (o : Option (Node R)). free_if_there o (status (with_event s e) (length s.nodes + i)))
           none
       by_kid (Some kid) at =
           (λ k. free_if_there (kid_at s e i kid at k) (status-kid s e i kid named there at k))
@@ -87,10 +87,10 @@ module _ {R : Type 0} where
 
   -- no kids: what is not named stands as it did
   pub free-same : (s : Story R) (e : Coming R) (k : ℕ) → AreThere s → e.node < length s.nodes →
-      kids_of e.deed ≡ [] → k ≢ e.node → stands_free (noted s e) k ≡ stands_free s k
+      kids_of e.deed ≡ [] → k ≢ e.node → stands_free (with_event s e) k ≡ stands_free s k
   free-same s e k named there none ne = let n : ℕ = length s.nodes in dite (dec_le n k)
       (λ le. let split : n + (k - n) ≡ k = omega arith in
-      ap (stands_free (noted s e)) (sym split)
+      ap (stands_free (with_event s e)) (sym split)
       ∙ (free-behind s e (k - n) named there
       ∙ (ap (λ (l : List (Kid R)). kid_free (slice_get l (k - n))) none
       ∙ sym (free-none s k le))))

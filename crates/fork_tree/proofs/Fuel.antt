@@ -15,7 +15,7 @@ use Rattle.tree_core.specs.declared.event.Kid.{Kid}
 use Rattle.tree_core.specs.declared.node.Status.{Status}
 use Rattle.tree_core.specs.declared.node.Status.TheVariants.{Free, Held, Leaf}
 use Rattle.tree_core.specs.Stories.{Story, status, content, left_by, content_by}
-use Rattle.tree_core.specs.Replays.{is_allowed, kids_of, deed_kept, noted}
+use Rattle.tree_core.specs.Replays.{is_allowed, kids_of, deed_kept, with_event}
 use Rattle.tree_core.proofs.Standing.{status-kid, content-kid}
 use Rattle.fork_tree.specs.Nodes.{StateIs}
 use Rattle.fork_tree.specs.Works.{IsPart, Rules}
@@ -79,7 +79,7 @@ module _ {S L : Type 0} (rules : Rules S L) where
   -- an event: what it leaves of its node, and its kids, stand for what the node weighed
   pub fuel-noted : (s : Story (Content S L)) (e : Coming (Content S L)) → AreThere s →
       e.node < length s.nodes → IsTrue (is_allowed s e) →
-      fuel rules (noted s e) + heft rules (status s e.node) (content s e.node) ≡ fuel rules s + heft
+      fuel rules (with_event s e) + heft rules (status s e.node) (content s e.node) ≡ fuel rules s + heft
       rules (left_by e.by (deed_kept e.deed)) (content_by (content s e.node) (deed_kept e.deed))
       + sum_by (kid_heft rules) (kids_of e.deed)
   fuel-noted s e named there may =
@@ -87,7 +87,7 @@ module _ {S L : Type 0} (rules : Rules S L) where
       let m : ℕ = e.node in
       let kids : List (Kid (Content S L)) = kids_of e.deed in
       let p : ℕ → ℕ = λ k. heft rules (status s k) (content s k) in
-      let q : ℕ → ℕ = λ k. heft rules (status (noted s e) k) (content (noted s e) k) in
+      let q : ℕ → ℕ = λ k. heft rules (status (with_event s e) k) (content (with_event s e) k) in
       let kids_weigh : (i : ℕ) (kid : Kid (Content S L)) → slice_get kids i ≡ Some kid →
       q (n + i) ≡ kid_heft rules kid =
       λ i kid at. λ j. heft rules (status-kid s e i kid named there at j)
@@ -100,9 +100,9 @@ module _ {S L : Type 0} (rules : Rules S L) where
       (content_by (content s m) (deed_kept e.deed)) =
       λ j. heft rules (status-here s e there j) (content-here s e there may j) in
       let change : sum_below p n + q m ≡ sum_below q n + p m = sum_change p q n m there others in
-      let all : fuel rules (noted s e) ≡ sum_below q n + sum_by (kid_heft rules) kids =
+      let all : fuel rules (with_event s e) ≡ sum_below q n + sum_by (kid_heft rules) kids =
       ap (sum_below q) (length-noted s e) ∙ sum_more q (kid_heft rules) n kids kids_weigh in
-      added (fuel rules (noted s e)) (sum_below q n) (sum_below p n) (p m) (q m)
+      added (fuel rules (with_event s e)) (sum_below q n) (sum_below p n) (p m) (q m)
       (heft rules (left_by e.by (deed_kept e.deed))
       (content_by (content s m) (deed_kept e.deed))) (sum_by (kid_heft rules) kids) all change
       after_it
@@ -120,7 +120,7 @@ module _ {S L : Type 0} (rules : Rules S L) where
   pub fuel-claim : (s : Story (Content S L)) (e : Coming (Content S L)) (x : S) → AreThere s →
       e.node < length s.nodes → IsTrue (is_allowed s e) → e.deed ≡ Claim → status s e.node ≡ Free →
       StateIs (content s e.node) x →
-      fuel rules (noted s e) + (rules.targets + 2) ^ rules.left x ≡ fuel rules s
+      fuel rules (with_event s e) + (rules.targets + 2) ^ rules.left x ≡ fuel rules s
   fuel-claim s e x named there may claims free state =
       let all = fuel-noted s e named there may in
       let was : heft rules (status s e.node) (content s e.node) ≡ (rules.targets + 2) ^ rules.left
@@ -134,7 +134,7 @@ module _ {S L : Type 0} (rules : Rules S L) where
       let none : sum_by (kid_heft rules) (kids_of e.deed) ≡ 0 =
       ap (λ (d : Deed (Content S L) (Vec (Kid (Content S L)))). sum_by (kid_heft rules)
       (kids_of d)) claims in
-      added (fuel rules (noted s e)) _ (fuel rules s) _ _ ((rules.targets + 2) ^ rules.left x) all
+      added (fuel rules (with_event s e)) _ (fuel rules s) _ _ ((rules.targets + 2) ^ rules.left x) all
       was now none
     where
       added : (f p a h k b : ℕ) → f + p ≡ a + h + k → p ≡ b → h ≡ 0 → k ≡ 0 → f + b ≡ a
@@ -145,12 +145,12 @@ module _ {S L : Type 0} (rules : Rules S L) where
       e.node < length s.nodes → IsTrue (is_allowed s e) → status s e.node ≡ Held e.by →
       heft rules (left_by e.by (deed_kept e.deed))
       (content_by (content s e.node) (deed_kept e.deed)) ≡ 0 →
-      fuel rules (noted s e) ≡ fuel rules s + sum_by (kid_heft rules) (kids_of e.deed)
+      fuel rules (with_event s e) ≡ fuel rules s + sum_by (kid_heft rules) (kids_of e.deed)
   fuel-end s e named there may held now =
       let all = fuel-noted s e named there may in
       let was : heft rules (status s e.node) (content s e.node) ≡ 0 =
       ap (λ (st : Status). heft rules st (content s e.node)) held in
-      added (fuel rules (noted s e)) _ (fuel rules s) _ (sum_by (kid_heft rules) (kids_of e.deed))
+      added (fuel rules (with_event s e)) _ (fuel rules s) _ (sum_by (kid_heft rules) (kids_of e.deed))
       all was now
     where
       added : (f p a h k : ℕ) → f + p ≡ a + h + k → p ≡ 0 → h ≡ 0 → f ≡ a + k

@@ -14,7 +14,7 @@ use Rattle.tree_core.specs.declared.event.Kid.{Kid}
 use Rattle.tree_core.specs.declared.node.Status.{Status}
 use Rattle.tree_core.specs.declared.node.Status.TheVariants.{Free, Held, Parted, Leaf}
 use Rattle.tree_core.specs.Stories.{Story, status, content, left_by, content_by}
-use Rattle.tree_core.specs.Replays.{allows, is_allowed, kids_of, deed_kept, noted}
+use Rattle.tree_core.specs.Replays.{allows, is_allowed, kids_of, deed_kept, with_event}
 use Rattle.tree_core.proofs.Places.{get_before, get_last}
 use Rattle.tree_core.proofs.Standing.{status-kid, content-kid}
 use Rattle.fork_spec.specs.Histories.{IsOwnSplit, IsSideOf}
@@ -181,11 +181,11 @@ module _ {S L : Type 0} (rules : Rules S L) where
     lines_after = lines_before ++ line_now (cut_in rules.cut) (length s.nodes) e ∷ []
 
     abbrev HoldsAfter : ℕ → Type 0
-    HoldsAfter k = HoldsIn lines_after (noted s e) k
+    HoldsAfter k = HoldsIn lines_after (with_event s e) k
 
     -- a node holds so, where it stands so and has this content
-    by_parts : (k : ℕ) (st : Status) (c : Option (Content S L)) → status (noted s e) k ≡ st →
-        content (noted s e) k ≡ c → HoldsFor rules.IsWell (IsRightAt rules lines_after k) st c →
+    by_parts : (k : ℕ) (st : Status) (c : Option (Content S L)) → status (with_event s e) k ≡ st →
+        content (with_event s e) k ≡ c → HoldsFor rules.IsWell (IsRightAt rules lines_after k) st c →
         HoldsAfter k
     by_parts k st c stands has holds =
         subst (λ (p : Status × Option (Content S L)). HoldsFor rules.IsWell
@@ -217,16 +217,16 @@ module _ {S L : Type 0} (rules : Rules S L) where
         (status-kid s e i kid.0 named there kid.1) (content-kid s e i kid.0 named there kid.1)
         (kid_holds lines_before e.by e.node (length s.nodes) i e.deed kid.0 new kid.1)
 
-    holds_after : (k : ℕ) → k < length (noted s e).nodes → HoldsAfter k
+    holds_after : (k : ℕ) → k < length (with_event s e).nodes → HoldsAfter k
     holds_after k lt = dite (dec_le (length s.nodes) k)
-        (λ le. let long : length (noted s e).nodes ≡ length s.nodes + length
+        (λ le. let long : length (with_event s e).nodes ≡ length s.nodes + length
         (kids_of e.deed) = length-noted s e in
         let at : length s.nodes + (k - length s.nodes) ≡ k = omega (arith, le) in
         subst HoldsAfter at (born_holds (k - length s.nodes) (omega (arith, le, lt, long))))
         (λ not_le. let low : k < length s.nodes = lt_of_not-le not_le in
         dite (ℕ_discrete e.node k) (λ is. subst HoldsAfter is named_holds) (other_holds k low))
 
-    pub holds-noted : AllHold rules (noted s e)
+    pub holds-noted : AllHold rules (with_event s e)
     holds-noted k lt =
-        subst (λ (lines : List Line). HoldsIn lines (noted s e) k)
+        subst (λ (lines : List Line). HoldsIn lines (with_event s e) k)
         (sym (lines-noted (cut_in rules.cut) s e counted)) (holds_after k lt)

@@ -11,9 +11,9 @@ use Rattle.tree_core.specs.declared.event.Deed.TheVariants.{Claim, Split, Finish
 use Rattle.tree_core.specs.declared.event.Kid.{Kid}
 use Rattle.tree_core.specs.Nodes.{Node}
 use Rattle.tree_core.specs.Stories.{Story}
-use Rattle.tree_core.specs.Replays.{births, deed_kept, kept, noted, node_of}
+use Rattle.tree_core.specs.Replays.{births, deed_kept, kept, with_event, node_of}
 use Rattle.fork_spec.specs.Walks.{Line}
-use Rattle.fork_tree.specs.Written.{born_by, lines_from, lines_of, nodes_after, side_born, side_of_kid, written, written_now}
+use Rattle.fork_tree.specs.Written.{born_by, lines_from, lines_of, nodes_after, side_born, side_of_kid, written_deed, written_now}
 
 -- an event as it is written where there are so many nodes so far
 abbrev pub line_now : {R : Type 0} → (cut : R → Option Cause) → (first : ℕ) → Event R (Vec (Kid R)) → Line
@@ -53,7 +53,7 @@ module _ {R : Type 0} where
   after-push n (x ∷ es) e = after-push (n + born_by x.deed) es e
 
 module _ {R : Type 0} (cut : R → Option Cause) where
-  written-longer : (nodes more : List (Node R)) (first : ℕ) (d : Deed R ℕ) → first + born_by d ≤ length nodes → written cut (nodes ++ more) first d ≡ written cut nodes first d
+  written-longer : (nodes more : List (Node R)) (first : ℕ) (d : Deed R ℕ) → first + born_by d ≤ length nodes → written_deed cut (nodes ++ more) first d ≡ written_deed cut nodes first d
   written-longer nodes more first Claim le = refl
   written-longer nodes more first (Split count) le = ap (λ kids. Split (record { first = first; sides = map (side_born cut) kids })) (part_before nodes more first count le)
   written-longer nodes more first (Finish leaf) le = refl
@@ -61,7 +61,7 @@ module _ {R : Type 0} (cut : R → Option Cause) where
   written-longer nodes more first Release le = refl
 
   abbrev line_at : List (Node R) → ℕ → Event R ℕ → Line
-  line_at nodes first e = record { by = e.by; node = e.node; deed = written cut nodes first e.deed }
+  line_at nodes first e = record { by = e.by; node = e.node; deed = written_deed cut nodes first e.deed }
 
   lines-longer : (nodes more : List (Node R)) (first : ℕ) (es : List (Event R ℕ)) (e : Event R ℕ) → nodes_after first es ≤ length nodes →
       lines_from cut (nodes ++ more) first (es ++ e ∷ []) ≡ lines_from cut nodes first es ++ line_at (nodes ++ more) (nodes_after first es) e ∷ []
@@ -81,7 +81,7 @@ module _ {R : Type 0} (cut : R → Option Cause) where
       ∙ ap (map (side_born cut)) (part_behind nodes (map (node_of parent) kids))
       ∙ map-map (side_born cut) (node_of parent) kids
 
-  written_kept : (nodes : List (Node R)) (parent : ℕ) (d : Deed R (Vec (Kid R))) → written cut (nodes ++ births parent d) (length nodes) (deed_kept d) ≡ written_now cut (length nodes) d
+  written_kept : (nodes : List (Node R)) (parent : ℕ) (d : Deed R (Vec (Kid R))) → written_deed cut (nodes ++ births parent d) (length nodes) (deed_kept d) ≡ written_now cut (length nodes) d
   written_kept nodes parent Claim = refl
   written_kept nodes parent (Split kids) = ap (λ sides. Split (record { first = length nodes; sides = sides })) (kids_born nodes parent kids.items)
   written_kept nodes parent (Finish leaf) = refl
@@ -90,7 +90,7 @@ module _ {R : Type 0} (cut : R → Option Cause) where
 
   -- the line of the event comes behind those that were written
   pub lines-noted : (s : Story R) (e : Event R (Vec (Kid R))) → nodes_after 1 s.events ≡ length s.nodes →
-      lines_of cut (noted s e) ≡ lines_of cut s ++ line_now cut (length s.nodes) e ∷ []
+      lines_of cut (with_event s e) ≡ lines_of cut s ++ line_now cut (length s.nodes) e ∷ []
   lines-noted s e counted =
       lines-longer s.nodes (births e.node e.deed) 1 s.events (kept e) (omega (arith, counted))
       ∙ ap (λ n. lines_of cut s ++ line_at (s.nodes ++ births e.node e.deed) n (kept e) ∷ []) counted
@@ -103,7 +103,7 @@ module _ {R : Type 0} (cut : R → Option Cause) where
   born_kept parent (Cut leaf) = refl
   born_kept parent Release = refl
 
-  pub counted-noted : (s : Story R) (e : Event R (Vec (Kid R))) → nodes_after 1 s.events ≡ length s.nodes → nodes_after 1 (noted s e).events ≡ length (noted s e).nodes
+  pub counted-noted : (s : Story R) (e : Event R (Vec (Kid R))) → nodes_after 1 s.events ≡ length s.nodes → nodes_after 1 (with_event s e).events ≡ length (with_event s e).nodes
   counted-noted s e counted =
       after-push 1 s.events (kept e)
       ∙ ap (λ n. n + born_by (deed_kept e.deed)) counted

@@ -11,7 +11,7 @@ use Rattle.tree_core.specs.declared.node.Status.{Status}
 use Rattle.tree_core.specs.declared.node.Status.TheVariants.{Free, Held, Parted, Leaf}
 use Rattle.tree_core.specs.Stories.{Story, status, left_by}
 use Rattle.tree_core.specs.Covers.{one_if}
-use Rattle.tree_core.specs.Replays.{allows, is_allowed, is_free, is_held_by, kids_of, deed_kept, noted}
+use Rattle.tree_core.specs.Replays.{allows, is_allowed, is_free, is_held_by, kids_of, deed_kept, with_event}
 use Rattle.tree_core.specs.Cores.{held_count, is_held}
 use Rattle.tree_core.proofs.Counting.{count_at}
 use Rattle.fork_tree.specs.Trees.{HasBorn, stands_free, born_free}
@@ -31,7 +31,7 @@ module _ {R : Type 0} where
   pub listed-claim : (s : Story R) (e : Coming R) (free rest : List ℕ) → AreThere s →
       e.node < length s.nodes → e.deed ≡ Claim → HasOnceMore e.node rest free →
       ((k : ℕ) → times_listed k free ≡ one_if (stands_free s k)) → (k : ℕ) →
-      times_listed k rest ≡ one_if (stands_free (noted s e) k)
+      times_listed k rest ≡ one_if (stands_free (with_event s e) k)
   listed-claim s e free rest named there claims is listed k = let m : ℕ = e.node in
       let all : times_listed k rest + one_if (eqb m k) ≡ one_if (stands_free s k) =
       sym (is k) ∙ listed k in
@@ -39,8 +39,8 @@ module _ {R : Type 0} where
       (λ same. let yes : one_if (eqb m k) ≡ 1 = ap one_if (eq-eqb m k (sym same)) in
       let most : one_if (stands_free s k) ≤ 1 = one_most (stands_free s k) in
       let none : times_listed k rest ≡ 0 = omega arith in
-      let held : stands_free (noted s e) k ≡ false =
-      ap (stands_free (noted s e)) same
+      let held : stands_free (with_event s e) k ≡ false =
+      ap (stands_free (with_event s e)) same
       ∙ (free-here s e there ∙ ap
       (λ (d : Deed R (Vec (Kid R))). is_free (left_by e.by (deed_kept d))) claims) in
       none ∙ sym (ap one_if held))
@@ -53,12 +53,12 @@ module _ {R : Type 0} where
       e.node < length s.nodes → kids_of e.deed ≡ [] → is_free (status s e.node) ≡ false →
       is_free (left_by e.by (deed_kept e.deed)) ≡ false →
       ((k : ℕ) → times_listed k free ≡ one_if (stands_free s k)) → (k : ℕ) →
-      times_listed k free ≡ one_if (stands_free (noted s e) k)
+      times_listed k free ≡ one_if (stands_free (with_event s e) k)
   listed-end s e free named there none was ends listed k =
       listed k ∙ ap one_if (dite (ℕ_discrete k e.node)
       (λ same. let before : stands_free s k ≡ false = ap (stands_free s) same
       ∙ (free-is s e.node there ∙ was) in
-      let after : stands_free (noted s e) k ≡ false = ap (stands_free (noted s e)) same
+      let after : stands_free (with_event s e) k ≡ false = ap (stands_free (with_event s e)) same
       ∙ (free-here s e there ∙ ends) in before ∙ sym after)
       (λ ne. sym (free-same s e k named there none ne)))
 
@@ -67,13 +67,13 @@ module _ {R : Type 0} where
       e.node < length s.nodes → e.deed ≡ Release → is_free (status s e.node) ≡ false →
       HasOnceMore e.node free more →
       ((k : ℕ) → times_listed k free ≡ one_if (stands_free s k)) → (k : ℕ) →
-      times_listed k more ≡ one_if (stands_free (noted s e) k)
+      times_listed k more ≡ one_if (stands_free (with_event s e) k)
   listed-release s e free more named there gives was put listed k =
       let m : ℕ = e.node in put k ∙ dite (ℕ_discrete k m)
       (λ same. let before : stands_free s k ≡ false = ap (stands_free s) same
       ∙ (free-is s m there ∙ was) in
-      let after : stands_free (noted s e) k ≡ true =
-      ap (stands_free (noted s e)) same
+      let after : stands_free (with_event s e) k ≡ true =
+      ap (stands_free (with_event s e)) same
       ∙ (free-here s e there ∙ ap
       (λ (d : Deed R (Vec (Kid R))). is_free (left_by e.by (deed_kept d))) gives) in
       let none : times_listed k free ≡ 0 = listed k ∙ ap one_if before in
@@ -89,7 +89,7 @@ module _ {R : Type 0} where
       e.node < length s.nodes → is_free (left_by e.by (deed_kept e.deed)) ≡ false →
       is_free (status s e.node) ≡ false → HasBorn (length s.nodes) (kids_of e.deed) free more →
       ((k : ℕ) → times_listed k free ≡ one_if (stands_free s k)) → (k : ℕ) →
-      times_listed k more ≡ one_if (stands_free (noted s e) k)
+      times_listed k more ≡ one_if (stands_free (with_event s e) k)
   listed-split s e free more named there parts was put listed k =
       let n : ℕ = length s.nodes in
       let m : ℕ = e.node in
@@ -99,8 +99,8 @@ module _ {R : Type 0} where
       let none : times_listed k free ≡ 0 = listed k ∙ ap one_if (free-none s k le) in
       let born : times_listed k (born_free n kids) ≡ one_if (kid_free (slice_get kids i)) =
       ap (λ j. times_listed j (born_free n kids)) (sym split) ∙ born-listed kids n i in
-      let now : stands_free (noted s e) k ≡ kid_free (slice_get kids i) =
-      ap (stands_free (noted s e)) (sym split) ∙ free-behind s e i named there in
+      let now : stands_free (with_event s e) k ≡ kid_free (slice_get kids i) =
+      ap (stands_free (with_event s e)) (sym split) ∙ free-behind s e i named there in
       let a : times_listed k free + times_listed k (born_free n kids) ≡ times_listed k
       (born_free n kids) =
       omega arith in
@@ -112,7 +112,7 @@ module _ {R : Type 0} where
       a ∙ (listed k ∙ ap one_if (dite (ℕ_discrete k m)
       (λ same. let before : stands_free s k ≡ false = ap (stands_free s) same
       ∙ (free-is s m there ∙ was) in
-      let after : stands_free (noted s e) k ≡ false = ap (stands_free (noted s e)) same
+      let after : stands_free (with_event s e) k ≡ false = ap (stands_free (with_event s e)) same
       ∙ (free-here s e there ∙ parts) in before ∙ sym after)
       (λ ne. sym (free-old s e k low ne)))))
 

@@ -9,11 +9,11 @@ use Rattle.tree_core.specs.declared.node.Status.{Status}
 use Rattle.tree_core.specs.declared.node.Status.TheVariants.{Held}
 use Rattle.tree_core.specs.Stories.{Story, status, content}
 use Rattle.tree_core.specs.Covers.{one_if}
-use Rattle.tree_core.specs.Replays.{allows, is_allowed, is_held_by, kids_of, noted, opening}
+use Rattle.tree_core.specs.Replays.{allows, is_allowed, is_held_by, kids_of, with_event, opening}
 use Rattle.tree_core.specs.Cores.{ends, held_count, takes}
 use Rattle.tree_core.proofs.Sharing.{held_count-noted}
 use Rattle.fork_spec.specs.Partings.{Place}
-use Rattle.fork_tree.specs.NodesApart.{IsUnder, KeepsApart}
+use Rattle.fork_tree.specs.NodesApart.{IsBelow, KeepsApart}
 use Rattle.fork_tree.specs.Written.{IsInForm}
 use Rattle.fork_tree.specs.Calls.{IsEndFit, IsSplitFit, claim_event, cut_event, finish_event, release_event, split_event}
 use Rattle.fork_tree.specs.Contents.{cut_in, place_in}
@@ -56,7 +56,7 @@ module _ {S L : Type 0} (rules : Rules S L) (state_place : S → Place) (leaf_pl
       IsInForm (choices_at state_place leaf_place) (cut_in rules.cut) rules.targets r e.deed →
       KeepsApart (place_in state_place leaf_place) rules.decides r e.deed → DeedHolds rules e.deed →
       length s.nodes + length (kids_of e.deed) < 2 ^ 32 →
-      FollowsRules rules state_place leaf_place (noted s e)
+      FollowsRules rules state_place leaf_place (with_event s e)
   follows-noted s e r follows named there is may form keeps new few = record {
     holds = holds-noted rules s e follows.holds follows.walked.counted named there may new;
     walked = walked-noted (choices_at state_place leaf_place) (cut_in rules.cut) rules.targets s e r
@@ -86,7 +86,7 @@ module _ {S L : Type 0} (rules : Rules S L) (state_place : S → Place) (leaf_pl
 
   -- a claim takes its node from the list
   pub tended-claim : (s t : Story (Content S L)) (by m : ℕ) (free rest : Listed) →
-      IsTended s free → t ≡ noted s (claim_event by m) → AreThere s →
+      IsTended s free → t ≡ with_event s (claim_event by m) → AreThere s →
       HasOnceMore m rest.nodes free.nodes → length rest.nodes + 1 ≡ length free.nodes →
       rest.capacity ≡ free.capacity → IsTended t rest
   tended-claim s t by m free rest tended is named last long room =
@@ -100,13 +100,13 @@ module _ {S L : Type 0} (rules : Rules S L) (state_place : S → Place) (leaf_pl
             (as_few (length s.nodes) tended.0.few),
         listed-claim s e free.nodes rest.nodes named there refl last tended.1,
         (
-          balance (length rest.nodes) (length free.nodes) (held_count (noted s e)) (held_count s)
+          balance (length rest.nodes) (length free.nodes) (held_count (with_event s e)) (held_count s)
               free.capacity rest.capacity long (held_count-noted s e named there may) tended.2.0
               (at_least rest.capacity free.capacity room),
-          balance (length rest.nodes) (length free.nodes) (held_count (noted s e)) (held_count s)
-              (length s.nodes) (length (noted s e).nodes) long
+          balance (length rest.nodes) (length free.nodes) (held_count (with_event s e)) (held_count s)
+              (length s.nodes) (length (with_event s e).nodes) long
               (held_count-noted s e named there may) tended.2.1
-              (grown (length (noted s e).nodes) (length s.nodes) (length-noted s e)),
+              (grown (length (with_event s e).nodes) (length s.nodes) (length-noted s e)),
         ),
       )
     where
@@ -145,13 +145,13 @@ module _ {S L : Type 0} (rules : Rules S L) (state_place : S → Place) (leaf_pl
   -- an end of a claim
   tended-end : (s t : Story (Content S L)) (e : Coming (Content S L)) (r : Content S L)
       (free more : Listed) →
-      IsTended s free → t ≡ noted s e → AreThere s → e.node < length s.nodes →
+      IsTended s free → t ≡ with_event s e → AreThere s → e.node < length s.nodes →
       content s e.node ≡ Some r → status s e.node ≡ Held e.by →
       ((st : Status) (by : ℕ) → allows st by e.deed ≡ is_held_by by st) → ends e.deed ≡ 1 →
       takes e.deed ≡ 0 →
       IsInForm (choices_at state_place leaf_place) (cut_in rules.cut) rules.targets r e.deed →
       KeepsApart (place_in state_place leaf_place) rules.decides r e.deed → DeedHolds rules e.deed →
-      length s.nodes + length (kids_of e.deed) < 2 ^ 32 → IsListOfFree (noted s e) more.nodes →
+      length s.nodes + length (kids_of e.deed) < 2 ^ 32 → IsListOfFree (with_event s e) more.nodes →
       length more.nodes + held_count s ≤ more.capacity + 1 →
       length more.nodes ≤ length free.nodes + (length (kids_of e.deed) + 1) → IsTended t more
   tended-end s t e r free more tended is named there old held allow one nil form keeps new few
@@ -161,12 +161,12 @@ module _ {S L : Type 0} (rules : Rules S L) (state_place : S → Place) (leaf_pl
         follows-noted s e r tended.0 named there old may form keeps new few,
         listed,
         (
-          balance (length more.nodes) (held_count (noted s e)) (held_count s) (ends e.deed)
+          balance (length more.nodes) (held_count (with_event s e)) (held_count s) (ends e.deed)
               (takes e.deed) more.capacity (held_count-noted s e named there may) one nil fits,
-          balance (length more.nodes) (held_count (noted s e)) (held_count s) (ends e.deed)
-              (takes e.deed) (length (noted s e).nodes) (held_count-noted s e named there may) one nil
+          balance (length more.nodes) (held_count (with_event s e)) (held_count s) (ends e.deed)
+              (takes e.deed) (length (with_event s e).nodes) (held_count-noted s e named there may) one nil
               (among (length more.nodes) (length free.nodes) (held_count s) (length s.nodes)
-              (length (kids_of e.deed)) (length (noted s e).nodes) long tended.2.1
+              (length (kids_of e.deed)) (length (with_event s e).nodes) long tended.2.1
               (length-noted s e)),
         ),
       )
@@ -182,7 +182,7 @@ module _ {S L : Type 0} (rules : Rules S L) (state_place : S → Place) (leaf_pl
   -- a leaf is under what it comes in the place of
   leaf-under : (cut : Option Cause) (s : Story (Content S L)) (by node : ℕ) (leaf : L) →
       (fit : IsEndFit rules state_place leaf_place cut s by node leaf) →
-      IsUnder (leaf_place leaf) (place_in state_place leaf_place fit.old)
+      IsBelow (leaf_place leaf) (place_in state_place leaf_place fit.old)
   leaf-under cut s by node leaf fit = record {
     more = [];
     choices = fit.same_choices ∙ sym (append-nil (choices_at state_place leaf_place fit.old));
@@ -200,7 +200,7 @@ module _ {S L : Type 0} (rules : Rules S L) (state_place : S → Place) (leaf_pl
   as_long f = omega arith
 
   pub tended-finish : (s t : Story (Content S L)) (by node : ℕ) (leaf : L) (free : Listed) →
-      IsTended s free → t ≡ noted s (finish_event by node leaf) → AreThere s →
+      IsTended s free → t ≡ with_event s (finish_event by node leaf) → AreThere s →
       IsEndFit rules state_place leaf_place None s by node leaf → IsTended t free
   tended-finish s t by node leaf free tended is named fit =
       let e : Coming (Content S L) = finish_event by node leaf in
@@ -213,7 +213,7 @@ module _ {S L : Type 0} (rules : Rules S L) (state_place : S → Place) (leaf_pl
       (as_long (length free.nodes))
 
   pub tended-cut : (s t : Story (Content S L)) (by node : ℕ) (leaf : L) (free : Listed) →
-      IsTended s free → t ≡ noted s (cut_event by node leaf) → AreThere s →
+      IsTended s free → t ≡ with_event s (cut_event by node leaf) → AreThere s →
       IsEndFit rules state_place leaf_place (Some Steps) s by node leaf → IsTended t free
   tended-cut s t by node leaf free tended is named fit =
       let e : Coming (Content S L) = cut_event by node leaf in
@@ -227,7 +227,7 @@ module _ {S L : Type 0} (rules : Rules S L) (state_place : S → Place) (leaf_pl
 
   -- a release puts its node into the list
   pub tended-release : (s t : Story (Content S L)) (by node : ℕ) (free more : Listed) →
-      IsTended s free → t ≡ noted s (release_event by node) → AreThere s →
+      IsTended s free → t ≡ with_event s (release_event by node) → AreThere s →
       node < length s.nodes → status s node ≡ Held by → HasOnceMore node free.nodes more.nodes →
       length more.nodes ≡ length free.nodes + 1 → more.capacity ≡ free.capacity → IsTended t more
   tended-release s t by node free more tended is named there held put long room =
@@ -251,7 +251,7 @@ module _ {S L : Type 0} (rules : Rules S L) (state_place : S → Place) (leaf_pl
   -- a split puts the kids that are free into the list
   pub tended-split : (s t : Story (Content S L)) (by node : ℕ) (kids : Vec (Kid (Content S L)))
       (free more : Listed) →
-      IsTended s free → t ≡ noted s (split_event by node kids) → AreThere s →
+      IsTended s free → t ≡ with_event s (split_event by node kids) → AreThere s →
       IsSplitFit rules state_place leaf_place s by node kids →
       length s.nodes + length kids.items < 2 ^ 32 →
       HasBorn (length s.nodes) kids.items free.nodes more.nodes →

@@ -2,7 +2,7 @@
 use Rattle.std.proofs.Common.{◌≡◌, ℕ, ◌+◌, ◌≤◌, eqb, Bool, true, false, ◌&&◌, cond, List, [], ◌∷◌, ◌++◌, Option, count_by, filter, refl, sym, ap, subst, ◌∙◌, arith}
 use Rattle.std.specs.Global.{Vec}
 use Rattle.std.proofs.lemmas.List.Sums.{count_by-le-length, sum_by-append, sum_by-cons}
-use Rattle.tree_core.specs.Replays.{kept, noted}
+use Rattle.tree_core.specs.Replays.{kept, with_event}
 use Rattle.tree_core.specs.Stories.{Story}
 use Rattle.tree_core.specs.Nodes.{Node}
 use Rattle.tree_core.specs.declared.cause.Cause.{Cause}
@@ -12,7 +12,7 @@ use Rattle.tree_core.specs.declared.event.Deed.TheVariants.{Claim, Split, Finish
 use Rattle.tree_core.specs.declared.event.Kid.{Kid}
 use Rattle.fork_spec.specs.Histories.{ReleaseOnce, is_release, releases_by}
 use Rattle.fork_spec.specs.Walks.{Line}
-use Rattle.fork_tree.specs.Written.{born_by, lines_from, lines_of, written}
+use Rattle.fork_tree.specs.Written.{born_by, lines_from, lines_of, written_deed}
 
 zero_and : (n : ℕ) → 0 + n ≡ n
 zero_and n = omega arith
@@ -36,7 +36,7 @@ module _ {R K : Type 0} where
   releases-own by es = count_both (λ (e : Event R K). eqb e.by by) (λ (e : Event R K). is_release e.deed) es
 
 module _ {R : Type 0} where
-  releases_noted : (by : ℕ) (s t : Story R) (e : Event R (Vec (Kid R))) → t ≡ noted s e → releases_by by t.events ≡ releases_by by s.events + releases_by by (kept e ∷ [])
+  releases_noted : (by : ℕ) (s t : Story R) (e : Event R (Vec (Kid R))) → t ≡ with_event s e → releases_by by t.events ≡ releases_by by s.events + releases_by by (kept e ∷ [])
   releases_noted by s t e is = ap (λ (x : Story R). releases_by by x.events) is ∙ releases-append by s.events (kept e ∷ [])
 
   -- a story that is the same
@@ -44,7 +44,7 @@ module _ {R : Type 0} where
   releases_same s t is by = ap (λ (x : Story R). releases_by by x.events) is
 
   -- one event more, which is no release
-  pub releases_kept : (s t : Story R) (e : Event R (Vec (Kid R))) → t ≡ noted s e → is_release (kept e).deed ≡ false → (by : ℕ) → releases_by by t.events ≡ releases_by by s.events
+  pub releases_kept : (s t : Story R) (e : Event R (Vec (Kid R))) → t ≡ with_event s e → is_release (kept e).deed ≡ false → (by : ℕ) → releases_by by t.events ≡ releases_by by s.events
   releases_kept s t e is none by = releases_noted by s t e is ∙ (ap (λ n. releases_by by s.events + n) (nothing (eqb e.by by) (is_release (kept e).deed) none) ∙ and_zero (releases_by by s.events))
     where
       nothing : (a b : Bool) → b ≡ false → 0 + cond (a && b) 1 0 ≡ 0
@@ -55,7 +55,7 @@ module _ {R : Type 0} where
       and_zero n = omega arith
 
   -- one event more, whatever it is
-  pub releases_more : (s t : Story R) (e : Event R (Vec (Kid R))) → t ≡ noted s e → (by : ℕ) → releases_by by t.events ≤ releases_by by s.events + 1
+  pub releases_more : (s t : Story R) (e : Event R (Vec (Kid R))) → t ≡ with_event s e → (by : ℕ) → releases_by by t.events ≤ releases_by by s.events + 1
   releases_more s t e is by =
       at_most (releases_by by t.events) (releases_by by s.events) (releases_by by (kept e ∷ [])) (releases_noted by s t e is)
       (count_by-le-length (λ (x : Event R ℕ). eqb x.by by && is_release x.deed) (kept e ∷ []))
@@ -80,7 +80,7 @@ module _ {R : Type 0} where
   once_kept s t none once by = subst (λ n. n ≤ 1) (sym (none by)) (once by)
 
 module _ {R : Type 0} (cut : R → Option Cause) where
-  same_deed : (nodes : List (Node R)) (first : ℕ) (d : Deed R ℕ) → is_release (written cut nodes first d) ≡ is_release d
+  same_deed : (nodes : List (Node R)) (first : ℕ) (d : Deed R ℕ) → is_release (written_deed cut nodes first d) ≡ is_release d
   same_deed nodes first Claim = refl
   same_deed nodes first (Split count) = refl
   same_deed nodes first (Finish leaf) = refl
@@ -91,7 +91,7 @@ module _ {R : Type 0} (cut : R → Option Cause) where
   unfolding lines_from
   releases-from by nodes first [] = refl
   releases-from by nodes first (e ∷ es) =
-      let line : Line = record { by = e.by; node = e.node; deed = written cut nodes first e.deed } in
+      let line : Line = record { by = e.by; node = e.node; deed = written_deed cut nodes first e.deed } in
       let rest : List Line = lines_from cut nodes (first + born_by e.deed) es in
       sum_by-cons (λ (l : Line). cond (eqb l.by by && is_release l.deed) 1 0) line rest
       ∙ ((λ i. cond (eqb e.by by && same_deed nodes first e.deed i) 1 0 + releases-from by nodes (first + born_by e.deed) es i)

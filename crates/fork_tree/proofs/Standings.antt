@@ -7,7 +7,7 @@ use Rattle.tree_core.specs.declared.event.Event.{Event}
 use Rattle.tree_core.specs.declared.event.Kid.{Kid}
 use Rattle.tree_core.specs.Nodes.{Node}
 use Rattle.tree_core.specs.Stories.{Story, born_as, content, content_by, last_on, left_by, status}
-use Rattle.tree_core.specs.Replays.{births, deed_kept, is_allowed, kids_of, node_of, noted}
+use Rattle.tree_core.specs.Replays.{births, deed_kept, is_allowed, kids_of, node_of, with_event}
 use Rattle.tree_core.proofs.Standing.{content-noted, open_content, status-noted}
 
 -- an event as it comes to a tree
@@ -19,19 +19,19 @@ abbrev pub AreThere : {R : Type 0} → Story R → Type 0
 AreThere {R} s = All (λ (e : Event R ℕ). e.node < length s.nodes) s.events
 
 module _ {R : Type 0} (s : Story R) (e : Coming R) where
-  pub length-noted : length (noted s e).nodes ≡ length s.nodes + length (kids_of e.deed)
+  pub length-noted : length (with_event s e).nodes ≡ length s.nodes + length (kids_of e.deed)
   length-noted =
       length-append s.nodes (births e.node e.deed)
       ∙ ap (λ n. length s.nodes + n) (length-map (kids_of e.deed) (node_of e.node))
 
   -- a node that the event doesn't name
-  pub status-other : (k : ℕ) → k < length s.nodes → e.node ≢ k → status (noted s e) k ≡ status s k
+  pub status-other : (k : ℕ) → k < length s.nodes → e.node ≢ k → status (with_event s e) k ≡ status s k
   status-other k lt other =
       status-noted s e k lt
       ∙ ap (λ b. cond b (left_by e.by (deed_kept e.deed)) (status s k)) (ne_eqb e.node k other)
 
   pub content-other : (k : ℕ) → k < length s.nodes → e.node ≢ k →
-      content (noted s e) k ≡ content s k
+      content (with_event s e) k ≡ content s k
   content-other k lt other =
       content-noted s e k lt
       ∙ ap (λ b. cond b (content_by (option_map (λ (n : Node R). n.content) (slice_get s.nodes k))
@@ -39,7 +39,7 @@ module _ {R : Type 0} (s : Story R) (e : Coming R) where
 
   -- the node that it names
   pub status-here : e.node < length s.nodes →
-      status (noted s e) e.node ≡ left_by e.by (deed_kept e.deed)
+      status (with_event s e) e.node ≡ left_by e.by (deed_kept e.deed)
   status-here there =
       status-noted s e e.node there
       ∙ ap (λ b. cond b (left_by e.by (deed_kept e.deed)) (status s e.node))
@@ -47,7 +47,7 @@ module _ {R : Type 0} (s : Story R) (e : Coming R) where
 
   -- and which holds what it was born with, where the event may come
   pub content-here : e.node < length s.nodes → IsTrue (is_allowed s e) →
-      content (noted s e) e.node ≡ content_by (content s e.node) (deed_kept e.deed)
+      content (with_event s e) e.node ≡ content_by (content s e.node) (deed_kept e.deed)
   content-here there may =
       let first : Option R = option_map (λ (n : Node R). n.content) (slice_get s.nodes e.node) in
       let unended : content s e.node ≡ first =

@@ -17,13 +17,13 @@ use Rattle.tree_core.specs.declared.event.Deed.TheVariants.{Claim, Split, Finish
 use Rattle.tree_core.specs.declared.event.Kid.{Kid}
 use Rattle.tree_core.specs.declared.node.Status.{Status}
 use Rattle.tree_core.specs.declared.node.Status.TheVariants.{Free, Held, Parted, Leaf}
-use Rattle.tree_core.specs.Replays.{allows, deed_kept, is_allowed, kept, kids_of, noted, opening}
+use Rattle.tree_core.specs.Replays.{allows, deed_kept, is_allowed, kept, kids_of, with_event, opening}
 use Rattle.tree_core.specs.Replays as tree
 use Rattle.tree_core.specs.Stories.{Story, content, content_after, content_by, last_on, left_by, status}
 use Rattle.tree_core.specs.Stories as stories
 use Rattle.tree_core.proofs.Standing.{content-kid, content-noted, kid_unnamed, open_content, status-kid, status-noted}
 use Rattle.tree_core.proofs.Places.{get_behind}
-use Rattle.fork_spec.specs.Walks.{Line, Standing, births, born_as, cut_by, done_on, is_in_form, may_come, root, side_at, step, walk, walk_from}
+use Rattle.fork_spec.specs.Walks.{Line, Standing, side_births, side_status, cut_by, done_on, is_in_form, may_come, root, side_at, walk_step, walk, walk_from}
 use Rattle.fork_tree.specs.Written.{IsCutOr, IsInForm, IsKidOf, IsWalked, LeadsTo, StandsAs, cut_where, lines_from, lines_of, nodes_after, side_of_kid, written_now}
 use Rattle.fork_tree.proofs.Changing.{changed, get_new, get_other, get_same, length-changed}
 use Rattle.fork_tree.proofs.Lines.{counted-noted, line_now, lines-noted}
@@ -36,7 +36,7 @@ both false b ha hb = ha
 below : (a b : ℕ) → a < b → nat_lt a b ≡ true
 below a b lt = grind (arith, nat_tests)
 
-one_more : (workers targets : ℕ) (lines : List Line) (e : Line) (nodes next : List Standing) → walk workers targets lines ≡ Some nodes → step workers targets nodes e ≡ Some next
+one_more : (workers targets : ℕ) (lines : List Line) (e : Line) (nodes next : List Standing) → walk workers targets lines ≡ Some nodes → walk_step workers targets nodes e ≡ Some next
     → walk workers targets (lines ++ e ∷ []) ≡ Some next
 unfolding walk_from
 one_more workers targets lines e nodes next walked stepped =
@@ -45,8 +45,8 @@ one_more workers targets lines e nodes next walked stepped =
     ∙ ap (option_and_then (λ reached. walk_from workers targets reached [])) stepped
 
 stepped : (workers targets : ℕ) (nodes : List Standing) (e : Line) (node : Standing) → slice_get nodes e.node ≡ Some node → may_come workers targets nodes e node ≡ true
-    → step workers targets nodes e ≡ Some (done_on nodes e node)
-unfolding step
+    → walk_step workers targets nodes e ≡ Some (done_on nodes e node)
+unfolding walk_step
 stepped workers targets nodes e node at may =
     ap (option_and_then (λ n. if may_come workers targets nodes e n then Some (done_on nodes e n) else None)) at
     ∙ ap (λ (b : Bool). if b then Some (done_on nodes e node) else None) may
@@ -73,12 +73,12 @@ pub none_is_some : {X : Type 0} (x : X) → None ≡ Some x → ⊥
 none_is_some x e = cc
 
 module _ {R : Type 0} where
-  no_kid : (s : Story R) (e : Event R (Vec (Kid R))) (i : ℕ) → slice_get (kids_of e.deed) i ≡ None → slice_get (noted s e).nodes (length s.nodes + i) ≡ None
+  no_kid : (s : Story R) (e : Event R (Vec (Kid R))) (i : ℕ) → slice_get (kids_of e.deed) i ≡ None → slice_get (with_event s e).nodes (length s.nodes + i) ≡ None
   no_kid s e i none = get_behind s.nodes (tree.births e.node e.deed) i ∙ slice_get-map (tree.node_of e.node) (kids_of e.deed) i ∙ ap (option_map (tree.node_of e.node)) none
 
   -- beyond the kids there is nothing
   pub no_kid_content : (s : Story R) (e : Event R (Vec (Kid R))) (i : ℕ) → All (λ (x : Event R ℕ). x.node < length s.nodes) s.events → e.node < length s.nodes
-      → slice_get (kids_of e.deed) i ≡ None → content (noted s e) (length s.nodes + i) ≡ None
+      → slice_get (kids_of e.deed) i ≡ None → content (with_event s e) (length s.nodes + i) ≡ None
   no_kid_content s e i named there none = λ k. content_after (option_map (λ n. n.content) (no_kid s e i none k)) (kid_unnamed s e i named there k)
 
 module _ {R : Type 0} (choices : R → List Choice) (cut : R → Option Cause) (targets : ℕ) where
@@ -114,7 +114,7 @@ module _ {R : Type 0} (choices : R → List Choice) (cut : R → Option Cause) (
   left_line by first r q Release form e = ap (λ x. standing (choices x) (Free) (None)) (same_held r q e)
 
   -- a kid stands as its side
-  kid_status : (b : Bool) (c : Option Cause) → IsCutOr b c → born_as (if b then c else None) ≡ cond b Leaf Free
+  kid_status : (b : Bool) (c : Option Cause) → IsCutOr b c → side_status (if b then c else None) ≡ cond b Leaf Free
   kid_status true None marked = absurd marked
   kid_status true (Some c) marked = refl
   kid_status false c marked = refl
@@ -127,7 +127,7 @@ module _ {R : Type 0} (choices : R → List Choice) (cut : R → Option Cause) (
       ≡ record { choices = choices kid.content; status = cond kid.is_leaf Leaf Free; cut = cut_where cut (cond kid.is_leaf Leaf Free) kid.content }
   kid_side r kid is = λ i. record { choices = sym is.leads i; status = kid_status kid.is_leaf (cut kid.content) is.marked i; cut = kid_cut kid.is_leaf kid.content i }
 
-  births_at : (first : ℕ) (r : R) (d : Deed R (Vec (Kid R))) (i : ℕ) (kid : Kid R) → slice_get (kids_of d) i ≡ Some kid → slice_get (births (choices r) (written_now cut first d)) i ≡ Some (side_at (choices r) (side_of_kid cut kid))
+  births_at : (first : ℕ) (r : R) (d : Deed R (Vec (Kid R))) (i : ℕ) (kid : Kid R) → slice_get (kids_of d) i ≡ Some kid → slice_get (side_births (choices r) (written_now cut first d)) i ≡ Some (side_at (choices r) (side_of_kid cut kid))
   births_at first r Claim i kid at = absurd (none_is_some kid at)
   births_at first r (Split kids) i kid at =
       slice_get-map (side_at (choices r)) (map (side_of_kid cut) kids.items) i
@@ -143,7 +143,7 @@ module _ {R : Type 0} (choices : R → List Choice) (cut : R → Option Cause) (
   kid_in_form r (Cut leaf) i kid form at = absurd (none_is_some kid at)
   kid_in_form r Release i kid form at = absurd (none_is_some kid at)
 
-  length-births : (first parent : ℕ) (r : R) (d : Deed R (Vec (Kid R))) → length (births (choices r) (written_now cut first d)) ≡ length (tree.births parent d)
+  length-births : (first parent : ℕ) (r : R) (d : Deed R (Vec (Kid R))) → length (side_births (choices r) (written_now cut first d)) ≡ length (tree.births parent d)
   length-births first parent r Claim = refl
   length-births first parent r (Split kids) = length-map (map (side_of_kid cut) kids.items) (side_at (choices r)) ∙ length-map kids.items (side_of_kid cut) ∙ sym (length-map kids.items (tree.node_of parent))
   length-births first parent r (Finish leaf) = refl
@@ -164,10 +164,10 @@ module _ {R : Type 0} (choices : R → List Choice) (cut : R → Option Cause) (
     turned = record { choices = choices r; status = left_by e.by line.deed; cut = cut_by line.deed }
 
     abbrev more : List Standing
-    more = births (choices r) line.deed
+    more = side_births (choices r) line.deed
 
-    node_itself : (nodes : List Standing) (q : R) → length nodes ≡ length s.nodes → content (noted s e) e.node ≡ Some q →
-        slice_get (changed nodes e.node turned more) e.node ≡ Some (stands (noted s e) e.node q)
+    node_itself : (nodes : List Standing) (q : R) → length nodes ≡ length s.nodes → content (with_event s e) e.node ≡ Some q →
+        slice_get (changed nodes e.node turned more) e.node ≡ Some (stands (with_event s e) e.node q)
     node_itself nodes q as_many has =
         get_same nodes e.node turned more (subst (λ n. e.node < n) (sym as_many) there)
         ∙ ap Some (left_line e.by (length s.nodes) r q e.deed form content_is ∙ ap (λ st. record { choices = choices q; status = st; cut = cut_where cut st q }) (sym status_is))
@@ -175,7 +175,7 @@ module _ {R : Type 0} (choices : R → List Choice) (cut : R → Option Cause) (
         hit : eqb e.node e.node ≡ true
         hit = eq-eqb e.node e.node refl
 
-        status_is : status (noted s e) e.node ≡ left_by e.by (deed_kept e.deed)
+        status_is : status (with_event s e) e.node ≡ left_by e.by (deed_kept e.deed)
         status_is = status-noted s e e.node there ∙ ap (λ b. cond b (left_by e.by (deed_kept e.deed)) (status s e.node)) hit
 
         content_is : content_by (Some r) (deed_kept e.deed) ≡ Some q
@@ -183,8 +183,8 @@ module _ {R : Type 0} (choices : R → List Choice) (cut : R → Option Cause) (
             ∙ sym (content-noted s e e.node there ∙ ap (λ b. cond b (content_by (option_map (λ n. n.content) (slice_get s.nodes e.node)) (deed_kept e.deed)) (content s e.node)) hit)
             ∙ has
 
-    other_node : (nodes : List Standing) (m : ℕ) (q : R) → length nodes ≡ length s.nodes → ((q : R) → content s m ≡ Some q → slice_get nodes m ≡ Some (stands s m q)) → m < length s.nodes → e.node ≢ m → content (noted s e) m ≡ Some q →
-        slice_get (changed nodes e.node turned more) m ≡ Some (stands (noted s e) m q)
+    other_node : (nodes : List Standing) (m : ℕ) (q : R) → length nodes ≡ length s.nodes → ((q : R) → content s m ≡ Some q → slice_get nodes m ≡ Some (stands s m q)) → m < length s.nodes → e.node ≢ m → content (with_event s e) m ≡ Some q →
+        slice_get (changed nodes e.node turned more) m ≡ Some (stands (with_event s e) m q)
     other_node nodes m q as_many old lt ne has =
         get_other nodes e.node turned more m (subst (λ n. e.node < n) (sym as_many) there) (subst (λ n. m < n) (sym as_many) lt) ne
         ∙ old q (sym (content-noted s e m lt ∙ ap (λ b. cond b (content_by (option_map (λ n. n.content) (slice_get s.nodes m)) (deed_kept e.deed)) (content s m)) miss) ∙ has)
@@ -193,8 +193,8 @@ module _ {R : Type 0} (choices : R → List Choice) (cut : R → Option Cause) (
         miss : eqb e.node m ≡ false
         miss = ne_eqb e.node m ne
 
-    kid_node : (nodes : List Standing) (i : ℕ) (q : R) → length nodes ≡ length s.nodes → content (noted s e) (length s.nodes + i) ≡ Some q →
-        (o : Option (Kid R)) → slice_get (kids_of e.deed) i ≡ o → slice_get (changed nodes e.node turned more) (length s.nodes + i) ≡ Some (stands (noted s e) (length s.nodes + i) q)
+    kid_node : (nodes : List Standing) (i : ℕ) (q : R) → length nodes ≡ length s.nodes → content (with_event s e) (length s.nodes + i) ≡ Some q →
+        (o : Option (Kid R)) → slice_get (kids_of e.deed) i ≡ o → slice_get (changed nodes e.node turned more) (length s.nodes + i) ≡ Some (stands (with_event s e) (length s.nodes + i) q)
     kid_node nodes i q as_many has None at =
         absurd (none_is_some q (sym (no_kid_content s e i named there at) ∙ has))
     kid_node nodes i q as_many has (Some kid) at =
@@ -206,31 +206,31 @@ module _ {R : Type 0} (choices : R → List Choice) (cut : R → Option Cause) (
         same : kid.content ≡ q
         same = same_held kid.content q (sym (content-kid s e i kid named there at) ∙ has)
 
-        status_is : status (noted s e) (length s.nodes + i) ≡ cond kid.is_leaf Leaf Free
+        status_is : status (with_event s e) (length s.nodes + i) ≡ cond kid.is_leaf Leaf Free
         status_is = status-kid s e i kid named there at
 
     abbrev Stands : List Standing → R → ℕ → Type 0
-    Stands nodes q k = content (noted s e) k ≡ Some q → slice_get (changed nodes e.node turned more) k ≡ Some (stands (noted s e) k q)
+    Stands nodes q k = content (with_event s e) k ≡ Some q → slice_get (changed nodes e.node turned more) k ≡ Some (stands (with_event s e) k q)
 
-    each_node : (nodes : List Standing) → length nodes ≡ length s.nodes → ((m : ℕ) (q : R) → content s m ≡ Some q → slice_get nodes m ≡ Some (stands s m q)) → (m : ℕ) (q : R) → content (noted s e) m ≡ Some q →
-        slice_get (changed nodes e.node turned more) m ≡ Some (stands (noted s e) m q)
+    each_node : (nodes : List Standing) → length nodes ≡ length s.nodes → ((m : ℕ) (q : R) → content s m ≡ Some q → slice_get nodes m ≡ Some (stands s m q)) → (m : ℕ) (q : R) → content (with_event s e) m ≡ Some q →
+        slice_get (changed nodes e.node turned more) m ≡ Some (stands (with_event s e) m q)
     each_node nodes as_many old m q has = by_place (cases_lt m (length s.nodes))
       where
-        by_place : (m < length s.nodes) ⊎ (length s.nodes ≤ m) → slice_get (changed nodes e.node turned more) m ≡ Some (stands (noted s e) m q)
+        by_place : (m < length s.nodes) ⊎ (length s.nodes ≤ m) → slice_get (changed nodes e.node turned more) m ≡ Some (stands (with_event s e) m q)
         by_place (inl lt) = dite (ℕ_discrete e.node m)
             (λ hit. subst (Stands nodes q) hit (node_itself nodes q as_many) has)
             (λ miss. other_node nodes m q as_many (old m) lt miss has)
         by_place (inr ge) = let i : ℕ = m - length s.nodes in let sum : length s.nodes + i ≡ m = omega (arith, ge) in
             subst (Stands nodes q) sum (λ h. kid_node nodes i q as_many h (slice_get (kids_of e.deed) i) refl) has
 
-    leads_on : (workers : ℕ) → e.by < workers → nodes_after 1 s.events ≡ length s.nodes → LeadsTo choices cut workers targets s → LeadsTo choices cut workers targets (noted s e)
+    leads_on : (workers : ℕ) → e.by < workers → nodes_after 1 s.events ≡ length s.nodes → LeadsTo choices cut workers targets s → LeadsTo choices cut workers targets (with_event s e)
     leads_on workers by counted old = record {
       nodes = changed old.nodes e.node turned more;
       walked = ap (walk workers targets) (lines-noted cut s e counted)
           ∙ one_more workers targets (lines_of cut s) line old.nodes (done_on old.nodes line (stands s e.node r)) old.walked (stepped workers targets old.nodes line (stands s e.node r) at came);
       same = record {
         as_many = length-changed old.nodes e.node turned more ∙ sum (length old.nodes) (length s.nodes) (length more) (length (tree.births e.node e.deed)) old.same.as_many (length-births (length s.nodes) e.node r e.deed) ∙ sym (length-append s.nodes (tree.births e.node e.deed));
-        each = λ m q has. (stands (noted s e) m q, each_node old.nodes old.same.as_many old_each m q has, refl);
+        each = λ m q has. (stands (with_event s e) m q, each_node old.nodes old.same.as_many old_each m q has, refl);
       };
     }
       where
@@ -249,7 +249,7 @@ module _ {R : Type 0} (choices : R → List Choice) (cut : R → Option Cause) (
         sum : (a b c d : ℕ) → a ≡ b → c ≡ d → a + c ≡ b + d
         sum a b c d p q = λ i. p i + q i
 
-    pub walked-noted : IsWalked choices cut targets s → IsWalked choices cut targets (noted s e)
+    pub walked-noted : IsWalked choices cut targets s → IsWalked choices cut targets (with_event s e)
     walked-noted old = record {
       counted = counted-noted cut s e old.counted;
       leads = λ workers all. leads_on workers

@@ -4,7 +4,7 @@ use Rattle.std.specs.Global.{Vec}
 use Rattle.std.specs.Arc.{arc_value}
 use Rattle.tree_core.specs.Covers.{one_if}
 use Rattle.tree_core.specs.Stories.{Story, status, content}
-use Rattle.tree_core.specs.Replays.{noted, opening}
+use Rattle.tree_core.specs.Replays.{with_event, opening}
 use Rattle.tree_core.specs.Cores.{held_count}
 use Rattle.tree_core.specs.declared.cause.Cause.{Cause}
 use Rattle.tree_core.specs.declared.event.Event.{Event}
@@ -58,7 +58,7 @@ module _ {S L : Type 0} where
       Story (Content S L) → Type 0
   IsClaim well s by (Claimed m a) t =
       (m < length s.nodes) × (status s m ≡ Free) × StateIs (content s m) (arc_value a)
-      × well (arc_value a) × (t ≡ noted s (claim_event by m))
+      × well (arc_value a) × (t ≡ with_event s (claim_event by m))
   IsClaim well s by Nothing t = NoneFree s × (0 < held_count s) × (t ≡ s)
   IsClaim well s by Quiet t = IsQuiet s × (t ≡ s)
 

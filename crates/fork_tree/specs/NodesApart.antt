@@ -11,7 +11,7 @@ use Rattle.tree_core.specs.declared.event.Kid.{Kid}
 use Rattle.fork_spec.specs.Partings.{ArePlacesApart, Place}
 
 -- the one is somewhere under the other: it has the other's choices and maybe more, and stands for none but its assignments
-pub record IsUnder (p q : Place) : Type 0 where
+pub record IsBelow (p q : Place) : Type 0 where
   pub more : List Choice
   pub choices : p.choices ≡ q.choices ++ more
   pub within : (input : List ℕ) → IsTrue (p.covers input) → IsTrue (q.covers input)
@@ -30,7 +30,7 @@ AreNodesApart {R} place decides s = (m k : ℕ) (a b : R) → m ≢ k → m < le
 -- what a deed makes of a node with this content is under it, and kids are apart
 abbrev pub KeepsApart : {R : Type 0} → (place : R → Place) → (List ℕ → List Decision) → R → Deed R (Vec (Kid R)) → Type 0
 KeepsApart place decides r Claim = Unit {0}
-KeepsApart {R} place decides r (Split kids) = All (λ (kid : Kid R). IsUnder (place kid.content) (place r)) kids.items × AreKidsApart place decides kids.items
-KeepsApart place decides r (Finish leaf) = IsUnder (place leaf) (place r)
-KeepsApart place decides r (Cut leaf) = IsUnder (place leaf) (place r)
+KeepsApart {R} place decides r (Split kids) = All (λ (kid : Kid R). IsBelow (place kid.content) (place r)) kids.items × AreKidsApart place decides kids.items
+KeepsApart place decides r (Finish leaf) = IsBelow (place leaf) (place r)
+KeepsApart place decides r (Cut leaf) = IsBelow (place leaf) (place r)
 KeepsApart place decides r Release = Unit {0}

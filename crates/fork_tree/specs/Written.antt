@@ -35,17 +35,17 @@ born_by (Split count) = count
 born_by _ = 0
 
 -- a deed as it is written: the kids of a split are the next nodes, of which the first has this number
-abbrev pub written : {R : Type 0} → (cut : R → Option Cause) → List (Node R) → (first : ℕ) → Deed R ℕ → Deed (Option Cause) Sides
-written cut nodes first Claim = Claim
-written cut nodes first (Split count) = Split (record { first = first; sides = map (side_born cut) (take count (drop first nodes)) })
-written cut nodes first (Finish leaf) = Finish (cut leaf)
-written cut nodes first (Cut leaf) = Cut (cut leaf)
-written cut nodes first Release = Release
+abbrev pub written_deed : {R : Type 0} → (cut : R → Option Cause) → List (Node R) → (first : ℕ) → Deed R ℕ → Deed (Option Cause) Sides
+written_deed cut nodes first Claim = Claim
+written_deed cut nodes first (Split count) = Split (record { first = first; sides = map (side_born cut) (take count (drop first nodes)) })
+written_deed cut nodes first (Finish leaf) = Finish (cut leaf)
+written_deed cut nodes first (Cut leaf) = Cut (cut leaf)
+written_deed cut nodes first Release = Release
 
 -- the events as they are written, where those before them have made so many nodes
 unfoldable pub lines_from : {R : Type 0} → (cut : R → Option Cause) → List (Node R) → (first : ℕ) → List (Event R ℕ) → List Line
 lines_from cut nodes first [] = []
-lines_from cut nodes first (e ∷ es) = record { by = e.by; node = e.node; deed = written cut nodes first e.deed } ∷ lines_from cut nodes (first + born_by e.deed) es
+lines_from cut nodes first (e ∷ es) = record { by = e.by; node = e.node; deed = written_deed cut nodes first e.deed } ∷ lines_from cut nodes (first + born_by e.deed) es
 
 -- all of them; the root was there before any event
 abbrev pub lines_of : {R : Type 0} → (cut : R → Option Cause) → Story R → List Line

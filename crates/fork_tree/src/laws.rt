@@ -4,7 +4,7 @@ ghost use Rattle.std.specs.Prelude.{◌≡◌, ◌<◌, ◌++◌, ℕ, All, IsTr
 ghost use Rattle.std.specs.Global.{Vec};
 ghost use Rattle.rv_spec.specs.Decisions.{Decision};
 ghost use Rattle.tree_core.specs.Covers.{count_below};
-ghost use Rattle.tree_core.specs.Replays.{is_allowed, noted, opening};
+ghost use Rattle.tree_core.specs.Replays.{is_allowed, with_event, opening};
 ghost use Rattle.tree_core.specs.Stories.{Story, content, status};
 ghost use Rattle.tree_core.specs.declared.cause.Cause.{Cause};
 ghost use Rattle.tree_core.specs.declared.choice.Choice.{Choice};
@@ -28,9 +28,9 @@ pub fn what_is_written_of_a_story_is_a_walk<R: Drop>()
     ensures opening { (choices : R → List Choice) (cut : R → Option Cause) (targets : ℕ) (root : R) → choices root ≡ [] → IsWalked choices cut targets (opening root false) }
     ensures noted { (choices : R → List Choice) (cut : R → Option Cause) (targets : ℕ) (s : Story R) (e : Event R (Vec (Kid R))) (r : R) → All (λ (x : Event R ℕ). x.node < length s.nodes) s.events
         → e.node < length s.nodes → content s e.node ≡ Some r → IsTrue (is_allowed s e) → IsInForm choices cut targets r e.deed
-        → IsWalked choices cut targets s → IsWalked choices cut targets (noted s e) }
+        → IsWalked choices cut targets s → IsWalked choices cut targets (with_event s e) }
     ensures lines { (cut : R → Option Cause) (s : Story R) (e : Event R (Vec (Kid R))) → nodes_after 1 s.events ≡ length s.nodes
-        → lines_of cut (noted s e) ≡ lines_of cut s ++ record { by = e.by; node = e.node; deed = written_now cut (length s.nodes) e.deed } ∷ [] }
+        → lines_of cut (with_event s e) ≡ lines_of cut s ++ record { by = e.by; node = e.node; deed = written_now cut (length s.nodes) e.deed } ∷ [] }
 {}
 
 /// Where no node is free or held, the walk leaves nothing to be done, and has as many leaves as the tree.
@@ -46,7 +46,7 @@ pub fn nodes_without_kids_stay_apart<R: Drop>()
     ensures opening { (place : R → Place) (decides : List ℕ → List Decision) (root : R) → AreNodesApart place decides (opening root false) }
     ensures noted { (place : R → Place) (decides : List ℕ → List Decision) (s : Story R) (e : Event R (Vec (Kid R))) (r : R) → All (λ (x : Event R ℕ). x.node < length s.nodes) s.events
         → e.node < length s.nodes → content s e.node ≡ Some r → IsTrue (is_allowed s e) → KeepsApart place decides r e.deed
-        → AreNodesApart place decides s → AreNodesApart place decides (noted s e) }
+        → AreNodesApart place decides s → AreNodesApart place decides (with_event s e) }
 {}
 
 /// Where no node of a tree is free or held, a walk that leads to its nodes leaves nothing to be done, and has as many leaves as the

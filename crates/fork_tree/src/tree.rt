@@ -6,7 +6,7 @@ ghost use Rattle.tree_core.specs.declared.cause.Cause.TheVariants.{Steps};
 ghost use Rattle.tree_core.specs.declared.node.Status.TheVariants.{Free, Held, Leaf};
 ghost use Rattle.tree_core.specs.Cores.{LacksRoom, held_count};
 ghost use Rattle.tree_core.specs.Covers.{Partition};
-ghost use Rattle.tree_core.specs.Replays.{IsFit, Replays, is_allowed, noted};
+ghost use Rattle.tree_core.specs.Replays.{IsFit, Replays, is_allowed, with_event};
 ghost use Rattle.tree_core.specs.Stories.{content, status};
 ghost use Rattle.fork_tree.specs.declared.content.Content.TheVariants.{Shut};
 ghost use Rattle.fork_tree.specs.Calls.{IsClaim, IsEndFit, IsOpening, IsQuiet, IsSplitFit, cut_event, finish_event, release_event, split_event};
@@ -128,7 +128,7 @@ impl<W: Work> Tree<W> {
         requires fit { IsSplitFit (W.rules self.old.worker) W.State.place W.Leaf.place self.old.story by node kids }
         requires room { vec_len kids ≤ self.old.node_room }
         ensures worker { self.new.worker ≡ self.old.worker }
-        ensures story { self.new.story ≡ noted self.old.story (split_event by node kids) }
+        ensures story { self.new.story ≡ with_event self.old.story (split_event by node kids) }
     {
         let first = self.core.len();
         list_kids(&mut self.free, by, first, kids.as_slice());
@@ -140,7 +140,7 @@ impl<W: Work> Tree<W> {
     pub fn finish(&mut self, by: u32, node: usize, leaf: W::Leaf)
         requires fit { IsEndFit (W.rules self.old.worker) W.State.place W.Leaf.place None self.old.story by node leaf }
         ensures worker { self.new.worker ≡ self.old.worker }
-        ensures story { self.new.story ≡ noted self.old.story (finish_event by node leaf) }
+        ensures story { self.new.story ≡ with_event self.old.story (finish_event by node leaf) }
     {
         let deed = Deed::Finish(Content::Shut(leaf));
         note(&mut self.core, Event { by, node, deed });
@@ -150,7 +150,7 @@ impl<W: Work> Tree<W> {
     pub fn cut(&mut self, by: u32, node: usize, leaf: W::Leaf)
         requires fit { IsEndFit (W.rules self.old.worker) W.State.place W.Leaf.place (Some Steps) self.old.story by node leaf }
         ensures worker { self.new.worker ≡ self.old.worker }
-        ensures story { self.new.story ≡ noted self.old.story (cut_event by node leaf) }
+        ensures story { self.new.story ≡ with_event self.old.story (cut_event by node leaf) }
     {
         let deed = Deed::Cut(Content::Shut(leaf));
         note(&mut self.core, Event { by, node, deed });
@@ -161,7 +161,7 @@ impl<W: Work> Tree<W> {
         requires there { node < length self.old.story.nodes }
         requires held { status self.old.story node ≡ Held by }
         ensures worker { self.new.worker ≡ self.old.worker }
-        ensures story { self.new.story ≡ noted self.old.story (release_event by node) }
+        ensures story { self.new.story ≡ with_event self.old.story (release_event by node) }
     {
         let deed = Deed::Release;
         note(&mut self.core, Event { by, node, deed });
@@ -260,7 +260,7 @@ fn note<R: Cover>(core: &mut Core<R>, event: Event<R>)
     requires fit { IsFit R.covers core.old.story event }
     requires allowed { IsTrue (is_allowed core.old.story event) }
     requires room { LacksRoom core.old event.deed → ⊥ }
-    ensures story { core.new.story ≡ noted core.old.story event }
+    ensures story { core.new.story ≡ with_event core.old.story event }
     ensures named { All (λ e. e.node < length core.old.story.nodes) core.old.story.events }
 {
     let _ = core.events();

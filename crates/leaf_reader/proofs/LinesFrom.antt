@@ -5,7 +5,7 @@ use Rattle.std.proofs.lemmas.Option.{same_Some}
 use Rattle.bv_dag.specs.declared.nodes.Comparison.TheVariants.{Eq}
 use Rattle.bv_dag.specs.declared.nodes.Node.{Node}
 use Rattle.bv_dag.specs.declared.nodes.Node.TheVariants.{Num, Input, Not, Neg, Binary, Compare, Ite, Extract, Extend, Concat}
-use Rattle.smt_text.specs.LineReading.{answers, endings, equal_operands, fixed, heads, if_word, ite_operands, kind_said, kinds, line_at, node_line, operands, term, word_said}
+use Rattle.smt_text.specs.LineReading.{answers, endings, equal_operands, fixed, heads, if_word, ite_operands, kind_said, kinds, line_at, node_line, read_operands, term, word_said}
 use Rattle.text_parts.specs.Items.{all_choices, all_steps}
 use Rattle.smt_text.specs.Lines.{LeafLine, FormatLine, KindLine, ChoicesLine, PathLine, StepsLine, EndLine, InputsLine, NodesLine, OutputsLine, LogicLine, InputLine, BaseLine, NodeLine, StatusLine, OutputLine, AssertLine, CheckLine, ExitLine, line_text}
 use Rattle.text_parts.specs.Names.{choices_text, kind_text, path_text, word_text}
@@ -75,9 +75,9 @@ numbers_term make word middle end text node rest shape h =
     ap (λ t. word ++ t) b.0 ∙ sym (five_pieces word (decimal a.0.0) middle (decimal a.0.1) end rest)
     ∙ ap (λ t. t ++ rest) (sym (shape a.0)) ∙ ap (λ (n : Node). node_text n ++ rest) a.2
 
-from_operands : (found : Head) (text : List ℕ) (node : Node) (rest : List ℕ) → operands found text ≡ Some (node, rest) →
+from_operands : (found : Head) (text : List ℕ) (node : Node) (rest : List ℕ) → read_operands found text ≡ Some (node, rest) →
     head_text found ++ text ≡ node_text node ++ rest
-unfolding operands head_text
+unfolding read_operands head_text
 from_operands head.Num text node rest h =
     let a = then_from (λ ((p, r) : (ℕ × ℕ) × List ℕ). if_word p.1 (Some (Num p.1 p.0, r))) (two (codes " ") (codes ")") text) (node, rest) h in
     let e = same_Some (Num a.0.0.1 a.0.0.0, a.0.1) (node, rest) (word_from a.0.0.1 (Some (Num a.0.0.1 a.0.0.0, a.0.1)) (node, rest) a.2) in
@@ -124,7 +124,7 @@ from_operands head.Concat text node rest h =
 from_term : (text : List ℕ) (node : Node) (rest : List ℕ) → term text ≡ Some (node, rest) → text ≡ node_text node ++ rest
 unfolding term
 from_term text node rest h =
-    let a = then_from (λ ((found, r) : Head × List ℕ). operands found r) (named heads text) (node, rest) h in
+    let a = then_from (λ ((found, r) : Head × List ℕ). read_operands found r) (named heads text) (node, rest) h in
     from_named head_text heads heads_say text a.0.0 a.0.1 a.1 ∙ from_operands a.0.0 a.0.1 node rest a.2
 
 -- ---- lines

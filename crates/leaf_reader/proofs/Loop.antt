@@ -8,7 +8,7 @@ use Rattle.smt_text.specs.Grammar.{Reading, next_state, read_lines, stands, star
 use Rattle.smt_text.specs.LeafLines.{leaf_lines, leaf_text}
 use Rattle.smt_text.specs.LineReading.{line_at, next_line}
 use Rattle.smt_text.specs.Lines.{LeafLine, FormatLine, KindLine, ChoicesLine, PathLine, StepsLine, EndLine, InputsLine, NodesLine, OutputsLine, LogicLine, InputLine, BaseLine, NodeLine, StatusLine, OutputLine, AssertLine, CheckLine, ExitLine, line_text, lines_text}
-use Rattle.smt_text.specs.Phases.{IsSound}
+use Rattle.smt_text.specs.Phases.{IsSoundReading}
 use Rattle.leaf_reader.specs.Refusals.{BeginsWithNone, GoesOnOtherwise, IsRefusedAt}
 use Rattle.smt_text.specs.declared.spot.Spot.{Spot}
 use Rattle.smt_text.specs.declared.spot.Spot.TheVariants.{Closed}
@@ -53,13 +53,13 @@ took_line r text s rest h =
       begins = from_line r.place text a.0.0 a.0.1 a.1 ∙ ap (λ (p : Reading × List ℕ). line_text a.0.0 ++ p.1) b.2;
     }
 
-next_is : (r : Reading) (line : LeafLine) (more : List ℕ) → IsSound r → stands r.place r line ≡ true →
+next_is : (r : Reading) (line : LeafLine) (more : List ℕ) → IsSoundReading r → stands r.place r line ≡ true →
     next_line r (line_text line ++ more) ≡ Some (with_line r line, more)
 unfolding next_line next_state
 next_is r line more sound may = rw (line_back r.place r line more sound.0 sound.1 may, may) refl
 
 -- where none was taken, none may stand
-pub took_none : (r : Reading) (text : List ℕ) → IsSound r → next_line r text ≡ None → BeginsWithNone r text
+pub took_none : (r : Reading) (text : List ℕ) → IsSoundReading r → next_line r text ≡ None → BeginsWithNone r text
 took_none r text sound none line more may e =
     none-some (with_line r line, more) (sym none ∙ ap (next_line r) e ∙ next_is r line more sound may)
 
@@ -144,7 +144,7 @@ read_one_more text r count rest s more has h =
       room = omega (arith, has.room, shorter r rest s more h);
     }
 
-pub sound_so_far : (text : List ℕ) (r : Reading) (count : ℕ) (rest : List ℕ) → HasRead text r count rest → IsSound r
+pub sound_so_far : (text : List ℕ) (r : Reading) (count : ℕ) (rest : List ℕ) → HasRead text r count rest → IsSoundReading r
 sound_so_far text r count rest has = reached start r has.lines sound_start has.all_stand
 
 pub refused_here : (text : List ℕ) (r : Reading) (count : ℕ) (rest : List ℕ) → HasRead text r count rest → 0 < length rest →
@@ -187,7 +187,7 @@ read_whole text r count rest has none closed = record {
 -- ---- no full leaf's text is refused
 
 -- what is left of lines behind the first of them
-left_over : (r s t : Reading) (lines all : List LeafLine) (rest : List ℕ) → IsSound r → read_lines r lines ≡ Some s →
+left_over : (r s t : Reading) (lines all : List LeafLine) (rest : List ℕ) → IsSoundReading r → read_lines r lines ≡ Some s →
     read_lines r all ≡ Some t → lines_text all ≡ lines_text lines ++ rest →
     (left : List LeafLine) × (read_lines s left ≡ Some t) × (rest ≡ lines_text left)
 unfolding read_lines lines_text
@@ -209,7 +209,7 @@ left_over r s t (line ∷ lines) (first ∷ all) rest sound one whole e =
     left_over (with_line r line) s t lines all rest (kept r.place r line sound.0 sound.1 refl here.0) here.1
     (subst (λ (l : LeafLine). read_lines (with_line r l) all ≡ Some t) same there.1) (ap (λ (p : LeafLine × List ℕ). p.1) pair)
 
-closed_when_none_left : (s t : Reading) (left : List LeafLine) (rest : List ℕ) → IsSound s → read_lines s left ≡ Some t →
+closed_when_none_left : (s t : Reading) (left : List LeafLine) (rest : List ℕ) → IsSoundReading s → read_lines s left ≡ Some t →
     rest ≡ lines_text left → rest ≡ [] → t.place ≡ Closed → s.place ≡ Closed
 unfolding read_lines lines_text
 closed_when_none_left s t [] rest sound h e none closed = ap (λ (q : Reading). q.place) (same_Some s t h) ∙ closed

@@ -12,7 +12,7 @@ use Rattle.rv_decode.specs.declared.ends.PathStep.{PathStep}
 use Rattle.tree_core.specs.declared.cause.Cause.{Cause}
 use Rattle.tree_core.specs.declared.choice.Choice.{Choice}
 use Rattle.fork_spec.specs.declared.end.LeafEnd.{LeafEnd}
-use Rattle.smt_text.specs.Grammar.{Reading, agree, end_of, graph_of, is_wide, next_state, stands, with_line}
+use Rattle.smt_text.specs.Grammar.{Reading, agree, end_by, graph_of, is_wide, next_state, stands, with_line}
 use Rattle.smt_text.specs.LineReading.{end_said, end_word, kind_said, line_at, next_line, word_said}
 use Rattle.leaf_reader.specs.ReadingState.{IsPushed}
 use Rattle.text_parts.specs.Items.{all_choices, all_steps}
@@ -77,13 +77,13 @@ pub next_end : (r : Reading) (kind : Option Cause) (text : List ℕ) (said : End
 next_end r kind text said end rest here kind_is read is = go (agree (kind_said kind) (word_said said)) refl is
   where
     go : (b : Bool) → agree (kind_said kind) (word_said said) ≡ b →
-        (if b then Some (end_of (kind_said kind) (word_said said)) else None) ≡ Some end →
+        (if b then Some (end_by (kind_said kind) (word_said said)) else None) ≡ Some end →
         next_line r text ≡ Some (record r { place = AtInputs; end = end }, rest)
     go false agrees h = cc
     go true agrees h =
-        let same : end_of (kind_said kind) (word_said said) ≡ end = same_Some (end_of (kind_said kind) (word_said said)) end h in
+        let same : end_by (kind_said kind) (word_said said) ≡ end = same_Some (end_by (kind_said kind) (word_said said)) end h in
         next_some AtEnd r text (EndLine (word_said said)) rest here (rw read refl) (rw kind_is agrees)
-        ∙ ap (λ (k : Kind). Some (record r { place = AtInputs; end = end_of k (word_said said) }, rest)) kind_is
+        ∙ ap (λ (k : Kind). Some (record r { place = AtInputs; end = end_by k (word_said said) }, rest)) kind_is
         ∙ ap (λ (e : LeafEnd). Some (record r { place = AtInputs; end = e }, rest)) same
 
 -- ---- widths

@@ -26,9 +26,9 @@ reading_of s = record {
 }
 
 -- no line that may stand was found; or one, and this is what is read with it, and what is behind it
-abbrev pub IsNext : (old : Reading) (text : List ℕ) (new : Reading) → Option (List ℕ) → Type 0
-IsNext old text new None = next_line old text ≡ None
-IsNext old text new (Some rest) = next_line old text ≡ Some (new, rest)
+abbrev pub IsNextLine : (old : Reading) (text : List ℕ) (new : Reading) → Option (List ℕ) → Type 0
+IsNextLine old text new None = next_line old text ≡ None
+IsNextLine old text new (Some rest) = next_line old text ≡ Some (new, rest)
 
 -- the line of a node, by its number, its width and the node
 abbrev pub line_said : NodeSaid → LeafLine

@@ -4,8 +4,8 @@ ghost use Rattle.std.specs.Prelude.{◌≡◌, IfErr, IfOk, Ok, option_map};
 ghost use Rattle.fork_spec.specs.Leaves.{IsFull, Leaf};
 ghost use Rattle.smt_text.specs.Grammar.{start, IsWhole};
 ghost use Rattle.smt_text.specs.LeafLines.{leaf_text};
-ghost use Rattle.smt_text.specs.Phases.{IsSound};
-ghost use Rattle.leaf_reader.specs.ReadingState.{IsNext, reading_of};
+ghost use Rattle.smt_text.specs.Phases.{IsSoundReading};
+ghost use Rattle.leaf_reader.specs.ReadingState.{IsNextLine, reading_of};
 ghost use Rattle.leaf_reader.specs.Refusals.{IsRefusedAt};
 
 use crate::leaf_reading::LeafReading;
@@ -23,8 +23,8 @@ pub struct SmtRefused {
 impl LeafReading {
     /// The next line, whatever its kind, if it may stand.
     fn take_line<'a>(&mut self, alloc: Global, text: &'a [u8]) -> Result<Option<&'a [u8]>, NoMemory>
-        requires { IsSound (reading_of self.old) }
-        ensures { IfOk result (λ found. IsNext (reading_of self.old) text.now (reading_of self.new) (option_map (λ rest. rest.now) found)) }
+        requires { IsSoundReading (reading_of self.old) }
+        ensures { IfOk result (λ found. IsNextLine (reading_of self.old) text.now (reading_of self.new) (option_map (λ rest. rest.now) found)) }
     {
         match self.place {
             Spot::AtFormat => Ok(self.take_format(text)),

@@ -2,7 +2,7 @@
 
 ghost use Rattle.std.specs.Prelude.{◌≡◌, ◌<◌, ℕ};
 ghost use Rattle.smt_text.specs.Grammar as spec;
-ghost use Rattle.smt_text.specs.Phases.{IsSound};
+ghost use Rattle.smt_text.specs.Phases.{IsSoundReading};
 ghost use Rattle.leaf_reader.specs.ReadingState.{reading_of};
 
 use bv_dag::{Dag, Query};
@@ -119,7 +119,7 @@ impl LeafReading {
 
     /// The leaf that was read.
     pub fn into_leaf(self) -> LeafText
-        requires { IsSound (reading_of self) }
+        requires { IsSoundReading (reading_of self) }
         ensures { result ≡ spec.leaf_of (reading_of self) }
     {
         let Self {

@@ -48,7 +48,7 @@ fn take_choice(text: &[u8]) -> Option<(Choice, &[u8])>
 
 /// What a branch does.
 fn take_branch(text: &[u8]) -> Option<(PathStep, &[u8])>
-    ensures { option_map (λ found. (found.0, found.1.now)) result ≡ spec.branch text.now }
+    ensures { option_map (λ found. (found.0, found.1.now)) result ≡ spec.branch_step text.now }
 {
     named(text, &BRANCHES)
 }

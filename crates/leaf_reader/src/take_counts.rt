@@ -2,7 +2,7 @@
 
 ghost use Rattle.std.specs.Prelude.{◌≡◌, [], option_map};
 ghost use Rattle.smt_text.specs.LineReading as spec;
-ghost use Rattle.leaf_reader.specs.ReadingState.{IsNext, reading_of};
+ghost use Rattle.leaf_reader.specs.ReadingState.{IsNextLine, reading_of};
 ghost use Rattle.smt_text.specs.declared.spot.Spot.TheVariants as spot;
 
 use crate::cursor::{behind, one};
@@ -13,7 +13,7 @@ use std::alloc::Global;
 
 /// A number below 2^32 before the end of the line.
 fn take_count(text: &[u8]) -> Option<(u32, &[u8])>
-    ensures { option_map (λ found. (found.0, found.1.now)) result ≡ spec.count text.now }
+    ensures { option_map (λ found. (found.0, found.1.now)) result ≡ spec.count_to_end text.now }
 {
     let (count, rest) = one(text, "\n")?;
     Some((u32::try_from(count).ok()?, rest))
@@ -25,7 +25,7 @@ impl LeafReading {
     pub fn take_inputs<'a>(&mut self, alloc: Global, text: &'a [u8]) -> Option<&'a [u8]>
         requires here { self.old.place ≡ spot.AtInputs }
         requires no_nodes { self.old.dag.nodes ≡ [] }
-        ensures { IsNext (reading_of self.old) text.now (reading_of self.new) (option_map (λ rest. rest.now) result) }
+        ensures { IsNextLine (reading_of self.old) text.now (reading_of self.new) (option_map (λ rest. rest.now) result) }
     {
         let (count, rest) = take_count(behind(text, "; inputs ")?)?;
         self.dag = Dag::new(alloc, count as usize);
@@ -37,7 +37,7 @@ impl LeafReading {
     #[tactic(auto, unfolding(smt_text::specs::LineReading::next_line, smt_text::specs::Grammar::next_state))]
     pub fn take_nodes<'a>(&mut self, text: &'a [u8]) -> Option<&'a [u8]>
         requires { self.old.place ≡ spot.AtNodes }
-        ensures { IsNext (reading_of self.old) text.now (reading_of self.new) (option_map (λ rest. rest.now) result) }
+        ensures { IsNextLine (reading_of self.old) text.now (reading_of self.new) (option_map (λ rest. rest.now) result) }
     {
         let (count, rest) = one(behind(text, "; nodes ")?, "\n")?;
         self.node_count = count as usize;
@@ -49,7 +49,7 @@ impl LeafReading {
     #[tactic(auto, unfolding(smt_text::specs::LineReading::next_line, smt_text::specs::Grammar::next_state))]
     pub fn take_outputs<'a>(&mut self, text: &'a [u8]) -> Option<&'a [u8]>
         requires { self.old.place ≡ spot.AtOutputs }
-        ensures { IsNext (reading_of self.old) text.now (reading_of self.new) (option_map (λ rest. rest.now) result) }
+        ensures { IsNextLine (reading_of self.old) text.now (reading_of self.new) (option_map (λ rest. rest.now) result) }
     {
         let (count, rest) = take_count(behind(text, "; outputs ")?)?;
         self.output_count = count as usize;
@@ -61,7 +61,7 @@ impl LeafReading {
     #[tactic(auto, unfolding(smt_text::specs::LineReading::next_line, smt_text::specs::Grammar::next_state))]
     pub fn take_logic<'a>(&mut self, text: &'a [u8]) -> Option<&'a [u8]>
         requires { self.old.place ≡ spot.AtLogic }
-        ensures { IsNext (reading_of self.old) text.now (reading_of self.new) (option_map (λ rest. rest.now) result) }
+        ensures { IsNextLine (reading_of self.old) text.now (reading_of self.new) (option_map (λ rest. rest.now) result) }
     {
         let rest = behind(text, "(set-logic QF_ABV)\n")?;
         self.place = self.behind_inputs();
@@ -72,7 +72,7 @@ impl LeafReading {
     #[tactic(auto, unfolding(smt_text::specs::LineReading::next_line, smt_text::specs::Grammar::next_state))]
     pub fn take_base<'a>(&mut self, text: &'a [u8]) -> Option<&'a [u8]>
         requires { self.old.place ≡ spot.AtBase }
-        ensures { IsNext (reading_of self.old) text.now (reading_of self.new) (option_map (λ rest. rest.now) result) }
+        ensures { IsNextLine (reading_of self.old) text.now (reading_of self.new) (option_map (λ rest. rest.now) result) }
     {
         let rest = behind(
             text,
@@ -86,7 +86,7 @@ impl LeafReading {
     #[tactic(auto, unfolding(smt_text::specs::LineReading::next_line, smt_text::specs::Grammar::next_state))]
     pub fn take_exit<'a>(&mut self, text: &'a [u8]) -> Option<&'a [u8]>
         requires { self.old.place ≡ spot.AtExit }
-        ensures { IsNext (reading_of self.old) text.now (reading_of self.new) (option_map (λ rest. rest.now) result) }
+        ensures { IsNextLine (reading_of self.old) text.now (reading_of self.new) (option_map (λ rest. rest.now) result) }
     {
         let rest = behind(text, "(exit)\n")?;
         self.place = Spot::Closed;

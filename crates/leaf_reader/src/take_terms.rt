@@ -2,7 +2,7 @@
 
 ghost use Rattle.std.specs.Prelude.{◌≡◌, ◌<◌, ◌^◌, IfOk, None, option_map};
 ghost use Rattle.smt_text.specs.LineReading as spec;
-ghost use Rattle.leaf_reader.specs.ReadingState.{IsNext, IsPushed, line_said, reading_of};
+ghost use Rattle.leaf_reader.specs.ReadingState.{IsNextLine, IsPushed, line_said, reading_of};
 ghost use Rattle.smt_text.specs.declared.spot.Spot.TheVariants as spot;
 
 use crate::cursor::{behind, one, two};
@@ -58,7 +58,7 @@ impl LeafReading {
         requires here { self.old.place ≡ spot.AmongInputs }
         requires more { self.old.declared < self.old.dag.inputs }
         requires few { self.old.dag.inputs < 2 ^ 32 }
-        ensures { IsNext (reading_of self.old) text.now (reading_of self.new) (option_map (λ rest. rest.now) result) }
+        ensures { IsNextLine (reading_of self.old) text.now (reading_of self.new) (option_map (λ rest. rest.now) result) }
     {
         let (i, rest) = one(behind(text, "(declare-fun b")?, " () (_ BitVec 8))\n")?;
         if i as usize != self.declared {
@@ -84,7 +84,7 @@ impl LeafReading {
     /// The next node.
     pub fn take_node<'a>(&mut self, text: &'a [u8]) -> Result<Option<&'a [u8]>, NoMemory>
         requires { self.old.place ≡ spot.AmongNodes }
-        ensures { IfOk result (λ found. IsNext (reading_of self.old) text.now (reading_of self.new) (option_map (λ rest. rest.now) found)) }
+        ensures { IfOk result (λ found. IsNextLine (reading_of self.old) text.now (reading_of self.new) (option_map (λ rest. rest.now) found)) }
     {
         let Some((said, rest)) = node_said(text) else {
             return Ok(None);
@@ -100,7 +100,7 @@ impl LeafReading {
     #[tactic(auto, unfolding(smt_text::specs::LineReading::next_line, smt_text::specs::Grammar::next_state))]
     pub fn take_status<'a>(&mut self, text: &'a [u8]) -> Option<&'a [u8]>
         requires { self.old.place ≡ spot.AtStatus }
-        ensures { IsNext (reading_of self.old) text.now (reading_of self.new) (option_map (λ rest. rest.now) result) }
+        ensures { IsNextLine (reading_of self.old) text.now (reading_of self.new) (option_map (λ rest. rest.now) result) }
     {
         let (id, rest) = one(behind(text, "(define-fun status () (_ BitVec 8) n")?, ")\n")?;
         let status = id as usize;
@@ -116,7 +116,7 @@ impl LeafReading {
     #[tactic(auto, unfolding(smt_text::specs::LineReading::next_line, smt_text::specs::Grammar::next_state))]
     pub fn take_output<'a>(&mut self, text: &'a [u8]) -> Result<Option<&'a [u8]>, NoMemory>
         requires { self.old.place ≡ spot.AmongOutputs }
-        ensures { IfOk result (λ found. IsNext (reading_of self.old) text.now (reading_of self.new) (option_map (λ rest. rest.now) found)) }
+        ensures { IfOk result (λ found. IsNextLine (reading_of self.old) text.now (reading_of self.new) (option_map (λ rest. rest.now) found)) }
     {
         let Some(((i, id), rest)) = output_said(text) else {
             return Ok(None);
@@ -134,7 +134,7 @@ impl LeafReading {
     fn take_check<'a>(&mut self, text: &'a [u8]) -> Option<&'a [u8]>
         requires here { self.old.place ≡ spot.AmongAssertions }
         requires no_assertion { spec.assertion_said text.now ≡ None }
-        ensures { IsNext (reading_of self.old) text.now (reading_of self.new) (option_map (λ rest. rest.now) result) }
+        ensures { IsNextLine (reading_of self.old) text.now (reading_of self.new) (option_map (λ rest. rest.now) result) }
     {
         let rest = behind(text, "(check-sat)\n")?;
         self.place = Spot::AtExit;
@@ -145,7 +145,7 @@ impl LeafReading {
     #[tactic(auto, unfolding(smt_text::specs::LineReading::next_line, smt_text::specs::Grammar::next_state))]
     pub fn take_assertion<'a>(&mut self, text: &'a [u8]) -> Result<Option<&'a [u8]>, NoMemory>
         requires { self.old.place ≡ spot.AmongAssertions }
-        ensures { IfOk result (λ found. IsNext (reading_of self.old) text.now (reading_of self.new) (option_map (λ rest. rest.now) found)) }
+        ensures { IfOk result (λ found. IsNextLine (reading_of self.old) text.now (reading_of self.new) (option_map (λ rest. rest.now) found)) }
     {
         let Some((id, rest)) = assertion_said(text) else {
             return Ok(self.take_check(text));

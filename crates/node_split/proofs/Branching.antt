@@ -22,9 +22,9 @@ use Rattle.tree_core.specs.declared.budgets.Budgets.{Budgets}
 use Rattle.tree_core.specs.declared.choice.Choice.{Choice}
 use Rattle.tree_core.specs.declared.choice.Choice.TheVariants.{No, Yes}
 use Rattle.node_split.specs.Learning.{IsLearntFor}
-use Rattle.node_split.specs.Narrowing.{IsNarrowed, IsNarrower, IsSettled, is_side}
+use Rattle.node_split.specs.Narrowing.{IsNarrowed, IsNarrower, IsForced, is_side}
 use Rattle.node_split.specs.Rules.{Piece}
-use Rattle.node_split.specs.Splits.{IsBranchSide, IsRunOn, IsSide, IsTested, choice_of}
+use Rattle.node_split.specs.Splits.{IsBranchSide, IsRunOn, IsSide, IsSideTested, branch_choice}
 use Rattle.node_split.specs.declared.branch.Tested.{Tested}
 use Rattle.node_split.proofs.Bytes.{all_true, not_false, not_true, one_is}
 use Rattle.node_split.proofs.Increasing.{equals}
@@ -32,12 +32,12 @@ use Rattle.node_split.proofs.Sharing.{side_in}
 use Rattle.node_split.proofs.Sides.{decision_there, holds-last, narrower, side_run, stands-narrowed}
 
 -- the term itself is 1 where the branch is taken
-pub tested_yes : (s : Symbolic) (term : ℕ) → IsFormed s → width_of s.terms term ≡ 1 → IsTested s term true (record { run = s; test = term })
+pub tested_yes : (s : Symbolic) (term : ℕ) → IsFormed s → width_of s.terms term ≡ 1 → IsSideTested s term true (record { run = s; test = term })
 tested_yes s term formed bit = record { formed = formed; same = refl; continues = Continues-refl s.terms; bit = bit; tells = λ input bytes. refl }
 
 -- and its other where it isn't
 pub tested_no : (s new : Symbolic) (term negated : ℕ) → MakesTerm s new 1 negated (λ input. one_where (not (number_of s.terms term input == 1)))
-    → IsTested s term false (record { run = new; test = negated })
+    → IsSideTested s term false (record { run = new; test = negated })
 tested_no s new term negated makes = record {
   formed = makes.grown.before;
   same = makes.grown.same;
@@ -54,9 +54,9 @@ decides_side false n is = ap OnSide (not_true (n == 1) is)
 pub side_narrower : (s : Symbolic) (g : Graph) (term test : ℕ) (side : Bool) (sample : List ℕ) → IsFormed s → IsBranch s term → Continues s.terms g
     → ((input : List ℕ) → All (λ b. b < 256) input → (number_of g test input == 1) ≡ is_side side (number_of s.terms term input))
     → stands_for s sample ≡ true → is_side side (number_of s.terms term sample) ≡ true
-    → IsNarrower s (side_run s g 1 (Side side) (choice_of side) test sample) (choice_of side) (λ input. is_side side (number_of s.terms term input))
+    → IsNarrower s (side_run s g 1 (Side side) (branch_choice side) test sample) (branch_choice side) (λ input. is_side side (number_of s.terms term input))
 side_narrower s g term test side sample formed at grown tells stands on =
-    narrower s g 1 1 term (Side side) (choice_of side) test sample (λ input. is_side side (number_of s.terms term input))
+    narrower s g 1 1 term (Side side) (branch_choice side) test sample (λ input. is_side side (number_of s.terms term input))
     (λ input. OnSide (number_of s.terms term input == 1)) formed grown at tells
     (λ input is. decides_side side (number_of s.terms term input) is) stands on
 
@@ -70,15 +70,15 @@ pub sides_ok : {E : Type 0} (r : Result Piece E) (P Q : Piece → Type 0) → If
 sides_ok (Ok kid) P Q is turn = turn kid is
 sides_ok (Err e) P Q is turn = tt
 
-pub small_choice : (side : Bool) → IsSmallChoice (choice_of side)
+pub small_choice : (side : Bool) → IsSmallChoice (branch_choice side)
 small_choice true = tt
 small_choice false = tt
 
 -- the side on which no assignment is known is one of the fork
 pub branch_side : (budgets : Budgets) (s : Symbolic) (term : ℕ) (side : Bool) (kid : Piece)
-    → IsSide s (choice_of side) (λ input. is_side side (number_of s.terms term input)) kid → IsBranchSide budgets s term side kid
+    → IsSide s (branch_choice side) (λ input. is_side side (number_of s.terms term input)) kid → IsBranchSide budgets s term side kid
 branch_side budgets s term side kid is p was few =
-    (None, refl, side_in p budgets (No ∷ Yes ∷ []) s (choice_of side) (λ input. is_side side (number_of s.terms term input)) kid was few is)
+    (None, refl, side_in p budgets (No ∷ Yes ∷ []) s (branch_choice side) (λ input. is_side side (number_of s.terms term input)) kid was few is)
 
 -- ---- What a question about a run with one more term shows.
 module _ (s : Symbolic) (g : Graph) (test : ℕ) (formed : IsFormed s) (grown : Continues s.terms g) where
@@ -114,7 +114,7 @@ other_is false n h = h
 
 pub branch_settled : (s : Symbolic) (term : ℕ) (side : Bool) → IsBranch s term
     → ((input : List ℕ) → stands_for s input ≡ true → is_side (not side) (number_of s.terms term input) ≡ false)
-    → IsSettled s 1 (Side side)
+    → IsForced s 1 (Side side)
 branch_settled s term side at none = record {
   in_range = at.in_range;
   unknown = at.unknown;
@@ -129,7 +129,7 @@ own_side true n is = sym is
 own_side false n is = ap not (sym is)
 
 -- ---- A run that is narrowed by what is 1 on one side.
-pub tested_narrowed : (s u : Symbolic) (term : ℕ) (side : Bool) (t : Tested) → IsTested s term side t
+pub tested_narrowed : (s u : Symbolic) (term : ℕ) (side : Bool) (t : Tested) → IsSideTested s term side t
     → u ≡ record t.run { condition = t.run.condition ++ t.test ∷ [] }
     → IsNarrowed s u (λ input. is_side side (number_of s.terms term input))
 tested_narrowed s u term side t is at =
@@ -141,11 +141,11 @@ tested_narrowed s u term side t is at =
       continues = subst (λ (r : Symbolic). Continues s.terms r.terms) (sym form) is.continues;
       covers = λ input.
           ap (λ (r : Symbolic). stands_for r input) form
-          ∙ stands-narrowed s g 1 (Side side) (choice_of side) t.test [] (λ i. is_side side (number_of s.terms term i)) is.formed is.continues is.tells input;
+          ∙ stands-narrowed s g 1 (Side side) (branch_choice side) t.test [] (λ i. is_side side (number_of s.terms term i)) is.formed is.continues is.tells input;
     }
 
 -- ---- The question about the other side.
-module _ (s : Symbolic) (term : ℕ) (side : Bool) (t : Tested) (is : IsTested s term side t) where
+module _ (s : Symbolic) (term : ℕ) (side : Bool) (t : Tested) (is : IsSideTested s term side t) where
   conditions : t.run.condition ≡ s.condition
   conditions = ap (λ (r : Symbolic). r.condition) is.same
 

@@ -17,7 +17,7 @@ use Rattle.tree_core.specs.declared.cause.Cause.{Cause}
 use Rattle.tree_core.specs.declared.cause.Cause.TheVariants.{Conflicts, Targets}
 use Rattle.tree_core.specs.declared.choice.Choice.{Choice}
 use Rattle.tree_core.specs.declared.choice.Choice.TheVariants.{Rest, Value}
-use Rattle.fork_spec.specs.Evidence.{Found, IsReached, IsSample, Learnt, SpendsConflicts, SpendsTargets, all_but_last, is_among, values_of}
+use Rattle.fork_spec.specs.Evidence.{Found, IsWitness, IsSample, Learnt, SpendsConflicts, SpendsTargets, all_but_last, is_among, values_of}
 use Rattle.fork_spec.specs.Leaves.{IsCount, IsFull, IsSmall, are_bytes}
 use Rattle.fork_spec.specs.Parts.{Evidence, IsRight, OnConflicts, OnTargets, Part, Shows}
 use Rattle.fork_spec.specs.Runs.{AreWithin}
@@ -35,7 +35,7 @@ use Rattle.term_trees.specs.TreeSlices.{IsSliceOfTrees, asserted_trees}
 use Rattle.term_trees.specs.Trees.{Tree, tree_of}
 use Rattle.node_split.specs.Copies.{AreCopies}
 use Rattle.node_split.specs.Learning.{IsLearntFor}
-use Rattle.node_split.specs.Leaving.{HasTerms, IsWritable, left_as}
+use Rattle.node_split.specs.Leaving.{HasTerms, HasTextRoom, left_as}
 use Rattle.node_split.specs.Narrowing.{IsNarrowed}
 use Rattle.node_split.specs.Splits.{IsSideIn, leaf_side}
 use Rattle.node_split.specs.Values.{AreValues, HasValue, IsWithout}
@@ -140,10 +140,10 @@ conflicts_shown regions conflicts s t learnt has inputs few_inputs few_nodes is 
     }
 
 -- what a leaf's texts have room for stays when only terms are added
-pub writable_chosen : (u : Symbolic) (choice : Choice) → IsWritable u → IsWritable (chosen u choice)
+pub writable_chosen : (u : Symbolic) (choice : Choice) → HasTextRoom u → HasTextRoom (chosen u choice)
 writable_chosen u choice is = record { few_inputs = is.few_inputs; few_outputs = is.few_outputs }
 
-pub full_cut : (q new : Symbolic) (t : LeafTerms) (cause : Cause) → IsGrown q new → HasTerms q t → IsWritable q → IsFull (left_as new t (Cut cause))
+pub full_cut : (q new : Symbolic) (t : LeafTerms) (cause : Cause) → IsGrown q new → HasTerms q t → HasTextRoom q → IsFull (left_as new t (Cut cause))
 full_cut q new t cause grown has writable = full_as q new t (Cut cause) grown (full-left q t has (Cut cause) grown.before writable tt)
 
 cut-same : (q new : Symbolic) (t : LeafTerms) (cause : Cause) (sample : Option (List ℕ)) (evidence : Option Evidence) → IsGrown q new
@@ -156,7 +156,7 @@ to_form P s u is holding = subst P (sym is) holding
 
 pub conflicts_side : (p : Program) (budgets : Budgets) (sides : List Choice) (s u new : Symbolic) (choice : Choice) (test : List ℕ → Bool) (t : LeafTerms)
     (learnt : Learnt) → IsOpen p s → s.steps < budgets.steps → IsFormed s → IsNarrowed s u test → IsLearntFor budgets.conflicts (condition_of u) learnt
-    → IsCount (length learnt.question.graph.nodes) → IsWritable u → IsGrown (chosen u choice) new → HasTerms (chosen u choice) t
+    → IsCount (length learnt.question.graph.nodes) → HasTextRoom u → IsGrown (chosen u choice) new → HasTerms (chosen u choice) t
     → IsSideIn p budgets sides s choice (Some Conflicts) test (leaf_side choice (cut_part new t Conflicts None (Some (OnConflicts learnt))))
 conflicts_side p budgets sides s u new choice test t learnt was few formed is learning few_nodes writable grown has =
     let form = narrowed_to s u.terms u.condition u.sample in
@@ -253,7 +253,7 @@ module _ (p : Program) (budgets : Budgets) (s u new : Symbolic) (term copy : ℕ
       let parts = and_parts (are_bytes input) (holds (condition_of s) input) stands in
       (equals (length input) s.terms.inputs (and_parts (length input == s.terms.inputs) _ parts.1).0 ∙ was.inputs, are_bytes-each input parts.0)
 
-  reached-left : (f : Found) → HasValue s term f → IsReached p.regions (left_as leaf t (Cut Targets)) budgets.targets copy f
+  reached-left : (f : Found) → HasValue s term f → IsWitness p.regions (left_as leaf t (Cut Targets)) budgets.targets copy f
   reached-left f (stands, at, below) = record {
     assignment = assigned f.input stands;
     holds_others = others-left f.input ∙ (and_parts (are_bytes f.input) (holds (condition_of s) f.input) stands).1;
@@ -278,7 +278,7 @@ module _ (p : Program) (budgets : Budgets) (s u new : Symbolic) (term copy : ℕ
     others = refl;
   }
 
-  pub targets_side : s.steps < budgets.steps → IsWritable u → IsGrown (chosen u Rest) new
+  pub targets_side : s.steps < budgets.steps → HasTextRoom u → IsGrown (chosen u Rest) new
       → IsSideIn p budgets (map Value (values_of found) ++ Rest ∷ []) s Rest (Some Targets) (has_none s term (values_of found))
       (leaf_side Rest (cut_part new t Targets (Some new.sample) (Some (OnTargets (record { term = copy; found = found })))))
   targets_side few writable grown =

@@ -26,12 +26,12 @@ use Rattle.sym_state.specs.Programs.{Program}
 use Rattle.sym_state.specs.Runs.{IsOpen, left_to_do}
 use Rattle.sym_state.specs.Symbolic.{Symbolic, IsFormed, most_decisions, most_steps}
 use Rattle.sym_state.specs.declared.decided.Decided.{Decided}
-use Rattle.node_split.specs.Leaving.{IsWritable}
+use Rattle.node_split.specs.Leaving.{HasTextRoom}
 use Rattle.node_split.specs.Rules.{Piece, leaf_place, rules_of}
 use Rattle.node_split.specs.Splits.{IsForkOf, IsForked}
 use Rattle.node_split.specs.Working.{IsOnward}
 use Rattle.node_split.proofs.Sides.{GoesOn, goes_settled}
-use Rattle.node_split.specs.Narrowing.{IsSettled}
+use Rattle.node_split.specs.Narrowing.{IsForced}
 use Rattle.node_split.specs.declared.forked.Forked.{Forked}
 use Rattle.node_split.specs.declared.forked.Forked.TheVariants.{One, Split}
 
@@ -96,19 +96,19 @@ worked_since p budgets s t (Kids kids) same less is = split_since p budgets s t 
 
 -- ---- There is room for the numbers of its texts.
 writable : (s : Symbolic) (inputs steps : ℕ) → s.terms.inputs ≡ inputs → IsSmall inputs → length s.output ≤ 4096 * s.steps
-    → s.steps ≤ steps → steps ≤ most_steps → IsWritable s
+    → s.steps ≤ steps → steps ≤ most_steps → HasTextRoom s
 writable s inputs steps is small few within most = record {
   few_inputs = omega (arith, is, small);
   few_outputs = omega (arith, few, within, most);
 }
 
 pub open_writable : (p : Program) (s : Symbolic) (steps : ℕ) → IsOpen p s → IsSmall (count_of p.regions) → s.steps ≤ steps → steps ≤ most_steps
-    → IsWritable s
+    → HasTextRoom s
 open_writable p s steps was small within most =
     writable s (count_of p.regions) steps was.inputs small was.few_outputs within most
 
 pub ended_writable : (p : Program) (s : Symbolic) (end : RunEnd) (steps : ℕ) → IsEnded p s end → IsSmall (count_of p.regions)
-    → s.steps ≤ steps → steps ≤ most_steps → IsWritable s
+    → s.steps ≤ steps → steps ≤ most_steps → HasTextRoom s
 ended_writable p s end steps was small within most =
     writable s (count_of p.regions) steps was.inputs small was.few_outputs within most
 
@@ -120,7 +120,7 @@ pub record IsAtFork (p : Program) (budgets : Budgets) (s : Symbolic) (forked : F
 -- it goes on one way, by a decision of its next step that it is told
 module _ (p : Program) (budgets : Budgets) (u : Symbolic) (forked : Forked) (at : IsAtFork p budgets u forked)
     (place : ℕ) (d : Decided) (is : forked ≡ One place d) where
-  settled : IsSettled u place d
+  settled : IsForced u place d
   settled = subst (IsForked budgets u) is at.goes
 
   pub fork_place : place < most_decisions

@@ -43,7 +43,7 @@ use Rattle.sym_state.specs.declared.value.Value.{Value}
 use Rattle.sym_machine.proofs.Standing.{IsGrown-trans}
 use Rattle.sym_state.proofs.Grown.{Continues-refl, bytes-grown}
 use Rattle.node_split.specs.Copies.{AreCopies}
-use Rattle.node_split.specs.Leaving.{AreTermsOf, HasTerms, IsPicked, IsWritable, left_as}
+use Rattle.node_split.specs.Leaving.{AreTermsOfBytes, HasTerms, IsPicked, HasTextRoom, left_as}
 use Rattle.node_split.specs.Rules.{leaf_place, rules_of}
 use Rattle.node_split.specs.declared.leaf.LeafTerms.{LeafTerms}
 use Rattle.node_split.proofs.Bytes.{all_true}
@@ -87,15 +87,15 @@ pub terms_before : (s new : Symbolic) (t : LeafTerms) → IsGrown s new → HasT
 terms_before s new t grown has =
     terms-before s new.terms t grown.before grown.continues (subst (λ (r : Symbolic). HasTerms r t) grown.same has)
 
-copied-outputs : (s : Symbolic) (g : Graph) (ids : List ℕ) (t : LeafTerms) → AreTermsOf s.terms s.output g ids
-    → AreCopies g ids t.condition.graph t.outputs.items → AreTermsOf s.terms s.output t.condition.graph t.outputs.items
+copied-outputs : (s : Symbolic) (g : Graph) (ids : List ℕ) (t : LeafTerms) → AreTermsOfBytes s.terms s.output g ids
+    → AreCopies g ids t.condition.graph t.outputs.items → AreTermsOfBytes s.terms s.output t.condition.graph t.outputs.items
 copied-outputs s g ids t are copies = record {
   eight_bits = all-copied g t.condition.graph 8 ids t.outputs.items copies.widths are.eight_bits;
   worth = λ input bytes. copies.numbers input ∙ are.worth input bytes;
 }
 
 -- what was picked once the terms of its output were made
-pub picked_terms : (s new : Symbolic) (ids besides : List ℕ) (t : LeafTerms) → IsGrown s new → AreTermsOf s.terms s.output new.terms ids
+pub picked_terms : (s new : Symbolic) (ids besides : List ℕ) (t : LeafTerms) → IsGrown s new → AreTermsOfBytes s.terms s.output new.terms ids
     → IsPicked new ids besides t → HasTerms s t
 picked_terms s new ids besides t grown are picked = record {
   is_dag = picked.is_dag;
@@ -123,7 +123,7 @@ module _ (s : Symbolic) (t : LeafTerms) (has : HasTerms s t) where
       same-lengths (λ id. number_of t.condition.graph id []) (byte_worth s.terms []) t.outputs.items s.output
       (has.outputs.worth [] (All-nil (λ b. b < 256)))
 
-  pub full-left : (end : LeafEnd) → IsFormed s → IsWritable s → IsByteStatus t.condition.graph end → IsFull (left_as s t end)
+  pub full-left : (end : LeafEnd) → IsFormed s → HasTextRoom s → IsByteStatus t.condition.graph end → IsFull (left_as s t end)
   full-left end formed writable status = record {
     is_dag = has.is_dag;
     bits = all-copied s.terms t.condition.graph 1 s.condition t.condition.asserted has.condition.widths formed.bits;
@@ -193,7 +193,7 @@ still_left p s t end has was none =
     subst (λ e. IsRunOf (run p.image p.regions input s.steps) s.steps s.path e (map (byte_worth s.terms input) s.output)) (sym (none input))
     (still_runs p s input was stood))
 
-pub cut_whole : (p : Program) (budgets : Budgets) (s : Symbolic) (t : LeafTerms) → HasTerms s t → IsFormed s → IsWritable s → budgets.steps ≡ s.steps
+pub cut_whole : (p : Program) (budgets : Budgets) (s : Symbolic) (t : LeafTerms) → HasTerms s t → IsFormed s → HasTextRoom s → budgets.steps ≡ s.steps
     → IsOpen p s → EndsAs (rules_of p budgets) run_place leaf_place (Some Steps) s (left_part s t (Cut Steps))
 cut_whole p budgets s t has formed writable spent was = record {
   same_choices = refl;
@@ -210,7 +210,7 @@ cut_whole p budgets s t has formed writable spent was = record {
 
 -- ---- A run whose runs have all ended.
 pub trapped_whole : (p : Program) (budgets : Budgets) (s : Symbolic) (t : LeafTerms) (trap : Trap) → HasTerms s t → IsFormed s
-    → IsWritable s → IsEnded p s (Traps trap) → s.steps ≤ budgets.steps
+    → HasTextRoom s → IsEnded p s (Traps trap) → s.steps ≤ budgets.steps
     → EndsAs (rules_of p budgets) run_place leaf_place None s (left_part s t (LeafTraps trap))
 trapped_whole p budgets s t trap has formed writable was within = record {
   same_choices = refl;
@@ -234,7 +234,7 @@ pub record IsStatus (s : Symbolic) (g : Graph) (status : ℕ) : Type 0 where
   pub worth : (input : List ℕ) → All (λ b. b < 256) input → number_of g status input ≡ worth_of s.terms input (value_at s.registers 10) % 256
 
 pub exited_whole : (p : Program) (budgets : Budgets) (s : Symbolic) (t : LeafTerms) (status : ℕ) → HasTerms s t → IsFormed s
-    → IsWritable s → IsEnded p s Exits → IsStatus s t.condition.graph status → s.steps ≤ budgets.steps
+    → HasTextRoom s → IsEnded p s Exits → IsStatus s t.condition.graph status → s.steps ≤ budgets.steps
     → EndsAs (rules_of p budgets) run_place leaf_place None s (left_part s t (LeafExits status))
 exited_whole p budgets s t status has formed writable was is within = record {
   same_choices = refl;
@@ -308,7 +308,7 @@ parts_picked s outputs more g ids at end is_at is_end is =
 pub grown_none : (s : Symbolic) → IsFormed s → IsGrown s s
 grown_none s formed = record { before = formed; same = refl; continues = Continues-refl s.terms; formed = formed }
 
-pub no_terms : (g : Graph) → AreTermsOf g [] g []
+pub no_terms : (g : Graph) → AreTermsOfBytes g [] g []
 no_terms g = record { eight_bits = All-nil (λ id. width_of g id ≡ 8); worth = λ input bytes. refl }
 
 bytes-kept : (g h : Graph) (ids : List ℕ) → Continues g h → AreBytes g ids → AreBytes h ids
@@ -322,8 +322,8 @@ numbers-kept g h ids input grown bytes =
 
 -- one byte more
 pub terms-more : (f g h : Graph) (bytes : List Byte) (byte : Byte) (ids : List ℕ) (id : ℕ) → Continues f g → IsByte f byte
-    → AreTermsOf f bytes g ids → GivesTerm g h 8 id (λ input. byte_worth g input byte)
-    → AreTermsOf f (bytes ++ byte ∷ []) h (ids ++ id ∷ [])
+    → AreTermsOfBytes f bytes g ids → GivesTerm g h 8 id (λ input. byte_worth g input byte)
+    → AreTermsOfBytes f (bytes ++ byte ∷ []) h (ids ++ id ∷ [])
 terms-more f g h bytes byte ids id grown is are gives = record {
   eight_bits = All-push (λ i. width_of h i ≡ 8) ids id (bytes-kept g h ids gives.continues are.eight_bits) gives.width;
   worth = λ input small.
@@ -341,7 +341,7 @@ leaf_ok (Ok made) part Q is holds = subst Q (sym is) holds
 leaf_ok (Err e) part Q is holds = tt
 
 pub picked_terms_ok : {E : Type 0} (r : Result LeafTerms E) (s new : Symbolic) (ids besides : List ℕ) → IsGrown s new
-    → AreTermsOf s.terms s.output new.terms ids → IfOk r (IsPicked new ids besides) → IfOk r (HasTerms s)
+    → AreTermsOfBytes s.terms s.output new.terms ids → IfOk r (IsPicked new ids besides) → IfOk r (HasTerms s)
 picked_terms_ok (Ok t) s new ids besides grown are is = picked_terms s new ids besides t grown are is
 picked_terms_ok (Err e) s new ids besides grown are is = tt
 

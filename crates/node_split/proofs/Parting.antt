@@ -20,7 +20,7 @@ use Rattle.sym_state.specs.Runs.{IsOpen, left_to_do}
 use Rattle.sym_state.specs.Symbolic.{Symbolic, stands_for}
 use Rattle.node_split.specs.Narrowing.{is_side}
 use Rattle.node_split.specs.Rules.{Piece, content_place, rules_of}
-use Rattle.node_split.specs.Splits.{IsBranchSide, IsForkOf, IsSide, IsSideIn, choice_of}
+use Rattle.node_split.specs.Splits.{IsBranchSide, IsForkOf, IsSide, IsSideIn, branch_choice}
 use Rattle.node_split.proofs.Apart.{AreTwoSides, IsOnFork, kids_apart}
 use Rattle.node_split.proofs.Bytes.{not_true}
 use Rattle.node_split.proofs.Sharing.{count-cons, on_fork_in, placed_in, side_in, two_in}
@@ -110,7 +110,7 @@ one_cut_only (Some Conflicts) is = is
 
 -- both sides in their order: the sample's is a run
 pub sides_of_branch : (budgets : Budgets) (s : Symbolic) (term : ℕ) (side : Bool) (own other : Piece) → IsBranch s term → 1 ≤ budgets.targets
-    → IsSide s (choice_of side) (λ input. is_side side (number_of s.terms term input)) own → IsBranchSide budgets s term (not side) other
+    → IsSide s (branch_choice side) (λ input. is_side side (number_of s.terms term input)) own → IsBranchSide budgets s term (not side) other
     → (p : Program) → IsOpen p s → s.steps < budgets.steps → IsForkOf p budgets s (if side then other ∷ own ∷ [] else own ∷ other ∷ [])
 sides_of_branch budgets s term true own other at some is_own is_other p was few =
     let in_fork = is_other p was few in

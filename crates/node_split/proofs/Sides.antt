@@ -24,7 +24,7 @@ use Rattle.sym_state.specs.declared.decided.Decided.{Decided}
 use Rattle.term_trees.specs.Growth.{Continues}
 use Rattle.tree_core.specs.declared.choice.Choice.{Choice}
 use Rattle.sym_state.proofs.Grown.{concrete-with_terms, stands-with_terms, unfolded-with_terms}
-use Rattle.node_split.specs.Narrowing.{IsNarrower, IsSettled}
+use Rattle.node_split.specs.Narrowing.{IsNarrower, IsForced}
 use Rattle.node_split.proofs.Bytes.{all_true, and_last, by_bytes}
 
 -- the decision at its place
@@ -102,7 +102,7 @@ pub record GoesOn (old new : Symbolic) : Type 0 where
   pub covers : (input : List ℕ) → stands_for new input ≡ stands_for old input
 
 -- a run goes on where a decision of its next step is one on all assignments, and is known from there on
-pub goes_settled : (s : Symbolic) (place : ℕ) (d : Decided) → IsFormed (informed s place d) → IsSettled s place d
+pub goes_settled : (s : Symbolic) (place : ℕ) (d : Decided) → IsFormed (informed s place d) → IsForced s place d
     → GoesOn s (informed s place d)
 goes_settled s place d formed settled =
     let places : length s.known ≡ most_decisions = sym (length-set s.known place (Some d)) ∙ formed.places in

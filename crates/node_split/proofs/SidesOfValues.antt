@@ -25,9 +25,9 @@ use Rattle.sym_state.specs.declared.decided.Decided.TheVariants.{Number}
 use Rattle.sym_state.specs.Programs.{Program}
 use Rattle.sym_state.specs.Runs.{IsOpen, left_to_do}
 use Rattle.sym_state.specs.Symbolic.{Symbolic, stands_for}
-use Rattle.node_split.specs.Narrowing.{IsSettled}
+use Rattle.node_split.specs.Narrowing.{IsForced}
 use Rattle.node_split.specs.Rules.{Piece, content_place, rules_of}
-use Rattle.node_split.specs.Splits.{AreSidesOf, IsForkOf, IsSideIn, IsSideOf}
+use Rattle.node_split.specs.Splits.{AreSidesOf, IsForkOf, IsSideIn, IsValueSide}
 use Rattle.node_split.specs.Values.{AreValues, HasValue}
 use Rattle.node_split.proofs.Apart.{AreOtherSides, AreTwoSides, IsOnFork, kids_apart}
 use Rattle.node_split.proofs.Bytes.{all_true, not_true}
@@ -42,7 +42,7 @@ first_among v vs = ap (λ b. b || is_among vs v) (same v v refl)
 
 -- one side more
 pub sides-push : (s : Symbolic) (term : ℕ) (fs : List Found) (ks : List Piece)
-    (f : Found) (k : Piece) → AreSidesOf s term fs ks → IsSideOf s term f k
+    (f : Found) (k : Piece) → AreSidesOf s term fs ks → IsValueSide s term f k
     → AreSidesOf s term (fs ++ f ∷ []) (ks ++ k ∷ [])
 sides-push s term [] [] f k is one = (one, tt)
 sides-push s term [] (l ∷ ls) f k is one = absurd is
@@ -84,7 +84,7 @@ sides-count s term (g ∷ gs) (l ∷ ls) input (first, rest) =
 
 -- what holds of each side of a value holds of all
 sides-all : (s : Symbolic) (term : ℕ) (P : Piece → Type 0)
-    → ((f : Found) (k : Piece) → IsSideOf s term f k → P k) → (fs : List Found)
+    → ((f : Found) (k : Piece) → IsValueSide s term f k → P k) → (fs : List Found)
     (ks : List Piece) → AreSidesOf s term fs ks → All P ks
 sides-all s term P each [] [] is = All-nil P
 sides-all s term P each [] (l ∷ ls) is = absurd is
@@ -156,7 +156,7 @@ other_numbers v w n m less at_v at_w is =
     omega (arith, less, is_v, is_w, same)
 
 two_values : (s : Symbolic) (term : ℕ) (f g : Found) (k l : Piece)
-    → IsSideOf s term f k → IsSideOf s term g l → f.value < g.value
+    → IsValueSide s term f k → IsValueSide s term g l → f.value < g.value
     → AreTwoSides (number_there s term) k l
 two_values s term f g k l is_k is_l less =
     two_runs s (number_there s term) (Value f.value) (Value g.value) (has_value s term f.value) (has_value s term g.value) k l is_k is_l
@@ -164,7 +164,7 @@ two_values s term f g k l is_k is_l less =
 
 -- a side is another than those of greater values
 behind : (s : Symbolic) (term : ℕ) (f : Found) (k : Piece) (fs : List Found)
-    (ks : List Piece) → IsSideOf s term f k → All (λ w. f.value < w) (values_of fs)
+    (ks : List Piece) → IsValueSide s term f k → All (λ w. f.value < w) (values_of fs)
     → AreSidesOf s term fs ks → All (AreTwoSides (number_there s term) k) ks
 behind s term f k [] [] is less sides = All-nil (AreTwoSides (number_there s term) k)
 behind s term f k [] (l ∷ ls) is less sides = absurd sides
@@ -259,7 +259,7 @@ module _ (p : Program) (budgets : Budgets) (s : Symbolic) (term : ℕ) (found : 
       cc (gone, here)
 
   value_and_rest : (f : Found) (k : Piece) → is_among (values_of found) f.value ≡ true
-      → IsSideOf s term f k → AreTwoSides (number_there s term) k kid
+      → IsValueSide s term f k → AreTwoSides (number_there s term) k kid
   value_and_rest f k there side = record {
     choices = λ is. let value : Value f.value ≡ Rest = sym side.on.choice ∙ is ∙ rest.same in cc value;
     decisions = λ a b on_a on_b.
@@ -338,7 +338,7 @@ one_value s term (f ∷ g ∷ fs) d few all input stands = absurd (omega (arith,
 -- the one value is known of the step
 pub value_settled : (s : Symbolic) (place term : ℕ) (found : List Found) (d : Found) → IsPin s place term → length found ≡ 1
     → ((input : List ℕ) → stands_for s input ≡ true → is_among (values_of found) (number_of s.terms term input) ≡ true)
-    → IsSettled s place (Number (get_or found 0 d).value)
+    → IsForced s place (Number (get_or found 0 d).value)
 value_settled s place term found d at few all = record {
   in_range = at.in_range;
   unknown = at.unknown;

@@ -10,7 +10,7 @@ use Rattle.node_split.specs.Copies.{AreCopies}
 use Rattle.node_split.specs.declared.leaf.LeafTerms.{LeafTerms}
 
 -- terms of 8 bits that are worth what these bytes are
-pub record AreTermsOf (old : Graph) (bytes : List Byte) (new : Graph) (ids : List ℕ) : Type 0 where
+pub record AreTermsOfBytes (old : Graph) (bytes : List Byte) (new : Graph) (ids : List ℕ) : Type 0 where
   pub eight_bits : AreBytes new ids
   pub worth : (input : List ℕ) → All (λ b. b < 256) input
       → map (λ id. number_of new id input) ids ≡ map (byte_worth old input) bytes
@@ -20,7 +20,7 @@ pub record HasTerms (s : Symbolic) (t : LeafTerms) : Type 0 where
   pub is_dag : IsDag t.condition.graph
   pub few_nodes : IsCount (length t.condition.graph.nodes)
   pub condition : AreCopies s.terms s.condition t.condition.graph t.condition.asserted
-  pub outputs : AreTermsOf s.terms s.output t.condition.graph t.outputs.items
+  pub outputs : AreTermsOfBytes s.terms s.output t.condition.graph t.outputs.items
 
 -- the terms of a run's condition, and these
 pub record IsPicked (s : Symbolic) (written besides : List ℕ) (t : LeafTerms) : Type 0 where
@@ -31,7 +31,7 @@ pub record IsPicked (s : Symbolic) (written besides : List ℕ) (t : LeafTerms) 
   pub more : AreCopies s.terms besides t.condition.graph t.more.items
 
 -- a leaf's texts have room for the numbers of its input and its output bytes
-pub record IsWritable (s : Symbolic) : Type 0 where
+pub record HasTextRoom (s : Symbolic) : Type 0 where
   pub few_inputs : IsSmall s.terms.inputs
   pub few_outputs : IsSmall (length s.output)
 

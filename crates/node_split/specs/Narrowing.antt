@@ -29,7 +29,7 @@ pub record IsNarrowed (old new : Symbolic) (test : List ℕ → Bool) : Type 0 w
   pub covers : (input : List ℕ) → stands_for new input ≡ (stands_for old input && test input)
 
 -- This decision of the step that comes next is not known yet, and is this one on all assignments.
-pub record IsSettled (s : Symbolic) (place : ℕ) (d : Decided) : Type 0 where
+pub record IsForced (s : Symbolic) (place : ℕ) (d : Decided) : Type 0 where
   pub in_range : place < most_decisions
   pub unknown : known_at s place ≡ None
   pub settled : IsTrulyKnown s place (Some d)

@@ -19,7 +19,7 @@ use Rattle.tree_core.specs.declared.budgets.Budgets.{Budgets}
 use Rattle.tree_core.specs.declared.cause.Cause.{Cause}
 use Rattle.tree_core.specs.declared.choice.Choice.{Choice}
 use Rattle.tree_core.specs.declared.choice.Choice.TheVariants.{No, Yes, Value}
-use Rattle.node_split.specs.Narrowing.{IsNarrower, IsSettled, is_side}
+use Rattle.node_split.specs.Narrowing.{IsNarrower, IsForced, is_side}
 use Rattle.node_split.specs.Rules.{Piece, content_place, leaf_place, rules_of}
 use Rattle.node_split.specs.declared.branch.Tested.{Tested}
 use Rattle.node_split.specs.declared.forked.Forked.{Forked}
@@ -57,12 +57,12 @@ abbrev pub leaf_side : Choice → Part → Piece
 leaf_side choice part = record { choice = choice; content = Shut part; is_leaf = true }
 
 -- the choice of a branch's side
-abbrev pub choice_of : Bool → Choice
-choice_of false = No
-choice_of true = Yes
+abbrev pub branch_choice : Bool → Choice
+branch_choice false = No
+branch_choice true = Yes
 
 -- a run has a term of one bit that is 1 just on one side of another term
-pub record IsTested (s : Symbolic) (term : ℕ) (side : Bool) (t : Tested) : Type 0 where
+pub record IsSideTested (s : Symbolic) (term : ℕ) (side : Bool) (t : Tested) : Type 0 where
   pub formed : IsFormed s
   pub same : t.run ≡ record s { terms = t.run.terms }
   pub continues : Continues s.terms t.run.terms
@@ -74,16 +74,16 @@ pub record IsTested (s : Symbolic) (term : ℕ) (side : Bool) (t : Tested) : Typ
 abbrev pub IsBranchSide : Budgets → Symbolic → (term : ℕ) → (side : Bool) → Piece → Type 0
 IsBranchSide budgets s term side kid = (p : Program) → IsOpen p s → s.steps < budgets.steps
     → (cut : Option Cause) × IsTrue (is_one_cut_at_most None cut)
-    × IsSideIn p budgets (No ∷ Yes ∷ []) s (choice_of side) cut (λ input. is_side side (number_of s.terms term input)) kid
+    × IsSideIn p budgets (No ∷ Yes ∷ []) s (branch_choice side) cut (λ input. is_side side (number_of s.terms term input)) kid
 
 -- the run on which the term has this value
-abbrev pub IsSideOf : Symbolic → (term : ℕ) → Found → Piece → Type 0
-IsSideOf s term f kid = IsSide s (Value f.value) (λ input. number_of s.terms term input == f.value) kid
+abbrev pub IsValueSide : Symbolic → (term : ℕ) → Found → Piece → Type 0
+IsValueSide s term f kid = IsSide s (Value f.value) (λ input. number_of s.terms term input == f.value) kid
 
 -- a side for each value, in their order
 abbrev pub AreSidesOf : Symbolic → ℕ → List Found → List Piece → Type 0
 AreSidesOf s term [] [] = Unit {0}
-AreSidesOf s term (f ∷ fs) (k ∷ ks) = IsSideOf s term f k × AreSidesOf s term fs ks
+AreSidesOf s term (f ∷ fs) (k ∷ ks) = IsValueSide s term f k × AreSidesOf s term fs ks
 AreSidesOf s term _ _ = ⊥
 
 -- sides that share out what the run stands for, and part by a decision
@@ -93,5 +93,5 @@ IsForkOf p budgets s kids = IsSplit (rules_of p budgets) run_place leaf_place s 
 -- where a run goes at a fork: one way, as a decision of its next step says; or all, and then these are the sides of each
 -- program's run that has steps left
 abbrev pub IsForked : Budgets → Symbolic → Forked → Type 0
-IsForked budgets s (One place decided) = IsSettled s place decided
+IsForked budgets s (One place decided) = IsForced s place decided
 IsForked budgets s (Split kids) = (p : Program) → IsOpen p s → s.steps < budgets.steps → IsForkOf p budgets s kids.items

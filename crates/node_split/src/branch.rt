@@ -9,9 +9,9 @@ ghost use Rattle.sym_machine.specs.Stops.{IsBranch};
 ghost use Rattle.sym_state.specs.Runs.{IsReady};
 ghost use Rattle.sym_state.specs.Symbolic.{Symbolic, condition_of, stands_for};
 ghost use Rattle.tree_core.specs.declared.budgets.Budgets.{Budgets};
-ghost use Rattle.node_split.specs.Leaving.{IsWritable};
+ghost use Rattle.node_split.specs.Leaving.{HasTextRoom};
 ghost use Rattle.node_split.specs.Narrowing.{is_side};
-ghost use Rattle.node_split.specs.Splits.{IsBranchSide, IsForked, IsSide, IsTested, choice_of};
+ghost use Rattle.node_split.specs.Splits.{IsBranchSide, IsForked, IsSide, IsSideTested, branch_choice};
 
 use crate::asking::ask_run;
 use crate::cut::cut_conflicts;
@@ -55,7 +55,7 @@ impl Tested {
 }
 
 fn choice_of(side: bool) -> Choice
-    ensures { result ≡ choice_of side }
+    ensures { result ≡ branch_choice side }
 {
     match side {
         false => Choice::No,
@@ -66,7 +66,7 @@ fn choice_of(side: bool) -> Choice
 // A share of a run, with what is 1 on this side of a branch.
 fn with_test(state: &State, term: usize, side: bool) -> Result<Tested, NoMemory>
     requires { IsBranch state.now term }
-    ensures { IfOk result (IsTested state.now term side) }
+    ensures { IfOk result (IsSideTested state.now term side) }
 {
     let mut run = state.share()?;
     if side {
@@ -85,9 +85,9 @@ fn open_side(
 ) -> Result<Kid<Content<State, LeafPart>>, NoMemory>
     requires bit { width_of tested.run.terms tested.test ≡ 1 }
     requires each_input { length sample ≡ tested.run.terms.inputs }
-    ensures { IfOk result (λ kid. (s : Symbolic) (term : ℕ) → IsBranch s term → IsTested s term side tested
+    ensures { IfOk result (λ kid. (s : Symbolic) (term : ℕ) → IsBranch s term → IsSideTested s term side tested
         → stands_for s sample ≡ true → is_side side (number_of s.terms term sample) ≡ true
-        → IsSide s (choice_of side) (λ input. is_side side (number_of s.terms term input)) kid) }
+        → IsSide s (branch_choice side) (λ input. is_side side (number_of s.terms term input)) kid) }
 {
     let (mut run, test) = tested.into_parts();
     narrow(&mut run, choice_of(side), test, sample)?;
@@ -102,9 +102,9 @@ fn spent_side(
     side: bool,
     learnt: Learnt,
 ) -> Result<Kid<Content<State, LeafPart>>, NoMemory>
-    requires writable { IsWritable tested.old.run }
+    requires writable { HasTextRoom tested.old.run }
     requires bit { width_of tested.old.run.terms tested.old.test ≡ 1 }
-    ensures { IfOk result (λ kid. (budgets : Budgets) (s : Symbolic) (term : ℕ) → IsTested s term side tested.old
+    ensures { IfOk result (λ kid. (budgets : Budgets) (s : Symbolic) (term : ℕ) → IsSideTested s term side tested.old
         → IsAsked (condition_of tested.old.run) tested.old.test budgets.conflicts (Spent learnt.question learnt.log)
         → IsBranchSide budgets s term side kid) }
 {
@@ -123,7 +123,7 @@ fn other_side(
     budgets: &Budgets,
 ) -> Result<Option<Kid<Content<State, LeafPart>>>, NoMemory>
     requires ready { IsReady state.now }
-    requires writable { IsWritable state.now }
+    requires writable { HasTextRoom state.now }
     requires at { IsBranch state.now term }
     ensures some { IfOk result (λ kid. IfSome kid (IsBranchSide budgets.now state.now term side)) }
     ensures none { IfOk result (λ kid. IfNone kid ((input : List ℕ) → stands_for state.now input ≡ true → is_side side (number_of state.now.terms term input) ≡ false)) }
@@ -159,7 +159,7 @@ fn own_side(
     requires ready { IsReady state.now }
     requires at { IsBranch state.now term }
     requires on_side { is_side side (number_of state.now.terms term state.now.sample) ≡ true }
-    ensures { IfOk result (IsSide state.now (choice_of side) (λ input. is_side side (number_of state.now.terms term input))) }
+    ensures { IfOk result (IsSide state.now (branch_choice side) (λ input. is_side side (number_of state.now.terms term input))) }
 {
     let tested = with_test(state, term, side)?;
     let sample = sample_of(alloc, state)?;
@@ -192,7 +192,7 @@ pub fn at_branch(
     budgets: &Budgets,
 ) -> Result<Forked, NoMemory>
     requires ready { IsReady state.now }
-    requires writable { IsWritable state.now }
+    requires writable { HasTextRoom state.now }
     requires at { IsBranch state.now term }
     requires some { 1 ≤ budgets.now.targets }
     ensures { IfOk result (IsForked budgets.now state.now) }

@@ -14,7 +14,7 @@ ghost use Rattle.tree_core.specs.declared.cause.Cause.TheVariants.{Conflicts, Ta
 ghost use Rattle.tree_core.specs.declared.choice.Choice as spec;
 ghost use Rattle.tree_core.specs.declared.choice.Choice.TheVariants.{Rest, Value as OfValue};
 ghost use Rattle.node_split.specs.Learning.{IsLearntFor};
-ghost use Rattle.node_split.specs.Leaving.{IsWritable};
+ghost use Rattle.node_split.specs.Leaving.{HasTextRoom};
 ghost use Rattle.node_split.specs.Narrowing.{IsNarrowed};
 ghost use Rattle.node_split.specs.Splits.{IsSideIn, leaf_side};
 ghost use Rattle.node_split.specs.Values.{AreValues, IsWithout};
@@ -48,7 +48,7 @@ pub fn cut_conflicts(
     learnt: Learnt,
 ) -> Result<Kid<Content<State, LeafPart>>, NoMemory>
     requires small { IsSmallChoice choice }
-    requires writable { IsWritable run.old }
+    requires writable { HasTextRoom run.old }
     ensures { IfOk result (λ kid. (p : Program) (budgets : Budgets) (sides : List spec.Choice) (s : Symbolic) (test : List ℕ → Bool)
         → IsOpen p s → s.steps < budgets.steps → IsFormed s → IsNarrowed s run.old test → IsLearntFor budgets.conflicts (condition_of run.old) learnt
         → IsSideIn p budgets sides s choice (Some Conflicts) test kid) }
@@ -69,7 +69,7 @@ pub fn cut_targets(
     term: usize,
     found: Vec<Found>,
 ) -> Result<Kid<Content<State, LeafPart>>, NoMemory>
-    requires writable { IsWritable run.old }
+    requires writable { HasTextRoom run.old }
     requires width { width_of run.old.terms term ≡ 32 }
     ensures { IfOk result (λ kid. (p : Program) (budgets : Budgets) (s : Symbolic)
         → IsOpen p s → s.steps < budgets.steps → IsFormed s → IsUnknown s.terms 32 term → IsWithout s term (values_of found.items) run.old → stands_for run.old run.old.sample ≡ true

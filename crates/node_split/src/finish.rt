@@ -12,7 +12,7 @@ ghost use Rattle.sym_state.specs.Symbolic.{value_at};
 ghost use Rattle.sym_state.specs.Values.{worth_of};
 ghost use Rattle.tree_core.specs.declared.budgets.Budgets.{Budgets};
 ghost use Rattle.tree_core.specs.declared.cause.Cause.TheVariants.{Steps};
-ghost use Rattle.node_split.specs.Leaving.{IsWritable};
+ghost use Rattle.node_split.specs.Leaving.{HasTextRoom};
 ghost use Rattle.node_split.specs.Rules.{leaf_place, rules_of};
 
 use crate::forked::sample_of;
@@ -27,7 +27,7 @@ use tree_core::Cause;
 
 /// The leaf of a run that has spent its steps. The run is of no use after that.
 pub fn cut_steps(alloc: Global, state: &mut State) -> Result<LeafPart, NoMemory>
-    requires writable { IsWritable state.old }
+    requires writable { HasTextRoom state.old }
     ensures { IfOk result (λ part. (p : Program) (budgets : Budgets) → budgets.steps ≡ state.old.steps → IsOpen p state.old
         → EndsAs (rules_of p budgets) run_place leaf_place (Some Steps) state.old part) }
 {
@@ -45,7 +45,7 @@ pub fn cut_steps(alloc: Global, state: &mut State) -> Result<LeafPart, NoMemory>
 
 // The leaf of a run whose runs have all trapped so.
 fn trapped(alloc: Global, state: &mut State, trap: Trap) -> Result<LeafPart, NoMemory>
-    requires writable { IsWritable state.old }
+    requires writable { HasTextRoom state.old }
     ensures { IfOk result (λ part. (p : Program) (budgets : Budgets) → IsEnded p state.old (Traps trap) → state.old.steps ≤ budgets.steps
         → EndsAs (rules_of p budgets) run_place leaf_place None state.old part) }
 {
@@ -66,7 +66,7 @@ fn exit_status(state: &mut State) -> Result<usize, NoMemory>
 
 // The leaf of a run whose runs have all exited.
 fn exited(alloc: Global, state: &mut State) -> Result<LeafPart, NoMemory>
-    requires writable { IsWritable state.old }
+    requires writable { HasTextRoom state.old }
     ensures { IfOk result (λ part. (p : Program) (budgets : Budgets) → IsEnded p state.old Exits → state.old.steps ≤ budgets.steps
         → EndsAs (rules_of p budgets) run_place leaf_place None state.old part) }
 {
@@ -79,7 +79,7 @@ fn exited(alloc: Global, state: &mut State) -> Result<LeafPart, NoMemory>
 
 /// The leaf of a run whose runs have all ended so. The run is of no use after that.
 pub fn finish(alloc: Global, state: &mut State, end: RunEnd) -> Result<LeafPart, NoMemory>
-    requires writable { IsWritable state.old }
+    requires writable { HasTextRoom state.old }
     ensures { IfOk result (λ part. (p : Program) (budgets : Budgets) → IsEnded p state.old end → state.old.steps ≤ budgets.steps
         → EndsAs (rules_of p budgets) run_place leaf_place None state.old part) }
 {

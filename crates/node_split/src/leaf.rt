@@ -5,7 +5,7 @@ ghost use Rattle.fork_spec.specs.Leaves.{AreBytes, IsFull};
 ghost use Rattle.sym_state.specs.Moves.{IsGrown};
 ghost use Rattle.leaf_part.specs.Evidences.{evidence_of};
 ghost use Rattle.node_split.specs.Copies.{AreCopies};
-ghost use Rattle.node_split.specs.Leaving.{AreTermsOf, HasTerms, IsPicked, left_as};
+ghost use Rattle.node_split.specs.Leaving.{AreTermsOfBytes, HasTerms, IsPicked, left_as};
 
 use bv_dag::Query;
 use byte_list::Bytes;
@@ -54,7 +54,7 @@ impl LeafTerms {
 // The terms of the bytes written.
 fn output_terms(alloc: Global, state: &mut State) -> Result<Vec<usize>, NoMemory>
     ensures grown { OnOk result (IsGrown state.old state.new) }
-    ensures terms { IfOk result (λ ids. AreTermsOf state.old.terms state.old.output state.new.terms ids.items) }
+    ensures terms { IfOk result (λ ids. AreTermsOfBytes state.old.terms state.old.output state.new.terms ids.items) }
 {
     let bytes = listed(alloc, state.output())?;
     let mut ids = Vec::with_capacity(alloc, bytes.len())?;

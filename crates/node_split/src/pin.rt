@@ -6,7 +6,7 @@ ghost use Rattle.sym_machine.specs.Stops.{IsPin};
 ghost use Rattle.sym_state.specs.Runs.{IsReady};
 ghost use Rattle.sym_state.specs.Symbolic.{IsFormed};
 ghost use Rattle.tree_core.specs.declared.choice.Choice.TheVariants.{Value as OfValue};
-ghost use Rattle.node_split.specs.Leaving.{IsWritable};
+ghost use Rattle.node_split.specs.Leaving.{HasTextRoom};
 ghost use Rattle.node_split.specs.Narrowing.{IsNarrower};
 ghost use Rattle.node_split.specs.Splits.{AreSidesOf, IsForked};
 ghost use Rattle.node_split.specs.Values.{AreValues, HasValue, IsLeft};
@@ -76,7 +76,7 @@ fn part(
     budgets: &Budgets,
 ) -> Result<Forked, NoMemory>
     requires formed { IsFormed state.now }
-    requires writable { IsWritable state.now }
+    requires writable { HasTextRoom state.now }
     requires at { IsPin state.now pin.now.place pin.now.term }
     requires values { AreValues state.now pin.now.term budgets.now.targets found.items }
     requires some { 1 ≤ length found.items }
@@ -104,7 +104,7 @@ pub fn at_pin(
     budgets: &Budgets,
 ) -> Result<Forked, NoMemory>
     requires ready { IsReady state.now }
-    requires writable { IsWritable state.now }
+    requires writable { HasTextRoom state.now }
     requires at { IsPin state.now pin.now.place pin.now.term }
     requires some { 1 ≤ budgets.now.targets }
     ensures { IfOk result (IsForked budgets.now state.now) }

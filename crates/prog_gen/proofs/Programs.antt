@@ -10,7 +10,7 @@ use Rattle.std.specs.FinMap.{contains_key}
 use Rattle.std.proofs.lemmas.List.Elements.{All-cons, All-nil}
 use Rattle.elf_load.specs.Areas.{end_of, is_touched, touched_pages}
 use Rattle.elf_load.specs.Fields.{headers, segments, half_field, word_field}
-use Rattle.elf_load.specs.Fits.{is_mapped, unfit}
+use Rattle.elf_load.specs.Fits.{is_in_image, unfit}
 use Rattle.elf_load.specs.Images.{Image, Loads, areas, stack}
 use Rattle.elf_load.specs.Refusals.{header_refusal, program_refusal, refusal, refused_address_range, refused_overlap, segment_refusal}
 use Rattle.elf_load.specs.declared.header.ProgramHeader.{ProgramHeader}
@@ -127,7 +127,7 @@ refused_by_nothing number some most =
 
 -- the bytes from 0x11000 on, where they are few, are on one page
 all_mapped : (image : Image) → contains_key image.pages 272 ≡ true → (start count : ℕ) → 69632 ≤ start → start + count ≤ 69888
-    → list_any (λ address. not (is_mapped image address)) (range_with_len start count) ≡ false
+    → list_any (λ address. not (is_in_image image address)) (range_with_len start count) ≡ false
 all_mapped image page start zero low high = refl
 all_mapped image page start (suc count) low high =
     let small : nat_lt start 4294967296 ≡ true = grind (arith, nat_tests, high) in

@@ -5,7 +5,7 @@ use Rattle.std.proofs.Math.ListN.{get_or-eq_default}
 use Rattle.std.proofs.lemmas.Bool.{cases_eq, cases_lt}
 use Rattle.std.proofs.lemmas.List.{get_or-set_same, get_or-set_other, get_or_append_left, get_or-append_right, get_or-replicate, length-replicate}
 use Rattle.std.proofs.lemmas.Option.{slice_get_within}
-use Rattle.proof_check.specs.Filing.{Chains, IsLast, AreFiled}
+use Rattle.proof_check.specs.Filing.{Chains, IsLastFiled, AreFiled}
 
 -- what stands at a place of a list with one more behind it
 got_before : {X : Type 0} (xs more : List X) (k : ℕ) (x : X) → slice_get xs k ≡ Some x → slice_get (xs ++ more) k ≡ Some x
@@ -32,7 +32,7 @@ kept_there : (keys : List ℕ) (k first key n : ℕ) → (n ≡ 0) ⊎ ((n ≤ f
 kept_there keys k first key n (inl none) = inl none
 kept_there keys k first key n (inr there) = inr (there.0, got_before keys (k ∷ []) (n - 1) key there.1)
 
-last_kept : (keys : List ℕ) (k first key n : ℕ) → first ≤ length keys → IsLast keys first key n → IsLast (keys ++ k ∷ []) first key n
+last_kept : (keys : List ℕ) (k first key n : ℕ) → first ≤ length keys → IsLastFiled keys first key n → IsLastFiled (keys ++ k ∷ []) first key n
 last_kept keys k first key n within h = record {
   there = kept_there keys k first key n h.there;
   last = λ j early at.
@@ -47,9 +47,9 @@ further_there keys first key n (inl none) = inl none
 further_there keys first key n (inr there) = inr (omega (arith, there.0), there.1)
 
 -- the last of all, where the place that is put has another key, and where it has this one
-last_other : (keys : List ℕ) (k key n : ℕ) → (key ≡ k → ⊥) → IsLast keys (length keys) key n → IsLast (keys ++ k ∷ []) (length (keys ++ k ∷ [])) key n
+last_other : (keys : List ℕ) (k key n : ℕ) → (key ≡ k → ⊥) → IsLastFiled keys (length keys) key n → IsLastFiled (keys ++ k ∷ []) (length (keys ++ k ∷ [])) key n
 last_other keys k key n other h =
-    subst (λ m. IsLast (keys ++ k ∷ []) m key n) (sym (length-append keys (k ∷ [])))
+    subst (λ m. IsLastFiled (keys ++ k ∷ []) m key n) (sym (length-append keys (k ∷ [])))
     record {
       there = further_there (keys ++ k ∷ []) (length keys) key n (kept_there keys k (length keys) key n h.there);
       last = λ j early at.
@@ -59,9 +59,9 @@ last_other keys k key n other h =
           ];
     }
 
-last_same : (keys : List ℕ) (k n : ℕ) → n ≡ length keys + 1 → IsLast (keys ++ k ∷ []) (length (keys ++ k ∷ [])) k n
+last_same : (keys : List ℕ) (k n : ℕ) → n ≡ length keys + 1 → IsLastFiled (keys ++ k ∷ []) (length (keys ++ k ∷ [])) k n
 last_same keys k n is =
-    subst (λ m. IsLast (keys ++ k ∷ []) m k n) (sym (length-append keys (k ∷ [])))
+    subst (λ m. IsLastFiled (keys ++ k ∷ []) m k n) (sym (length-append keys (k ∷ [])))
     record {
       there = inr (omega (arith, is), ap (slice_get (keys ++ k ∷ [])) (let e : n - 1 ≡ length keys = omega (arith, is) in e) ∙ got_last keys k);
       last = λ j early at. omega (arith, is, early);
@@ -89,8 +89,8 @@ padded xs n v =
 pub filed_same : (keys : List ℕ) (old : Chains) (lasts earlier : List ℕ) (n : ℕ) → lasts ≡ old.lasts ++ replicate n 0 → earlier ≡ old.earlier → AreFiled keys old → AreFiled keys (record { lasts = lasts; earlier = earlier })
 filed_same keys old lasts earlier n more same h = record {
   size = ap (λ (ns : List ℕ). length ns) same ∙ h.size;
-  lasts = λ key. subst (λ m. IsLast keys (length keys) key m) (sym (ap (λ (ns : List ℕ). get_or ns key 0) more ∙ padded old.lasts n key)) (h.lasts key);
-  earlier = λ k key at. subst (λ m. IsLast keys k key m) (sym (ap (λ (ns : List ℕ). get_or ns k 0) same)) (h.earlier k key at);
+  lasts = λ key. subst (λ m. IsLastFiled keys (length keys) key m) (sym (ap (λ (ns : List ℕ). get_or ns key 0) more ∙ padded old.lasts n key)) (h.lasts key);
+  earlier = λ k key at. subst (λ m. IsLastFiled keys k key m) (sym (ap (λ (ns : List ℕ). get_or ns k 0) same)) (h.earlier k key at);
 }
 
 -- one place more
@@ -100,23 +100,23 @@ filed_more keys key now lasts earlier m h within is made put = record {
   size = ap (λ (ns : List ℕ). length ns) put ∙ length-append now.earlier (get_or now.lasts key 0 ∷ []) ∙ ap (λ n. n + 1) h.size ∙ sym (length-append keys (key ∷ []));
   lasts = λ other. elim (cases_eq other key) [
     | inl same ↦
-        subst (λ (q : ℕ). IsLast (keys ++ key ∷ []) (length (keys ++ key ∷ [])) q (get_or lasts q 0)) (sym same)
+        subst (λ (q : ℕ). IsLastFiled (keys ++ key ∷ []) (length (keys ++ key ∷ [])) q (get_or lasts q 0)) (sym same)
         (last_same keys key (get_or lasts key 0) (ap (λ (ns : List ℕ). get_or ns key 0) made ∙ get_or-set_same now.lasts key m 0 within ∙ is ∙ ap (λ n. n + 1) h.size))
     | inr apart ↦
         last_other keys key other (get_or lasts other 0) apart
-        (subst (λ n. IsLast keys (length keys) other n) (sym (ap (λ (ns : List ℕ). get_or ns other 0) made ∙ get_or-set_other now.lasts key other m 0 apart)) (h.lasts other))
+        (subst (λ n. IsLastFiled keys (length keys) other n) (sym (ap (λ (ns : List ℕ). get_or ns other 0) made ∙ get_or-set_other now.lasts key other m 0 apart)) (h.lasts other))
   ];
   earlier = λ k other at. elim (at_more keys key other k at) [
     | inl before ↦
         let early : k < length keys = slice_get_within keys k other before in
         last_kept keys key k other (get_or earlier k 0) (omega (arith, early))
-        (subst (λ n. IsLast keys k other n) (sym (ap (λ (ns : List ℕ). get_or ns k 0) put ∙ get_or_append_left now.earlier (get_or now.lasts key 0 ∷ []) 0 k (omega (arith, early, h.size)))) (h.earlier k other before))
+        (subst (λ n. IsLastFiled keys k other n) (sym (ap (λ (ns : List ℕ). get_or ns k 0) put ∙ get_or_append_left now.earlier (get_or now.lasts key 0 ∷ []) 0 k (omega (arith, early, h.size)))) (h.earlier k other before))
     | inr end ↦
         let value : get_or earlier k 0 ≡ get_or now.lasts key 0
         = ap (λ (ns : List ℕ). get_or ns k 0) put ∙ get_or-append_right now.earlier (get_or now.lasts key 0 ∷ []) (length now.earlier) k 0 refl (omega (arith, end.0, h.size))
         ∙ ap (λ i. get_or (get_or now.lasts key 0 ∷ []) i 0) (let e : k - length now.earlier ≡ 0 = omega (arith, end.0, h.size) in e) in
-        subst (λ (q : ℕ). IsLast (keys ++ key ∷ []) k q (get_or earlier k 0)) end.1
-        (subst (λ n. IsLast (keys ++ key ∷ []) k key n) (sym value)
-        (subst (λ i. IsLast (keys ++ key ∷ []) i key (get_or now.lasts key 0)) end.0 (last_kept keys key (length keys) key (get_or now.lasts key 0) (omega arith) (h.lasts key))))
+        subst (λ (q : ℕ). IsLastFiled (keys ++ key ∷ []) k q (get_or earlier k 0)) end.1
+        (subst (λ n. IsLastFiled (keys ++ key ∷ []) k key n) (sym value)
+        (subst (λ i. IsLastFiled (keys ++ key ∷ []) i key (get_or now.lasts key 0)) end.0 (last_kept keys key (length keys) key (get_or now.lasts key 0) (omega arith) (h.lasts key))))
   ];
 }

@@ -10,7 +10,7 @@ use Rattle.cnf_form.specs.Literals.{Literal}
 use Rattle.cnf_form.specs.Clauses.{are_increasing}
 use Rattle.cnf_form.specs.Propagation.{hint_is_falsified, is_falsified, falsify}
 use Rattle.cnf_form.specs.Refutations.{is_new}
-use Rattle.proof_check.specs.Filing.{Chains, IsLast, AreFiled, literal_key, clause_key, keys_of, has_falsified, has_falsified_end}
+use Rattle.proof_check.specs.Filing.{Chains, IsLastFiled, AreFiled, literal_key, clause_key, keys_of, has_falsified, has_falsified_end}
 use Rattle.proof_check.proofs.Keys.{subset_key}
 use Rattle.proof_check.proofs.Supersets.{subset_is_falsified}
 
@@ -37,7 +37,7 @@ key_there clauses k c at = slice_get-map clause_key clauses k ∙ ap (option_map
 
 pub walk_begins : (a : ℕ → Option Bool) (clauses : List (List Literal)) (chains : Chains) (key number : ℕ) → AreFiled (keys_of clauses) chains → number ≡ get_or chains.lasts key 0 → IsWalk a clauses key number
 walk_begins a clauses chains key number filed is =
-    let h : IsLast (keys_of clauses) (length (keys_of clauses)) key number = subst (λ n. IsLast (keys_of clauses) (length (keys_of clauses)) key n) (sym is) (filed.lasts key) in
+    let h : IsLastFiled (keys_of clauses) (length (keys_of clauses)) key number = subst (λ n. IsLastFiled (keys_of clauses) (length (keys_of clauses)) key n) (sym is) (filed.lasts key) in
     record {
       at = h.there;
       rest = λ k c at same fails.
@@ -53,9 +53,9 @@ stands a clauses key number w begun = by_case w.at
     by_case (inl none) = absurd (omega (arith, none, begun))
     by_case (inr some) = some.1
 
-earlier_last : (a : ℕ → Option Bool) (clauses : List (List Literal)) (chains : Chains) (key number place next : ℕ) → AreFiled (keys_of clauses) chains → IsWalk a clauses key number → 0 < number → place ≡ number - 1 → next ≡ get_or chains.earlier place 0 → IsLast (keys_of clauses) place key next
+earlier_last : (a : ℕ → Option Bool) (clauses : List (List Literal)) (chains : Chains) (key number place next : ℕ) → AreFiled (keys_of clauses) chains → IsWalk a clauses key number → 0 < number → place ≡ number - 1 → next ≡ get_or chains.earlier place 0 → IsLastFiled (keys_of clauses) place key next
 earlier_last a clauses chains key number place next filed w begun is made =
-    subst (λ n. IsLast (keys_of clauses) place key n) (sym made)
+    subst (λ n. IsLastFiled (keys_of clauses) place key n) (sym made)
     (filed.earlier place key (ap (slice_get (keys_of clauses)) is ∙ stands a clauses key number w begun))
 
 pub walk_smaller : (a : ℕ → Option Bool) (clauses : List (List Literal)) (chains : Chains) (key number place next : ℕ) → AreFiled (keys_of clauses) chains → IsWalk a clauses key number → 0 < number → place ≡ number - 1 → next ≡ get_or chains.earlier place 0 → next < number
@@ -68,7 +68,7 @@ walk_smaller a clauses chains key number place next filed w begun is made = by_c
 pub walk_on : (a : ℕ → Option Bool) (clauses : List (List Literal)) (chains : Chains) (key number place next : ℕ) → AreFiled (keys_of clauses) chains → IsWalk a clauses key number → 0 < number → place ≡ number - 1 → hint_is_falsified a (slice_get clauses place) ≡ false → next ≡ get_or chains.earlier place 0
     → IsWalk a clauses key next
 walk_on a clauses chains key number place next filed w begun is opens made =
-    let h : IsLast (keys_of clauses) place key next = earlier_last a clauses chains key number place next filed w begun is made in
+    let h : IsLastFiled (keys_of clauses) place key next = earlier_last a clauses chains key number place next filed w begun is made in
     let within : place < length (keys_of clauses) = slice_get_within (keys_of clauses) place key (ap (slice_get (keys_of clauses)) is ∙ stands a clauses key number w begun) in
     record {
       at = further h.there within;

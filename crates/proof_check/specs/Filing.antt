@@ -33,12 +33,12 @@ pub record Chains : Type 0 where
   pub earlier : List ℕ
 
 -- n is the number of the last of the first places at which the key stands, or 0 where it stands at none of them
-pub record IsLast (keys : List ℕ) (first key n : ℕ) : Type 0 where
+pub record IsLastFiled (keys : List ℕ) (first key n : ℕ) : Type 0 where
   pub there : (n ≡ 0) ⊎ ((n ≤ first) × (slice_get keys (n - 1) ≡ Some key))
   pub last : (k : ℕ) → k < first → slice_get keys k ≡ Some key → k < n
 
 -- each place is in the chain of its key
 pub record AreFiled (keys : List ℕ) (chains : Chains) : Type 0 where
   pub size : length chains.earlier ≡ length keys
-  pub lasts : (key : ℕ) → IsLast keys (length keys) key (slice_index_or chains.lasts key 0)
-  pub earlier : (k key : ℕ) → slice_get keys k ≡ Some key → IsLast keys k key (slice_index_or chains.earlier k 0)
+  pub lasts : (key : ℕ) → IsLastFiled keys (length keys) key (slice_index_or chains.lasts key 0)
+  pub earlier : (k key : ℕ) → slice_get keys k ≡ Some key → IsLastFiled keys k key (slice_index_or chains.earlier k 0)

@@ -22,9 +22,9 @@ pub struct Cache {
 impl Model for Cache {
     ghost use Rattle.std.specs.Prelude.{List};
     ghost use Rattle.bv_dag.specs.Queries.{Condition};
-    ghost use Rattle.query_cache.specs.Caches.{Kept, IsCache};
+    ghost use Rattle.query_cache.specs.Caches.{KeptAnswers, IsCache};
 
-    ghost Value = { Kept };
+    ghost Value = { KeptAnswers };
 
     ghost view = { λ c. c.answers.entries };
 

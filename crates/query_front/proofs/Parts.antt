@@ -18,7 +18,7 @@ use Rattle.query_slice.proofs.Kept.{holds_less, long_where_holds, merged_holds, 
 use Rattle.query_slice.proofs.SliceTrees.{slice_of_trees}
 use Rattle.query_front.specs.Asks.{with_term}
 use Rattle.term_trees.specs.TreeSlices.{IsPartFor, asserted_trees}
-use Rattle.query_front.specs.Parts.{IsPart}
+use Rattle.query_front.specs.Parts.{IsPartOfQuery}
 
 at_end : (xs : List ℕ) (n last : ℕ) → length xs ≡ n + 1 → Some last ≡ slice_get xs (length xs - 1) → get_or xs n 0 ≡ last
 at_end xs n last long found =
@@ -83,7 +83,7 @@ module _ (q : Condition) (new : ℕ) (w : Condition)
         long : length sample ≡ w.graph.inputs
         long = long_where_holds q sample sampled ∙ sym inputs
 
-      pub part_is : IsPart q new part
+      pub part_is : IsPartOfQuery q new part
       part_is = record {
         cut = cut_trees;
         less = λ input whole. holds_less w last part cut input (meaning input ∙ whole);

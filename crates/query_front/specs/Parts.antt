@@ -7,7 +7,7 @@ use Rattle.query_front.specs.Asks.{with_term}
 use Rattle.term_trees.specs.TreeSlices.{IsPartFor}
 
 -- the part of a condition and one more term that matters for that term
-pub record IsPart (q : Condition) (new : ℕ) (part : Condition) : Type 0 where
+pub record IsPartOfQuery (q : Condition) (new : ℕ) (part : Condition) : Type 0 where
   pub cut : IsPartFor (with_term q new) new part
   -- what meets the whole meets the part
   pub less : (input : List ℕ) → holds (with_term q new) input ≡ true → holds part input ≡ true

@@ -5,7 +5,7 @@ ghost use Rattle.bv_dag.specs.Graphs.{width_of};
 ghost use Rattle.bv_dag.specs.Queries.{AreBits, Condition, holds};
 ghost use Rattle.query_cache.specs.Answers.{IsAnswer};
 ghost use Rattle.query_front.specs.Asks.{IsAsked};
-ghost use Rattle.query_front.specs.Parts.{IsPart};
+ghost use Rattle.query_front.specs.Parts.{IsPartOfQuery};
 
 use crate::asked::Asked;
 use crate::part::part_of;
@@ -55,7 +55,7 @@ fn decided(
     budget: u32,
 ) -> Result<Asked, NoMemory>
     requires { length sample.now ≡ part.graph.inputs }
-    ensures { IfOk result (λ asked. (q : Condition) (new : ℕ) → IsPart q new part → holds q sample.now ≡ true → IsAsked q new budget asked) }
+    ensures { IfOk result (λ asked. (q : Condition) (new : ℕ) → IsPartOfQuery q new part → holds q sample.now ≡ true → IsAsked q new budget asked) }
 {
     shared.count_decided();
     match decide(alloc, &part, sample.as_slice(), budget)? {
@@ -90,7 +90,7 @@ pub fn ask_part(
     budget: u32,
 ) -> Result<Asked, NoMemory>
     requires { length sample.now ≡ part.graph.inputs }
-    ensures { IfOk result (λ asked. (q : Condition) (new : ℕ) → IsPart q new part → holds q sample.now ≡ true → IsAsked q new budget asked) }
+    ensures { IfOk result (λ asked. (q : Condition) (new : ℕ) → IsPartOfQuery q new part → holds q sample.now ≡ true → IsAsked q new budget asked) }
 {
     match known(rt, alloc, shared, &part, sample)? {
         Some(Satisfiability::Sat(input)) => Ok(Asked::Sat(merge(alloc, sample, &input, &part)?)),

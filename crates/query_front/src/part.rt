@@ -3,7 +3,7 @@
 ghost use Rattle.std.specs.Prelude.{◌≡◌, IfOk};
 ghost use Rattle.bv_dag.specs.Graphs.{width_of};
 ghost use Rattle.bv_dag.specs.Queries.{AreBits};
-ghost use Rattle.query_front.specs.Parts.{IsPart};
+ghost use Rattle.query_front.specs.Parts.{IsPartOfQuery};
 
 use bv_dag::{Query, Table};
 use query_pick::pick;
@@ -20,7 +20,7 @@ pub fn part_of<T: Table>(
 ) -> Result<Query, NoMemory>
     requires condition { AreBits (T.graph terms.now) condition.items }
     requires bit { width_of (T.graph terms.now) new ≡ 1 }
-    ensures { IfOk result (IsPart (record { graph = T.graph terms.now; asserted = condition.items }) new) }
+    ensures { IfOk result (IsPartOfQuery (record { graph = T.graph terms.now; asserted = condition.items }) new) }
 {
     let mut all = condition;
     all.push(new)?;

@@ -5,7 +5,7 @@ use Rattle.tree_core.specs.declared.cause.Cause.{Cause}
 use Rattle.tree_core.specs.declared.event.Event.{Event}
 use Rattle.tree_core.specs.Nodes.{Node}
 use Rattle.fork_spec.specs.Walks.{Side}
-use Rattle.fork_tree.specs.Written.{born_by, lines_from, nodes_after, written}
+use Rattle.fork_tree.specs.Written.{born_by, lines_from, nodes_after, written_deed}
 use Rattle.report_text.specs.Events.{actors_text, cut_text, deed_text, events_text, sides_text}
 
 three_words : (w s a b e : List ℕ) → w ++ (s ++ (a ++ (s ++ (b ++ e))))
@@ -66,7 +66,7 @@ module _ {R : Type 0} (cut : R → Option Cause) (nodes : List (Node R)) where
   pub events_next : (first i : ℕ) (es : List (Event R ℕ)) (d : Event R ℕ) (text new : List ℕ) →
       i < length es →
       new ≡ text
-      ++ deed_text (get_or es i d).by (get_or es i d).node (written cut nodes first (get_or es i d).deed) →
+      ++ deed_text (get_or es i d).by (get_or es i d).node (written_deed cut nodes first (get_or es i d).deed) →
       new ++ events_text (lines_from cut nodes (first + born_by (get_or es i d).deed) (drop (i + 1) es)) ≡ text ++ events_text (lines_from cut nodes first (drop i es))
   unfolding lines_from events_text
   events_next first i es d text new h e = rw (e, add-one, drop-cons es i d) (simp append_assoc)

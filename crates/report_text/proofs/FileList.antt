@@ -13,16 +13,16 @@ use Rattle.fork_spec.specs.Parts.{Evidence, OnConflicts, OnTargets, Part}
 use Rattle.fork_tree.specs.declared.content.Content.{Content}
 use Rattle.report_text.specs.Claims.{Entry, leaf_nodes_of, leaves_of}
 use Rattle.report_text.specs.Legible.{HasSmallLog, HasSmallLogBeside}
-use Rattle.report_text.specs.Entries.{AreByRank, beside_of, entries_of, entry_of, leaf_numbers, node_of, numbers_where}
+use Rattle.report_text.specs.Entries.{AreByRank, beside_of, entries_of, entry_of, leaf_numbers, leaf_node_of, numbers_where}
 use Rattle.report_text.specs.Files.{beside_put, files_from, leaf_put}
 use Rattle.report_text.specs.declared.leaves.LeafAt.{LeafAt}
 
-pub leaf_nodes_of_entries : (regions : List Region) (rank : ℕ) (leaves : List LeafAt) → leaf_nodes_of (entries_of regions rank leaves) ≡ map node_of leaves
+pub leaf_nodes_of_entries : (regions : List Region) (rank : ℕ) (leaves : List LeafAt) → leaf_nodes_of (entries_of regions rank leaves) ≡ map leaf_node_of leaves
 unfolding entries_of
 leaf_nodes_of_entries regions rank [] = refl
-leaf_nodes_of_entries regions rank (l ∷ ls) = ap (λ ns. node_of l ∷ ns) (leaf_nodes_of_entries regions (rank + 1) ls)
+leaf_nodes_of_entries regions rank (l ∷ ls) = ap (λ ns. leaf_node_of l ∷ ns) (leaf_nodes_of_entries regions (rank + 1) ls)
 
-pub leaves_of_nodes : (regions : List Region) (rank : ℕ) (leaves : List LeafAt) → map (λ (n : LeafNode). n.leaf) (map node_of leaves) ≡ leaves_of (entries_of regions rank leaves)
+pub leaves_of_nodes : (regions : List Region) (rank : ℕ) (leaves : List LeafAt) → map (λ (n : LeafNode). n.leaf) (map leaf_node_of leaves) ≡ leaves_of (entries_of regions rank leaves)
 unfolding entries_of
 leaves_of_nodes regions rank [] = refl
 leaves_of_nodes regions rank (l ∷ ls) = ap (λ ks. l.part.now.leaf ∷ ks) (leaves_of_nodes regions (rank + 1) ls)

@@ -14,7 +14,7 @@ use Rattle.tree_core.specs.declared.event.Deed.{Deed}
 use Rattle.tree_core.specs.declared.event.Deed.TheVariants.{Claim, Split, Finish, Cut, Release}
 use Rattle.tree_core.specs.Stories.{left_by}
 use Rattle.fork_spec.specs.Leaves.{IsSmall, IsSmallChoice}
-use Rattle.fork_spec.specs.Walks.{Line, Side, Sides, Standing, are_branch_sides, are_sides, are_small, are_values, births, cut_by, done_on, is_in_form, is_increasing, is_one_cut_at_most, is_rest, is_rest_cut, may_come, open_value, step, value_before, values_first, walk_from}
+use Rattle.fork_spec.specs.Walks.{Line, Side, Sides, Standing, are_branch_sides, are_sides, are_small, are_values, side_births, cut_by, done_on, is_in_form, is_increasing, is_one_cut_at_most, is_rest, is_rest_cut, may_come, open_value, walk_step, value_before, values_first, walk_from}
 use Rattle.text_parts.proofs.Options.{then_from}
 use Rattle.text_parts.proofs.Tests.{lt_from}
 use Rattle.report_text.specs.Legible.{AreLegible, IsLegibleDeed, IsLegibleLine}
@@ -110,8 +110,8 @@ record Came (workers targets : ℕ) (nodes next : List Standing) (line : Line) :
   grows : length nodes ≤ length next
 
 module _ (workers targets : ℕ) where
-  came : (nodes next : List Standing) (line : Line) → step workers targets nodes line ≡ Some next → Came workers targets nodes next line
-  unfolding step
+  came : (nodes next : List Standing) (line : Line) → walk_step workers targets nodes line ≡ Some next → Came workers targets nodes next line
+  unfolding walk_step
   came nodes next line h = go (may_come workers targets nodes line node) refl at.2
     where
       at : (node : Standing) × (slice_get nodes line.node ≡ Some node) × ((if may_come workers targets nodes line node then Some (done_on nodes line node) else None) ≡ Some next)
@@ -124,7 +124,7 @@ module _ (workers targets : ℕ) where
       left = record node { status = left_by line.by line.deed; cut = cut_by line.deed }
 
       longer : done_on nodes line node ≡ next → length nodes ≤ length next
-      longer same = omega (arith, ap length same, length-append (slice_set nodes line.node left) (births node.choices line.deed), length-set nodes line.node left)
+      longer same = omega (arith, ap length same, length-append (slice_set nodes line.node left) (side_births node.choices line.deed), length-set nodes line.node left)
 
       go : (b : Bool) → may_come workers targets nodes line node ≡ b → (if b then Some (done_on nodes line node) else None) ≡ Some next → Came workers targets nodes next line
       go true may is =
@@ -145,7 +145,7 @@ module _ (workers targets : ℕ) where
   unfolding walk_from
   legible_from nodes reached [] few h small = (All-nil IsLegibleLine, omega (arith, ap length (same_Some nodes reached h)))
   legible_from nodes reached (line ∷ lines) few h small =
-      let at = then_from (λ (next : List Standing). walk_from workers targets next lines) (step workers targets nodes line) reached h in
+      let at = then_from (λ (next : List Standing). walk_from workers targets next lines) (walk_step workers targets nodes line) reached h in
       let here = came nodes at.0 line at.1 in
       let later : AreLegible lines × (length at.0 ≤ length reached) = legible_from at.0 reached lines few at.2 small in
       let low : IsSmall (length nodes) = omega (arith, here.grows, later.1, small) in

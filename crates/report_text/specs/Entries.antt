@@ -46,8 +46,8 @@ abbrev pub entry_of : List Region → (rank : ℕ) → LeafAt → Entry
 entry_of regions rank l = record { leaf = l.part.now.leaf; node = l.node; beside = beside_of regions rank l.part.now.leaf l.part.now.sample l.part.now.evidence }
 
 -- the leaf at its node
-abbrev pub node_of : LeafAt → LeafNode
-node_of l = record { leaf = l.part.now.leaf; node = l.node }
+abbrev pub leaf_node_of : LeafAt → LeafNode
+leaf_node_of l = record { leaf = l.part.now.leaf; node = l.node }
 
 -- the entries of leaves, whose ranks begin with this one
 unfoldable pub entries_of : List Region → (rank : ℕ) → List LeafAt → List Entry

@@ -14,7 +14,7 @@ IsByteEnd words (Traps trap) = Unit {0}
 IsByteEnd words (Cut cause) = Unit {0}
 
 -- the end, with the status among the words, and none where it is cut
-abbrev pub end_in : List BitVector → LeafEnd → Option End
-end_in words (Exits status) = Some (Exit (vector_at words status).number)
-end_in words (Traps trap) = Some (Trapped trap)
-end_in words (Cut cause) = None
+abbrev pub sample_end : List BitVector → LeafEnd → Option End
+sample_end words (Exits status) = Some (Exit (vector_at words status).number)
+sample_end words (Traps trap) = Some (Trapped trap)
+sample_end words (Cut cause) = None

@@ -1,7 +1,7 @@
 //! The lines of events.
 
 ghost use Rattle.std.specs.Prelude.{◌≡◌, ◌+◌, ◌≤◌, ◌++◌, IfOk, codes, decimal, if◌then◌else◌, length, map, None, string_bytes};
-ghost use Rattle.fork_tree.specs.Written.{born_by, choice_in, lines_of, nodes_after, side_born, written};
+ghost use Rattle.fork_tree.specs.Written.{born_by, choice_in, lines_of, nodes_after, side_born, written_deed};
 ghost use Rattle.report_text.specs.Events as spec;
 
 use crate::marked::Marked;
@@ -121,7 +121,7 @@ fn event_line<R: Marked>(
     event: &Noted<R>,
 ) -> Result<String, NoMemory>
     requires { first + born_by event.now.deed ≤ length nodes.now }
-    ensures { IfOk result (λ line. string_bytes line ≡ spec.deed_text event.now.by event.now.node (written R.cut nodes.now first event.now.deed)) }
+    ensures { IfOk result (λ line. string_bytes line ≡ spec.deed_text event.now.by event.now.node (written_deed R.cut nodes.now first event.now.deed)) }
 {
     let (by, node) = (event.by, event.node);
     match &event.deed {

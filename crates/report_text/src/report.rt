@@ -4,7 +4,7 @@ ghost use Rattle.std.specs.Prelude.{◌≡◌, ◌<◌, ◌^◌, ◌++◌, ◌�
 ghost use Rattle.fork_tree.specs.Written.{lines_of, nodes_after};
 ghost use Rattle.fork_tree.specs.Contents.{cut_in};
 ghost use Rattle.fork_tree.specs.Drains.{IsDrained};
-ghost use Rattle.report_text.specs.Entries.{AreReportable, IsPlacedByPart, IsReportOfTree, IsReportable, beside_of, entries_of, node_of};
+ghost use Rattle.report_text.specs.Entries.{AreReportable, IsPlacedByPart, IsReportOfTree, IsReportable, beside_of, entries_of, leaf_node_of};
 ghost use Rattle.report_text.specs.Legible.{HasSmallLog};
 ghost use Rattle.report_text.specs.Files.{beside_put, events_put, files_from, leaf_put, report_put};
 
@@ -157,7 +157,7 @@ fn report_file(
     leaves: &[LeafAt<'_>],
 ) -> Result<NamedFile, NoMemory>
     requires { length leaves.now < 2 ^ 32 }
-    ensures { IfOk result (λ file. file ≡ report_put out.now budgets.now workers regions.now (map node_of leaves.now)) }
+    ensures { IfOk result (λ file. file ≡ report_put out.now budgets.now workers regions.now (map leaf_node_of leaves.now)) }
 {
     let text = write_report(alloc, budgets, workers, regions, leaves)?;
     Ok(NamedFile::new(report_name(alloc, out)?, text))

@@ -3,7 +3,7 @@
 ghost use Rattle.std.specs.Prelude.{◌≡◌, All, IfOk, length, map};
 ghost use Rattle.bv_dag.specs.Nodes.{vector_at};
 ghost use Rattle.report_text.specs.Files.{test_of};
-ghost use Rattle.report_text.specs.Samples.{IsByteEnd, end_in};
+ghost use Rattle.report_text.specs.Samples.{IsByteEnd, sample_end};
 
 use bv_dag::Word;
 use byte_list::Bytes;
@@ -25,7 +25,7 @@ fn byte_at(words: &[Word], id: usize) -> u8
 /// How a run of the leaf ends, where its terms are worth these words; none where it is cut.
 fn end_among(words: &[Word], end: LeafEnd) -> Option<End>
     requires { IsByteEnd words.now end }
-    ensures { result ≡ end_in words.now end }
+    ensures { result ≡ sample_end words.now end }
 {
     match end {
         LeafEnd::Exits { status } => Some(End::Exit(byte_at(words, status))),

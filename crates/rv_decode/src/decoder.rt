@@ -1,14 +1,14 @@
 //! From words to instructions.
 
 ghost use Rattle.std.specs.Prelude.{◌≡◌, IfSome};
-ghost use Rattle.rv_decode.specs.Instructions.{instr, jalr, branch, load, store, immediate, shift_immediate, register_immediate, binary, fence, system, ShiftsBelow32};
+ghost use Rattle.rv_decode.specs.Instructions.{instr, jalr_instr, branch_instr, load_instr, store_instr, immediate_instr, shift_instr, register_immediate_instr, binary_instr, fence_instr, system_instr, ShiftsBelow32};
 
 use crate::instr::Instr;
 use crate::{fields, ops};
 
 /// A JALR.
 fn jalr(word: u32) -> Option<Instr>
-    ensures { result ≡ jalr word }
+    ensures { result ≡ jalr_instr word }
 {
     if fields::funct3(word) == 0b000 {
         Some(Instr::Jalr {
@@ -22,7 +22,7 @@ fn jalr(word: u32) -> Option<Instr>
 }
 
 fn branch(word: u32) -> Option<Instr>
-    ensures { result ≡ branch word }
+    ensures { result ≡ branch_instr word }
 {
     Some(Instr::Branch {
         test: ops::branch_test(fields::funct3(word))?,
@@ -33,7 +33,7 @@ fn branch(word: u32) -> Option<Instr>
 }
 
 fn load(word: u32) -> Option<Instr>
-    ensures { result ≡ load word }
+    ensures { result ≡ load_instr word }
 {
     Some(Instr::Load {
         width: ops::load_width(fields::funct3(word))?,
@@ -44,7 +44,7 @@ fn load(word: u32) -> Option<Instr>
 }
 
 fn store(word: u32) -> Option<Instr>
-    ensures { result ≡ store word }
+    ensures { result ≡ store_instr word }
 {
     Some(Instr::Store {
         width: ops::store_width(fields::funct3(word))?,
@@ -56,7 +56,7 @@ fn store(word: u32) -> Option<Instr>
 
 /// An operation on a register and an immediate that is no shift.
 fn immediate(word: u32) -> Option<Instr>
-    ensures { result ≡ immediate word }
+    ensures { result ≡ immediate_instr word }
 {
     Some(Instr::Immediate {
         op: ops::immediate_op(fields::funct3(word))?,
@@ -67,7 +67,7 @@ fn immediate(word: u32) -> Option<Instr>
 }
 
 fn shift_immediate(word: u32) -> Option<Instr>
-    ensures value { result ≡ shift_immediate word }
+    ensures value { result ≡ shift_instr word }
     ensures amount { IfSome result ShiftsBelow32 }
 {
     Some(Instr::ShiftImmediate {
@@ -80,7 +80,7 @@ fn shift_immediate(word: u32) -> Option<Instr>
 
 /// An operation on a register and an immediate, or a shift by a fixed amount.
 fn register_immediate(word: u32) -> Option<Instr>
-    ensures value { result ≡ register_immediate word }
+    ensures value { result ≡ register_immediate_instr word }
     ensures amount { IfSome result ShiftsBelow32 }
 {
     match fields::funct3(word) {
@@ -91,7 +91,7 @@ fn register_immediate(word: u32) -> Option<Instr>
 
 /// An operation on two registers.
 fn binary(word: u32) -> Option<Instr>
-    ensures { result ≡ binary word }
+    ensures { result ≡ binary_instr word }
 {
     Some(Instr::Binary {
         op: ops::register_op(fields::funct3(word), fields::funct7(word))?,
@@ -102,7 +102,7 @@ fn binary(word: u32) -> Option<Instr>
 }
 
 fn fence(word: u32) -> Option<Instr>
-    ensures { result ≡ fence word }
+    ensures { result ≡ fence_instr word }
 {
     if fields::funct3(word) == 0b000 {
         Some(Instr::Fence)
@@ -113,7 +113,7 @@ fn fence(word: u32) -> Option<Instr>
 
 /// An ECALL or an EBREAK.
 fn system(word: u32) -> Option<Instr>
-    ensures { result ≡ system word }
+    ensures { result ≡ system_instr word }
 {
     match word {
         0x0000_0073 => Some(Instr::Ecall),

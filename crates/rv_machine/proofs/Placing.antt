@@ -33,13 +33,13 @@ flags_found : (found : Option Page) → is_some found ≡ true → is_some (opti
 flags_found None h = h
 flags_found (Some p) h = refl
 
-one_mapped : (image : Image) (at : ℕ) → fits.is_mapped image at ≡ true → (at < 2 ^ 32) × (is_mapped (flags_of image) at ≡ true)
+one_mapped : (image : Image) (at : ℕ) → fits.is_in_image image at ≡ true → (at < 2 ^ 32) × (is_mapped (flags_of image) at ≡ true)
 one_mapped image at mapped =
     let parts = and_parts (nat_lt at 4294967296) (contains_key image.pages (at / 256)) mapped in
     let small : nat_lt at 4294967296 ≡ true = parts.0 in
     (grind (arith, nat_tests, small), flags_found (get image.pages (at / 256)) parts.1)
 
-each_mapped : (image : Image) (start count : ℕ) → list_any (λ address. not (fits.is_mapped image address)) (range_with_len start count) ≡ false
+each_mapped : (image : Image) (start count : ℕ) → list_any (λ address. not (fits.is_in_image image address)) (range_with_len start count) ≡ false
     → (i : ℕ) → i < count → (start + i < 2 ^ 32) × (is_mapped (flags_of image) (start + i) ≡ true)
 each_mapped image start zero none i small = absurd (omega (arith, small))
 each_mapped image start (suc count) none zero small =

@@ -10,7 +10,7 @@ use Rattle.std.proofs.lemmas.Cmp.{nat_cmp_total}
 use Rattle.elf_load.specs.declared.page.Page.{Page}
 use Rattle.elf_load.specs.Images.{byte_in}
 use Rattle.rv_spec.specs.Memory.{byte_of, with_bytes}
-use Rattle.rv_machine.specs.Pages.{Pages, AreInOrder, IsPlaceOf, byte_on, flags_on, past_the_end}
+use Rattle.rv_machine.specs.Pages.{Pages, AreByNumber, IsPlaceOf, byte_on, flags_on, past_the_end}
 use Rattle.rv_machine.proofs.Finding.{find-set, find_present, order-set}
 
 -- with other bytes
@@ -18,12 +18,12 @@ abbrev changed : Page → List ℕ → Page
 changed p bytes = record { flags = p.flags; bytes = bytes }
 
 -- the entry at a place of the list, and its page with other bytes there
-module _ (l : List (ℕ × Page)) (k i : ℕ) (e : ℕ × Page) (order : AreInOrder l) (at : IsPlaceOf l k i) (here : get_or l i past_the_end ≡ e) where
+module _ (l : List (ℕ × Page)) (k i : ℕ) (e : ℕ × Page) (order : AreByNumber l) (at : IsPlaceOf l k i) (here : get_or l i past_the_end ≡ e) where
   same_number : e.0 ≡ k
   same_number = ap (λ (p : ℕ × Page). p.0) (sym here) ∙ at.has_number
 
-  pub order-written : (bytes : List ℕ) → AreInOrder (set l i (e.0, changed e.1 bytes))
-  order-written bytes = subst (λ n. AreInOrder (set l i (n, changed e.1 bytes))) (sym same_number) (order-set l k i order at (changed e.1 bytes))
+  pub order-written : (bytes : List ℕ) → AreByNumber (set l i (e.0, changed e.1 bytes))
+  order-written bytes = subst (λ n. AreByNumber (set l i (n, changed e.1 bytes))) (sym same_number) (order-set l k i order at (changed e.1 bytes))
 
   get-written : (bytes : List ℕ) (q : ℕ) → get (from_entries {R = nat_cmp} (set l i (e.0, changed e.1 bytes))) q ≡ cond (q == k) (Some (changed e.1 bytes)) (get (from_entries {R = nat_cmp} l) q)
   get-written bytes q =
@@ -71,7 +71,7 @@ byte_case true p found x address b small is found_is =
 byte_case false p found x address b small is found_is = off_page x address b (byte_in found (x % 256)) is
 
 -- the byte at the address changes, and no other
-pub byte-written : (l : List (ℕ × Page)) (i : ℕ) (e : ℕ × Page) (address b : ℕ) → AreInOrder l → IsPlaceOf l (address / 256) i → get_or l i past_the_end ≡ e → address % 256 < length e.1.bytes
+pub byte-written : (l : List (ℕ × Page)) (i : ℕ) (e : ℕ × Page) (address b : ℕ) → AreByNumber l → IsPlaceOf l (address / 256) i → get_or l i past_the_end ≡ e → address % 256 < length e.1.bytes
     → byte_on (from_entries (set l i (e.0, changed e.1 (set e.1.bytes (address % 256) b)))) ≡ with_bytes (byte_on (from_entries l)) address (b ∷ [])
 unfolding byte_of
 byte-written l i e address b order at here small =

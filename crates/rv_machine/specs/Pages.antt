@@ -32,17 +32,17 @@ abbrev pub past_the_end : ℕ × Page
 past_the_end = (0, record { flags = 0; bytes = [] })
 
 -- the number of the page at a place of a list
-abbrev pub number_at : List (ℕ × Page) → ℕ → ℕ
-number_at pages i = let page = slice_index_or pages i past_the_end in page.0
+abbrev pub page_number_at : List (ℕ × Page) → ℕ → ℕ
+page_number_at pages i = let page = slice_index_or pages i past_the_end in page.0
 
 -- the numbers rise, so that none comes twice
-abbrev pub AreInOrder : List (ℕ × Page) → Type 0
-AreInOrder pages = (i j : ℕ) → i < j → j < length pages → number_at pages i < number_at pages j
+abbrev pub AreByNumber : List (ℕ × Page) → Type 0
+AreByNumber pages = (i j : ℕ) → i < j → j < length pages → page_number_at pages i < page_number_at pages j
 
 -- the page at this place has the number
 pub record IsPlaceOf (pages : List (ℕ × Page)) (number i : ℕ) : Type 0 where
   pub in_range : i < length pages
-  pub has_number : number_at pages i ≡ number
+  pub has_number : page_number_at pages i ≡ number
 
 -- each address of a region is one of memory, on a mapped page
 abbrev pub IsMapped : (ℕ → Option ℕ) → Region → Type 0

@@ -13,9 +13,9 @@ const SIGN: u32 = 0x8000_0000;
 /// The upper half of a double word, all ones: what stands above a negative word in 64 bits.
 const UPPER_ONES: u64 = 0xFFFF_FFFF_0000_0000;
 
-#[tactic(auto, unfolding(rv_spec::specs::Arithmetic::is_negative))]
+#[tactic(auto, unfolding(rv_spec::specs::Arithmetic::is_negative_word))]
 fn is_negative(a: u32) -> bool
-    ensures { result ≡ arithmetic.is_negative a }
+    ensures { result ≡ arithmetic.is_negative_word a }
 {
     a >= SIGN
 }
@@ -90,7 +90,7 @@ fn upper_half(a: u64, b: u64) -> u32
 }
 
 /// How far a signed number is from 0.
-#[tactic(auto, unfolding(rv_spec::specs::Arithmetic::magnitude, rv_spec::specs::Arithmetic::is_negative))]
+#[tactic(auto, unfolding(rv_spec::specs::Arithmetic::magnitude, rv_spec::specs::Arithmetic::is_negative_word))]
 fn magnitude(a: u32) -> u32
     ensures value { result ≡ arithmetic.magnitude a }
     ensures not_zero { 0 < a → 0 < result }

@@ -9,7 +9,7 @@ ghost use Rattle.byteorder.specs.Endian.{little_number};
 ghost use Rattle.rv_decode.specs.Instructions.{ShiftsBelow32};
 ghost use Rattle.rv_spec.specs.Machine as machine;
 ghost use Rattle.rv_spec.specs.Memory.{can_write, is_mapped, with_bytes};
-ghost use Rattle.rv_machine.specs.Pages.{AreInOrder, IsPlaceOf, byte_on, flags_on};
+ghost use Rattle.rv_machine.specs.Pages.{AreByNumber, IsPlaceOf, byte_on, flags_on};
 
 use byteorder::{ByteOrder, LittleEndian};
 use elf_load::{Image, Page};
@@ -46,7 +46,7 @@ impl Drop for Memory {
 
 impl Model for Memory {
     ghost use Rattle.std.specs.FinMap.{from_entries};
-    ghost use Rattle.rv_machine.specs.Pages.{Pages, pages_code, AreInOrder};
+    ghost use Rattle.rv_machine.specs.Pages.{Pages, pages_code, AreByNumber};
 
     ghost Value = { Pages };
 
@@ -54,12 +54,12 @@ impl Model for Memory {
 
     ghost view = { λ m. from_entries m.pages.items };
 
-    ghost invariant = { λ m. AreInOrder m.pages.items };
+    ghost invariant = { λ m. AreByNumber m.pages.items };
 }
 
 /// The place of the page of this number, by halving.
 fn search(pages: &[(u32, Page)], number: u32) -> Option<usize>
-    requires { AreInOrder pages.now }
+    requires { AreByNumber pages.now }
     ensures found { IfSome result (IsPlaceOf pages.now number) }
     ensures absent { IfNone result (find_page nat_cmp number pages.now ≡ None) }
 {
@@ -71,7 +71,7 @@ fn search(pages: &[(u32, Page)], number: u32) -> Option<usize>
 
 /// The place of the page of this number. One place is tried first.
 fn find(pages: &[(u32, Page)], first: usize, number: u32) -> Option<usize>
-    requires { AreInOrder pages.now }
+    requires { AreByNumber pages.now }
     ensures found { IfSome result (IsPlaceOf pages.now number) }
     ensures absent { IfNone result (find_page nat_cmp number pages.now ≡ None) }
 {
@@ -83,7 +83,7 @@ fn find(pages: &[(u32, Page)], first: usize, number: u32) -> Option<usize>
 
 /// The page of this number. The place is tried first, and is then the page's.
 fn page<'a>(pages: &'a [(u32, Page)], place: &mut usize, number: u32) -> Option<&'a Page>
-    requires { AreInOrder pages.now }
+    requires { AreByNumber pages.now }
     ensures { option_copied result ≡ find_page nat_cmp number pages.now }
 {
     let found = find(pages, *place, number)?;

@@ -17,8 +17,8 @@ sum32 a b = (a + b) % 2 ^ 32
 unfoldable pub difference32 : ℕ → ℕ → ℕ
 difference32 a b = (a + (2 ^ 32 - b)) % 2 ^ 32
 
-unfoldable pub is_negative : ℕ → Bool
-is_negative a = nat_le (2 ^ 31) a
+unfoldable pub is_negative_word : ℕ → Bool
+is_negative_word a = nat_le (2 ^ 31) a
 
 -- the signed number is below the other: adding 2 ^ 31 puts both in order
 unfoldable pub is_less_signed : ℕ → ℕ → Bool
@@ -36,7 +36,7 @@ shifted_right a amount = a / 2 ^ amount
 
 -- copies of the sign are shifted in
 unfoldable pub shifted_right_signed : ℕ → ℕ → ℕ
-shifted_right_signed a amount = if is_negative a then 2 ^ 32 - 1 - (2 ^ 32 - 1 - a) / 2 ^ amount else a / 2 ^ amount
+shifted_right_signed a amount = if is_negative_word a then 2 ^ 32 - 1 - (2 ^ 32 - 1 - a) / 2 ^ amount else a / 2 ^ amount
 
 -- the low five bits of a register say by how much it is shifted
 abbrev pub amount_of : ℕ → ℕ
@@ -44,7 +44,7 @@ amount_of b = b % 32
 
 -- a signed number in 64 bits
 unfoldable pub wide_signed : ℕ → ℕ
-wide_signed a = if is_negative a then a + (2 ^ 64 - 2 ^ 32) else a
+wide_signed a = if is_negative_word a then a + (2 ^ 64 - 2 ^ 32) else a
 
 -- the upper 32 bits of a product of 64
 unfoldable pub upper_half : ℕ → ℕ
@@ -52,7 +52,7 @@ upper_half product = product % 2 ^ 64 / 2 ^ 32
 
 -- how far a signed number is from 0
 unfoldable pub magnitude : ℕ → ℕ
-magnitude a = if is_negative a then 2 ^ 32 - a else a
+magnitude a = if is_negative_word a then 2 ^ 32 - a else a
 
 unfoldable pub with_sign : Bool → ℕ → ℕ
 with_sign negative n = if negative then (2 ^ 32 - n) % 2 ^ 32 else n % 2 ^ 32
@@ -64,10 +64,10 @@ differ false b = b
 -- Signed division rounds towards zero, and a remainder has the sign of the dividend. Division by zero gives all ones,
 -- and its remainder is the dividend; -2 ^ 31 by -1 gives -2 ^ 31, remainder 0.
 unfoldable pub quotient_signed : ℕ → ℕ → ℕ
-quotient_signed a b = if b == 0 then 2 ^ 32 - 1 else with_sign (differ (is_negative a) (is_negative b)) (magnitude a / magnitude b)
+quotient_signed a b = if b == 0 then 2 ^ 32 - 1 else with_sign (differ (is_negative_word a) (is_negative_word b)) (magnitude a / magnitude b)
 
 unfoldable pub remainder_signed : ℕ → ℕ → ℕ
-remainder_signed a b = if b == 0 then a else with_sign (is_negative a) (magnitude a % magnitude b)
+remainder_signed a b = if b == 0 then a else with_sign (is_negative_word a) (magnitude a % magnitude b)
 
 unfoldable pub quotient : ℕ → ℕ → ℕ
 quotient a b = if b == 0 then 2 ^ 32 - 1 else a / b

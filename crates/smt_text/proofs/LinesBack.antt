@@ -21,7 +21,7 @@ use Rattle.text_parts.specs.Pieces.{before, behind, list_end, made, named, one}
 use Rattle.smt_text.specs.declared.spot.Spot.{Spot}
 use Rattle.smt_text.specs.declared.spot.Spot.TheVariants.{AtFormat, AtKind, AtChoices, AtPath, AtSteps, AtEnd, AtInputs, AtNodes, AtOutputs, AtLogic, AmongInputs, AtBase, AmongNodes, AtStatus, AmongOutputs, AmongAssertions, AtExit}
 use Rattle.text_parts.proofs.ItemsBack.{choices_back, steps_back}
-use Rattle.smt_text.specs.Phases.{Counted, IsWithin}
+use Rattle.smt_text.specs.Phases.{Counted, IsInBounds}
 use Rattle.smt_text.proofs.Phases.{fits_from, small_choices, small_path}
 use Rattle.text_parts.proofs.Tests.{lt_from}
 use Rattle.smt_text.proofs.TermsBack.{IsSmallNode, term_back}
@@ -124,7 +124,7 @@ wide_term r id width few some h =
 
 -- ---- the lines
 
-pub line_back : (place : Spot) (r : Reading) (line : LeafLine) (rest : List ℕ) → IsWithin r → Counted place r →
+pub line_back : (place : Spot) (r : Reading) (line : LeafLine) (rest : List ℕ) → IsInBounds r → Counted place r →
     stands place r line ≡ true → line_at place (line_text line ++ rest) ≡ Some (line, rest)
 line_back AtFormat r FormatLine rest w c h = rw (behind_word (line_text FormatLine) rest) refl
 line_back AtKind r (KindLine kind) rest w c h =

@@ -13,12 +13,12 @@ use Rattle.rv_decode.specs.declared.ends.PathStep.{PathStep}
 use Rattle.tree_core.specs.declared.choice.Choice.{Choice}
 use Rattle.fork_spec.specs.declared.end.LeafEnd.{LeafEnd}
 use Rattle.fork_spec.specs.declared.end.LeafEnd.TheVariants.{Exits, Traps, Cut}
-use Rattle.smt_text.specs.Grammar.{Reading, agree, behind_inputs, behind_nodes, behind_outputs, end_of, exits, graph_of, is_wide, leaf_of, read_lines, stands, start, with_line}
+use Rattle.smt_text.specs.Grammar.{Reading, agree, behind_inputs, behind_nodes, behind_outputs, end_by, exits, graph_of, is_wide, leaf_of, read_lines, stands, start, with_line}
 use Rattle.smt_text.specs.LeafLines.{counts_heading, input_lines, leaf_lines, node_lines, output_lines, runs_heading, status_lines}
 use Rattle.smt_text.specs.Lines.{LeafLine, FormatLine, KindLine, ChoicesLine, PathLine, StepsLine, EndLine, InputsLine, NodesLine, OutputsLine, LogicLine, InputLine, BaseLine, NodeLine, StatusLine, OutputLine, AssertLine, CheckLine, ExitLine}
 use Rattle.text_parts.specs.Names.{Kind, finished, cut, EndWord, exit, trap, running}
 use Rattle.smt_text.specs.NodeFits.{fits}
-use Rattle.smt_text.specs.Phases.{Counted, IsSound}
+use Rattle.smt_text.specs.Phases.{Counted, IsSoundReading}
 use Rattle.smt_text.specs.declared.spot.Spot.{Spot}
 use Rattle.smt_text.specs.declared.spot.Spot.TheVariants.{AtFormat, AtKind, AtChoices, AtPath, AtSteps, AtEnd, AtInputs, AtNodes, AtOutputs, AtLogic, AmongInputs, AtBase, AmongNodes, AtStatus, AmongOutputs, AmongAssertions, AtExit, Closed}
 use Rattle.smt_text.proofs.OneReading.{stood}
@@ -72,7 +72,7 @@ ExitsAt _ end = Unit {0}
 -- ---- one more of each
 
 ended_said : (kind : Kind) (word : EndWord) (choices : List Choice) (path : List PathStep) (steps : ℕ) → agree kind word ≡ true →
-    runs_heading choices path steps (end_of kind word)
+    runs_heading choices path steps (end_by kind word)
     ≡ FormatLine ∷ KindLine kind ∷ ChoicesLine choices ∷ PathLine path ∷ StepsLine steps ∷ EndLine word ∷ []
 ended_said finished exit choices path steps h = refl
 ended_said finished (trap t) choices path steps h = refl
@@ -256,7 +256,7 @@ said_more AmongAssertions r CheckLine c x here h = (refl, tt)
 said_more AtExit r ExitLine c x here h = (more_behind (assertions_said r) (CheckLine ∷ []) ExitLine, tt)
 said_more _ r _ c x here h = cc
 
-all_said : (r s : Reading) (before lines : List LeafLine) → IsSound r → ExitsAt r.place r.end → before ≡ said r.place r →
+all_said : (r s : Reading) (before lines : List LeafLine) → IsSoundReading r → ExitsAt r.place r.end → before ≡ said r.place r →
     read_lines r lines ≡ Some s → before ++ lines ≡ said s.place s
 unfolding read_lines
 all_said r s before [] sound x so_far h = append-nil before ∙ so_far ∙ ap (λ (q : Reading). said q.place q) (same_Some r s h)
@@ -281,7 +281,7 @@ said_leaf r c =
     ∙ ap (λ (k : ℕ). (((runs_said r ++ counts_heading r.inputs (length r.nodes) k) ++ ((((LogicLine ∷ input_lines 0 r.inputs) ++ (BaseLine ∷ node_lines (graph_of r))) ++ status_lines r.end) ++ output_lines r.outputs)) ++ map AssertLine r.asserted) ++ (CheckLine ∷ ExitLine ∷ [])) (sym c.2)
 
 -- the lines of a whole text are those of the leaf that they say
-pub lines_are : (lines : List LeafLine) (r : Reading) → IsSound start → IsSound r → read_lines start lines ≡ Some r → r.place ≡ Closed →
+pub lines_are : (lines : List LeafLine) (r : Reading) → IsSoundReading start → IsSoundReading r → read_lines start lines ≡ Some r → r.place ≡ Closed →
     lines ≡ leaf_lines (leaf_of r)
 lines_are lines r sound sound_r h closed =
     all_said start r [] lines sound tt refl h ∙ ap (λ (p : Spot). said p r) closed

@@ -20,7 +20,7 @@ use Rattle.text_parts.specs.Pieces.{behind}
 use Rattle.smt_text.specs.declared.spot.Spot.{Spot}
 use Rattle.smt_text.specs.declared.spot.Spot.TheVariants.{AtFormat, AtKind, AtChoices, AtPath, AtSteps, AtEnd, AtInputs, AtNodes, AtOutputs, AtLogic, AmongInputs, AtBase, AmongNodes, AtStatus, AmongOutputs, AmongAssertions, AtExit, Closed}
 use Rattle.smt_text.proofs.LinesBack.{line_back}
-use Rattle.smt_text.specs.Phases.{Counted, IsWithin}
+use Rattle.smt_text.specs.Phases.{Counted, IsInBounds}
 use Rattle.smt_text.proofs.Phases.{Counted-start, IsWithin-start, kept}
 use Rattle.smt_text.proofs.Reading.{all_read, ended}
 
@@ -60,20 +60,20 @@ nothing_at AtExit = refl
 nothing_at Closed = refl
 
 -- no line that may stand has an empty text
-pub no_empty_line : (r : Reading) (line : LeafLine) (more : List ℕ) {X : Type 0} → IsWithin r → Counted r.place r →
+pub no_empty_line : (r : Reading) (line : LeafLine) (more : List ℕ) {X : Type 0} → IsInBounds r → Counted r.place r →
     stands r.place r line ≡ true → [] ≡ line_text line ++ more → X
 no_empty_line r line more w c h e =
     absurd (none-some (line, more) (sym (nothing_at r.place) ∙ ap (line_at r.place) e ∙ line_back r.place r line more w c h))
 
 -- no line stands behind the last one
-none_behind : (r : Reading) (line : LeafLine) (more : List ℕ) {X : Type 0} → r.place ≡ Closed → IsWithin r → Counted r.place r →
+none_behind : (r : Reading) (line : LeafLine) (more : List ℕ) {X : Type 0} → r.place ≡ Closed → IsInBounds r → Counted r.place r →
     stands r.place r line ≡ true → X
 none_behind r line more closed w c h =
     let nothing : None ≡ line_at r.place (line_text line ++ more) = ap (λ (p : Spot). line_at p (line_text line ++ more)) (sym closed) in
     absurd (none-some (line, more) (nothing ∙ line_back r.place r line more w c h))
 
 -- lines that may each stand after the same reading, up to the last, are told by their text, whatever stands behind it
-pub same_lines : (r s t : Reading) (lines others : List LeafLine) (more rest : List ℕ) → IsWithin r → Counted r.place r →
+pub same_lines : (r s t : Reading) (lines others : List LeafLine) (more rest : List ℕ) → IsInBounds r → Counted r.place r →
     read_lines r lines ≡ Some s → read_lines r others ≡ Some t → s.place ≡ Closed → t.place ≡ Closed →
     lines_text lines ++ more ≡ lines_text others ++ rest → (lines ≡ others) × (more ≡ rest)
 unfolding lines_text read_lines

@@ -21,7 +21,7 @@ use Rattle.fork_spec.specs.declared.end.LeafEnd.TheVariants.{Exits, Traps, Cut}
 use Rattle.smt_text.specs.Grammar.{Reading, behind_inputs, behind_nodes, behind_outputs, exits, graph_of, is_small_choice, is_small_step, is_wide, stands, start, with_line}
 use Rattle.smt_text.specs.Lines.{LeafLine, FormatLine, KindLine, ChoicesLine, PathLine, StepsLine, EndLine, InputsLine, NodesLine, OutputsLine, LogicLine, InputLine, BaseLine, NodeLine, StatusLine, OutputLine, AssertLine, CheckLine, ExitLine}
 use Rattle.smt_text.specs.NodeFits.{fits}
-use Rattle.smt_text.specs.Phases.{Counted, IsWithin}
+use Rattle.smt_text.specs.Phases.{Counted, IsInBounds}
 use Rattle.smt_text.specs.declared.spot.Spot.{Spot}
 use Rattle.smt_text.specs.declared.spot.Spot.TheVariants.{AtFormat, AtKind, AtChoices, AtPath, AtSteps, AtEnd, AtInputs, AtNodes, AtOutputs, AtLogic, AmongInputs, AtBase, AmongNodes, AtStatus, AmongOutputs, AmongAssertions, AtExit}
 use Rattle.text_parts.proofs.Tests.{lt_from}
@@ -126,7 +126,7 @@ counted_nodes r declared most no_outputs none_asserted = go (length r.nodes == r
 
 -- ---- each line keeps it so
 
-pub IsWithin-start : IsWithin start
+pub IsWithin-start : IsInBounds start
 IsWithin-start = (All-nil IsSmallChoice, All-nil IsSmallStep, omega arith, omega arith, omega arith, omega arith, (IsDag-none 0).all_fit, All-nil (λ id. width_of (graph_of start) id ≡ 8), All-nil (λ id. width_of (graph_of start) id ≡ 1))
 
 pub Counted-start : Counted AtFormat start
@@ -136,8 +136,8 @@ Counted-start = (refl, refl, refl, refl, tt)
 none_fit : (inputs : ℕ) (nodes : List Node) → length nodes ≡ 0 → AllFit inputs nodes
 none_fit inputs nodes no_nodes = subst (AllFit inputs) (sym (nil_from_length nodes no_nodes)) (IsDag-none inputs).all_fit
 
-pub kept : (place : Spot) (r : Reading) (line : LeafLine) → IsWithin r → Counted place r → r.place ≡ place →
-    stands place r line ≡ true → IsWithin (with_line r line) × Counted (with_line r line).place (with_line r line)
+pub kept : (place : Spot) (r : Reading) (line : LeafLine) → IsInBounds r → Counted place r → r.place ≡ place →
+    stands place r line ≡ true → IsInBounds (with_line r line) × Counted (with_line r line).place (with_line r line)
 kept AtFormat r FormatLine w c here h = (w, c)
 kept AtKind r (KindLine kind) w c here h = (w, c)
 kept AtChoices r (ChoicesLine cs) w c here h = ((small_choices cs h, w.1, w.2, w.3, w.4, w.5, w.6, w.7, w.8), c)

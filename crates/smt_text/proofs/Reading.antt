@@ -15,11 +15,11 @@ use Rattle.bv_dag.specs.Graphs.{AllFit, width_of}
 use Rattle.bv_dag.specs.Queries.{AreBits}
 use Rattle.bv_dag.specs.declared.nodes.Node.{Node}
 use Rattle.smt_text.specs.declared.spot.Spot.TheVariants.{AmongAssertions, AtExit, AtLogic, Closed}
-use Rattle.smt_text.specs.Grammar.{Reading, IsTextOf, agree, end_of, graph_of, is_small_choice, is_small_step, next_state, past_input, past_node, past_output, read_lines, stands, start, with_line}
+use Rattle.smt_text.specs.Grammar.{Reading, IsTextOf, agree, end_by, graph_of, is_small_choice, is_small_step, next_state, past_input, past_node, past_output, read_lines, stands, start, with_line}
 use Rattle.smt_text.specs.LeafLines.{heading, assertions, input_lines, node_lines, output_lines, status_lines, leaf_text, leaf_lines}
 use Rattle.fork_spec.specs.Leaves.{IsByteStatus, IsFull, IsSmallChoice, IsSmallStep, Leaf}
 use Rattle.smt_text.specs.Lines.{LeafLine, LogicLine, InputLine, BaseLine, NodeLine, StatusLine, OutputLine, AssertLine, CheckLine, ExitLine}
-use Rattle.text_parts.specs.Names.{kind_of, word_of}
+use Rattle.text_parts.specs.Names.{kind_of, end_word}
 use Rattle.fork_spec.specs.declared.end.LeafEnd.{LeafEnd}
 use Rattle.fork_spec.specs.declared.end.LeafEnd.TheVariants.{Exits, Traps, Cut}
 use Rattle.smt_text.proofs.Fitting.{fits_here, width_here}
@@ -42,7 +42,7 @@ counted n h = grind (arith, nat_tests)
 below : (a b : ℕ) → a < b → (a == b) ≡ false
 below a b h = grind (arith, nat_tests)
 
-agrees : (end : LeafEnd) → agree (kind_of end) (word_of end) ≡ true
+agrees : (end : LeafEnd) → agree (kind_of end) (end_word end) ≡ true
 agrees (Exits status) = refl
 agrees (Traps t) = refl
 agrees (Cut cause) = refl
@@ -77,7 +77,7 @@ heading_read : (leaf : Leaf) (rest : List LeafLine) → IsFull leaf →
       choices = leaf.choices;
       path = leaf.path;
       steps = leaf.steps;
-      end = end_of (kind_of leaf.end) (word_of leaf.end);
+      end = end_by (kind_of leaf.end) (end_word leaf.end);
       inputs = leaf.condition.graph.inputs;
       node_count = length leaf.condition.graph.nodes;
       output_count = length leaf.outputs;
@@ -121,7 +121,7 @@ nodes_read r whole before (n ∷ after) rest all many e =
 -- The status, where there is one.
 status_read : (r : Reading) (end : LeafEnd) (rest : List LeafLine) → length r.nodes ≡ r.node_count →
     IsByteStatus (graph_of r) end →
-    read_lines (past_node (record r { end = end_of (kind_of end) (word_of end) })) (status_lines end ++ rest) ≡ read_lines (past_output (record r { end = end })) rest
+    read_lines (past_node (record r { end = end_by (kind_of end) (end_word end) })) (status_lines end ++ rest) ≡ read_lines (past_output (record r { end = end })) rest
 status_read r (Exits status) rest many wide =
     reads (past_node (record r { end = Exits 0 })) (StatusLine status) rest (rw (eq-eqb _ _ many) (eq-eqb _ _ wide))
 status_read r (Traps t) rest many wide = rw (eq-eqb _ _ many) refl
@@ -177,7 +177,7 @@ begun leaf = record start {
   choices = leaf.choices;
   path = leaf.path;
   steps = leaf.steps;
-  end = end_of (kind_of leaf.end) (word_of leaf.end);
+  end = end_by (kind_of leaf.end) (end_word leaf.end);
   inputs = leaf.condition.graph.inputs;
   node_count = length leaf.condition.graph.nodes;
   output_count = length leaf.outputs;

@@ -6,7 +6,7 @@ use Rattle.bv_dag.specs.declared.nodes.BinaryOp.TheVariants.{Add, Sub, Mul, Udiv
 use Rattle.bv_dag.specs.declared.nodes.Comparison.TheVariants.{Ult, Slt, Eq}
 use Rattle.bv_dag.specs.declared.nodes.Node.{Node}
 use Rattle.bv_dag.specs.declared.nodes.Node.TheVariants.{Num, Input, Not, Neg, Binary, Compare, Ite, Extract, Extend, Concat}
-use Rattle.smt_text.specs.LineReading.{answers, heads, operands, term}
+use Rattle.smt_text.specs.LineReading.{answers, heads, read_operands, term}
 use Rattle.smt_text.specs.NodeText.{binary_name, node_text}
 use Rattle.text_parts.specs.Pieces.{behind, named}
 use Rattle.smt_text.specs.declared.head.Head.{Head}
@@ -35,7 +35,7 @@ wide n h = omega arith
 
 -- a term whose head and whose operands are read
 with_head : (word text : List ℕ) (found : Head) (node : Node) (rest : List ℕ) →
-    named heads (word ++ text) ≡ Some (found, text) → operands found text ≡ Some (node, rest) →
+    named heads (word ++ text) ≡ Some (found, text) → read_operands found text ≡ Some (node, rest) →
     term (word ++ text) ≡ Some (node, rest)
 unfolding term
 with_head word text found node rest head_is read = rw head_is read
@@ -105,7 +105,7 @@ no_equal text = refl
 
 pub term_back : (node : Node) (rest : List ℕ) → IsSmallNode node → starts_plain rest ≡ true →
     term (node_text node ++ rest) ≡ Some (node, rest)
-unfolding operands
+unfolding read_operands
 term_back (Num w v) rest small plain =
     ap term (five_pieces (codes "(_ bv") (decimal v) (codes " ") (decimal w) (codes ")") rest)
     ∙ with_head (codes "(_ bv") _ head.Num (Num w v) rest (num_named _)

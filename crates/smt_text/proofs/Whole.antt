@@ -5,7 +5,7 @@ use Rattle.fork_spec.specs.Leaves.{IsFull, Leaf}
 use Rattle.smt_text.specs.Grammar.{Reading, leaf_of, read_lines, start, with_line, IsWhole}
 use Rattle.smt_text.specs.LeafLines.{leaf_lines, leaf_text}
 use Rattle.smt_text.specs.Lines.{LeafLine, lines_text}
-use Rattle.smt_text.specs.Phases.{Counted, IsSound, IsWithin}
+use Rattle.smt_text.specs.Phases.{Counted, IsSoundReading, IsInBounds}
 use Rattle.smt_text.specs.declared.spot.Spot.{Spot}
 use Rattle.smt_text.specs.declared.spot.Spot.TheVariants.{Closed}
 use Rattle.smt_text.proofs.LinesSaid.{lines_are}
@@ -15,22 +15,22 @@ use Rattle.smt_text.proofs.Reading.{all_read, ended}
 
 -- ---- lines that stand
 
-pub reached : (r s : Reading) (lines : List LeafLine) → IsSound r → read_lines r lines ≡ Some s → IsSound s
+pub reached : (r s : Reading) (lines : List LeafLine) → IsSoundReading r → read_lines r lines ≡ Some s → IsSoundReading s
 unfolding read_lines
-reached r s [] sound h = subst IsSound (same_Some r s h) sound
+reached r s [] sound h = subst IsSoundReading (same_Some r s h) sound
 reached r s (line ∷ lines) sound h =
     let one = stood r line lines s h in
     reached (with_line r line) s lines (kept r.place r line sound.0 sound.1 refl one.0) one.1
 
-pub sound_start : IsSound start
+pub sound_start : IsSoundReading start
 sound_start = (IsWithin-start, Counted-start)
 
 -- ---- the leaf
 
-pub whole_sound : (text : List ℕ) (r : Reading) → IsWhole text r → IsSound r
+pub whole_sound : (text : List ℕ) (r : Reading) → IsWhole text r → IsSoundReading r
 whole_sound text r whole = reached start r whole.lines sound_start whole.all_stand
 
-full_when_closed : (r : Reading) → IsWithin r → Counted Closed r → IsFull (leaf_of r)
+full_when_closed : (r : Reading) → IsInBounds r → Counted Closed r → IsFull (leaf_of r)
 full_when_closed r w c = record {
   is_dag = record { all_fit = w.6 };
   bits = w.8;

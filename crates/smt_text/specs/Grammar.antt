@@ -97,11 +97,11 @@ agree (cut cause) (trap t) = false
 agree (cut cause) running = true
 
 -- the end that a kind and a word stand for; of an exit the status is still to come
-abbrev pub end_of : Kind → EndWord → LeafEnd
-end_of kind exit = Exits 0
-end_of kind (trap t) = Traps t
-end_of (cut cause) running = Cut cause
-end_of finished running = Cut Steps
+abbrev pub end_by : Kind → EndWord → LeafEnd
+end_by kind exit = Exits 0
+end_by kind (trap t) = Traps t
+end_by (cut cause) running = Cut cause
+end_by finished running = Cut Steps
 
 abbrev pub exits : LeafEnd → Bool
 exits (Exits status) = true
@@ -170,7 +170,7 @@ with_line r (KindLine kind) = record r { place = AtChoices; kind = kind }
 with_line r (ChoicesLine choices) = record r { place = AtPath; choices = choices }
 with_line r (PathLine path) = record r { place = AtSteps; path = path }
 with_line r (StepsLine steps) = record r { place = AtEnd; steps = steps }
-with_line r (EndLine word) = record r { place = AtInputs; end = end_of r.kind word }
+with_line r (EndLine word) = record r { place = AtInputs; end = end_by r.kind word }
 with_line r (InputsLine inputs) = record r { place = AtNodes; inputs = inputs }
 with_line r (NodesLine nodes) = record r { place = AtOutputs; node_count = nodes }
 with_line r (OutputsLine outputs) = record r { place = AtLogic; output_count = outputs }

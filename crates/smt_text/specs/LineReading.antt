@@ -10,7 +10,7 @@ use Rattle.rv_decode.specs.declared.ends.Trap.TheVariants.{Illegal, FetchMisalig
 use Rattle.tree_core.specs.declared.cause.Cause.{Cause}
 use Rattle.tree_core.specs.declared.cause.Cause.TheVariants.{Steps, Targets, Conflicts}
 use Rattle.fork_spec.specs.declared.end.LeafEnd.{LeafEnd}
-use Rattle.smt_text.specs.Grammar.{Reading, agree, end_of, next_state}
+use Rattle.smt_text.specs.Grammar.{Reading, agree, end_by, next_state}
 use Rattle.smt_text.specs.Lines.{LeafLine, FormatLine, KindLine, ChoicesLine, PathLine, StepsLine, EndLine, InputsLine, NodesLine, OutputsLine, LogicLine, InputLine, BaseLine, NodeLine, StatusLine, OutputLine, AssertLine, CheckLine, ExitLine, line_text}
 use Rattle.text_parts.specs.Names.{Kind, finished, cut, EndWord, exit, trap, running}
 use Rattle.text_parts.specs.Items.{all_choices, all_steps}
@@ -67,7 +67,7 @@ word_said ending.Running = running
 -- the end that a kind and a word stand for, where they agree
 abbrev pub end_said : Option Cause → Ending → Option LeafEnd
 end_said kind said =
-    if agree (kind_said kind) (word_said said) then Some (end_of (kind_said kind) (word_said said))
+    if agree (kind_said kind) (word_said said) then Some (end_by (kind_said kind) (word_said said))
     else None
 
 -- ---- terms
@@ -119,26 +119,26 @@ ite_operands text =
     made (λ (c, a, b). Ite c a b) (three (codes " (_ bv1 1)) n") (codes " n") (codes ")") text)
 
 -- what stands behind the head of a term
-unfoldable pub operands : Head → Reader Node
-operands head.Num text =
+unfoldable pub read_operands : Head → Reader Node
+read_operands head.Num text =
     option_and_then (λ ((value, width), rest). if_word width (Some (Num width value, rest)))
     (two (codes " ") (codes ")") text)
-operands head.Input text = made Input (number text)
-operands head.Not text = made Not (one (codes ")") text)
-operands head.Neg text = made Neg (one (codes ")") text)
-operands (head.Binary op) text = made (λ (a, b). Binary op a b) (two (codes " n") (codes ")") text)
-operands (head.Test op) text = made (λ (a, b). Compare op a b) (two (codes " n") answers text)
-operands head.Equal text = option_or (equal_operands text) (ite_operands text)
-operands head.Extract text =
+read_operands head.Input text = made Input (number text)
+read_operands head.Not text = made Not (one (codes ")") text)
+read_operands head.Neg text = made Neg (one (codes ")") text)
+read_operands (head.Binary op) text = made (λ (a, b). Binary op a b) (two (codes " n") (codes ")") text)
+read_operands (head.Test op) text = made (λ (a, b). Compare op a b) (two (codes " n") answers text)
+read_operands head.Equal text = option_or (equal_operands text) (ite_operands text)
+read_operands head.Extract text =
     option_and_then (λ ((high, low, a), rest). if_word high (if_word low (Some (Extract high low a, rest))))
     (three (codes " ") (codes ") n") (codes ")") text)
-operands (head.Extend signed) text =
+read_operands (head.Extend signed) text =
     option_and_then (λ ((by, a), rest). if_word by (Some (Extend by signed a, rest)))
     (two (codes ") n") (codes ")") text)
-operands head.Concat text = made (λ (a, b). Concat a b) (two (codes " n") (codes ")") text)
+read_operands head.Concat text = made (λ (a, b). Concat a b) (two (codes " n") (codes ")") text)
 
 unfoldable pub term : Reader Node
-term text = option_and_then (λ (head, rest). operands head rest) (term_head text)
+term text = option_and_then (λ (head, rest). read_operands head rest) (term_head text)
 
 unfoldable pub node_line : Reader LeafLine
 node_line text =
@@ -156,8 +156,8 @@ assertion_said text =
     option_and_then (one (codes " (_ bv1 1)))\n")) (behind (codes "(assert (= n") text)
 
 -- a number below 2 ^ 32 before the end of its line
-abbrev pub count : Reader ℕ
-count text = option_and_then (λ (n, rest). if_word n (Some (n, rest))) (one (codes "\n") text)
+abbrev pub count_to_end : Reader ℕ
+count_to_end text = option_and_then (λ (n, rest). if_word n (Some (n, rest))) (one (codes "\n") text)
 
 -- ---- all lines
 

@@ -19,16 +19,16 @@ Amount none k n = k ≡ 0
 Amount part k n = k < n
 Amount all k n = k ≡ n
 
-abbrev pub inputs_at : Spot → Phase
-inputs_at AmongInputs = part
-inputs_at AtBase = all
-inputs_at AmongNodes = all
-inputs_at AtStatus = all
-inputs_at AmongOutputs = all
-inputs_at AmongAssertions = all
-inputs_at AtExit = all
-inputs_at Closed = all
-inputs_at _ = none
+abbrev pub inputs_phase : Spot → Phase
+inputs_phase AmongInputs = part
+inputs_phase AtBase = all
+inputs_phase AmongNodes = all
+inputs_phase AtStatus = all
+inputs_phase AmongOutputs = all
+inputs_phase AmongAssertions = all
+inputs_phase AtExit = all
+inputs_phase Closed = all
+inputs_phase _ = none
 
 abbrev pub nodes_at : Spot → Phase
 nodes_at AmongNodes = part
@@ -63,15 +63,15 @@ StatusAt _ graph end = Unit {0}
 
 abbrev pub Counted : Spot → Reading → Type 0
 Counted place r =
-    Amount (inputs_at place) r.declared r.inputs
+    Amount (inputs_phase place) r.declared r.inputs
     × Amount (nodes_at place) (length r.nodes) r.node_count
     × Amount (outputs_at place) (length r.outputs) r.output_count
     × AssertedAt place r.asserted
     × StatusAt place (graph_of r) r.end
 
 -- what was read is within its bounds, and the terms fit
-abbrev pub IsWithin : Reading → Type 0
-IsWithin r =
+abbrev pub IsInBounds : Reading → Type 0
+IsInBounds r =
     All IsSmallChoice r.choices
     × All IsSmallStep r.path
     × (r.steps < 2 ^ 32)
@@ -83,5 +83,5 @@ IsWithin r =
     × AreBits (graph_of r) r.asserted
 
 -- so it is of each reading of lines that may stand
-abbrev pub IsSound : Reading → Type 0
-IsSound r = IsWithin r × Counted r.place r
+abbrev pub IsSoundReading : Reading → Type 0
+IsSoundReading r = IsInBounds r × Counted r.place r

@@ -23,7 +23,7 @@ use Rattle.sym_state.specs.declared.value.Value.TheVariants.{Number}
 use Rattle.sym_state.specs.Unfolded.{unfolded}
 use Rattle.sym_state.specs.Unfolding as symbolic
 use Rattle.sym_state.proofs.Grown.{Continues-refl}
-use Rattle.sym_machine.specs.Calls.{IsWritten}
+use Rattle.sym_machine.specs.Calls.{WritesOutput}
 use Rattle.sym_machine.specs.Steps.{Carries, Comes}
 use Rattle.sym_machine.specs.Stops.{DecidesBy, StandsAt, Stops, StopsAt}
 use Rattle.sym_machine.specs.declared.halt.Halt.{Halt}
@@ -34,14 +34,14 @@ use Rattle.sym_machine.specs.declared.outcome.Step.TheVariants.{Running, Ended}
 use Rattle.sym_machine.proofs.Standing.{Keeps-refl, map-map, registers-set, x-worth}
 
 -- ---- Bytes behind the output.
-pub none_written : (s : Symbolic) (start : ℕ) → IsWritten s s start 0
+pub none_written : (s : Symbolic) (start : ℕ) → WritesOutput s s start 0
 none_written s start = record {
   is = ap (λ os. record s { output = os }) (bytes_none (memory_byte s.memory) start s.output);
 }
 
-pub more_written : (s t : Symbolic) (start count : ℕ) (b : Byte) → start < 2 ^ 32 → IsWritten s t start count
+pub more_written : (s t : Symbolic) (start count : ℕ) (b : Byte) → start < 2 ^ 32 → WritesOutput s t start count
     → b ≡ memory_byte t.memory ((start + count) % 2 ^ 32)
-    → IsWritten s (record t { output = t.output ++ b ∷ [] }) start (count + 1)
+    → WritesOutput s (record t { output = t.output ++ b ∷ [] }) start (count + 1)
 more_written s t start count b small was read =
     let output = ap (λ (r : Symbolic). r.output) was.is in
     let memory = ap (λ (r : Symbolic). r.memory) was.is in
@@ -98,7 +98,7 @@ written_on s input start count =
     ∙ sym (map-append (byte_worth s.terms input) s.output (map (memory_byte s.memory) (addresses start count))))
 
 pub write_done : (s t : Symbolic) (start asked count : ℕ) → count ≡ min asked 4096
-    → list_all (is_mapped (memory_flags s.memory)) (addresses start count) ≡ true → IsWritten s t start count
+    → list_all (is_mapped (memory_flags s.memory)) (addresses start count) ≡ true → WritesOutput s t start count
     → Comes s (record t { pc = sum32 t.pc 4; registers = set_value t.registers 10 (Number count) }) Running (λ c. write c 1 start asked)
 write_done s t start asked count is all written =
     let same : record t { pc = sum32 t.pc 4; registers = set_value t.registers 10 (Number count) } ≡ after_write s start count =

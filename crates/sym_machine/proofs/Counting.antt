@@ -13,7 +13,7 @@ use Rattle.sym_state.specs.Unfolded.{unfolded}
 use Rattle.sym_state.specs.Unfolding.{execute_of}
 use Rattle.sym_state.proofs.Grown.{concrete-grown, holds-grown, unfolded-grown}
 use Rattle.sym_machine.specs.Fetching.{IsFetched, unfolded_by}
-use Rattle.sym_machine.specs.Steps.{AreAlike, Carries, Comes, Keeps, Steps, outcome_on}
+use Rattle.sym_machine.specs.Steps.{AreUniform, Carries, Comes, Keeps, Steps, outcome_on}
 use Rattle.sym_machine.specs.Stops.{DecidesBy}
 use Rattle.sym_machine.specs.declared.outcome.RunEnd.{RunEnd}
 use Rattle.sym_machine.specs.declared.outcome.RunEnd.TheVariants.{Exits, Traps}
@@ -42,7 +42,7 @@ outcome-counted u input Running = refl
 outcome-counted u input (Ended end) = ended-counted u input end
 
 counts : (s t u : Symbolic) (step : Step) (fetched : Result Instr Trap) → IsGrown s t → IsFetched s fetched
-    → Comes t u step (λ c. execute_fetched c fetched) → AreAlike s step_decisions
+    → Comes t u step (λ c. execute_fetched c fetched) → AreUniform s step_decisions
     → ((input : List ℕ) → stands_for s input ≡ true → unfolded u ≡ unfolded_by (unfolded s) (concrete s input) fetched) → Steps s (counted u) step
 counts s t u step fetched grown is comes alike terms =
     let keeps = Keeps-made s t u grown comes.keeps in

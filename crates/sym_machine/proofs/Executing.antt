@@ -23,7 +23,7 @@ use Rattle.sym_state.specs.declared.value.Value.{Value}
 use Rattle.sym_state.specs.declared.value.Value.TheVariants.{Number}
 use Rattle.sym_state.proofs.Grown.{concrete-grown, unfolded-grown}
 use Rattle.sym_state.proofs.Opening.{stands-bytes}
-use Rattle.sym_machine.specs.Steps.{AreAlike, Carries, Comes}
+use Rattle.sym_machine.specs.Steps.{AreUniform, Carries, Comes}
 use Rattle.sym_machine.specs.Stops.{DecidesBy, StandsAt}
 use Rattle.sym_machine.specs.declared.outcome.Step.{Step}
 use Rattle.sym_machine.specs.declared.outcome.Step.TheVariants.{Running}
@@ -153,7 +153,7 @@ module _ (s t u : Symbolic) (rd rs1 offset : ℕ) (sum target : Value)
       }
 
 -- ---- Instructions that need nothing.
-nothing_decided : (s : Symbolic) → AreAlike s (λ c. [])
+nothing_decided : (s : Symbolic) → AreUniform s (λ c. [])
 nothing_decided s = record { made = []; alike = λ input stands. refl }
 
 pub loads_upper : (s : Symbolic) (rd upper : ℕ)

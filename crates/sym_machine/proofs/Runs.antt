@@ -14,7 +14,7 @@ use Rattle.sym_state.specs.Symbolic.{Symbolic, IsTrulyKnown, concrete, known_at,
 use Rattle.sym_state.specs.Unfolding.{next_unfolded, unfolded_run}
 use Rattle.sym_state.proofs.Grown.{concrete-grown, stands-grown, unfolded-grown}
 use Rattle.sym_machine.specs.Advancing.{Advances, IsEnded, IsUnderway}
-use Rattle.sym_machine.specs.Steps.{Steps, end_on}
+use Rattle.sym_machine.specs.Steps.{Steps, run_end_on}
 use Rattle.sym_machine.specs.Stops.{IsBranch, IsPin}
 use Rattle.sym_machine.specs.declared.stepping.Stop.TheVariants.{Branch as BranchStop, Pin as PinStop, Ended as EndedStop, Steps as StepsStop}
 use Rattle.sym_machine.specs.declared.outcome.RunEnd.{RunEnd}
@@ -132,8 +132,8 @@ ended_after p s t end made was = record {
   few_outputs = few_after s t (Ended end) made was.few_outputs;
   ends = λ input stands.
       let stood_for = before_step s t (Ended end) made input stands in
-      subst (λ n. IsRunOf (run p.image p.regions input n) n t.path (Some (end_on t input end)) (concrete t input).output) (sym made.steps)
-      (run_ends p.image p.regions input s.steps (concrete s input) (concrete t input) (end_on t input end) (was.sound input stood_for) (made.is input stood_for));
+      subst (λ n. IsRunOf (run p.image p.regions input n) n t.path (Some (run_end_on t input end)) (concrete t input).output) (sym made.steps)
+      (run_ends p.image p.regions input s.steps (concrete s input) (concrete t input) (run_end_on t input end) (was.sound input stood_for) (made.is input stood_for));
   alike = alike_after p s t (Ended end) made was;
   terms = terms_after p s t (Ended end) made was;
 }

@@ -18,7 +18,7 @@ use Rattle.sym_state.specs.declared.value.Value.TheVariants.{Number}
 use Rattle.sym_state.proofs.Growing.{Continues-trans}
 use Rattle.sym_state.proofs.Grown.{Continues-refl, concrete-grown, stands-grown}
 use Rattle.sym_state.proofs.Opening.{stands-bytes}
-use Rattle.sym_machine.specs.Steps.{AreAlike, Comes, Keeps}
+use Rattle.sym_machine.specs.Steps.{AreUniform, Comes, Keeps}
 use Rattle.sym_machine.specs.Stops.{DecidesBy, StandsAt, Stops, StopsAt}
 use Rattle.sym_machine.specs.declared.halt.Halt.{Halt}
 use Rattle.sym_machine.specs.declared.halt.Halt.TheVariants.{Side as SideHalt, Number as NumberHalt, NoMemory}
@@ -85,7 +85,7 @@ DecidesBy-grown old new instr grown decides = record {
 }
 
 pub AreAlike-grown : (old new : Symbolic) (decides : State → List Decision) → IsGrown old new
-    → AreAlike new decides → AreAlike old decides
+    → AreUniform new decides → AreUniform old decides
 AreAlike-grown old new decides grown are = record {
   made = are.made;
   alike = λ input standing.

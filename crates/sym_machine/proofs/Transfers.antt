@@ -11,7 +11,7 @@ use Rattle.sym_state.specs.Symbolic.{Symbolic, concrete, stands_for}
 use Rattle.sym_state.specs.Unfolded.{Unfolded, expression_at, unfolded}
 use Rattle.sym_state.specs.Unfolding as symbolic
 use Rattle.sym_state.proofs.Grown.{unfolded-grown}
-use Rattle.sym_machine.specs.Steps.{AreAlike, Carries, Comes}
+use Rattle.sym_machine.specs.Steps.{AreUniform, Carries, Comes}
 use Rattle.sym_machine.specs.Stops.{DecidesBy, StandsAt}
 use Rattle.sym_machine.specs.declared.outcome.Step.{Step}
 use Rattle.sym_machine.proofs.Standing.{Comes-by, Comes-made, StandsAt-first}
@@ -26,7 +26,7 @@ IsAddress s rs1 offset at = (input : List ℕ) → stands_for s input ≡ true
     → address (concrete s input) rs1 offset ≡ at
 
 alike : (s : Symbolic) (rs1 offset at : ℕ) → IsAddress s rs1 offset at
-    → AreAlike s (λ c. Needs (address c rs1 offset) ∷ [])
+    → AreUniform s (λ c. Needs (address c rs1 offset) ∷ [])
 alike s rs1 offset at is = record {
   made = Needs at ∷ [];
   alike = λ input standing. ap (λ n. Needs n ∷ []) (is input standing);

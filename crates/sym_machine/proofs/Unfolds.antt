@@ -13,7 +13,7 @@ use Rattle.rv_decode.specs.declared.ops.StoreWidth.{StoreWidth}
 use Rattle.rv_spec.specs.Arithmetic.{sum32}
 use Rattle.rv_spec.specs.Machine.{addresses, is_load_aligned, is_store_aligned}
 use Rattle.rv_spec.specs.Memory.{can_write, is_mapped}
-use Rattle.sym_state.specs.Expressions.{Expression, Number as ANumber, byte_expression, byte_of, value_expression}
+use Rattle.sym_state.specs.Expressions.{Expression, Number as ANumber, byte_expression, register_byte, value_expression}
 use Rattle.sym_state.specs.Moves.{IsGrown, stored_at}
 use Rattle.sym_state.specs.Symbolic.{Symbolic, set_value, value_at}
 use Rattle.sym_state.specs.Unfolded.{Unfolded, expression_at, set_expression, unfolded}
@@ -21,7 +21,7 @@ use Rattle.sym_state.specs.Unfolding.{linked, load, loaded, onward, store, store
 use Rattle.sym_state.specs.declared.value.Value.{Value}
 use Rattle.sym_state.specs.declared.value.Value.TheVariants.{Number}
 use Rattle.sym_state.proofs.Grown.{unfolded-grown}
-use Rattle.sym_machine.specs.Calls.{IsWritten}
+use Rattle.sym_machine.specs.Calls.{WritesOutput}
 use Rattle.sym_machine.proofs.Standing.{map-map, onward_with}
 
 -- ---- Registers.
@@ -108,16 +108,16 @@ put_two u v w address e0 e1 was (Ok x) first second same =
 -- the bytes of a value, whose expression is the same whatever was made for the bytes before
 pub put_four : {E : Type 0} (u0 u1 u2 u3 u4 : Unfolded) (address : ℕ) (v v1 v2 v3 : Expression) (r : Result (Unit {0}) E)
     → v1 ≡ v → v2 ≡ v → v3 ≡ v
-    → u1 ≡ with_put u0 address (byte_of 0 v ∷ []) → u2 ≡ with_put u1 (address + 1) (byte_of 1 v1 ∷ [])
-    → u3 ≡ with_put u2 (address + 2) (byte_of 2 v2 ∷ []) → OnOk r (u4 ≡ with_put u3 (address + 3) (byte_of 3 v3 ∷ []))
-    → OnOk r (u4 ≡ with_put u0 address (byte_of 0 v ∷ byte_of 1 v ∷ byte_of 2 v ∷ byte_of 3 v ∷ []))
+    → u1 ≡ with_put u0 address (register_byte 0 v ∷ []) → u2 ≡ with_put u1 (address + 1) (register_byte 1 v1 ∷ [])
+    → u3 ≡ with_put u2 (address + 2) (register_byte 2 v2 ∷ []) → OnOk r (u4 ≡ with_put u3 (address + 3) (register_byte 3 v3 ∷ []))
+    → OnOk r (u4 ≡ with_put u0 address (register_byte 0 v ∷ register_byte 1 v ∷ register_byte 2 v ∷ register_byte 3 v ∷ []))
 put_four u0 u1 u2 u3 u4 address v v1 v2 v3 (Err x) same1 same2 same3 first second third fourth = tt
 put_four u0 u1 u2 u3 u4 address v v1 v2 v3 (Ok x) same1 same2 same3 first second third fourth =
-    put_more u0 u1 u4 address (address + 1) (byte_of 0 v) (byte_of 1 v ∷ byte_of 2 v ∷ byte_of 3 v ∷ []) (byte_of 1 v ∷ byte_of 2 v ∷ byte_of 3 v ∷ []) refl first
-    (put_more u1 u2 u4 (address + 1) (address + 2) (byte_of 1 v) (byte_of 2 v ∷ byte_of 3 v ∷ []) (byte_of 2 v ∷ byte_of 3 v ∷ []) (omega arith)
-    (second ∙ ap (λ e. with_put u1 (address + 1) (byte_of 1 e ∷ [])) same1)
-    (put_more u2 u3 u4 (address + 2) (address + 3) (byte_of 2 v) (byte_of 3 v3 ∷ []) (byte_of 3 v ∷ []) (omega arith)
-    (third ∙ ap (λ e. with_put u2 (address + 2) (byte_of 2 e ∷ [])) same2) fourth (ap (λ e. byte_of 3 e ∷ []) same3)) refl) refl
+    put_more u0 u1 u4 address (address + 1) (register_byte 0 v) (register_byte 1 v ∷ register_byte 2 v ∷ register_byte 3 v ∷ []) (register_byte 1 v ∷ register_byte 2 v ∷ register_byte 3 v ∷ []) refl first
+    (put_more u1 u2 u4 (address + 1) (address + 2) (register_byte 1 v) (register_byte 2 v ∷ register_byte 3 v ∷ []) (register_byte 2 v ∷ register_byte 3 v ∷ []) (omega arith)
+    (second ∙ ap (λ e. with_put u1 (address + 1) (register_byte 1 e ∷ [])) same1)
+    (put_more u2 u3 u4 (address + 2) (address + 3) (register_byte 2 v) (register_byte 3 v3 ∷ []) (register_byte 3 v ∷ []) (omega arith)
+    (third ∙ ap (λ e. with_put u2 (address + 2) (register_byte 2 e ∷ [])) same2) fourth (ap (λ e. register_byte 3 e ∷ []) same3)) refl) refl
 
 pub stores : (u v : Unfolded) (width : StoreWidth) (address : ℕ) (e : Expression) → is_store_aligned width address ≡ true → can_write u.flags address ≡ true
     → v ≡ with_put u address (stored width e) → record v { pc = sum32 v.pc 4 } ≡ store u width address e
@@ -139,7 +139,7 @@ writes_all u start count all = rw all refl
 pub writes_nothing : (u : Unfolded) (start count : ℕ) → list_all (is_mapped u.flags) (addresses start count) ≡ false → u ≡ write u start count
 writes_nothing u start count other = rw other refl
 
-pub unfolded-written : (s t : Symbolic) (start count : ℕ) → IsWritten s t start count
+pub unfolded-written : (s t : Symbolic) (start count : ℕ) → WritesOutput s t start count
     → list_all (is_mapped (memory_flags s.memory)) (addresses start count) ≡ true
     → unfolded (record t { pc = sum32 t.pc 4; registers = set_value t.registers 10 (Number count) }) ≡ write (unfolded s) start count
 unfolded-written s t start count done all =

@@ -7,7 +7,7 @@ use Rattle.sym_state.specs.Programs.{Program}
 use Rattle.sym_state.specs.Runs.{AreTermsOf, DecidedAlike, IsOpen, left_to_do}
 use Rattle.sym_state.specs.Symbolic.{Symbolic, stands_for}
 use Rattle.sym_state.specs.Values.{byte_worth}
-use Rattle.sym_machine.specs.Steps.{end_on}
+use Rattle.sym_machine.specs.Steps.{run_end_on}
 use Rattle.sym_machine.specs.Stops.{IsBranch, IsPin}
 use Rattle.sym_machine.specs.declared.outcome.RunEnd.{RunEnd}
 use Rattle.sym_machine.specs.declared.stepping.Stop.{Stop}
@@ -19,7 +19,7 @@ pub record IsEnded (p : Program) (s : Symbolic) (end : RunEnd) : Type 0 where
   pub sampled : stands_for s s.sample ≡ true
   pub few_outputs : length s.output ≤ 4096 * s.steps
   pub ends : (input : List ℕ) → stands_for s input ≡ true →
-      IsRunOf (run p.image p.regions input s.steps) s.steps s.path (Some (end_on s input end))
+      IsRunOf (run p.image p.regions input s.steps) s.steps s.path (Some (run_end_on s input end))
       (map (byte_worth s.terms input) s.output)
   pub alike : DecidedAlike p s
   pub terms : AreTermsOf p s

@@ -5,5 +5,5 @@ use Rattle.rv_spec.specs.Machine.{addresses}
 use Rattle.sym_state.specs.Symbolic.{Symbolic}
 
 -- the bytes at so many addresses were put behind the output, and nothing else has changed
-pub record IsWritten (old new : Symbolic) (start count : ℕ) : Type 0 where
+pub record WritesOutput (old new : Symbolic) (start count : ℕ) : Type 0 where
   pub is : new ≡ record old { output = old.output ++ map (memory_byte old.memory) (addresses start count) }

@@ -10,13 +10,13 @@ use Rattle.rv_spec.specs.Memory.{can_execute, word_at}
 use Rattle.sym_state.specs.Symbolic.{Symbolic, concrete, stands_for}
 use Rattle.sym_state.specs.Unfolded.{Unfolded}
 use Rattle.sym_state.specs.Unfolding.{execute_of, next_unfolded}
-use Rattle.sym_machine.specs.Steps.{AreAlike}
+use Rattle.sym_machine.specs.Steps.{AreUniform}
 use Rattle.sym_machine.specs.Stops.{DecidesBy}
 
 -- what the step decides where this comes next: of an instruction its word and what it needs
 abbrev pub DecidesOnce : Symbolic → Result Instr Trap → Type 0
 DecidesOnce s (Ok instr) = DecidesBy s instr × ShiftsBelow32 instr
-DecidesOnce s (Err trap) = AreAlike s step_decisions
+DecidesOnce s (Err trap) = AreUniform s step_decisions
 
 -- what the terms become where this comes next
 abbrev pub unfolded_by : Unfolded → State → Result Instr Trap → Unfolded

@@ -20,14 +20,14 @@ use Rattle.sym_machine.specs.declared.outcome.Step.{Step}
 use Rattle.sym_machine.specs.declared.outcome.Step.TheVariants.{Running, Ended}
 
 -- how a run ends on an assignment
-abbrev pub end_on : Symbolic → List ℕ → RunEnd → End
-end_on s input Exits = Exit (worth_of s.terms input (value_at s.registers 10) % 256)
-end_on s input (Traps trap) = Trapped trap
+abbrev pub run_end_on : Symbolic → List ℕ → RunEnd → End
+run_end_on s input Exits = Exit (worth_of s.terms input (value_at s.registers 10) % 256)
+run_end_on s input (Traps trap) = Trapped trap
 
 -- what the machine has come to on an assignment, where a symbolic run stands so
 abbrev pub outcome_on : Symbolic → List ℕ → Step → Outcome
 outcome_on s input Running = machine.Running (concrete s input)
-outcome_on s input (Ended end) = machine.Ended (end_on s input end) (concrete s input)
+outcome_on s input (Ended end) = machine.Ended (run_end_on s input end) (concrete s input)
 
 -- What no instruction changes: the assignments, and where the run stands in the fork tree. Terms are
 -- only added, and 4096 bytes at most are written.
@@ -58,14 +58,14 @@ pub record Puts (old new : Symbolic) (address : ℕ) (bytes : List ℕ → List 
       ≡ record (concrete old input) { byte = with_bytes (concrete old input).byte address (bytes input) }
 
 -- a list of decisions is the same on all assignments
-pub record AreAlike (s : Symbolic) (decides : State → List Decision) : Type 0 where
+pub record AreUniform (s : Symbolic) (decides : State → List Decision) : Type 0 where
   pub made : List Decision
   pub alike : (input : List ℕ) → stands_for s input ≡ true → decides (concrete s input) ≡ made
 
 -- an instruction was carried out: all that it decides is alike, and its terms are those that it makes
 pub record Carries (old new : Symbolic) (step : Step) (instr : Instr) : Type 0 where
   pub comes : Comes old new step (λ c. machine.execute c instr)
-  pub alike : AreAlike old (λ c. instr_decisions c (Some instr))
+  pub alike : AreUniform old (λ c. instr_decisions c (Some instr))
   pub terms : (input : List ℕ) → stands_for old input ≡ true →
       unfolded new ≡ execute_of (unfolded old) instr (instr_decisions (concrete old input) (Some instr))
 
@@ -78,6 +78,6 @@ pub record Steps (old new : Symbolic) (step : Step) : Type 0 where
   pub known : new.known ≡ nothing_known
   pub few : length new.output ≤ length old.output + 4096
   pub is : (input : List ℕ) → stands_for old input ≡ true → next (concrete old input) ≡ outcome_on new input step
-  pub alike : AreAlike old step_decisions
+  pub alike : AreUniform old step_decisions
   pub terms : (input : List ℕ) → stands_for old input ≡ true →
       unfolded new ≡ next_unfolded (unfolded old) (step_decisions (concrete old input))

@@ -12,7 +12,7 @@ ghost use Rattle.sym_state.specs.Runs.{IsReady};
 ghost use Rattle.sym_state.specs.Symbolic.{concrete, most_decisions, stands_for};
 ghost use Rattle.sym_state.specs.Unfolded.{unfolded};
 ghost use Rattle.sym_state.specs.Unfolding as symbolic;
-ghost use Rattle.sym_machine.specs.Calls.{IsWritten};
+ghost use Rattle.sym_machine.specs.Calls.{WritesOutput};
 ghost use Rattle.sym_machine.specs.Steps.{Carries, Comes};
 ghost use Rattle.sym_machine.specs.Stops.{DecidesBy, StandsAt, Stops};
 
@@ -39,7 +39,7 @@ fn are_mapped(state: &State, start: u32, count: u32) -> bool
 
 /// Appends the bytes at so many addresses to the output.
 fn emit(state: &mut State, start: u32, count: u32) -> Result<(), NoMemory>
-    ensures { OnOk result (IsWritten state.old state.new start count) }
+    ensures { OnOk result (WritesOutput state.old state.new start count) }
 {
     for i in 0..count {
         state.emit(state.byte(start.wrapping_add(i)))?;

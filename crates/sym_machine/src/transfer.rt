@@ -10,7 +10,7 @@ ghost use Rattle.rv_spec.specs.Machine as machine;
 ghost use Rattle.rv_spec.specs.Machine.{x};
 ghost use Rattle.rv_spec.specs.Memory.{can_write, half_at, is_mapped};
 ghost use Rattle.term_simplify.specs.Operations.{widened};
-ghost use Rattle.sym_state.specs.Expressions.{byte_of, value_expression, widened_half};
+ghost use Rattle.sym_state.specs.Expressions.{register_byte, value_expression, widened_half};
 ghost use Rattle.sym_state.specs.Moves.{IsGrown, MakesValue};
 ghost use Rattle.sym_state.specs.Runs.{IsReady};
 ghost use Rattle.sym_state.specs.Symbolic.{concrete, stands_for};
@@ -154,7 +154,7 @@ fn put_byte(state: &mut State, address: u32, value: Value, at: u32) -> Result<()
     requires wide { IsWide state.old.terms value }
     requires at { at < 4 }
     ensures puts { OnOk result (Puts state.old state.new address (λ input. worth_of state.old.terms input value / 2 ^ (8 * at) % 2 ^ 8 ∷ [])) }
-    ensures terms { OnOk result (unfolded state.new ≡ symbolic.with_put (unfolded state.old) address (byte_of at (value_expression state.old.terms value) ∷ [])) }
+    ensures terms { OnOk result (unfolded state.new ≡ symbolic.with_put (unfolded state.old) address (register_byte at (value_expression state.old.terms value) ∷ [])) }
 {
     let byte = state.byte_at(value, at)?;
     state.put(address, byte)

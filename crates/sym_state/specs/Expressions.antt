@@ -52,9 +52,9 @@ even_of (Number n) = Number (even n)
 even_of (Unknown t) = settled (even_tree t)
 
 -- the byte of a register that is so many bytes up
-abbrev pub byte_of : (at : ℕ) → Expression → Expression
-byte_of at (Number n) = Number (n / 2 ^ (8 * at) % 2 ^ 8)
-byte_of at (Unknown t) = settled (byte_tree at t)
+abbrev pub register_byte : (at : ℕ) → Expression → Expression
+register_byte at (Number n) = Number (n / 2 ^ (8 * at) % 2 ^ 8)
+register_byte at (Unknown t) = settled (byte_tree at t)
 
 -- a byte in a register, with copies of its sign above it or zeros
 abbrev pub widened_byte : (signed : Bool) → Expression → Expression

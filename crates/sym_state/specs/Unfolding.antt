@@ -25,7 +25,7 @@ use Rattle.rv_spec.specs.Decisions.{Decision, Side, Number as Needs, step_decisi
 use Rattle.rv_spec.specs.Machine.{addresses, is_load_aligned, is_store_aligned}
 use Rattle.rv_spec.specs.Memory.{can_write, is_mapped}
 use Rattle.rv_spec.specs.Runs.{run}
-use Rattle.sym_state.specs.Expressions.{Expression, Number, byte_of, combined_of, widened_byte, widened_half, word_of}
+use Rattle.sym_state.specs.Expressions.{Expression, Number, register_byte, combined_of, widened_byte, widened_half, word_of}
 use Rattle.sym_state.specs.Unfolded.{Unfolded, expression_at, first_unfolded, set_expression}
 
 -- at the next instruction, with these registers
@@ -51,9 +51,9 @@ load u width rd address =
 
 -- the bytes that are stored, low byte first
 abbrev pub stored : StoreWidth → Expression → List Expression
-stored Sb e = byte_of 0 e ∷ []
-stored Sh e = byte_of 0 e ∷ byte_of 1 e ∷ []
-stored Sw e = byte_of 0 e ∷ byte_of 1 e ∷ byte_of 2 e ∷ byte_of 3 e ∷ []
+stored Sb e = register_byte 0 e ∷ []
+stored Sh e = register_byte 0 e ∷ register_byte 1 e ∷ []
+stored Sw e = register_byte 0 e ∷ register_byte 1 e ∷ register_byte 2 e ∷ register_byte 3 e ∷ []
 
 -- memory with these bytes from an address on
 abbrev pub with_expressions : (ℕ → Expression) → ℕ → List Expression → ℕ → Expression

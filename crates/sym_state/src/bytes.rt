@@ -6,7 +6,7 @@ ghost use Rattle.term_simplify.specs.Operations as operations;
 ghost use Rattle.term_simplify.specs.Simplified.{extension_by};
 ghost use Rattle.term_trees.specs.Growth.{Continues};
 ghost use Rattle.term_trees.specs.Trees.{tree_of};
-ghost use Rattle.sym_state.specs.Expressions.{byte_expression, byte_of, settled, tree_in, value_expression, widened_byte, widened_half, word_of};
+ghost use Rattle.sym_state.specs.Expressions.{byte_expression, register_byte, settled, tree_in, value_expression, widened_byte, widened_half, word_of};
 ghost use Rattle.sym_state.specs.Values.{GivesByte, GivesTerm, GivesValue, IsByte, IsWide, byte_worth, worth_of};
 
 use crate::operations::value_of;
@@ -48,7 +48,7 @@ pub(crate) fn byte_at(terms: &mut Builder, value: Value, at: u32) -> Result<Byte
     requires wide { IsWide terms.old value }
     requires at { at < 4 }
     ensures ok { IfOk result (λ byte. GivesByte terms.old terms.new byte (λ input. worth_of terms.old input value / 2 ^ (8 * at) % 2 ^ 8)) }
-    ensures expression { IfOk result (λ byte. byte_expression terms.new byte ≡ byte_of at (value_expression terms.old value)) }
+    ensures expression { IfOk result (λ byte. byte_expression terms.new byte ≡ register_byte at (value_expression terms.old value)) }
     ensures err { OnErr result (terms.new ≡ terms.old) }
 {
     match value {

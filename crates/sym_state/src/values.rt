@@ -5,7 +5,7 @@ ghost use Rattle.rv_spec.specs.Arithmetic as machine;
 ghost use Rattle.rv_spec.specs.Machine.{even};
 ghost use Rattle.term_simplify.specs.Operations as operations;
 ghost use Rattle.bv_dag.specs.Graphs.{number_of, width_of};
-ghost use Rattle.sym_state.specs.Expressions.{byte_expression, byte_of, combined_of, even_of, value_expression, widened_byte, widened_half, word_of};
+ghost use Rattle.sym_state.specs.Expressions.{byte_expression, register_byte, combined_of, even_of, value_expression, widened_byte, widened_half, word_of};
 ghost use Rattle.sym_state.specs.Moves.{MakesBit, MakesByte, MakesTerm, MakesValue};
 ghost use Rattle.sym_state.specs.Values.{IsByte, IsWide, byte_worth, worth_of};
 
@@ -84,7 +84,7 @@ impl State {
         requires wide { IsWide self.old.terms value }
         requires at { at < 4 }
         ensures ok { IfOk result (λ byte. MakesByte self.old self.new byte (λ input. worth_of self.old.terms input value / 2 ^ (8 * at) % 2 ^ 8)) }
-        ensures expression { IfOk result (λ byte. byte_expression self.new.terms byte ≡ byte_of at (value_expression self.old.terms value)) }
+        ensures expression { IfOk result (λ byte. byte_expression self.new.terms byte ≡ register_byte at (value_expression self.old.terms value)) }
         ensures err { OnErr result (self.new ≡ self.old) }
     {
         bytes::byte_at(&mut self.terms, value, at)

@@ -6,7 +6,7 @@ use Rattle.std.proofs.lemmas.Bool.Decides.{eqb_tells}
 use Rattle.std.proofs.lemmas.Grind.{common_steps}
 use Rattle.bv_dag.specs.BitVectors.{BitVector, bit, bvneg, bvxor, bvmul, bvudiv, bvurem, equal, ite, extract, zero_extend, sign_extend}
 use Rattle.rv_decode.specs.declared.ops.RegisterOp.TheVariants.{Div, Rem, Mulh, Mulhsu, Mulhu}
-use Rattle.rv_spec.specs.Arithmetic.{combined, is_negative, magnitude, with_sign, differ, quotient_signed, remainder_signed, wide_signed, upper_half}
+use Rattle.rv_spec.specs.Arithmetic.{combined, is_negative_word, magnitude, with_sign, differ, quotient_signed, remainder_signed, wide_signed, upper_half}
 use Rattle.term_trees.specs.Trees.{IsOfWidth}
 use Rattle.term_simplify.specs.Steps.{sign_word, signed_word, magnitude_word, signed_quotient_word, or_ones_word, remainder_word, upper_word}
 use Rattle.term_simplify.proofs.Words.{tests_unequal, le_tells}
@@ -18,8 +18,8 @@ word32 n = record { width = 32; number = n }
 top_bit : (n : ℕ) → n < 2 ^ 32 → n / 2 ^ 31 % 2 ≡ cond (nat_le (2 ^ 31) n) 1 0
 top_bit n h = elim (le_tells (2 ^ 31) n) [ inl p ↦ rw p.0 (omega (arith, p.1, h)) | inr p ↦ rw p.0 (omega (arith, p.1)) ]
 
-sign_is : (s : BitVector) → IsOfWidth 32 s → sign_word s ≡ bit (is_negative s.number)
-unfolding extract is_negative
+sign_is : (s : BitVector) → IsOfWidth 32 s → sign_word s ≡ bit (is_negative_word s.number)
+unfolding extract is_negative_word
 sign_is s p = ap {B = BitVector} (λ n. record { width = 1; number = n }) (top_bit s.number p.in_range)
 
 signed_is : (b : Bool) (s : BitVector) → s.width ≡ 32 →
@@ -28,8 +28,8 @@ unfolding ite bvneg
 signed_is true s e = rw e refl
 signed_is false s e = rw e refl
 
-magnitude_cut : (n : ℕ) → n < 2 ^ 32 → cond (is_negative n) ((2 ^ 32 - n) % 2 ^ 32) n ≡ magnitude n
-unfolding is_negative magnitude
+magnitude_cut : (n : ℕ) → n < 2 ^ 32 → cond (is_negative_word n) ((2 ^ 32 - n) % 2 ^ 32) n ≡ magnitude n
+unfolding is_negative_word magnitude
 magnitude_cut n h =
     elim (le_tells (2 ^ 31) n) [
       | inl p ↦ rw p.0 (omega (arith, p.1, h))
@@ -39,21 +39,21 @@ magnitude_cut n h =
 magnitude_is : (s : BitVector) → IsOfWidth 32 s →
     magnitude_word s ≡ record { width = 32; number = magnitude s.number }
 magnitude_is s p =
-    ap (λ b. signed_word b s) (sign_is s p) ∙ signed_is (is_negative s.number) s p.width
+    ap (λ b. signed_word b s) (sign_is s p) ∙ signed_is (is_negative_word s.number) s p.width
     ∙ ap {B = BitVector} (λ n. record { width = 32; number = n }) (magnitude_cut s.number p.in_range)
 
 magnitude_below : (n : ℕ) → n < 2 ^ 32 → magnitude n < 2 ^ 32
-unfolding magnitude is_negative
+unfolding magnitude is_negative_word
 magnitude_below n h = elim (le_tells (2 ^ 31) n) [ inl p ↦ rw p.0 (omega (arith, p.1, h)) | inr p ↦ rw p.0 h ]
 
 magnitude_some : (n : ℕ) → n < 2 ^ 32 → (n ≡ 0 → ⊥) → (magnitude n ≡ 0 → ⊥)
-unfolding magnitude is_negative
+unfolding magnitude is_negative_word
 magnitude_some n h some =
     elim (le_tells (2 ^ 31) n) as (λ _. magnitude n ≡ 0 → ⊥)
     [ inl p ↦ rw p.0 (λ e. omega (arith, p.1, h, e)) | inr p ↦ rw p.0 some ]
 
 magnitude_none : (n : ℕ) → n ≡ 0 → magnitude n ≡ 0
-unfolding magnitude is_negative
+unfolding magnitude is_negative_word
 magnitude_none n e = rw e refl
 
 differ_is : (a b : Bool) → bvxor (bit a) (bit b) ≡ bit (differ a b)
@@ -83,22 +83,22 @@ with_its_sign : (b : Bool) (n : ℕ) → n < 2 ^ 32 →
 with_its_sign b n h = signed_is b (word32 n) refl ∙ ap word32 (signed_small b n h)
 
 signed_quotient_is : (s t : BitVector) → IsOfWidth 32 s → IsOfWidth 32 t → (t.number ≡ 0 → ⊥) →
-    signed_quotient_word s t ≡ word32 (with_sign (differ (is_negative s.number)
-    (is_negative t.number)) (magnitude s.number / magnitude t.number))
+    signed_quotient_word s t ≡ word32 (with_sign (differ (is_negative_word s.number)
+    (is_negative_word t.number)) (magnitude s.number / magnitude t.number))
 signed_quotient_is s t p q some =
     let apart : magnitude t.number ≡ 0 → ⊥ = magnitude_some t.number q.in_range some in
     let small : magnitude s.number / magnitude t.number < 2 ^ 32 = quotient_small (magnitude s.number) (magnitude t.number) (2 ^ 32) (magnitude_below s.number p.in_range) (omega (arith, apart)) in
     ap (λ b. signed_word (bvxor b (sign_word t)) (bvudiv (magnitude_word s) (magnitude_word t))) (sign_is s p)
-    ∙ ap (λ b. signed_word (bvxor (bit (is_negative s.number)) b) (bvudiv (magnitude_word s) (magnitude_word t))) (sign_is t q)
+    ∙ ap (λ b. signed_word (bvxor (bit (is_negative_word s.number)) b) (bvudiv (magnitude_word s) (magnitude_word t))) (sign_is t q)
     ∙ ap (λ b. signed_word b (bvudiv (magnitude_word s) (magnitude_word t)))
-    (differ_is (is_negative s.number) (is_negative t.number))
-    ∙ ap (λ x. signed_word (bit (differ (is_negative s.number) (is_negative t.number)))
+    (differ_is (is_negative_word s.number) (is_negative_word t.number))
+    ∙ ap (λ x. signed_word (bit (differ (is_negative_word s.number) (is_negative_word t.number)))
     (bvudiv x (magnitude_word t))) (magnitude_is s p)
-    ∙ ap (λ y. signed_word (bit (differ (is_negative s.number) (is_negative t.number)))
+    ∙ ap (λ y. signed_word (bit (differ (is_negative_word s.number) (is_negative_word t.number)))
     (bvudiv (word32 (magnitude s.number)) y)) (magnitude_is t q)
-    ∙ ap (signed_word (bit (differ (is_negative s.number) (is_negative t.number))))
+    ∙ ap (signed_word (bit (differ (is_negative_word s.number) (is_negative_word t.number))))
     (udiv_apart (magnitude s.number) (magnitude t.number) apart)
-    ∙ with_its_sign (differ (is_negative s.number) (is_negative t.number)) (magnitude s.number / magnitude t.number) small
+    ∙ with_its_sign (differ (is_negative_word s.number) (is_negative_word t.number)) (magnitude s.number / magnitude t.number) small
 
 or_ones_by_zero : (t x : BitVector) → (t.number == 0) ≡ true → or_ones_word t x ≡ word32 (2 ^ 32 - 1)
 unfolding ite equal
@@ -129,17 +129,17 @@ rest_by_some x y some = rw (tests_unequal y 0 some) refl
 
 -- the magnitude with the sign is the number
 back : (n : ℕ) → n < 2 ^ 32 →
-    cond (is_negative n) ((2 ^ 32 - magnitude n) % 2 ^ 32) (magnitude n) ≡ n
-unfolding is_negative magnitude
+    cond (is_negative_word n) ((2 ^ 32 - magnitude n) % 2 ^ 32) (magnitude n) ≡ n
+unfolding is_negative_word magnitude
 back n h = elim (le_tells (2 ^ 31) n) [ inl p ↦ rw p.0 (omega (arith, p.1, h)) | inr p ↦ rw p.0 refl ]
 
 rest_in_parts : (s t : BitVector) → IsOfWidth 32 s → IsOfWidth 32 t →
-    remainder_word s t ≡ signed_word (bit (is_negative s.number))
+    remainder_word s t ≡ signed_word (bit (is_negative_word s.number))
     (bvurem (word32 (magnitude s.number)) (word32 (magnitude t.number)))
 rest_in_parts s t p q =
     ap (λ b. signed_word b (bvurem (magnitude_word s) (magnitude_word t))) (sign_is s p)
-    ∙ ap (λ x. signed_word (bit (is_negative s.number)) (bvurem x (magnitude_word t))) (magnitude_is s p)
-    ∙ ap (λ y. signed_word (bit (is_negative s.number)) (bvurem (word32 (magnitude s.number)) y)) (magnitude_is t q)
+    ∙ ap (λ x. signed_word (bit (is_negative_word s.number)) (bvurem x (magnitude_word t))) (magnitude_is s p)
+    ∙ ap (λ y. signed_word (bit (is_negative_word s.number)) (bvurem (word32 (magnitude s.number)) y)) (magnitude_is t q)
 
 pub remainder_number : (s t : BitVector) → IsOfWidth 32 s → IsOfWidth 32 t →
     remainder_word s t ≡ record { width = 32; number = combined Rem s.number t.number }
@@ -148,21 +148,21 @@ remainder_number s t p q =
     rest_in_parts s t p q
     ∙ elim (eqb_tells t.number 0) [
       | inl e ↦
-          rw e.0 (ap (signed_word (bit (is_negative s.number)))
+          rw e.0 (ap (signed_word (bit (is_negative_word s.number)))
           (rest_by_none (magnitude s.number) (magnitude t.number) (magnitude_none t.number e.1))
-          ∙ signed_is (is_negative s.number) (word32 (magnitude s.number)) refl ∙ ap word32 (back (s.number) p.in_range))
+          ∙ signed_is (is_negative_word s.number) (word32 (magnitude s.number)) refl ∙ ap word32 (back (s.number) p.in_range))
       | inr e ↦
           let apart : magnitude t.number ≡ 0 → ⊥ = magnitude_some t.number q.in_range e.1 in
           let some : 0 < magnitude t.number = omega (arith, apart) in
-          rw e.0 (ap (signed_word (bit (is_negative s.number))) (rest_by_some (magnitude s.number) (magnitude t.number) apart)
-          ∙ with_its_sign (is_negative s.number) (magnitude s.number % magnitude t.number)
+          rw e.0 (ap (signed_word (bit (is_negative_word s.number))) (rest_by_some (magnitude s.number) (magnitude t.number) apart)
+          ∙ with_its_sign (is_negative_word s.number) (magnitude s.number % magnitude t.number)
           (omega (arith, magnitude_below t.number q.in_range, some)))
     ]
 
 -- ---- MULH, MULHSU, MULHU
 wide_is : (s : BitVector) → IsOfWidth 32 s →
     sign_extend 32 s ≡ record { width = 64; number = wide_signed s.number }
-unfolding sign_extend wide_signed is_negative
+unfolding sign_extend wide_signed is_negative_word
 wide_is s p = rw p.width refl
 
 zeros_is : (s : BitVector) → IsOfWidth 32 s →

@@ -9,11 +9,11 @@ use Rattle.bv_dag.specs.declared.nodes.Comparison.{Comparison}
 use Rattle.bv_dag.specs.declared.nodes.Comparison.TheVariants.{Ult, Slt, Eq}
 use Rattle.rv_decode.specs.Fields.{sign_extended}
 use Rattle.rv_decode.specs.declared.ops.RegisterOp.TheVariants.{Add, Sub, Sll, Xor, Srl, Sra, Or, And, Mul, Divu, Remu}
-use Rattle.rv_spec.specs.Arithmetic.{combined, one_where, difference32, is_negative, is_less_signed, shifted_left, shifted_right, shifted_right_signed, quotient, remainder}
+use Rattle.rv_spec.specs.Arithmetic.{combined, one_where, difference32, is_negative_word, is_less_signed, shifted_left, shifted_right, shifted_right_signed, quotient, remainder}
 use Rattle.rv_spec.specs.Machine.{even}
 use Rattle.term_trees.specs.Trees.{IsOfWidth}
 use Rattle.term_simplify.specs.Operations.{widened}
-use Rattle.term_simplify.specs.Steps.{holds, shift_word}
+use Rattle.term_simplify.specs.Steps.{compares, shift_word}
 use Rattle.term_simplify.proofs.MachineNumbers.{word32}
 use Rattle.term_simplify.proofs.Words.{by_parts, lt_tells, le_tells, tests_below, tests_not_below}
 
@@ -80,7 +80,7 @@ right_number x y e f = rw (five_bits y, e, within y.number) refl
 
 pub right_signed_number : (x y : BitVector) → x.width ≡ 32 → y.width ≡ 32 →
     shift_word Ashr x y ≡ record { width = 32; number = combined Sra x.number y.number }
-unfolding bvashr bvlshr bvnot shifted_right_signed is_negative
+unfolding bvashr bvlshr bvnot shifted_right_signed is_negative_word
 right_signed_number x y e f =
     elim (le_tells (2 ^ 31) x.number) [
       | inl p ↦ rw (five_bits y, e, p.0, within y.number) refl
@@ -147,7 +147,7 @@ slt_number x y p q =
     rw (p.width, q.width) (ap bit (signed_order x.number y.number p.in_range q.in_range))
 
 pub compare_number : (op : Comparison) (x y : BitVector) → IsOfWidth 32 x → IsOfWidth 32 y →
-    compare op x y ≡ bit (holds op x.number y.number)
+    compare op x y ≡ bit (compares op x.number y.number)
 unfolding bvult equal
 compare_number Ult x y p q = refl
 compare_number Slt x y p q = slt_number x y p q

@@ -48,10 +48,10 @@ abbrev pub shift_word : BinaryOp → BitVector → BitVector → BitVector
 shift_word op s t = binary op s (bvand t (record { width = 32; number = 31 }))
 
 -- whether a comparison of two numbers below 2 ^ 32 holds
-abbrev pub holds : Comparison → ℕ → ℕ → Bool
-holds Ult a b = nat_lt a b
-holds Slt a b = is_less_signed a b
-holds Eq a b = a == b
+abbrev pub compares : Comparison → ℕ → ℕ → Bool
+compares Ult a b = nat_lt a b
+compares Slt a b = is_less_signed a b
+compares Eq a b = a == b
 
 -- a term of 32 bits that is worth what the machine computes of two others
 abbrev pub StandsCombined : (old new : Graph) → RegisterOp → (a b : ℕ) → (made : Tree) →

@@ -11,7 +11,7 @@ ghost use Rattle.term_simplify.specs.Builds.{Builds};
 ghost use Rattle.term_simplify.specs.Machine.{BuildsCombined};
 ghost use Rattle.term_simplify.specs.Operations as operations;
 ghost use Rattle.term_simplify.specs.Simplified.{complement_of, comparison_of, extension_by};
-ghost use Rattle.term_simplify.specs.Steps.{Stands, holds, shift_word};
+ghost use Rattle.term_simplify.specs.Steps.{Stands, compares, shift_word};
 
 use crate::builder::Builder;
 use bv_dag::{BinaryOp, Comparison, Node};
@@ -51,7 +51,7 @@ impl Builder {
         requires first { width_of self.old a ≡ 32 }
         requires second { width_of self.old b ≡ 32 }
         ensures continues { Continues self.old self.new }
-        ensures ok { IfOk result (λ id. Stands self.new id (comparison_of op (tree_of self.old a) (tree_of self.old b)) 1 (λ input. bit (holds op (number_of self.old a input) (number_of self.old b input)))) }
+        ensures ok { IfOk result (λ id. Stands self.new id (comparison_of op (tree_of self.old a) (tree_of self.old b)) 1 (λ input. bit (compares op (number_of self.old a input) (number_of self.old b input)))) }
     {
         self.step(Node::Compare(op, a, b))
     }
@@ -61,7 +61,7 @@ impl Builder {
         requires first { width_of self.old a ≡ 32 }
         requires second { width_of self.old b ≡ 32 }
         ensures continues { Continues self.old self.new }
-        ensures ok { IfOk result (λ id. Stands self.new id (complement_of (comparison_of op (tree_of self.old a) (tree_of self.old b))) 1 (λ input. bit (not (holds op (number_of self.old a input) (number_of self.old b input))))) }
+        ensures ok { IfOk result (λ id. Stands self.new id (complement_of (comparison_of op (tree_of self.old a) (tree_of self.old b))) 1 (λ input. bit (not (compares op (number_of self.old a input) (number_of self.old b input))))) }
     {
         let bit = self.compared(op, a, b)?;
         self.step(Node::Not(bit))
@@ -72,7 +72,7 @@ impl Builder {
         requires first { width_of self.old a ≡ 32 }
         requires second { width_of self.old b ≡ 32 }
         ensures continues { Continues self.old self.new }
-        ensures ok { IfOk result (λ id. Stands self.new id (operations.set_tree op (tree_of self.old a) (tree_of self.old b)) 32 (λ input. record { width = 32; number = arithmetic.one_where (holds op (number_of self.old a input) (number_of self.old b input)) })) }
+        ensures ok { IfOk result (λ id. Stands self.new id (operations.set_tree op (tree_of self.old a) (tree_of self.old b)) 32 (λ input. record { width = 32; number = arithmetic.one_where (compares op (number_of self.old a input) (number_of self.old b input)) })) }
     {
         let bit = self.compared(op, a, b)?;
         self.step(Node::Extend {
@@ -86,7 +86,7 @@ impl Builder {
     fn set(&mut self, op: Comparison, a: usize, b: usize) -> Result<usize, NoMemory>
         requires first { width_of self.old a ≡ 32 }
         requires second { width_of self.old b ≡ 32 }
-        ensures ok { IfOk result (λ id. Builds self.old self.new id (operations.set_tree op (tree_of self.old a) (tree_of self.old b)) 32 (λ input. record { width = 32; number = arithmetic.one_where (holds op (number_of self.old a input) (number_of self.old b input)) })) }
+        ensures ok { IfOk result (λ id. Builds self.old self.new id (operations.set_tree op (tree_of self.old a) (tree_of self.old b)) 32 (λ input. record { width = 32; number = arithmetic.one_where (compares op (number_of self.old a input) (number_of self.old b input)) })) }
         ensures err { OnErr result (self.new ≡ self.old) }
     {
         let len = self.len();

@@ -9,7 +9,7 @@ use Rattle.rv_decode.specs.declared.ends.End.{End}
 use Rattle.rv_decode.specs.declared.ends.PathStep.{PathStep}
 use Rattle.serde_json.specs.Data.{Data}
 use Rattle.serde_json.specs.Find.{as_object}
-use Rattle.test_files.specs.Reading.{Said, end_in, format_in, has_keys, if_between, json_of, leaf_in, most_bytes, number_at, path_in, reading, regions_in, said_in, said_with, steps_in, test_from, test_in, test_of, test_said, text_at}
+use Rattle.test_files.specs.Reading.{Said, end_in, format_in, has_keys, if_between, json_of, leaf_in, most_bytes, number_at, path_in, reading, regions_in, said_in, said_with, steps_in, test_from, test_in, test_read, test_said, text_at}
 use Rattle.test_files.specs.Tests.{Test}
 use Rattle.test_files.specs.Writable.{IsBounded}
 use Rattle.test_files.specs.declared.refused.TestRefused.TheVariants.{Kind, Length, Missing, TooBig}
@@ -82,7 +82,7 @@ pub read_bounded : (text : List ℕ) (test : Test) → reading text ≡ Ok test 
 unfolding reading
 read_bounded text test is = go (nat_lt most_bytes (length text)) (json_of text) is
   where
-    go : (b : Bool) (o : Option Data) → (if b then Err TooBig else test_of o) ≡ Ok test → IsBounded test
+    go : (b : Bool) (o : Option Data) → (if b then Err TooBig else test_read o) ≡ Ok test → IsBounded test
     go true o is = cc
     go false None is = cc
     go false (Some value) is = value_bounded value test is

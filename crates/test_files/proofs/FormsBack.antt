@@ -13,7 +13,7 @@ use Rattle.serde_json.specs.View.{items_of}
 use Rattle.text_parts.specs.Names.{eight_digits, path_text, step_text}
 use Rattle.text_parts.specs.Digits.{hex_number}
 use Rattle.elf_load.specs.Regions.{put_first, region_with}
-use Rattle.test_files.specs.Forms.{end_of, exit_with, path_of, region_of, short_number}
+use Rattle.test_files.specs.Forms.{end_said, exit_with, path_of, region_of, short_number}
 use Rattle.test_files.specs.Reading.{regions_of}
 use Rattle.test_files.specs.Tests.{end_text, region_text}
 use Rattle.test_files.specs.Writable.{HasStatus, HasTarget}
@@ -56,8 +56,8 @@ exit_back status small =
     let below : nat_lt status 256 ≡ true = grind (arith, nat_tests) in
     ap exit_with (short_back status (omega arith)) ∙ rw below refl
 
-pub end_back : (end : Option End) → HasStatus end → end_of (end_text end) ≡ Some end
-unfolding end_of
+pub end_back : (end : Option End) → HasStatus end → end_said (end_text end) ≡ Some end
+unfolding end_said
 end_back None status = refl
 end_back (Some (Exit n)) status = ap (option_map Some) (exit_back n status)
 end_back (Some (Trapped Illegal)) status = refl

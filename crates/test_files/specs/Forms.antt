@@ -51,8 +51,8 @@ abbrev pub begins_with : List ℕ → List ℕ → Bool
 begins_with front text = bytes_eq (take (length front) text) front
 
 -- how a run ends, and none in the second place where it is still running: `running`, `exit N` or `trap NAME`
-unfoldable pub end_of : List ℕ → Option (Option End)
-end_of text =
+unfoldable pub end_said : List ℕ → Option (Option End)
+end_said text =
     if bytes_eq text (codes "running") then Some None else
     if begins_with (codes "exit ") text then option_map Some (exit_with (short_number (drop 5 text))) else
     if begins_with (codes "trap ") text then option_map (λ trap. Some (Trapped trap)) (trap_named (drop 5 text)) else

@@ -11,7 +11,7 @@ use Rattle.elf_load.specs.declared.region.Region.{Region}
 use Rattle.rv_decode.specs.declared.ends.End.{End}
 use Rattle.rv_decode.specs.declared.ends.PathStep.{PathStep}
 use Rattle.elf_load.specs.Regions.{put_first}
-use Rattle.test_files.specs.Forms.{end_of, path_of, region_of}
+use Rattle.test_files.specs.Forms.{end_said, path_of, region_of}
 use Rattle.test_files.specs.Tests.{Test}
 use Rattle.test_files.specs.declared.refused.TestRefused.{TestRefused}
 use Rattle.test_files.specs.declared.refused.TestRefused.TheVariants.{NotJson, Missing, Kind, Hex, Length, TooBig}
@@ -56,7 +56,7 @@ steps_in value = option_and_then (if_between 1 1000000) (number_at (codes "steps
 
 -- how the run ends
 abbrev pub end_in : Data → Option (Option End)
-end_in value = option_and_then end_of (text_at (codes "end") value)
+end_in value = option_and_then end_said (text_at (codes "end") value)
 
 -- the path of the run
 abbrev pub path_in : Data → Option (List PathStep)
@@ -126,10 +126,10 @@ abbrev pub json_of : List ℕ → Option Data
 json_of text = if is_utf8 text then read text else None
 
 -- the test of a text that has this JSON value
-abbrev pub test_of : Option Data → Result Test TestRefused
-test_of (Some value) = test_in value
-test_of None = Err NotJson
+abbrev pub test_read : Option Data → Result Test TestRefused
+test_read (Some value) = test_in value
+test_read None = Err NotJson
 
 -- the test that a text is, or the first reason why it is none
 unfoldable pub reading : List ℕ → Result Test TestRefused
-reading text = if nat_lt most_bytes (length text) then Err TooBig else test_of (json_of text)
+reading text = if nat_lt most_bytes (length text) then Err TooBig else test_read (json_of text)

@@ -9,22 +9,22 @@ use Rattle.test_files.specs.declared.test_error.TestError.{TestError}
 use Rattle.test_files.specs.declared.test_error.TestError.TheVariants.{Refused, NoMemory}
 
 -- the number of a reason
-abbrev pub refused_number : TestRefused → ℕ
-refused_number NotJson = 1
-refused_number Missing = 2
-refused_number Kind = 3
-refused_number Hex = 4
-refused_number Length = 5
-refused_number TooBig = 6
+abbrev pub test_refused_number : TestRefused → ℕ
+test_refused_number NotJson = 1
+test_refused_number Missing = 2
+test_refused_number Kind = 3
+test_refused_number Hex = 4
+test_refused_number Length = 5
+test_refused_number TooBig = 6
 
 -- what a reason is called
-abbrev pub refused_name : TestRefused → List ℕ
-refused_name NotJson = codes "NotJson"
-refused_name Missing = codes "Missing"
-refused_name Kind = codes "Kind"
-refused_name Hex = codes "Hex"
-refused_name Length = codes "Length"
-refused_name TooBig = codes "TooBig"
+abbrev pub test_refused_name : TestRefused → List ℕ
+test_refused_name NotJson = codes "NotJson"
+test_refused_name Missing = codes "Missing"
+test_refused_name Kind = codes "Kind"
+test_refused_name Hex = codes "Hex"
+test_refused_name Length = codes "Length"
+test_refused_name TooBig = codes "TooBig"
 
 -- an error that says why there is no value, or that memory ran out
 abbrev pub IsWhy : {A : Type 0} → Result A TestRefused → TestError → Type 0

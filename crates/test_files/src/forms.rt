@@ -4,7 +4,7 @@ ghost use Rattle.std.specs.Prelude.{◌≡◌};
 ghost use Rattle.std.specs.List.{find};
 ghost use Rattle.std.specs.Str.{bytes_eq};
 ghost use Rattle.rv_decode.specs.Ends.{trap_name};
-ghost use Rattle.test_files.specs.Forms.{end_of, exit_with, region_of, short_number, trap_named};
+ghost use Rattle.test_files.specs.Forms.{end_said, exit_with, region_of, short_number, trap_named};
 
 use elf_load::Region;
 use rv_decode::{End, Trap};
@@ -78,9 +78,9 @@ fn read_exit(digits: &[u8]) -> Option<End>
 }
 
 /// Reads how a run ends: `exit N`, `trap NAME` or `running`, which is no end.
-#[tactic(auto, unfolding(crate::specs::Forms::end_of))]
+#[tactic(auto, unfolding(crate::specs::Forms::end_said))]
 pub(crate) fn read_end(text: &[u8]) -> Option<Option<End>>
-    ensures { result ≡ end_of text.now }
+    ensures { result ≡ end_said text.now }
 {
     if text == b"running".as_slice() {
         return Some(None);

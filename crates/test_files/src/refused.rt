@@ -22,11 +22,11 @@ pub enum TestRefused {
 }
 
 impl TestRefused {
-    ghost use Rattle.test_files.specs.Refusals.{refused_number, refused_name};
+    ghost use Rattle.test_files.specs.Refusals.{test_refused_number, test_refused_name};
 
     /// The number of the reason, from 1.
     pub fn number(self) -> u8
-        ensures { result ≡ refused_number self }
+        ensures { result ≡ test_refused_number self }
     {
         match self {
             TestRefused::NotJson => 1,
@@ -40,7 +40,7 @@ impl TestRefused {
 
     /// What it is called.
     pub fn name(self) -> &'static str
-        ensures { result.now ≡ refused_name self }
+        ensures { result.now ≡ test_refused_name self }
     {
         match self {
             TestRefused::NotJson => "NotJson",

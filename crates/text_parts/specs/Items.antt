@@ -24,14 +24,14 @@ choice text = option_or (plain_choice text) (value_choice text)
 abbrev pub branches : List (List ℕ × PathStep)
 branches = (codes "T", Taken) ∷ (codes "N", NotTaken) ∷ []
 
-abbrev pub branch : Reader PathStep
-branch text = named branches text
+abbrev pub branch_step : Reader PathStep
+branch_step text = named branches text
 
 abbrev pub target : Reader PathStep
 target text = made Target (option_and_then eight (behind (codes "@") text))
 
 unfoldable pub step : Reader PathStep
-step text = option_or (branch text) (target text)
+step text = option_or (branch_step text) (target text)
 
 -- all choices, and all entries, of a list; each takes a byte or more
 abbrev pub all_choices : Reader (List Choice)

@@ -71,14 +71,14 @@ kind_of (Exits status) = finished
 kind_of (Traps t) = finished
 kind_of (Cut cause) = cut cause
 
-abbrev pub word_of : LeafEnd → EndWord
-word_of (Exits status) = exit
-word_of (Traps t) = trap t
-word_of (Cut cause) = running
+abbrev pub end_word : LeafEnd → EndWord
+end_word (Exits status) = exit
+end_word (Traps t) = trap t
+end_word (Cut cause) = running
 
 -- the kind and the end of a leaf, as texts name them
 abbrev pub kind_name : LeafEnd → List ℕ
 kind_name end = kind_text (kind_of end)
 
 abbrev pub end_name : LeafEnd → List ℕ
-end_name end = word_text (word_of end)
+end_name end = word_text (end_word end)

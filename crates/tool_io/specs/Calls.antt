@@ -18,8 +18,8 @@ abbrev pub next_fails : Calls → Bool
 next_fails calls = list_any (λ number. number == next_number calls) calls.to_fail
 
 -- one call more was made
-abbrev pub counted : Calls → Calls
-counted calls = record calls { made = next_number calls }
+abbrev pub with_call : Calls → Calls
+with_call calls = record calls { made = next_number calls }
 
 -- a call that is refused no memory fails just where this says so
 abbrev pub FailsJustWhere : {T : Type 0} → Bool → Result T Fault → Type 0
@@ -29,6 +29,6 @@ FailsJustWhere fails (Err NoMemory) = Unit {0}
 
 -- the calls after one with this answer: one that is refused memory doesn't count
 abbrev pub calls_after : {T : Type 0} → Calls → Result T Fault → Calls
-calls_after before (Ok value) = counted before
-calls_after before (Err Failed) = counted before
+calls_after before (Ok value) = with_call before
+calls_after before (Err Failed) = with_call before
 calls_after before (Err NoMemory) = before

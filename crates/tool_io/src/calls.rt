@@ -1,7 +1,7 @@
 //! Which calls of an object fail.
 
 ghost use Rattle.std.specs.Prelude.{◌≡◌};
-ghost use Rattle.tool_io.specs.Calls.{counted, next_fails, next_number};
+ghost use Rattle.tool_io.specs.Calls.{with_call, next_fails, next_number};
 
 use std::marker::Model;
 
@@ -52,7 +52,7 @@ impl CallCount {
 
     /// Counts a call.
     pub fn count(&mut self)
-        ensures { self.new ≡ counted self.old }
+        ensures { self.new ≡ with_call self.old }
     {
         self.made = self.next_number();
     }

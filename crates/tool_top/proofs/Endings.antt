@@ -24,7 +24,7 @@ use Rattle.tool_top.proofs.BenchEndings.{benched, not_benched}
 use Rattle.tool_top.proofs.ReplayEndings.{given_held, replay_fault, replay_kept, replay_no_job, replay_misfit, replay_no_program, replay_no_test, replay_other, replay_puts, replay_same}
 use Rattle.report_text.specs.Claims.{IsReport, Report}
 use Rattle.report_text.specs.Files.{files_of, summary_of}
-use Rattle.tool_top.specs.Answer.{Answered, Asked, Ran, named, numbered, line_with, status_of, IsAnswered, IsFaulted, IsFile, IsWanting, IsCarriedOut, IsCutByFault, IsWritten, WritesFor, OnReplayed, HoldsProgram, HoldsNoProgram, HoldsMisfit, HoldsNoTest, HoldsOther, HoldsTest, verdict_status}
+use Rattle.tool_top.specs.Answer.{HasEnded, Asked, Ran, named, numbered, line_with, status_of, IsAnswered, IsFaulted, IsFile, IsWanting, IsCarriedOut, IsCutByFault, IsWritten, WritesFor, OnReplayed, HoldsProgram, HoldsNoProgram, HoldsMisfit, HoldsNoTest, HoldsOther, HoldsTest, verdict_status}
 use Rattle.tool_top.specs.ReadBack.{AreReadBack}
 use Rattle.tool_top.proofs.ReadingBack.{read_back}
 use Rattle.tool_top.specs.declared.verdict.Verdict.{Verdict}
@@ -193,7 +193,7 @@ wanting_early old mid new job only (said, cut, spoke) = record {
 }
 
 -- the names read are those of the job, from the first on
-pub answered_names : (old new : Seen) (job : Option Job) (ending : Ending) → Answered old new job ending → IfSome (names_since old.told new.told) (λ names. IsPrefix names (names_of job))
+pub answered_names : (old new : Seen) (job : Option Job) (ending : Ending) → HasEnded old new job ending → IfSome (names_since old.told new.told) (λ names. IsPrefix names (names_of job))
 answered_names old new job (Planned verdict) h = names_since-after _ _ (record { names = h.plan.names; puts = h.plan.puts; said = h.out.said }) _ h.out.changes (plan_names old new job h.plan h.planned)
 answered_names old new job WriteFault h = names_since-after _ _ (record { names = h.plan.names; puts = h.out.puts; said = h.out.said }) _ h.out.changes (plan_names old new job h.plan h.planned)
 answered_names old new job NoMemory h = names_since-after _ _ (record { names = h.names; puts = h.out.puts; said = h.out.said }) _ h.out.changes h.reading
@@ -301,12 +301,12 @@ no_verdict verdict status is none =
     let both : Some verdict ≡ None = sym (says_verdict verdict) ∙ ap verdict_of (sym is) ∙ none in
     cc
 
-pub answered_as : (old new : Seen) (job : Option Job) (ending : Ending) (verdict : Verdict) (status : ℕ) → Answered old new job ending → status ≡ status_of ending → status ≡ verdict_status verdict → IsAnswered old new job verdict
+pub answered_as : (old new : Seen) (job : Option Job) (ending : Ending) (verdict : Verdict) (status : ℕ) → HasEnded old new job ending → status ≡ status_of ending → status ≡ verdict_status verdict → IsAnswered old new job verdict
 answered_as old new job (Planned other) verdict status h is means = subst (IsAnswered old new job) (one_verdict other verdict status is means) h
 answered_as old new job WriteFault verdict status h is means = absurd (no_verdict verdict status means (ap verdict_of is))
 answered_as old new job NoMemory verdict status h is means = absurd (no_verdict verdict status means (ap verdict_of is))
 
-pub answered_faulted : (old new : Seen) (job : Option Job) (ending : Ending) (status : ℕ) → Answered old new job ending → status ≡ status_of ending → status ≡ 6 → IsFaulted old new job
+pub answered_faulted : (old new : Seen) (job : Option Job) (ending : Ending) (status : ℕ) → HasEnded old new job ending → status ≡ status_of ending → status ≡ 6 → IsFaulted old new job
 answered_faulted old new job (Planned verdict) status h is six = absurd (no_verdict verdict status is (ap verdict_of six))
 answered_faulted old new job WriteFault status h is six = h
 answered_faulted old new job NoMemory status h is six = absurd (omega (arith, is, six))
@@ -371,7 +371,7 @@ explored_whole old new (Some (Explore program out asked budgets workers)) verdic
       | inr (inr (inr fault)) ↦ absurd (read (fault_rose old new program out asked budgets workers h.plan fault h.planned))
     ]
 
-pub complete : (old new : Seen) (job : Option Job) (ending : Ending) (status : ℕ) → Answered old new job ending → status ≡ status_of ending → HoldsProgram old.told job → ¬ Rose old.reads new.reads → ¬ Rose old.writes new.writes → (status ≡ 0) ⊎ (status ≡ 8)
+pub complete : (old new : Seen) (job : Option Job) (ending : Ending) (status : ℕ) → HasEnded old new job ending → status ≡ status_of ending → HoldsProgram old.told job → ¬ Rose old.reads new.reads → ¬ Rose old.writes new.writes → (status ≡ 0) ⊎ (status ≡ 8)
 complete old new job (Planned verdict) status h is holds read wrote = inl (explored_whole old new job verdict status h is holds read)
 complete old new job WriteFault status h is holds read wrote = absurd (wrote h.rose)
 complete old new job NoMemory status h is holds read wrote = inr is
@@ -387,7 +387,7 @@ replayed_whole old new (Some (Replay program test)) verdict status h is (bytes, 
       | inr differs ↦ inr (is ∙ ap verdict_status (sym h.is ∙ differs))
     ]
 
-pub complete_replay : (old new : Seen) (job : Option Job) (ending : Ending) (status : ℕ) → Answered old new job ending → status ≡ status_of ending → HoldsTest old.told job → ¬ Rose old.reads new.reads → ¬ Rose old.writes new.writes
+pub complete_replay : (old new : Seen) (job : Option Job) (ending : Ending) (status : ℕ) → HasEnded old new job ending → status ≡ status_of ending → HoldsTest old.told job → ¬ Rose old.reads new.reads → ¬ Rose old.writes new.writes
     → (status ≡ 0) ⊎ (status ≡ 1) ⊎ (status ≡ 8)
 complete_replay old new job (Planned verdict) status h is holds read wrote = elim (replayed_whole old new job verdict status h is holds read) [ inl zero ↦ inl zero | inr one ↦ inr (inl one) ]
 complete_replay old new job WriteFault status h is holds read wrote = absurd (wrote h.rose)

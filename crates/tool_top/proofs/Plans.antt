@@ -10,7 +10,7 @@ use Rattle.std.specs.List.{list_any, range_with_len}
 use Rattle.std.specs.declared.alloc.AllocError.{AllocError}
 use Rattle.tool_io.specs.Told.{Seen, after, IsPrefix}
 use Rattle.tool_io.proofs.Deeds.{after-nothing}
-use Rattle.elf_load.specs.Fits.{is_mapped, is_unmapped, unfit, unfit_empty, unfit_too_long, unfit_too_many, unfit_unmapped}
+use Rattle.elf_load.specs.Fits.{is_in_image, is_unmapped, unfit, unfit_empty, unfit_too_long, unfit_too_many, unfit_unmapped}
 use Rattle.elf_load.specs.Images.{Image, Loads}
 use Rattle.elf_load.specs.Refusals.{refusal}
 use Rattle.elf_load.specs.declared.refused.Refused.{Refused as WhyRefused}
@@ -121,10 +121,10 @@ short_regions image asked fits k d within =
     grind (arith, nat_tests, short, part)
 
 -- the first byte of a region that fits is on a mapped page
-first_mapped : (image : Image) (start count : ℕ) → (count == 0) ≡ false → list_any (λ address. not (is_mapped image address)) (range_with_len start count) ≡ false → start < 2 ^ 32
+first_mapped : (image : Image) (start count : ℕ) → (count == 0) ≡ false → list_any (λ address. not (is_in_image image address)) (range_with_len start count) ≡ false → start < 2 ^ 32
 first_mapped image start zero some none = cc
 first_mapped image start (suc count) some none =
-    let here = or_parts (not (is_mapped image start)) (list_any (λ address. not (is_mapped image address)) (range_with_len (start + 1) count)) none in
+    let here = or_parts (not (is_in_image image start)) (list_any (λ address. not (is_in_image image address)) (range_with_len (start + 1) count)) none in
     go (nat_lt start 4294967296) (contains_key image.pages (start / 256)) refl here.0
   where
     go : (a b : Bool) → nat_lt start 4294967296 ≡ a → not (a && b) ≡ false → start < 2 ^ 32

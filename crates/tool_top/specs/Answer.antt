@@ -62,7 +62,7 @@ pub record IsCutByFault (old new : Seen) (whole : List Put) (text : List ℕ) (n
   pub changes : new.told ≡ after old.told (record { names = names; puts = puts; said = said })
 
 -- the first files were put, each whole, and a beginning of this text was said
-pub record IsLeft (old new : Seen) (whole : List Put) (text : List ℕ) (names : List (List ℕ)) : Type 0 where
+pub record IsBegun (old new : Seen) (whole : List Put) (text : List ℕ) (names : List (List ℕ)) : Type 0 where
   pub puts : List Put
   pub said : List ℕ
   pub files : IsPrefix puts whole
@@ -91,13 +91,13 @@ pub record IsWanting (old new : Seen) (job : Option Job) : Type 0 where
   pub whole : List Put
   pub reading : IsPrefix names (names_of job)
   pub writing : (whole ≡ []) ⊎ ((plan : Plan) × IsPlan old new job plan × (plan.puts ≡ whole) × (plan.names ≡ names))
-  pub out : IsLeft old new whole no_memory names
+  pub out : IsBegun old new whole no_memory names
 
 -- why a run of this job ended so, and what stands then
-abbrev pub Answered : Seen → Seen → Option Job → Ending → Type 0
-Answered old new job (Planned verdict) = IsAnswered old new job verdict
-Answered old new job WriteFault = IsFaulted old new job
-Answered old new job NoMemory = IsWanting old new job
+abbrev pub HasEnded : Seen → Seen → Option Job → Ending → Type 0
+HasEnded old new job (Planned verdict) = IsAnswered old new job verdict
+HasEnded old new job WriteFault = IsFaulted old new job
+HasEnded old new job NoMemory = IsWanting old new job
 
 -- A run of the tool: what its object told and had counted before and after it, and the job of its words.
 pub record Ran : Type 0 where
@@ -111,7 +111,7 @@ ran seen old new words = record { old = seen old; new = seen new; job = job_of (
 
 -- why the run ended so, and what stands then
 abbrev pub Ends : Ran → Ending → Type 0
-Ends r ending = Answered r.old r.new r.job ending
+Ends r ending = HasEnded r.old r.new r.job ending
 
 -- this held of the run's job before it
 abbrev pub Before : Ran → (Told → Option Job → Type 0) → Type 0

@@ -3,7 +3,7 @@ use Rattle.std.specs.Prelude.{ℕ, List, ◌++◌, codes, decimal}
 use Rattle.elf_load.specs.Names.{refused_number, refused_name, unfit_number, unfit_name}
 use Rattle.elf_load.specs.declared.refused.Refused.{Refused as WhyRefused}
 use Rattle.elf_load.specs.declared.unfit.Unfit.{Unfit as WhyUnfit}
-use Rattle.test_files.specs.Refusals.{refused_name as test_name, refused_number as test_number}
+use Rattle.test_files.specs.Refusals.{test_refused_name as test_name, test_refused_number as test_number}
 use Rattle.test_files.specs.declared.refused.TestRefused.{TestRefused as WhyNoTest}
 
 abbrev pub usage : List ℕ

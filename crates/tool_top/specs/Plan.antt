@@ -82,8 +82,8 @@ Treats out bytes asked budgets workers verdict puts text =
     IsReported out bytes asked budgets workers verdict puts text ⊎ (IsRefusal bytes verdict puts text ⊎ IsMisfit bytes asked verdict puts text)
 
 -- what is put and said for the bytes of a program's file and of a test's
-abbrev pub Replays : (bytes text : List ℕ) → Verdict → List Put → List ℕ → Type 0
-Replays bytes text verdict puts said =
+abbrev pub TreatsTest : (bytes text : List ℕ) → Verdict → List Put → List ℕ → Type 0
+TreatsTest bytes text verdict puts said =
     IsRefusal bytes verdict puts said ⊎ (IsNoTest bytes text verdict puts said ⊎ (IsTestMisfit bytes text verdict puts said ⊎ IsReplayed bytes text verdict puts said))
 
 -- what is meant, where all that the job reads was read
@@ -94,7 +94,7 @@ Means told (Some (Explore program out asked budgets workers)) plan =
     × (plan.names ≡ program ∷ []) × Treats out bytes asked budgets workers plan.verdict plan.puts plan.text
 Means told (Some (Replay program test)) plan =
     (bytes : List ℕ) × (text : List ℕ) × Gives told program most_bytes bytes × Gives told test most_test_bytes text
-    × (plan.names ≡ program ∷ test ∷ []) × Replays bytes text plan.verdict plan.puts plan.text
+    × (plan.names ≡ program ∷ test ∷ []) × TreatsTest bytes text plan.verdict plan.puts plan.text
 Means told (Some (Bench number workers out)) plan = (plan.names ≡ []) × IsBenched number workers out plan.verdict plan.puts plan.text
 
 -- of these names some were read, from the first on, the last of them in vain

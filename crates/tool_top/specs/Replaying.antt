@@ -24,7 +24,7 @@ pub record IsReplayable (bytes text : List ℕ) (image : Image) (test : Test) : 
   pub fits : unfit image test.regions ≡ None
 
 -- the run is as the test says, and that is said
-pub record IsSame (image : Image) (test : Test) (verdict : Verdict) (said : List ℕ) : Type 0 where
+pub record SaysSame (image : Image) (test : Test) (verdict : Verdict) (said : List ℕ) : Type 0 where
   pub as_said : IsAsSaid image test
   pub is : verdict ≡ Done
   pub line : said ≡ same
@@ -41,7 +41,7 @@ pub record IsReplayed (bytes text : List ℕ) (verdict : Verdict) (puts : List P
   pub test : Test
   pub replayable : IsReplayable bytes text image test
   pub no_files : puts ≡ []
-  pub answer : IsSame image test verdict said ⊎ IsOther image test verdict said
+  pub answer : SaysSame image test verdict said ⊎ IsOther image test verdict said
 
 -- the text is no test, and why is said
 pub record IsNoTest (bytes text : List ℕ) (verdict : Verdict) (puts : List Put) (said : List ℕ) : Type 0 where

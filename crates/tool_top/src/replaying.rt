@@ -6,7 +6,7 @@ ghost use Rattle.tool_io.specs.Told.{Gives, after};
 ghost use Rattle.elf_load.specs.Images.{Loads};
 ghost use Rattle.test_files.specs.Reading.{reading};
 ghost use Rattle.tool_words.specs.Job.{Replay};
-ghost use Rattle.tool_top.specs.Plan.{IsPlanned, OnlyReads, Replays, most_bytes};
+ghost use Rattle.tool_top.specs.Plan.{IsPlanned, OnlyReads, TreatsTest, most_bytes};
 ghost use Rattle.tool_top.specs.Replaying.{IsReplayable, most_test_bytes};
 
 use crate::plan::{MOST_BYTES, Plan, refuse, refuse_input, says_only};
@@ -31,7 +31,7 @@ fn plan_run(
     test: &Test,
 ) -> Result<Plan, NoMemory>
     requires replayable { IsReplayable bytes.now text.now image.now test.now }
-    ensures { IfOk result (λ p. Replays bytes.now text.now p.verdict p.files.items p.text) }
+    ensures { IfOk result (λ p. TreatsTest bytes.now text.now p.verdict p.files.items p.text) }
 {
     match replay(alloc, image, test)? {
         Replayed::Same => says_only(alloc, Verdict::Done, b"same\n"),
@@ -52,7 +52,7 @@ fn plan_test(
 ) -> Result<Plan, NoMemory>
     requires loads { Loads bytes.now image.now }
     requires reads { reading text.now ≡ Ok test.now }
-    ensures { IfOk result (λ p. Replays bytes.now text.now p.verdict p.files.items p.text) }
+    ensures { IfOk result (λ p. TreatsTest bytes.now text.now p.verdict p.files.items p.text) }
 {
     match fit(image, &test.regions) {
         Err(why) => refuse_input(alloc, why),
@@ -63,7 +63,7 @@ fn plan_test(
 // What is to be done for a test's bytes, on a program.
 fn plan_text(alloc: Global, bytes: &[u8], text: &[u8], image: &Image) -> Result<Plan, NoMemory>
     requires loads { Loads bytes.now image.now }
-    ensures { IfOk result (λ p. Replays bytes.now text.now p.verdict p.files.items p.text) }
+    ensures { IfOk result (λ p. TreatsTest bytes.now text.now p.verdict p.files.items p.text) }
 {
     match read_test(alloc, text) {
         Ok(test) => plan_test(alloc, bytes, text, image, &test),
@@ -77,7 +77,7 @@ fn plan_text(alloc: Global, bytes: &[u8], text: &[u8], image: &Image) -> Result<
 
 // What is to be done for a program's bytes and a test's.
 fn plan_both(alloc: Global, bytes: &[u8], text: &[u8]) -> Result<Plan, NoMemory>
-    ensures { IfOk result (λ p. Replays bytes.now text.now p.verdict p.files.items p.text) }
+    ensures { IfOk result (λ p. TreatsTest bytes.now text.now p.verdict p.files.items p.text) }
 {
     match load(alloc, bytes) {
         Ok(image) => plan_text(alloc, bytes, text, &image),

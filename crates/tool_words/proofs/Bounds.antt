@@ -9,7 +9,7 @@ use Rattle.tool_words.specs.Command.{rvklee_command}
 use Rattle.tool_words.specs.Job as spec
 use Rattle.tool_words.specs.Job.{Bench, Explore, IsWithinLimits, Replay, bench_job, bench_with, command_job, explore_job, explore_with, job_of, replay_job, replay_with, without_fault}
 use Rattle.tool_words.specs.Limits.{IsBudgets, IsWithin, budgets_found, budgets_with, conflicts_limit, is_within, number_found, number_given, number_said, number_within, numbers_limit, plain_number, steps_limit, targets_limit, within, workers_found, workers_limit}
-use Rattle.tool_words.specs.Region.{regions_of}
+use Rattle.tool_words.specs.Region.{regions_said}
 use Rattle.tool_words.specs.Seen.{IsRead, job_seen}
 use Rattle.tool_words.specs.declared.job.Job.{Job}
 use Rattle.tool_words.specs.declared.job.WordsError.{WordsError}
@@ -84,7 +84,7 @@ with_bounds (Some program) (Some out) (Some regions) (Some budgets) (Some worker
 explore_bounds : (rows : List Row) (job : spec.Job) → explore_job rows ≡ Some job → IsWithinLimits job
 unfolding explore_job
 explore_bounds rows job = with_bounds (first_of (codes "PROGRAM") rows) (first_of (codes "OUT") rows)
-    (option_and_then regions_of (all_of (codes "INPUT") rows)) (budgets_found rows) (workers_found rows) job (found_budgets rows) (found_workers rows)
+    (option_and_then regions_said (all_of (codes "INPUT") rows)) (budgets_found rows) (workers_found rows) job (found_budgets rows) (found_workers rows)
 
 replay_with_bounds : (program test : Option (List ℕ)) (job : spec.Job) → replay_with program test ≡ Some job → IsWithinLimits job
 replay_with_bounds None test job is = cc

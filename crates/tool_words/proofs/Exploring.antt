@@ -7,7 +7,7 @@ use Rattle.clap.proofs.WalkLemmas.{first_value-rows, raw_values-rows}
 use Rattle.elf_load.specs.declared.region.Region.{Region}
 use Rattle.tool_words.specs.Job.{bench_job, bench_with, explore_job, explore_with, replay_job, replay_with}
 use Rattle.tool_words.specs.Limits.{budgets_found, number_said, numbers_limit, workers_found, workers_limit}
-use Rattle.tool_words.specs.Region.{regions_of}
+use Rattle.tool_words.specs.Region.{regions_said}
 use Rattle.tree_core.specs.declared.budgets.Budgets.{Budgets}
 use Rattle.tool_words.specs.Seen.{IsRead}
 use Rattle.tool_words.specs.declared.job.WordsError.{WordsError}
@@ -16,7 +16,7 @@ use Rattle.tool_words.specs.declared.job.WordsError.TheVariants.{Usage, NoMemory
 pub explore_job_is : (found : Found) (program out : Option (List ℕ)) (inputs : Option (List (List ℕ))) (budgets : Option Budgets) (workers : Option ℕ)
     → program ≡ first_value found (codes "PROGRAM") → out ≡ first_value found (codes "OUT")
     → inputs ≡ option_map raw_values (matched_of found (codes "INPUT")) → budgets ≡ budgets_found (rows_of found) → workers ≡ workers_found (rows_of found)
-    → explore_job (rows_of found) ≡ explore_with program out (option_and_then regions_of inputs) budgets workers
+    → explore_job (rows_of found) ≡ explore_with program out (option_and_then regions_said inputs) budgets workers
 unfolding explore_job
 explore_job_is found program out inputs budgets workers is_program is_out is_inputs is_budgets is_workers =
     rw (is_program, is_out, is_inputs, is_budgets, is_workers, first_value-rows found (codes "PROGRAM"), first_value-rows found (codes "OUT"), raw_values-rows found (codes "INPUT")) refl

@@ -7,7 +7,7 @@ use Rattle.std.proofs.Math.Nat.{pow-le-pow_left, pow-le-pow_right, mul-le-mul_le
 use Rattle.std.proofs.lemmas.Int.Digits.{digits_value-lt}
 use Rattle.std.proofs.lemmas.List.Folds.{list_all_at}
 use Rattle.elf_load.specs.Regions.{region_with}
-use Rattle.tool_words.specs.Region.{has_colon, number_of, region_of}
+use Rattle.tool_words.specs.Region.{has_colon, digits_number, region_said}
 
 -- there is room for one digit more
 pub room : (base : ℕ) (digits : List ℕ) (i : ℕ) → base ≤ 16 → AllDigits base (take i digits)
@@ -27,16 +27,16 @@ all_digits base (d ∷ ds) all =
     rw (first, all_digits base ds all.1) refl
 
 pub number_there : (base : ℕ) (digits : List ℕ) (i : ℕ) → length digits ≤ i → AllDigits base (take i digits)
-    → number_of base digits ≡ Some (digits_value base (take i digits))
-unfolding number_of
+    → digits_number base digits ≡ Some (digits_value base (take i digits))
+unfolding digits_number
 number_there base digits i whole all =
     let same : take i digits ≡ digits = take_all i digits whole in
     let all2 : AllDigits base digits = rw same at all in
     rw (same, all_digits base digits all2) refl
 
 pub number_absent : (base : ℕ) (digits : List ℕ) (i : ℕ) → i < length digits → base ≤ digit_value (get_or digits i 0)
-    → number_of base digits ≡ None
-unfolding number_of
+    → digits_number base digits ≡ None
+unfolding digits_number
 number_absent base digits i lt above =
     let miss : is_digit (get_or digits i 0) base ≡ false = search (above, rules) in
     rw (list_all_at (λ d. is_digit d base) digits i 0 lt miss) refl
@@ -45,7 +45,7 @@ number_absent base digits i lt above =
 pub to_end : (word : List ℕ) (k : ℕ) → take (length word - k) (drop k word) ≡ drop k word
 to_end word k = take_all (length word - k) (drop k word) (omega (arith, length-drop k word))
 
-pub region_there : (word : List ℕ) (start count : Option ℕ) → has_colon word ≡ true → number_of 16 (take 8 word) ≡ start
-    → number_of 10 (drop 9 word) ≡ count → region_with start count ≡ region_of word
-unfolding region_of
+pub region_there : (word : List ℕ) (start count : Option ℕ) → has_colon word ≡ true → digits_number 16 (take 8 word) ≡ start
+    → digits_number 10 (drop 9 word) ≡ count → region_with start count ≡ region_said word
+unfolding region_said
 region_there word start count colon at_start at_count = rw (colon, at_start, at_count) refl

@@ -10,7 +10,7 @@ use Rattle.std.proofs.lemmas.Result.{OkIff-at_ok}
 use Rattle.std.proofs.lemmas.Str.{digit_value_digit}
 use Rattle.std.proofs.lemmas.Str.Parse.{digit_from_value, digits_value-take-le, without_leading_plus_none}
 use Rattle.tool_words.specs.Limits.{number_within, plain_number, within}
-use Rattle.tool_words.specs.Region.{number_of}
+use Rattle.tool_words.specs.Region.{digits_number}
 use Rattle.tool_words.specs.declared.limit.Limit.{Limit}
 use Rattle.tool_words.proofs.Numbers.{all_digits}
 
@@ -21,26 +21,26 @@ nothing_said limit (first ∷ rest) none = absurd (omega (arith, none))
 
 -- a plus (43) is no digit
 pub plus_first : (limit : Limit) (value : List ℕ) → get_or value 0 0 ≡ 43 → number_within limit value ≡ None
-unfolding plain_number number_of
+unfolding plain_number digits_number
 plus_first limit [] is = refl
 plus_first limit (first ∷ []) is = rw is refl
 plus_first limit (first ∷ second ∷ rest) is = rw is refl
 
 -- a zero (48) leads, or is the number 0
 pub zero_first : (limit : Limit) (value : List ℕ) → get_or value 0 0 ≡ 48 → number_within limit value ≡ None
-unfolding plain_number number_of
+unfolding plain_number digits_number
 zero_first limit [] is = refl
 zero_first limit (first ∷ []) is = rw is refl
 zero_first limit (first ∷ second ∷ rest) is = rw is refl
 
 -- no zero leads
-pub plain : (value : List ℕ) → 0 < length value → get_or value 0 0 ≢ 48 → plain_number value ≡ number_of 10 value
+pub plain : (value : List ℕ) → 0 < length value → get_or value 0 0 ≢ 48 → plain_number value ≡ digits_number 10 value
 unfolding plain_number
 plain [] some other = absurd (omega (arith, some))
 plain (first ∷ []) some other = refl
 plain (first ∷ second ∷ rest) some other = go (first == 48) refl
   where
-    go : (b : Bool) → (first == 48) ≡ b → plain_number (first ∷ second ∷ rest) ≡ number_of 10 (first ∷ second ∷ rest)
+    go : (b : Bool) → (first == 48) ≡ b → plain_number (first ∷ second ∷ rest) ≡ digits_number 10 (first ∷ second ∷ rest)
     go true is = absurd (other (search (rules, is)))
     go false is = rw is refl
 
@@ -73,7 +73,7 @@ module _ {E : Type 0} (value : List ℕ) (r : Result ℕ E) (parses : ParsesUnsi
   bare = without_leading_plus_none value no_plus
 
   pub parsed : (n : ℕ) → r ≡ Ok n → plain_number value ≡ Some n
-  unfolding number_of
+  unfolding digits_number
   parsed n is =
       let fact = OkIff-at_ok r _ _ n parses is in
       let all : AllDigits 10 value = rw bare at fact.0.0.1 in
@@ -96,12 +96,12 @@ module _ {E : Type 0} (value : List ℕ) (r : Result ℕ E) (parses : ParsesUnsi
       (rw bare at refutes) ((some, all), small)
 
   pub not_parsed : (limit : Limit) → limit.most < 2 ^ 32 → result_ok r ≡ None → number_within limit value ≡ None
-  unfolding number_of
+  unfolding digits_number
   not_parsed limit most none = rw (plain value some no_zero) (go (list_all (λ d. is_digit d 10) value) refl (refuted none) (from_all value) (above limit (digits_value 10 value) most))
     where
       go : (b : Bool) → list_all (λ d. is_digit d 10) value ≡ b → (AllDigits 10 value → digits_value 10 value < 2 ^ 32 → ⊥)
           → (list_all (λ d. is_digit d 10) value ≡ true → AllDigits 10 value) → ((digits_value 10 value < 2 ^ 32 → ⊥) → within limit (digits_value 10 value) ≡ None)
-          → option_and_then (within limit) (number_of 10 value) ≡ None
+          → option_and_then (within limit) (digits_number 10 value) ≡ None
       go false is refuses digits over = rw is refl
       go true is refuses digits over = rw is (over (refuses (digits is)))
 

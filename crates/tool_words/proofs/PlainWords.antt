@@ -19,7 +19,7 @@ use Rattle.clap.proofs.WalkLemmas.{walk_stopped}
 use Rattle.elf_load.specs.declared.region.Region.{Region}
 use Rattle.tool_words.specs.Job.{Explore, command_job, explore_job, explore_with, job_of, without_fault}
 use Rattle.tool_words.specs.Limits.{default_budgets, workers_limit}
-use Rattle.tool_words.specs.Region.{regions_of}
+use Rattle.tool_words.specs.Region.{regions_said}
 use Rattle.tool_words.specs.Plain.{has_no_hyphen}
 
 pub both_plain : (word : List ℕ) (words : List (List ℕ)) → list_all has_no_hyphen (word ∷ words) ≡ true
@@ -270,12 +270,12 @@ module _ (tool program out input : List ℕ) (inputs : List (List ℕ)) (plain :
   with_regions (Some regions) = refl
 
   rows_job : explore_job (all_rows program out input inputs plain room)
-      ≡ option_map (λ regions. Explore program out regions default_budgets workers_limit.default) (regions_of (input ∷ inputs))
+      ≡ option_map (λ regions. Explore program out regions default_budgets workers_limit.default) (regions_said (input ∷ inputs))
   unfolding explore_job
-  rows_job = with_regions (regions_of (input ∷ inputs))
+  rows_job = with_regions (regions_said (input ∷ inputs))
 
   pub plain_job : job_of (tool ∷ codes "explore" ∷ program ∷ out ∷ input ∷ inputs)
-      ≡ option_map (λ regions. Explore program out regions default_budgets workers_limit.default) (regions_of (input ∷ inputs))
+      ≡ option_map (λ regions. Explore program out regions default_budgets workers_limit.default) (regions_said (input ∷ inputs))
   unfolding job_of
   plain_job = ap₂ (λ kinds found. without_fault kinds (command_job found)) (faults_below tool _ [] (level_passes program out input inputs plain room))
       (found_below tool (program ∷ out ∷ input ∷ inputs) ∙ ap (λ rows. Some (codes "explore", rows)) (finds program out input inputs plain room))

@@ -5,7 +5,7 @@ use Rattle.clap.specs.Words.{Kinds, Row, all_of, fault_of, first_of, subcommand_
 use Rattle.elf_load.specs.declared.region.Region.{Region}
 use Rattle.tool_words.specs.Command.{rvklee_command}
 use Rattle.tool_words.specs.Limits.{IsBudgets, IsWithin, budgets_found, number_said, numbers_limit, workers_found, workers_limit}
-use Rattle.tool_words.specs.Region.{regions_of}
+use Rattle.tool_words.specs.Region.{regions_said}
 use Rattle.tree_core.specs.declared.budgets.Budgets.{Budgets}
 
 pub data Job : Type 0 where
@@ -27,7 +27,7 @@ explore_with _ _ _ _ _ = None
 -- the job of `explore`, from what `clap` finds for it
 unfoldable pub explore_job : List Row → Option Job
 explore_job rows = explore_with (first_of (codes "PROGRAM") rows) (first_of (codes "OUT") rows)
-    (option_and_then regions_of (all_of (codes "INPUT") rows)) (budgets_found rows) (workers_found rows)
+    (option_and_then regions_said (all_of (codes "INPUT") rows)) (budgets_found rows) (workers_found rows)
 
 abbrev pub replay_with : Option (List ℕ) → Option (List ℕ) → Option Job
 replay_with (Some program) (Some test) = Some (Replay program test)

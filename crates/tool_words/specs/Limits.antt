@@ -1,7 +1,7 @@
 -- The numbers that options and words say, and their limits.
 use Rattle.std.specs.Prelude.{ℕ, Bool, false, List, [], ◌∷◌, ◌==◌, ◌&&◌, ◌≤◌, nat_le, Option, None, Some, if◌then◌else◌, codes, option_and_then}
 use Rattle.clap.specs.Words.{Row, first_of}
-use Rattle.tool_words.specs.Region.{number_of}
+use Rattle.tool_words.specs.Region.{digits_number}
 use Rattle.tree_core.specs.declared.budgets.Budgets.{Budgets}
 use Rattle.tool_words.specs.declared.limit.Limit.{Limit}
 
@@ -38,7 +38,7 @@ has_leading_zero _ = false
 unfoldable pub plain_number : List ℕ → Option ℕ
 plain_number [] = None
 plain_number (first ∷ rest) =
-    if has_leading_zero (first ∷ rest) then None else number_of 10 (first ∷ rest)
+    if has_leading_zero (first ∷ rest) then None else digits_number 10 (first ∷ rest)
 
 -- a number from 1 to the most
 abbrev pub is_within : Limit → ℕ → Bool

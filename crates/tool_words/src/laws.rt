@@ -6,7 +6,7 @@ ghost use Rattle.std.specs.List.{list_all};
 ghost use Rattle.tool_words.specs.Job.{Explore, IsWithinLimits, Job, Replay, job_of};
 ghost use Rattle.tool_words.specs.Limits.{default_budgets, plain_number, workers_limit};
 ghost use Rattle.tool_words.specs.Plain.{has_no_hyphen};
-ghost use Rattle.tool_words.specs.Region.{regions_of};
+ghost use Rattle.tool_words.specs.Region.{regions_said};
 
 /// `explore` with a program, a folder and inputs has the job that these words name, with the default
 /// numbers, where none of them begins with a hyphen.
@@ -15,7 +15,7 @@ pub fn plain_words_name_their_job()
         → list_all has_no_hyphen (program ∷ out ∷ input ∷ inputs) ≡ true
         → length (input ∷ inputs) < 2 ^ 64
         → job_of (tool ∷ codes "explore" ∷ program ∷ out ∷ input ∷ inputs)
-        ≡ option_map (λ regions. Explore program out regions default_budgets workers_limit.default) (regions_of (input ∷ inputs)) }
+        ≡ option_map (λ regions. Explore program out regions default_budgets workers_limit.default) (regions_said (input ∷ inputs)) }
 {}
 
 /// `replay` with a program and a test has the job that these words name, where none of them begins with a

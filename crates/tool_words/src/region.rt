@@ -1,14 +1,14 @@
 //! A region of input bytes, as a word names it.
 
 ghost use Rattle.std.specs.Prelude.{◌≡◌, ◌≤◌, length};
-ghost use Rattle.tool_words.specs.Region.{number_of, region_of};
+ghost use Rattle.tool_words.specs.Region.{digits_number, region_said};
 
 use elf_load::Region;
 
 /// Reads `hhhhhhhh:n`, an address of eight hexadecimal digits and a count of one to four decimal
 /// digits.
 pub(crate) fn read_region(word: &str) -> Option<Region>
-    ensures { result ≡ region_of word.now }
+    ensures { result ≡ region_said word.now }
 {
     let word = word.as_bytes();
     if word.len() < 10 || 13 < word.len() || word[8] != b':' {
@@ -24,7 +24,7 @@ fn read_number(digits: &[u8], base: u32) -> Option<u32>
     requires least { 2 ≤ base }
     requires most { base ≤ 16 }
     requires short { length digits.now ≤ 8 }
-    ensures { result ≡ number_of base digits.now }
+    ensures { result ≡ digits_number base digits.now }
 {
     let mut value = 0;
     for digit in digits {

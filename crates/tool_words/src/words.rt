@@ -5,7 +5,7 @@ ghost use Rattle.clap.specs.Words.{fault_of, found_of, kind_of, rows_of, subcomm
 ghost use Rattle.clap.specs.declared.error.kind.ErrorKind.TheVariants.{OutOfMemory};
 ghost use Rattle.tool_words.specs.Command.{rvklee_command};
 ghost use Rattle.tool_words.specs.Job.{IsWithinLimits, bench_job, command_job, explore_job, job_of, replay_job};
-ghost use Rattle.tool_words.specs.Region.{regions_of};
+ghost use Rattle.tool_words.specs.Region.{regions_said};
 ghost use Rattle.tool_words.specs.Seen.{IsRead, job_seen};
 
 use crate::command::rvklee;
@@ -110,7 +110,7 @@ fn read_bench(alloc: Global, found: &ArgMatches<'_>) -> Result<Job, WordsError>
 
 /// The regions that the words name, in their order.
 fn read_regions(alloc: Global, words: &[&str]) -> Result<Regions, WordsError>
-    ensures { IsRead (λ regions. regions) (regions_of (map (λ word. word.now) words.now)) result }
+    ensures { IsRead (λ regions. regions) (regions_said (map (λ word. word.now) words.now)) result }
 {
     let mut regions = Vec::with_capacity(alloc, words.len())?;
     for word in words {

@@ -14,7 +14,7 @@ use Rattle.tree_core.specs.declared.node.Origin.{Origin}
 use Rattle.tree_core.specs.declared.node.Status.TheVariants.{Free, Leaf}
 use Rattle.tree_core.specs.Stories.{Story, status, last_on}
 use Rattle.tree_core.specs.Covers.{one_if, is_live}
-use Rattle.tree_core.specs.Replays.{is_allowed, IsFit, births, deed_kept, kids_of, kept, noted, node_of, noted_all, AllMayCome, Replays, opening}
+use Rattle.tree_core.specs.Replays.{is_allowed, IsFit, births, deed_kept, kids_of, kept, with_event, node_of, noted_all, AllMayCome, Replays, opening}
 use Rattle.tree_core.specs.Cores.{IsCore, IsLast, is_held, held_count, let_go, takes, ends, unworked, unworked_of}
 use Rattle.tree_core.proofs.Counting.{count_at}
 use Rattle.tree_core.proofs.Places.{get_set, get_before, get_behind, get_last, last_on-push}
@@ -23,35 +23,35 @@ use Rattle.tree_core.proofs.Letting.{born_unworked, holds-noted, length-let_go}
 use Rattle.tree_core.proofs.Sharing.{partition-noted, held_count-noted, ends-before}
 
 module _ {R : Type 0} (covers : R → List ℕ → Bool) where
-  noted_all-push : (s : Story R) (es : List (Event R (Vec (Kid R)))) (e : Event R (Vec (Kid R))) → noted_all s (es ++ e ∷ []) ≡ noted (noted_all s es) e
+  noted_all-push : (s : Story R) (es : List (Event R (Vec (Kid R)))) (e : Event R (Vec (Kid R))) → noted_all s (es ++ e ∷ []) ≡ with_event (noted_all s es) e
   noted_all-push s [] e = refl
-  noted_all-push s (x ∷ es) e = noted_all-push (noted s x) es e
+  noted_all-push s (x ∷ es) e = noted_all-push (with_event s x) es e
 
   may_come_more : (s : Story R) (es : List (Event R (Vec (Kid R)))) (e : Event R (Vec (Kid R))) → AllMayCome covers s es → IsFit covers (noted_all s es) e → IsTrue (is_allowed (noted_all s es) e) → AllMayCome covers s (es ++ e ∷ [])
   may_come_more s [] e all fit may = (fit, may, tt)
-  may_come_more s (x ∷ es) e all fit may = (all.0, all.1, may_come_more (noted s x) es e all.2 fit may)
+  may_come_more s (x ∷ es) e all fit may = (all.0, all.1, may_come_more (with_event s x) es e all.2 fit may)
 
-  replays-noted : (s : Story R) (e : Event R (Vec (Kid R))) → Replays covers s → IsFit covers s e → IsTrue (is_allowed s e) → Replays covers (noted s e)
+  replays-noted : (s : Story R) (e : Event R (Vec (Kid R))) → Replays covers s → IsFit covers s e → IsTrue (is_allowed s e) → Replays covers (with_event s e)
   replays-noted s e r fit may = let first : Story R = opening r.0 r.1 in let is : s ≡ noted_all first r.2 = r.4 in (
     r.0,
     r.1,
     r.2 ++ e ∷ [],
     may_come_more first r.2 e r.3 (subst (λ (t : Story R). IsFit covers t e) is fit) (subst (λ (t : Story R). IsTrue (is_allowed t e)) is may),
-    ap (λ (t : Story R). noted t e) is ∙ sym (noted_all-push first r.2 e),
+    ap (λ (t : Story R). with_event t e) is ∙ sym (noted_all-push first r.2 e),
   )
 
 module _ {R : Type 0} where
-  long-noted : (s : Story R) (e : Event R (Vec (Kid R))) → length (noted s e).nodes ≡ length s.nodes + length (kids_of e.deed)
+  long-noted : (s : Story R) (e : Event R (Vec (Kid R))) → length (with_event s e).nodes ≡ length s.nodes + length (kids_of e.deed)
   long-noted s e = length-append s.nodes (births e.node e.deed) ∙ ap (λ k. length s.nodes + k) (length-map (kids_of e.deed) (node_of e.node))
 
   wide-noted : (s : Story R) (e : Event R (Vec (Kid R))) (contents : List (Option R)) → length contents ≡ length s.nodes
-      → length (let_go (deed_kept e.deed) e.node (contents ++ map (λ (kid : Kid R). unworked_of kid.is_leaf kid.content) (kids_of e.deed))) ≡ length (noted s e).nodes
+      → length (let_go (deed_kept e.deed) e.node (contents ++ map (λ (kid : Kid R). unworked_of kid.is_leaf kid.content) (kids_of e.deed))) ≡ length (with_event s e).nodes
   wide-noted s e contents wide = let own : Kid R → Option R = λ kid. unworked_of kid.is_leaf kid.content in
       length-let_go (deed_kept e.deed) e.node (contents ++ map own (kids_of e.deed)) ∙ (length-append contents (map own (kids_of e.deed)) ∙ ((λ i. wide i + length-map (kids_of e.deed) own i) ∙ sym (long-noted s e)))
 
-  named-noted : (s : Story R) (e : Event R (Vec (Kid R))) → All (λ (x : Event R ℕ). x.node < length s.nodes) s.events → e.node < length s.nodes → All (λ (x : Event R ℕ). x.node < length (noted s e).nodes) (noted s e).events
+  named-noted : (s : Story R) (e : Event R (Vec (Kid R))) → All (λ (x : Event R ℕ). x.node < length s.nodes) s.events → e.node < length s.nodes → All (λ (x : Event R ℕ). x.node < length (with_event s e).nodes) (with_event s e).events
   named-noted s e named there = let long = long-noted s e in
-      All-push (λ (x : Event R ℕ). x.node < length (noted s e).nodes) s.events (kept e) (λ k d lt. let low = named k d lt in omega arith) (omega arith)
+      All-push (λ (x : Event R ℕ). x.node < length (with_event s e).nodes) s.events (kept e) (λ k d lt. let low = named k d lt in omega arith) (omega arith)
 
   born_older : (n m i : ℕ) (kids : List (Kid R)) (x : Node R) → n < m → slice_get (map (node_of n) kids) i ≡ Some x → IfSome x.origin (λ (o : Origin). o.parent < m)
   born_older n m i [] x lt at = cc
@@ -59,13 +59,13 @@ module _ {R : Type 0} where
   born_older n m (suc i) (kid ∷ kids) x lt at = born_older n m i kids x lt at
 
   older-noted : (s : Story R) (e : Event R (Vec (Kid R))) → ((m : ℕ) (x : Node R) → slice_get s.nodes m ≡ Some x → IfSome x.origin (λ (o : Origin). o.parent < m)) → e.node < length s.nodes
-      → (m : ℕ) (x : Node R) → slice_get (noted s e).nodes m ≡ Some x → IfSome x.origin (λ (o : Origin). o.parent < m)
+      → (m : ℕ) (x : Node R) → slice_get (with_event s e).nodes m ≡ Some x → IfSome x.origin (λ (o : Origin). o.parent < m)
   older-noted s e older there m x at = let n : ℕ = length s.nodes in dite (dec_le n m)
       (λ le. let split : n + (m - n) ≡ m = omega arith in
       born_older e.node m (m - n) (kids_of e.deed) x (omega arith) (sym (get_behind s.nodes (births e.node e.deed) (m - n)) ∙ (ap (slice_get (s.nodes ++ births e.node e.deed)) split ∙ at)))
       (λ apart. older m x (sym (get_before s.nodes (births e.node e.deed) m (Rattle.std.proofs.Common.lt_of_not-le apart)) ∙ at))
 
-  last_stays : (s : Story R) (e : Event R (Vec (Kid R))) (k : ℕ) (o : Option ℕ) → eqb e.node k ≡ false → IsLast s k o → IsLast (noted s e) k o
+  last_stays : (s : Story R) (e : Event R (Vec (Kid R))) (k : ℕ) (o : Option ℕ) → eqb e.node k ≡ false → IsLast s k o → IsLast (with_event s e) k o
   last_stays s e k None apart l = last_on-push k s.events (kept e) ∙ (ap (λ b. cond b (Some (kept e)) (last_on k s.events)) apart ∙ l)
   last_stays s e k (Some j) apart l = (l.0, get_before s.events (kept e ∷ []) j (slice_get_within s.events j l.0 l.1) ∙ l.1, last_on-push k s.events (kept e) ∙ (ap (λ b. cond b (Some (kept e)) (last_on k s.events)) apart ∙ l.2))
 
@@ -76,7 +76,7 @@ module _ {R : Type 0} where
 
   last-noted : (s : Story R) (e : Event R (Vec (Kid R))) (latest : List (Option ℕ)) → ((k : ℕ) (o : Option ℕ) → slice_get latest k ≡ Some o → IsLast s k o) → length latest ≡ length s.nodes
       → All (λ (x : Event R ℕ). x.node < length s.nodes) s.events → e.node < length s.nodes
-      → (k : ℕ) (o : Option ℕ) → slice_get (set (latest ++ map (λ _. None) (kids_of e.deed)) e.node (Some (length s.events))) k ≡ Some o → IsLast (noted s e) k o
+      → (k : ℕ) (o : Option ℕ) → slice_get (set (latest ++ map (λ _. None) (kids_of e.deed)) e.node (Some (length s.events))) k ≡ Some o → IsLast (with_event s e) k o
   last-noted s e latest last long named there k o at =
       let n : ℕ = length s.nodes in let m : ℕ = e.node in let nones : List (Option ℕ) = map (λ _. None) (kids_of e.deed) in let new : Option ℕ = Some (length s.events) in
       let both : length (latest ++ nones) ≡ length latest + length nones = length-append latest nones in
@@ -84,18 +84,18 @@ module _ {R : Type 0} where
       let at' : cond (eqb m k) (Some new) (slice_get (latest ++ nones) k) ≡ Some o = sym put ∙ at in
       dite (ℕ_discrete m k)
       (λ is. let yes : eqb m k ≡ true = eq-eqb m k is in let same : Some new ≡ Some o = sym (ap (λ b. cond b (Some new) (slice_get (latest ++ nones) k)) yes) ∙ at' in let same' : new ≡ o = cc in
-      subst (λ (p : Option ℕ). IsLast (noted s e) k p) same' (kept e, get_last s.events (kept e), last_on-push k s.events (kept e) ∙ ap (λ b. cond b (Some (kept e)) (last_on k s.events)) yes))
+      subst (λ (p : Option ℕ). IsLast (with_event s e) k p) same' (kept e, get_last s.events (kept e), last_on-push k s.events (kept e) ∙ ap (λ b. cond b (Some (kept e)) (last_on k s.events)) yes))
       (λ ne. let apart : eqb m k ≡ false = ne_eqb m k ne in let old : slice_get (latest ++ nones) k ≡ Some o = sym (ap (λ b. cond b (Some new) (slice_get (latest ++ nones) k)) apart) ∙ at' in
       dite (dec_le n k)
       (λ le. let split : length latest + (k - n) ≡ k = omega arith in let split' : n + (k - n) ≡ k = omega arith in
       let is : o ≡ None = none_at (kids_of e.deed) (k - n) o (sym (get_behind latest nones (k - n)) ∙ (ap (slice_get (latest ++ nones)) split ∙ old)) in
-      subst (λ (p : Option ℕ). IsLast (noted s e) k p) (sym is) (subst (λ (j : ℕ). last_on j (s.events ++ kept e ∷ []) ≡ None) split' (kid_unnamed s e (k - n) named there)))
+      subst (λ (p : Option ℕ). IsLast (with_event s e) k p) (sym is) (subst (λ (j : ℕ). last_on j (s.events ++ kept e ∷ []) ≡ None) split' (kid_unnamed s e (k - n) named there)))
       (λ not. let low : k < length latest = subst (λ (j : ℕ). k < j) (sym long) (Rattle.std.proofs.Common.lt_of_not-le not) in
       last_stays s e k o apart (last k o (sym (get_before latest nones k low) ∙ old))))
 
 module _ {R : Type 0} (covers : R → List ℕ → Bool) where
   pub core-noted : (s : Story R) (latest : List (Option ℕ)) (contents : List (Option R)) (held more : ℕ) (e : Event R (Vec (Kid R))) → IsCore covers s latest contents held → IsFit covers s e → IsTrue (is_allowed s e) → more + ends e.deed ≡ held + takes e.deed
-      → IsCore covers (noted s e) (set (latest ++ map (λ _. None) (kids_of e.deed)) e.node (Some (length s.events)))
+      → IsCore covers (with_event s e) (set (latest ++ map (λ _. None) (kids_of e.deed)) e.node (Some (length s.events)))
       (let_go (deed_kept e.deed) e.node (contents ++ map (λ (kid : Kid R). unworked_of kid.is_leaf kid.content) (kids_of e.deed))) more
   core-noted s latest contents held more e t fit may counts = record {
     replays = replays-noted covers s e t.replays fit may;
@@ -106,7 +106,7 @@ module _ {R : Type 0} (covers : R → List ℕ → Bool) where
     last = last-noted s e latest t.last t.long t.named fit.0;
     wide = wide-noted s e contents t.wide;
     holds = holds-noted s e contents t.holds t.wide t.named fit.0 may;
-    counted = balanced more (ends e.deed) held (takes e.deed) (held_count (noted s e)) (held_count s) counts (held_count-noted s e t.named fit.0 may) t.counted;
+    counted = balanced more (ends e.deed) held (takes e.deed) (held_count (with_event s e)) (held_count s) counts (held_count-noted s e t.named fit.0 may) t.counted;
   }
     where
       balanced : (more d held t after before : ℕ) → more + d ≡ held + t → after + d ≡ before + t → held ≡ before → more ≡ after

@@ -14,7 +14,7 @@ use Rattle.tree_core.specs.Nodes.{Node}
 use Rattle.tree_core.specs.declared.node.Status.{Status}
 use Rattle.tree_core.specs.declared.node.Status.TheVariants.{Free, Held, Parted, Leaf}
 use Rattle.tree_core.specs.Stories.{Story, status, content, content_by, content_after, left_by, born_as, last_on}
-use Rattle.tree_core.specs.Replays.{allows, is_allowed, kids_of, deed_kept, noted}
+use Rattle.tree_core.specs.Replays.{allows, is_allowed, kids_of, deed_kept, with_event}
 use Rattle.tree_core.specs.Cores.{if_leaf, if_unworked, let_go, unworked, unworked_of}
 use Rattle.tree_core.proofs.Places.{get_set, get_before, get_behind}
 use Rattle.tree_core.proofs.Standing.{status-noted, content-noted, status-kid, content-kid, open_content}
@@ -65,30 +65,30 @@ module _ {R : Type 0} where
   kid_behind (kid ∷ kids) (suc i) o at = kid_behind kids i o at
 
   kid-noted : (s : Story R) (e : Event R (Vec (Kid R))) (i : ℕ) (kid : Kid R) → All (λ (x : Event R ℕ). x.node < length s.nodes) s.events → e.node < length s.nodes → slice_get (kids_of e.deed) i ≡ Some kid
-      → unworked_of kid.is_leaf kid.content ≡ unworked (noted s e) (length s.nodes + i)
+      → unworked_of kid.is_leaf kid.content ≡ unworked (with_event s e) (length s.nodes + i)
   kid-noted s e i kid named there at = born_unworked kid.is_leaf kid.content ∙ (λ j. if_unworked (sym (status-kid s e i kid named there at) j) (sym (content-kid s e i kid named there at) j))
 
-  other-noted : (s : Story R) (e : Event R (Vec (Kid R))) (k : ℕ) → k < length s.nodes → eqb e.node k ≡ false → unworked s k ≡ unworked (noted s e) k
+  other-noted : (s : Story R) (e : Event R (Vec (Kid R))) (k : ℕ) → k < length s.nodes → eqb e.node k ≡ false → unworked s k ≡ unworked (with_event s e) k
   other-noted s e k lt apart = let d : Deed R ℕ = deed_kept e.deed in let birth : Option R = option_map (λ (x : Node R). x.content) (slice_get s.nodes k) in
-      let st : status (noted s e) k ≡ status s k = status-noted s e k lt ∙ ap (λ b. cond b (left_by e.by d) (status s k)) apart in
-      let co : content (noted s e) k ≡ content s k = content-noted s e k lt ∙ ap (λ b. cond b (content_by birth d) (content s k)) apart in
+      let st : status (with_event s e) k ≡ status s k = status-noted s e k lt ∙ ap (λ b. cond b (left_by e.by d) (status s k)) apart in
+      let co : content (with_event s e) k ≡ content s k = content-noted s e k lt ∙ ap (λ b. cond b (content_by birth d) (content s k)) apart in
       λ j. if_unworked (sym st j) (sym co j)
 
   own-noted : (s : Story R) (e : Event R (Vec (Kid R))) (xs : List (Option R)) (o : Option R) → e.node < length s.nodes → e.node < length xs → IsTrue (is_allowed s e) → (slice_get xs e.node ≡ Some o → o ≡ unworked s e.node)
-      → slice_get (let_go (deed_kept e.deed) e.node xs) e.node ≡ Some o → o ≡ unworked (noted s e) e.node
+      → slice_get (let_go (deed_kept e.deed) e.node xs) e.node ≡ Some o → o ≡ unworked (with_event s e) e.node
   own-noted s e xs o there within may had at = let m : ℕ = e.node in let d : Deed R ℕ = deed_kept e.deed in let yes : eqb m m ≡ true = eq-eqb m m refl in
       let birth : Option R = option_map (λ (x : Node R). x.content) (slice_get s.nodes m) in
       let unended : content s m ≡ birth = open_content birth (born_as (slice_get s.nodes m)) (last_on m s.events) e.by e.deed may in
-      let st : status (noted s e) m ≡ left_by e.by d = status-noted s e m there ∙ ap (λ b. cond b (left_by e.by d) (status s m)) yes in
-      let co : content (noted s e) m ≡ content_by birth d = content-noted s e m there ∙ ap (λ b. cond b (content_by birth d) (content s m)) yes in
+      let st : status (with_event s e) m ≡ left_by e.by d = status-noted s e m there ∙ ap (λ b. cond b (left_by e.by d) (status s m)) yes in
+      let co : content (with_event s e) m ≡ content_by birth d = content-noted s e m there ∙ ap (λ b. cond b (content_by birth d) (content s m)) yes in
       let_go-own (status s m) e.by e.deed (content s m) birth m xs o within may unended had at ∙ (λ j. if_unworked (sym st j) (sym co j))
 
   pub holds-noted : (s : Story R) (e : Event R (Vec (Kid R))) (contents : List (Option R)) → ((k : ℕ) (o : Option R) → slice_get contents k ≡ Some o → o ≡ unworked s k) → length contents ≡ length s.nodes
       → All (λ (x : Event R ℕ). x.node < length s.nodes) s.events → e.node < length s.nodes → IsTrue (is_allowed s e)
-      → (k : ℕ) (o : Option R) → slice_get (let_go (deed_kept e.deed) e.node (contents ++ map (λ (kid : Kid R). unworked_of kid.is_leaf kid.content) (kids_of e.deed))) k ≡ Some o → o ≡ unworked (noted s e) k
+      → (k : ℕ) (o : Option R) → slice_get (let_go (deed_kept e.deed) e.node (contents ++ map (λ (kid : Kid R). unworked_of kid.is_leaf kid.content) (kids_of e.deed))) k ≡ Some o → o ≡ unworked (with_event s e) k
   holds-noted s e contents holds wide named there may k o at = let m : ℕ = e.node in
       dite (ℕ_discrete m k)
-      (λ is. subst (λ (j : ℕ). o ≡ unworked (noted s e) j) is
+      (λ is. subst (λ (j : ℕ). o ≡ unworked (with_event s e) j) is
       (own-noted s e all o there within may (λ got. holds m o (sym (get_before contents more m low) ∙ got)) (subst (λ (j : ℕ). slice_get (let_go (deed_kept e.deed) m all) j ≡ Some o) (sym is) at)))
       (λ ne. let apart : eqb m k ≡ false = ne_eqb m k ne in elsewhere apart (sym (let_go-other (deed_kept e.deed) m k all within apart) ∙ at))
     where
@@ -104,12 +104,12 @@ module _ {R : Type 0} where
       within : e.node < length all
       within = let both : length (contents ++ more) ≡ length contents + length more = length-append contents more in omega (arith, low)
 
-      behind : length s.nodes ≤ k → slice_get all k ≡ Some o → o ≡ unworked (noted s e) k
+      behind : length s.nodes ≤ k → slice_get all k ≡ Some o → o ≡ unworked (with_event s e) k
       behind le old = let i : ℕ = k - length s.nodes in let split : length s.nodes + (k - length s.nodes) ≡ k = omega arith in
           let found = kid_behind (kids_of e.deed) i o (sym (get_behind contents more i) ∙ (ap (λ (j : ℕ). slice_get all (j + i)) wide ∙ (ap (slice_get all) split ∙ old))) in
-          subst (λ (j : ℕ). o ≡ unworked (noted s e) j) split (sym found.2 ∙ kid-noted s e i found.0 named there found.1)
+          subst (λ (j : ℕ). o ≡ unworked (with_event s e) j) split (sym found.2 ∙ kid-noted s e i found.0 named there found.1)
 
-      elsewhere : eqb e.node k ≡ false → slice_get all k ≡ Some o → o ≡ unworked (noted s e) k
+      elsewhere : eqb e.node k ≡ false → slice_get all k ≡ Some o → o ≡ unworked (with_event s e) k
       elsewhere apart old = dite (dec_le (length s.nodes) k)
           (λ le. behind le old)
           (λ not. let lt : k < length s.nodes = Rattle.std.proofs.Common.lt_of_not-le not in

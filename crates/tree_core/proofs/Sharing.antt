@@ -11,8 +11,8 @@ use Rattle.tree_core.specs.Nodes.{Node}
 use Rattle.tree_core.specs.declared.node.Status.{Status}
 use Rattle.tree_core.specs.declared.node.Status.TheVariants.{Free, Held, Parted, Leaf}
 use Rattle.tree_core.specs.Stories.{Story, status, content, content_by, left_by, born_as, last_on}
-use Rattle.tree_core.specs.Covers.{one_if, count_below, covered, stands_for, is_live, Partition, root_content}
-use Rattle.tree_core.specs.Replays.{allows, is_allowed, IsSound, IsFit, births, kids_of, deed_kept, noted, node_of}
+use Rattle.tree_core.specs.Covers.{one_if, count_below, covered, node_covers, is_live, Partition, root_content}
+use Rattle.tree_core.specs.Replays.{allows, is_allowed, IsSound, IsFit, births, kids_of, deed_kept, with_event, node_of}
 use Rattle.tree_core.specs.Cores.{is_held, held_count, takes, ends}
 use Rattle.tree_core.proofs.Counting.{count_change, count_more, count_by-none}
 use Rattle.tree_core.proofs.Places.{get_before}
@@ -57,28 +57,28 @@ module _ {R : Type 0} (covers : R → List ℕ → Bool) (input : List ℕ) wher
   live_birth false x = refl
 
 module _ {R : Type 0} (covers : R → List ℕ → Bool) where
-  pub partition-noted : (s : Story R) (e : Event R (Vec (Kid R))) → Partition covers s → All (λ (x : Event R ℕ). x.node < length s.nodes) s.events → IsFit covers s e → IsTrue (is_allowed s e) → Partition covers (noted s e)
+  pub partition-noted : (s : Story R) (e : Event R (Vec (Kid R))) → Partition covers s → All (λ (x : Event R ℕ). x.node < length s.nodes) s.events → IsFit covers s e → IsTrue (is_allowed s e) → Partition covers (with_event s e)
   partition-noted s e parts named fit may = λ input.
       let n : ℕ = length s.nodes in let m : ℕ = e.node in let kids : List (Kid R) = kids_of e.deed in let there : m < n = fit.0 in
-      let p : ℕ → Bool = stands_for covers s input in let q : ℕ → Bool = stands_for covers (noted s e) input in
+      let p : ℕ → Bool = node_covers covers s input in let q : ℕ → Bool = node_covers covers (with_event s e) input in
       let f : Kid R → Bool = λ kid. covers kid.content input in
       let birth : Option R = option_map (λ (x : Node R). x.content) (slice_get s.nodes m) in
       let unended : content s m ≡ birth = open_content birth (born_as (slice_get s.nodes m)) (last_on m s.events) e.by e.deed may in
       let behind : count_below q (n + length kids) ≡ count_below q n + count_by f kids =
       count_more q f n kids (λ i kid at. (λ k. is_live (status-kid s e i kid named there at k) && covered covers (content-kid s e i kid named there at k) input) ∙ live_birth covers input kid.is_leaf (covers kid.content input)) in
       let others : (k : ℕ) → k < n → k ≢ m → p k ≡ q k = λ k lt ne. let apart : eqb m k ≡ false = ne_eqb m k (λ is. ne (sym is)) in
-      let st : status (noted s e) k ≡ status s k = status-noted s e k lt ∙ ap (λ b. cond b (left_by e.by (deed_kept e.deed)) (status s k)) apart in
-      let co : content (noted s e) k ≡ content s k = content-noted s e k lt ∙ ap (λ b. cond b (content_by (option_map (λ (x : Node R). x.content) (slice_get s.nodes k)) (deed_kept e.deed)) (content s k)) apart in
+      let st : status (with_event s e) k ≡ status s k = status-noted s e k lt ∙ ap (λ b. cond b (left_by e.by (deed_kept e.deed)) (status s k)) apart in
+      let co : content (with_event s e) k ≡ content s k = content-noted s e k lt ∙ ap (λ b. cond b (content_by (option_map (λ (x : Node R). x.content) (slice_get s.nodes k)) (deed_kept e.deed)) (content s k)) apart in
       λ j. is_live (sym st j) && covered covers (sym co j) input in
       let yes : eqb m m ≡ true = eq-eqb m m refl in
-      let st : status (noted s e) m ≡ left_by e.by (deed_kept e.deed) = status-noted s e m there ∙ ap (λ b. cond b (left_by e.by (deed_kept e.deed)) (status s m)) yes in
-      let co : content (noted s e) m ≡ content_by birth (deed_kept e.deed) = content-noted s e m there ∙ ap (λ b. cond b (content_by birth (deed_kept e.deed)) (content s m)) yes in
+      let st : status (with_event s e) m ≡ left_by e.by (deed_kept e.deed) = status-noted s e m there ∙ ap (λ b. cond b (left_by e.by (deed_kept e.deed)) (status s m)) yes in
+      let co : content (with_event s e) m ≡ content_by birth (deed_kept e.deed) = content-noted s e m there ∙ ap (λ b. cond b (content_by birth (deed_kept e.deed)) (content s m)) yes in
       let after_it : q m ≡ (is_live (left_by e.by (deed_kept e.deed)) && covered covers (content_by birth (deed_kept e.deed)) input) = λ j. is_live (st j) && covered covers (co j) input in
       let here : one_if (p m) ≡ one_if (q m) + count_by f kids = shares covers input (status s m) e.by e.deed (content s m) birth unended may fit.1 ∙ ap (λ b. one_if b + count_by f kids) (sym after_it) in
       let change : count_below p n + one_if (q m) ≡ count_below q n + one_if (p m) = count_change p q n m there others in
-      let long : length (noted s e).nodes ≡ n + length kids = length-append s.nodes (births m e.deed) ∙ ap (λ k. n + k) (length-map kids (node_of m)) in
+      let long : length (with_event s e).nodes ≡ n + length kids = length-append s.nodes (births m e.deed) ∙ ap (λ k. n + k) (length-map kids (node_of m)) in
       let sums : count_below q n + count_by f kids ≡ count_below p n = added (count_below p n) (count_below q n) (one_if (p m)) (one_if (q m)) (count_by f kids) change here in
-      let root : root_content s ≡ root_content (noted s e) = ap (option_map (λ (x : Node R). x.content)) (sym (get_before s.nodes (births m e.deed) 0 (omega arith))) in
+      let root : root_content s ≡ root_content (with_event s e) = ap (option_map (λ (x : Node R). x.content)) (sym (get_before s.nodes (births m e.deed) 0 (omega arith))) in
       ap (count_below q) long ∙ (behind ∙ (sums ∙ (parts input ∙ ap (λ o. one_if (covered covers o input)) root)))
     where
       added : (a b pm qm k : ℕ) → a + qm ≡ b + pm → pm ≡ qm + k → b + k ≡ a
@@ -118,10 +118,10 @@ light true = refl
 light false = refl
 
 module _ {R : Type 0} where
-  pub held_count-noted : (s : Story R) (e : Event R (Vec (Kid R))) → All (λ (x : Event R ℕ). x.node < length s.nodes) s.events → e.node < length s.nodes → IsTrue (is_allowed s e) → held_count (noted s e) + ends e.deed ≡ held_count s + takes e.deed
+  pub held_count-noted : (s : Story R) (e : Event R (Vec (Kid R))) → All (λ (x : Event R ℕ). x.node < length s.nodes) s.events → e.node < length s.nodes → IsTrue (is_allowed s e) → held_count (with_event s e) + ends e.deed ≡ held_count s + takes e.deed
   held_count-noted s e named there may =
       let n : ℕ = length s.nodes in let m : ℕ = e.node in let kids : List (Kid R) = kids_of e.deed in
-      let p : ℕ → Bool = λ k. is_held (status s k) in let q : ℕ → Bool = λ k. is_held (status (noted s e) k) in let none : Kid R → Bool = λ kid. false in
+      let p : ℕ → Bool = λ k. is_held (status s k) in let q : ℕ → Bool = λ k. is_held (status (with_event s e) k) in let none : Kid R → Bool = λ kid. false in
       let behind : count_below q (n + length kids) ≡ count_below q n + count_by none kids = count_more q none n kids (λ i kid at. ap is_held (status-kid s e i kid named there at) ∙ light kid.is_leaf) in
       let others : (k : ℕ) → k < n → k ≢ m → p k ≡ q k = λ k lt ne. let apart : eqb m k ≡ false = ne_eqb m k (λ is. ne (sym is)) in
       ap is_held (sym (status-noted s e k lt ∙ ap (λ b. cond b (left_by e.by (deed_kept e.deed)) (status s k)) apart)) in
@@ -129,9 +129,9 @@ module _ {R : Type 0} where
       let taken : one_if (q m) ≡ takes e.deed = ap (λ x. one_if (is_held x)) (status-noted s e m there ∙ ap (λ b. cond b (left_by e.by (deed_kept e.deed)) (status s m)) yes) ∙ takes-left e.by e.deed in
       let ended : one_if (p m) ≡ ends e.deed = ends-before (status s m) e.by e.deed may in
       let change : count_below p n + one_if (q m) ≡ count_below q n + one_if (p m) = count_change p q n m there others in
-      let long : length (noted s e).nodes ≡ n + length kids = length-append s.nodes (births m e.deed) ∙ ap (λ k. n + k) (length-map kids (node_of m)) in
-      let all : held_count (noted s e) ≡ count_below q n + count_by none kids = ap (count_below q) long ∙ behind in
-      added (count_below p n) (count_below q n) (one_if (p m)) (one_if (q m)) (takes e.deed) (ends e.deed) (count_by none kids) (held_count (noted s e)) change taken ended (count_by-none none kids (λ kid. refl)) all
+      let long : length (with_event s e).nodes ≡ n + length kids = length-append s.nodes (births m e.deed) ∙ ap (λ k. n + k) (length-map kids (node_of m)) in
+      let all : held_count (with_event s e) ≡ count_below q n + count_by none kids = ap (count_below q) long ∙ behind in
+      added (count_below p n) (count_below q n) (one_if (p m)) (one_if (q m)) (takes e.deed) (ends e.deed) (count_by none kids) (held_count (with_event s e)) change taken ended (count_by-none none kids (λ kid. refl)) all
     where
       added : (a b pm qm t d k h : ℕ) → a + qm ≡ b + pm → qm ≡ t → pm ≡ d → k ≡ 0 → h ≡ b + k → h + d ≡ a + t
       added a b pm qm t d k h x y z w v = omega arith

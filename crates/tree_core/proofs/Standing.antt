@@ -10,19 +10,19 @@ use Rattle.tree_core.specs.declared.event.Kid.{Kid}
 use Rattle.tree_core.specs.declared.node.Status.{Status}
 use Rattle.tree_core.specs.declared.node.Status.TheVariants.{Free, Leaf}
 use Rattle.tree_core.specs.Stories.{Story, status, content, status_by, content_by, content_after, left_by, born_as, last_on}
-use Rattle.tree_core.specs.Replays.{allows, births, kids_of, deed_kept, kept, noted, node_of}
+use Rattle.tree_core.specs.Replays.{allows, births, kids_of, deed_kept, kept, with_event, node_of}
 use Rattle.tree_core.proofs.Places.{get_before, get_behind, last_on-push, last_on-none}
 
 module _ {R : Type 0} where
   -- a node that was there, by whether the event names it
-  pub status-noted : (s : Story R) (e : Event R (Vec (Kid R))) (m : ℕ) → m < length s.nodes → status (noted s e) m ≡ cond (eqb e.node m) (left_by e.by (deed_kept e.deed)) (status s m)
+  pub status-noted : (s : Story R) (e : Event R (Vec (Kid R))) (m : ℕ) → m < length s.nodes → status (with_event s e) m ≡ cond (eqb e.node m) (left_by e.by (deed_kept e.deed)) (status s m)
   status-noted s e m lt = (λ i. status_by (born_as (get_before s.nodes (births e.node e.deed) m lt i)) (last_on-push m s.events (kept e) i)) ∙ by_cases (eqb e.node m)
     where
       by_cases : (b : Bool) → status_by (born_as (slice_get s.nodes m)) (cond b (Some (kept e)) (last_on m s.events)) ≡ cond b (left_by e.by (deed_kept e.deed)) (status s m)
       by_cases true = refl
       by_cases false = refl
 
-  pub content-noted : (s : Story R) (e : Event R (Vec (Kid R))) (m : ℕ) → m < length s.nodes → content (noted s e) m ≡ cond (eqb e.node m) (content_by (option_map (λ n. n.content) (slice_get s.nodes m)) (deed_kept e.deed)) (content s m)
+  pub content-noted : (s : Story R) (e : Event R (Vec (Kid R))) (m : ℕ) → m < length s.nodes → content (with_event s e) m ≡ cond (eqb e.node m) (content_by (option_map (λ n. n.content) (slice_get s.nodes m)) (deed_kept e.deed)) (content s m)
   content-noted s e m lt = (λ i. content_after (option_map (λ n. n.content) (get_before s.nodes (births e.node e.deed) m lt i)) (last_on-push m s.events (kept e) i)) ∙ by_cases (eqb e.node m)
     where
       by_cases : (b : Bool) → content_after (option_map (λ n. n.content) (slice_get s.nodes m)) (cond b (Some (kept e)) (last_on m s.events)) ≡ cond b (content_by (option_map (λ n. n.content) (slice_get s.nodes m)) (deed_kept e.deed)) (content s m)
@@ -37,10 +37,10 @@ module _ {R : Type 0} where
   kid_at : (s : Story R) (e : Event R (Vec (Kid R))) (i : ℕ) (kid : Kid R) → slice_get (kids_of e.deed) i ≡ Some kid → slice_get (s.nodes ++ births e.node e.deed) (length s.nodes + i) ≡ Some (node_of e.node kid)
   kid_at s e i kid at = get_behind s.nodes (births e.node e.deed) i ∙ (slice_get-map (node_of e.node) (kids_of e.deed) i ∙ ap (option_map (node_of e.node)) at)
 
-  pub status-kid : (s : Story R) (e : Event R (Vec (Kid R))) (i : ℕ) (kid : Kid R) → All (λ (x : Event R ℕ). x.node < length s.nodes) s.events → e.node < length s.nodes → slice_get (kids_of e.deed) i ≡ Some kid → status (noted s e) (length s.nodes + i) ≡ cond kid.is_leaf Leaf Free
+  pub status-kid : (s : Story R) (e : Event R (Vec (Kid R))) (i : ℕ) (kid : Kid R) → All (λ (x : Event R ℕ). x.node < length s.nodes) s.events → e.node < length s.nodes → slice_get (kids_of e.deed) i ≡ Some kid → status (with_event s e) (length s.nodes + i) ≡ cond kid.is_leaf Leaf Free
   status-kid s e i kid named there at = λ k. status_by (born_as (kid_at s e i kid at k)) (kid_unnamed s e i named there k)
 
-  pub content-kid : (s : Story R) (e : Event R (Vec (Kid R))) (i : ℕ) (kid : Kid R) → All (λ (x : Event R ℕ). x.node < length s.nodes) s.events → e.node < length s.nodes → slice_get (kids_of e.deed) i ≡ Some kid → content (noted s e) (length s.nodes + i) ≡ Some kid.content
+  pub content-kid : (s : Story R) (e : Event R (Vec (Kid R))) (i : ℕ) (kid : Kid R) → All (λ (x : Event R ℕ). x.node < length s.nodes) s.events → e.node < length s.nodes → slice_get (kids_of e.deed) i ≡ Some kid → content (with_event s e) (length s.nodes + i) ≡ Some kid.content
   content-kid s e i kid named there at = λ k. content_after (option_map (λ n. n.content) (kid_at s e i kid at k)) (kid_unnamed s e i named there k)
 
   -- an event that may come finds a node with the content of its birth, which is live

@@ -14,7 +14,7 @@ use Rattle.tree_core.specs.declared.node.Status.{Status}
 use Rattle.tree_core.specs.declared.node.Status.TheVariants.{Free, Held, Parted, Leaf}
 
 -- a story, the number of nodes that may come with no memory, and that of events, beside the one that is kept back for each held node
-pub record Kept (R : Type 0) : Type 0 where
+pub record CoreValue (R : Type 0) : Type 0 where
   pub story : Story R
   pub node_room : ℕ
   pub event_room : ℕ
@@ -83,7 +83,7 @@ ends Claim = 0
 ends _ = 1
 
 -- for this deed memory is asked for: a claim needs two events' room, a split that of its kids, the others none
-abbrev pub LacksRoom : {R : Type 0} → Kept R → Deed R (Vec (Kid R)) → Type 0
+abbrev pub LacksRoom : {R : Type 0} → CoreValue R → Deed R (Vec (Kid R)) → Type 0
 LacksRoom c Claim = c.event_room < 2
 LacksRoom c (Split kids) = c.node_room < length kids.items
 LacksRoom c _ = ⊥

@@ -33,8 +33,8 @@ is_live Parted = false
 is_live _ = true
 
 -- the node stands for the assignment: it's free, held or a leaf, and what it holds covers it
-abbrev pub stands_for : {R : Type 0} → (R → List ℕ → Bool) → Story R → List ℕ → ℕ → Bool
-stands_for covers s input m = is_live (status s m) && covered covers (content s m) input
+abbrev pub node_covers : {R : Type 0} → (R → List ℕ → Bool) → Story R → List ℕ → ℕ → Bool
+node_covers covers s input m = is_live (status s m) && covered covers (content s m) input
 
 -- what the root held at its birth
 abbrev pub root_content : {R : Type 0} → Story R → Option R
@@ -42,7 +42,7 @@ root_content s = option_map (λ n. n.content) (slice_get s.nodes 0)
 
 -- how many nodes stand for the assignment
 abbrev pub standing_count : {R : Type 0} → (R → List ℕ → Bool) → Story R → List ℕ → ℕ
-standing_count covers s input = count_below (stands_for covers s input) (length s.nodes)
+standing_count covers s input = count_below (node_covers covers s input) (length s.nodes)
 
 -- each assignment that the root covered at its birth is covered by exactly one node that is free, held or a leaf, and any other by none
 abbrev pub Partition : {R : Type 0} → (R → List ℕ → Bool) → Story R → Type 0

@@ -67,8 +67,8 @@ abbrev pub kept : {R : Type 0} → Event R (Vec (Kid R)) → Event R ℕ
 kept e = record { by = e.by; node = e.node; deed = deed_kept e.deed }
 
 -- the story with one event more
-abbrev pub noted : {R : Type 0} → Story R → Event R (Vec (Kid R)) → Story R
-noted s e = record { nodes = s.nodes ++ births e.node e.deed; events = s.events ++ kept e ∷ [] }
+abbrev pub with_event : {R : Type 0} → Story R → Event R (Vec (Kid R)) → Story R
+with_event s e = record { nodes = s.nodes ++ births e.node e.deed; events = s.events ++ kept e ∷ [] }
 
 -- one root and no event
 abbrev pub opening : {R : Type 0} → R → Bool → Story R
@@ -77,27 +77,27 @@ opening root is_leaf = record { nodes = record { origin = None; content = root; 
 -- each of the events is fit, and its guard holds, when it comes
 abbrev pub AllMayCome : {R : Type 0} → (R → List ℕ → Bool) → Story R → List (Event R (Vec (Kid R))) → Type 0
 AllMayCome covers s [] = Unit {0}
-AllMayCome covers s (e ∷ es) = IsFit covers s e × IsTrue (is_allowed s e) × AllMayCome covers (noted s e) es
+AllMayCome covers s (e ∷ es) = IsFit covers s e × IsTrue (is_allowed s e) × AllMayCome covers (with_event s e) es
 
 -- the story with these events more
 abbrev pub noted_all : {R : Type 0} → Story R → List (Event R (Vec (Kid R))) → Story R
 noted_all s [] = s
-noted_all s (e ∷ es) = noted_all (noted s e) es
+noted_all s (e ∷ es) = noted_all (with_event s e) es
 
 -- the story is what some events made of a root, each of which might come when it came
 abbrev pub Replays : {R : Type 0} → (R → List ℕ → Bool) → Story R → Type 0
 Replays {R} covers s = (root : R) × (is_leaf : Bool) × (es : List (Event R (Vec (Kid R)))) × AllMayCome covers (opening root is_leaf) es × (s ≡ noted_all (opening root is_leaf) es)
 
 -- an event that comes to a core: it's noted where its guard holds, else nothing changes
-abbrev pub after : {R : Type 0} → Story R → Event R (Vec (Kid R)) → Story R
-after s e = if is_allowed s e then noted s e else s
+abbrev pub after_event : {R : Type 0} → Story R → Event R (Vec (Kid R)) → Story R
+after_event s e = if is_allowed s e then with_event s e else s
 
 -- any events, one by one
 abbrev pub after_all : {R : Type 0} → Story R → List (Event R (Vec (Kid R))) → Story R
 after_all s [] = s
-after_all s (e ∷ es) = after_all (after s e) es
+after_all s (e ∷ es) = after_all (after_event s e) es
 
 -- each event is fit when it comes
 abbrev pub AreFit : {R : Type 0} → (R → List ℕ → Bool) → Story R → List (Event R (Vec (Kid R))) → Type 0
 AreFit covers s [] = Unit {0}
-AreFit covers s (e ∷ es) = IsFit covers s e × AreFit covers (after s e) es
+AreFit covers s (e ∷ es) = IsFit covers s e × AreFit covers (after_event s e) es

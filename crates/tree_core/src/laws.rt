@@ -4,7 +4,7 @@ ghost use Rattle.std.specs.Prelude.{◌≡◌, ◌≢◌, ◌↔◌, ◌<◌, �
 ghost use Rattle.std.specs.Global.{Vec};
 ghost use Rattle.tree_core.specs.Stories.{Story, status, content, LastIsClaim};
 ghost use Rattle.tree_core.specs.Covers.{Partition, standing_count};
-ghost use Rattle.tree_core.specs.Replays.{AreFit, Replays, after, after_all, is_allowed, opening};
+ghost use Rattle.tree_core.specs.Replays.{AreFit, Replays, after_event, after_all, is_allowed, opening};
 ghost use Rattle.tree_core.specs.declared.event.Event.{Event};
 ghost use Rattle.tree_core.specs.declared.event.Kid.{Kid};
 ghost use Rattle.tree_core.specs.Nodes.{Node};
@@ -20,7 +20,7 @@ pub fn every_list_of_events<R: Cover>()
     ensures partition { (root : R) (events : List (Event R (Vec (Kid R)))) → AreFit R.covers (opening root false) events → Partition R.covers (after_all (opening root false) events) }
     ensures replays { (root : R) (events : List (Event R (Vec (Kid R)))) → AreFit R.covers (opening root false) events → Replays R.covers (after_all (opening root false) events) }
     ensures held { (root : R) (events : List (Event R (Vec (Kid R)))) (node by : ℕ) → (status (after_all (opening root false) events) node ≡ Held by) ↔ LastIsClaim (after_all (opening root false) events) node by }
-    ensures refused { (s : Story R) (event : Event R (Vec (Kid R))) → IsFalse (is_allowed s event) → after s event ≡ s }
+    ensures refused { (s : Story R) (event : Event R (Vec (Kid R))) → IsFalse (is_allowed s event) → after_event s event ≡ s }
 {}
 
 /// A claim survives what others do: where a tree has grown by nodes and by events of other workers alone, a node that the worker

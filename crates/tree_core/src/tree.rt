@@ -4,7 +4,7 @@ ghost use Rattle.std.specs.Prelude.{◌≡◌, ◌≢◌, ◌<◌, ◌≤◌, �
 ghost use Rattle.tree_core.specs.Stories.{status, content, origin, left_by, born_as, content_by};
 ghost use Rattle.tree_core.specs.declared.node.Status.TheVariants.{Parted};
 ghost use Rattle.tree_core.specs.Covers.{Partition};
-ghost use Rattle.tree_core.specs.Replays.{IsFit, Replays, is_allowed, noted, after, opening};
+ghost use Rattle.tree_core.specs.Replays.{IsFit, Replays, is_allowed, with_event, after_event, opening};
 ghost use Rattle.tree_core.specs.Cores.{LacksRoom, IsLast, held_count, if_leaf};
 
 use crate::choice::Choice;
@@ -43,9 +43,9 @@ impl<R: Cover> Drop for Core<R> {
 
 impl<R: Cover> Model for Core<R> {
     ghost use Rattle.std.specs.Prelude.{◌+◌, ◌-◌, ◌≤◌, length, vec_capacity};
-    ghost use Rattle.tree_core.specs.Cores.{Kept, IsCore, spare_nodes};
+    ghost use Rattle.tree_core.specs.Cores.{CoreValue, IsCore, spare_nodes};
 
-    ghost Value = { Kept R };
+    ghost Value = { CoreValue R };
 
     ghost view = { λ c. record { story = record { nodes = c.nodes.items; events = c.events.items }; node_room = spare_nodes c.nodes c.latest c.contents; event_room = vec_capacity c.events - (length c.events.items + c.held) } };
 
@@ -80,13 +80,13 @@ impl<R: Cover> Core<R> {
     /// and a split (for its kids) may find no memory. Whatever isn't noted changes nothing.
     pub fn apply(&mut self, event: Event<R>) -> Result<(), Refusal>
         requires fit { IsFit R.covers self.old.story event }
-        ensures ok { OnOk result (self.new.story ≡ noted self.old.story event) }
+        ensures ok { OnOk result (self.new.story ≡ with_event self.old.story event) }
         ensures allowed { OnOk result (IsTrue (is_allowed self.old.story event)) }
 
         ensures not_now { (result ≡ Err (Refusal.NotNow event.node (status self.old.story event.node))) ↔ IsFalse (is_allowed self.old.story event) }
         ensures memory { result ≡ Err Refusal.NoMemory → LacksRoom self.old event.deed }
         ensures err { OnErr result (self.new.story ≡ self.old.story) }
-        ensures after { result ≢ Err Refusal.NoMemory → self.new.story ≡ after self.old.story event }
+        ensures after { result ≢ Err Refusal.NoMemory → self.new.story ≡ after_event self.old.story event }
     {
         let Event { by, node, deed } = event;
         let status = status_at(&self.nodes, &self.events, self.latest[node], node);

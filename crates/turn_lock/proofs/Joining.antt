@@ -13,8 +13,8 @@ use Rattle.atomic_table.specs.Table.{State, Splits, Joins, opening, Final, Seen}
 use Rattle.atomic_table.proofs.Lists.{set_else, at_longer}
 use Rattle.turn_lock.specs.declared.known.Known.{Known}
 use Rattle.turn_lock.specs.Growth.{StartsWith, by_number}
-use Rattle.turn_lock.specs.Turns.{Sits, Kept}
-use Rattle.turn_lock.specs.Views.{opening_view, parent, child, merged, spent}
+use Rattle.turn_lock.specs.Turns.{Sits, IsTurnKept}
+use Rattle.turn_lock.specs.Views.{opening_view, parent, child, merged_known, spent}
 use Rattle.turn_lock.specs.Passes.{AllEnded, AreOf}
 use Rattle.turn_lock.proofs.Growths.{starts_refl, longer_keeps, drop_whole, at_below, at_more, at_alone, cond_same}
 use Rattle.turn_lock.proofs.Seats.{apart, seated, each_set}
@@ -22,7 +22,7 @@ use Rattle.turn_lock.proofs.Seats.{apart, seated, each_set}
 module _ {V F N E : Type 0} (fixed_of : V → F) (nodes_of : V → List N) (events_of : V → List E)
     (worker : E → ℕ) (key : V) where
   abbrev Rule : State (Option V) (Known F N E) → Type 0
-  Rule = Kept fixed_of nodes_of events_of worker key
+  Rule = IsTurnKept fixed_of nodes_of events_of worker key
 
   abbrev St : Type 0
   St = State (Option V) (Known F N E)
@@ -137,9 +137,9 @@ module _ {V F N E : Type 0} (fixed_of : V → F) (nodes_of : V → List N) (even
 
   pub joins : (f : F) (id : ℕ) (v : Known F N E) (other : ℕ) (w : Known F N E) → v.live ≡ true →
       w.live ≡ true → v.has_turn ≡ false → w.has_turn ≡ false →
-      Joins Rule id v other w (merged v w) (spent f)
+      Joins Rule id v other w (merged_known v w) (spent f)
   joins f id v other w live live_w idle idle_w s r at two there =
-      let m : Known F N E = merged v w in let vs : List (Known F N E) = set s.views id m in
+      let m : Known F N E = merged_known v w in let vs : List (Known F N E) = set s.views id m in
       let at_w : get_elem? s.views other ≡ some w = sym (set_else s.views id other m two) ∙ there in
       let sits = r.each id v at live in let sits_w = r.each other w at_w live_w in
       let seat_of' : ℕ → maybe.Option ℕ = λ k. cond (eqb k w.number) none (r.seat_of k) in

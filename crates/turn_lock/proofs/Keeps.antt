@@ -12,7 +12,7 @@ use Rattle.atomic_table.specs.Table.{State, Me, step, keeps, takes, gives, put_b
 use Rattle.atomic_table.proofs.Lists.{set_here, set_again}
 use Rattle.turn_lock.specs.declared.known.Known.{Known}
 use Rattle.turn_lock.specs.Growth.{StartsWith, by_number, GoesOnBy}
-use Rattle.turn_lock.specs.Turns.{Sits, Kept, tried, grown_by, entered, left}
+use Rattle.turn_lock.specs.Turns.{Sits, IsTurnKept, tried, grown_by, entered, left}
 use Rattle.turn_lock.specs.Views.{looked, grown, without_turn}
 use Rattle.turn_lock.proofs.Growths.{starts_refl, starts_trans, starts_length, set_single, at_below, past_same, past_own}
 use Rattle.turn_lock.proofs.Seats.{apart, seated, each_set}
@@ -20,7 +20,7 @@ use Rattle.turn_lock.proofs.Seats.{apart, seated, each_set}
 module _ {V F N E : Type 0} (fixed_of : V → F) (nodes_of : V → List N) (events_of : V → List E)
     (worker : E → ℕ) (key : V) where
   abbrev Rule : State (Option V) (Known F N E) → Type 0
-  Rule = Kept fixed_of nodes_of events_of worker key
+  Rule = IsTurnKept fixed_of nodes_of events_of worker key
 
   abbrev St : Type 0
   St = State (Option V) (Known F N E)

@@ -74,8 +74,8 @@ module _ {F N E : Type 0} where
   }
 
   -- of a pass that took in another
-  abbrev pub merged : Known F N E → Known F N E → Known F N E
-  merged v w = record v {
+  abbrev pub merged_known : Known F N E → Known F N E → Known F N E
+  merged_known v w = record v {
     nodes = longer v.nodes w.nodes;
     events = longer v.events w.events;
     ended = v.ended ++ w.ended ++ (w.number, w.own) ∷ [];

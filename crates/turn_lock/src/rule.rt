@@ -3,8 +3,8 @@
 
 ghost use Rattle.std.specs.Prelude.{None};
 ghost use Rattle.turn_lock.specs.Hands.{in_table};
-ghost use Rattle.turn_lock.specs.Turns.{Kept, tried, entered, left};
-ghost use Rattle.turn_lock.specs.Views.{opening_view, parent, child, merged, spent};
+ghost use Rattle.turn_lock.specs.Turns.{IsTurnKept, tried, entered, left};
+ghost use Rattle.turn_lock.specs.Views.{opening_view, parent, child, merged_known, spent};
 
 use crate::growing::Growing;
 use crate::known::Known;
@@ -16,7 +16,7 @@ pub struct Turns;
 
 impl<V: Growing> TableRule<Option<V>, Known<Option<V::Fixed>, V::Node, V::Event>, Snapshot<V>>
     for Turns {
-    ghost holds = { λ key. Kept (in_table V.fixed) V.nodes V.events V.worker key.value };
+    ghost holds = { λ key. IsTurnKept (in_table V.fixed) V.nodes V.events V.worker key.value };
 
     ghost first = { λ key. opening_view (in_table V.fixed) V.nodes V.events key.value };
 }
@@ -55,7 +55,7 @@ impl<F, N, E> Split<Known<Option<F>, N, E>> for Next {
 pub(crate) struct Ended;
 
 impl<F, N, E> Join<Known<Option<F>, N, E>> for Ended {
-    ghost both = { merged };
+    ghost both = { merged_known };
 
     ghost spent = { spent None };
 }

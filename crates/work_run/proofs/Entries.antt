@@ -2,7 +2,7 @@
 use Rattle.std.proofs.Common.{◌≡◌, ℕ, Bool, true, sym, refl, ap, ◌∙◌, subst}
 use Rattle.std.specs.Prelude.{Result, Ok, Err, IfOk, OnErr}
 use Rattle.std.specs.Global.{Vec}
-use Rattle.tree_core.specs.Replays.{noted}
+use Rattle.tree_core.specs.Replays.{with_event}
 use Rattle.tree_core.specs.Stories.{Story}
 use Rattle.tree_core.specs.declared.event.Event.{Event}
 use Rattle.tree_core.specs.declared.event.Kid.{Kid}
@@ -32,7 +32,7 @@ claim-grows well s r t by (Err e) same ok err = grows-none by s t (err ∙ same)
 
 -- where there was no memory for kids the claim was ended by a release
 pub released-ended : {S L X E : Type 0} (s t : Story (Content S L)) (by node : ℕ)
-    (answer : Result X E) → t ≡ noted s (release_event by node) →
+    (answer : Result X E) → t ≡ with_event s (release_event by node) →
     OnErr answer ((released : Bool) × IsClaimEnded released by node s t)
 released-ended s t by node (Ok x) is = _
 released-ended s t by node (Err e) is = (
@@ -48,9 +48,9 @@ released-ended s t by node (Err e) is = (
 )
 
 -- an event that was noted where nothing had changed
-pub noted_still : {R : Type 0} (s r t : Story R) (e : Event R (Vec (Kid R))) → t ≡ noted r e →
-    r ≡ s → t ≡ noted s e
-noted_still s r t e is same = is ∙ ap (λ x. noted x e) same
+pub noted_still : {R : Type 0} (s r t : Story R) (e : Event R (Vec (Kid R))) → t ≡ with_event r e →
+    r ≡ s → t ≡ with_event s e
+noted_still s r t e is same = is ∙ ap (λ x. with_event x e) same
 
 -- kids that may come still may where nothing has changed
 pub fit_still : {W S L : Type 0} (rules : W → Rules S L) (state_place : S → Place)

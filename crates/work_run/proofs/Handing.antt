@@ -2,7 +2,7 @@
 use Rattle.std.proofs.Common.{◌≡◌, ℕ, Bool, true, false, Option, List, ◌++◌, drop, length, append_assoc, sym, ap, ◌∙◌, subst}
 use Rattle.std.specs.Prelude.{Result, Ok, Err, IfOk, OnErr}
 use Rattle.std.specs.Global.{Vec}
-use Rattle.tree_core.specs.Replays.{Replays, kept, noted}
+use Rattle.tree_core.specs.Replays.{Replays, kept, with_event}
 use Rattle.tree_core.specs.Stories.{Story, status}
 use Rattle.tree_core.specs.declared.event.Event.{Event}
 use Rattle.tree_core.specs.declared.event.Kid.{Kid}
@@ -94,7 +94,7 @@ module _ {F R : Type 0} where
     turn-nothing is =
         ap (λ (x : KnownOf F R). x.own) turn.is ∙ same-passed v s t is
 
-    pub turn-ends : (released : Bool) (node : ℕ) (e : Event R (Vec (Kid R))) → t ≡ noted s e →
+    pub turn-ends : (released : Bool) (node : ℕ) (e : Event R (Vec (Kid R))) → t ≡ with_event s e →
         e.node ≡ node → is_claim (kept e).deed ≡ false →
         is_release (kept e).deed ≡ released → EndsClaim released node v.own w.own
     turn-ends released node e is at ends how =

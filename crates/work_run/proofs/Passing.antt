@@ -2,7 +2,7 @@
 use Rattle.std.proofs.Common.{◌≡◌, ℕ, ◌+◌, ◌<◌, ◌≤◌, Bool, true, false, List, [], ◌∷◌, ◌++◌, drop, length, sym, refl, ap, ◌∙◌, subst, arith, length-append}
 use Rattle.std.specs.Arc.{arc_value}
 use Rattle.std.specs.Global.{Vec}
-use Rattle.tree_core.specs.Replays.{Replays, kept, noted}
+use Rattle.tree_core.specs.Replays.{Replays, kept, with_event}
 use Rattle.tree_core.specs.Stories.{Story, content, status}
 use Rattle.tree_core.specs.declared.event.Event.{Event}
 use Rattle.tree_core.specs.declared.event.Kid.{Kid}
@@ -93,7 +93,7 @@ module _ {F R : Type 0} where
 
   -- a turn in which a claim was ended
   pub ends-passed : (released : Bool) (v : KnownOf F R) (s t : Story R) (node : ℕ)
-      (e : Event R (Vec (Kid R))) → t ≡ noted s e → e.node ≡ node →
+      (e : Event R (Vec (Kid R))) → t ≡ with_event s e → e.node ≡ node →
       is_claim (kept e).deed ≡ false → is_release (kept e).deed ≡ released →
       EndsClaim released node v.own (passed v s t).own
   ends-passed released v s t node e is at ends how = record {

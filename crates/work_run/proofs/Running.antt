@@ -8,7 +8,7 @@ use Rattle.std.proofs.lemmas.List.Elements.{All-append, All-nil, All-push}
 use Rattle.tree_core.specs.declared.event.Event.{Event}
 use Rattle.turn_lock.specs.Growth.{StartsWith, by_number}
 use Rattle.turn_lock.specs.Passes.{AllEnded, AreOf}
-use Rattle.turn_lock.specs.Views.{child, merged, parent}
+use Rattle.turn_lock.specs.Views.{child, merged_known, parent}
 use Rattle.turn_lock.proofs.Growths.{longer_keeps}
 use Rattle.work_run.specs.Runs.{EndedFrom, HasRun, HasWorked, MayRun, MayWork}
 use Rattle.work_run.specs.Seen.{KnownOf, IsLater}
@@ -74,7 +74,7 @@ module _ {F R : Type 0} where
       never a b c x y z = omega arith
 
   ended_more : (v w : KnownOf F R) (next : ℕ) → EndedFrom (next + 1) v → w.number ≡ next →
-      EndedFrom next (merged v w)
+      EndedFrom next (merged_known v w)
   ended_more v w next ended number k low below =
       let l : List (ℕ × List (Event R ℕ)) = v.ended ++ w.ended in
       let x : ℕ × List (Event R ℕ) = (w.number, w.own) in
@@ -107,7 +107,7 @@ module _ {F R : Type 0} where
   -- the first pass, which made one for a worker, ran the workers behind it, and took its pass in
   joined : (worker : F) (next last all : ℕ) (v u w : KnownOf F R) → MayRun worker next v →
       HasWorked (child v) w → HasRun (next + 1) last (parent v) u → last ≡ all →
-      HasRun next all v (merged u w)
+      HasRun next all v (merged_known u w)
   joined worker next last all v u w may worked run is = record {
     fixed = run.fixed;
     number = run.number;
@@ -130,7 +130,7 @@ module _ {F R : Type 0} where
       P p = are_turns p.1 ≡ true
 
   pub run_joined : (worker : F) (next last all : ℕ) (v left new u w t : KnownOf F R) →
-      left ≡ parent v → new ≡ child v → t ≡ merged u w → MayRun worker next v →
+      left ≡ parent v → new ≡ child v → t ≡ merged_known u w → MayRun worker next v →
       HasWorked new w → HasRun (next + 1) last left u → last ≡ all → HasRun next all v t
   run_joined worker next last all v left new u w t a b c may worked run is =
       subst (HasRun next all v) (sym c)

@@ -12,7 +12,7 @@ MayLeave may worker = (point : Point) × may worker point
 
 -- why a worker stopped: the tree that it saw last is quiet, or it may leave; want of memory needs
 -- no cause
-abbrev pub HasCause : {F R : Type 0} → (ℕ → Point → Type 0) → KnownOf F R → Stopped → Type 0
-HasCause may v Quiet = IsQuiet (story_of v)
-HasCause may v Left = MayLeave may v.number
-HasCause may v NoMemory = Unit {0}
+abbrev pub IsCauseOf : {F R : Type 0} → (ℕ → Point → Type 0) → KnownOf F R → Stopped → Type 0
+IsCauseOf may v Quiet = IsQuiet (story_of v)
+IsCauseOf may v Left = MayLeave may v.number
+IsCauseOf may v NoMemory = Unit {0}

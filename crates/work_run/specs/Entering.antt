@@ -1,7 +1,7 @@
 -- What is entered for a node that was worked.
 use Rattle.std.specs.Prelude.{◌≡◌, ℕ, Bool, false}
 use Rattle.std.specs.Global.{Vec}
-use Rattle.tree_core.specs.Replays.{kept, noted}
+use Rattle.tree_core.specs.Replays.{kept, with_event}
 use Rattle.tree_core.specs.Stories.{Story, content}
 use Rattle.tree_core.specs.declared.event.Event.{Event}
 use Rattle.tree_core.specs.declared.event.Kid.{Kid}
@@ -23,7 +23,7 @@ pub record IsClaimEnded {R : Type 0} (released : Bool) (by node : ℕ) (s t : St
   pub of_node : event.node ≡ node
   pub ends : is_claim (kept event).deed ≡ false
   pub is_released : is_release (kept event).deed ≡ released
-  pub story : t ≡ noted s event
+  pub story : t ≡ with_event s event
 
 module _ {S L : Type 0} where
   -- the parts are what comes of the state that the node holds

@@ -4,7 +4,7 @@ ghost use Rattle.std.specs.Prelude.{◌≡◌, ℕ, IfErr, IfOk, List, OnErr, tr
 ghost use Rattle.tree_core.specs.declared.event.Event.{Event};
 ghost use Rattle.fork_tree.specs.declared.content.Content.{Content};
 ghost use Rattle.turn_lock.specs.Passes.{IsPassOf, known};
-ghost use Rattle.work_run.specs.Causes.{HasCause, MayLeave};
+ghost use Rattle.work_run.specs.Causes.{IsCauseOf, MayLeave};
 ghost use Rattle.work_run.specs.Seen.{CarriesOn, EndsAndClaims, EndsByTurns, GivesUp, HasClaim, HasResult, IsAtRest, IsClaimed, IsLater, StopsBehind};
 
 use crate::stopped::Stopped;
@@ -42,7 +42,7 @@ pub(crate) fn work_once<W: Work, R: Wait, G: Gate>(
     ensures later { IsLater (known pass.old) (known pass.new) }
     ensures next { IfOk result (CarriesOn (W.rules (known pass.old).fixed) (known pass.old) last (known pass.new)) }
     ensures turns { OnErr result (StopsBehind (W.rules (known pass.old).fixed) (known pass.old) last (known pass.new)) }
-    ensures cause { IfErr result (HasCause (G.may_leave gate.now) (known pass.new)) }
+    ensures cause { IfErr result (IsCauseOf (G.may_leave gate.now) (known pass.new)) }
 {
     match last {
         Claim::Quiet => Err(Stopped::Quiet),
@@ -67,7 +67,7 @@ fn claim_later<W: Work, R: Wait, G: Gate>(
     ensures later { IsLater (known pass.old) (known pass.new) }
     ensures claimed { IfOk result (IsClaimed (W.rules (known pass.old).fixed) (known pass.old).own (known pass.new)) }
     ensures none { OnErr result ((known pass.new).own ≡ (known pass.old).own) }
-    ensures cause { IfErr result (HasCause (G.may_leave gate.now) (known pass.new)) }
+    ensures cause { IfErr result (IsCauseOf (G.may_leave gate.now) (known pass.new)) }
 {
     if leaves(gate, pass.number(), Point::Idle) {
         return Err(Stopped::Left);
@@ -95,7 +95,7 @@ fn work_claim<W: Work, R: Wait, G: Gate>(
     ensures later { IsLater (known pass.old) (known pass.new) }
     ensures next { IfOk result (EndsAndClaims (W.rules (known pass.old).fixed) node (known pass.old).own (known pass.new)) }
     ensures ended { OnErr result (EndsByTurns node (known pass.old).own (known pass.new).own) }
-    ensures cause { IfErr result (HasCause (G.may_leave gate.now) (known pass.new)) }
+    ensures cause { IfErr result (IsCauseOf (G.may_leave gate.now) (known pass.new)) }
 {
     let by = pass.number();
     if leaves(gate, by, Point::AfterClaim) {
@@ -127,7 +127,7 @@ fn hand_in<W: Work, R: Wait, G: Gate>(
     ensures later { IsLater (known pass.old) (known pass.new) }
     ensures next { IfOk result (EndsAndClaims (W.rules (known pass.old).fixed) node (known pass.old).own (known pass.new)) }
     ensures ended { OnErr result (EndsByTurns node (known pass.old).own (known pass.new).own) }
-    ensures cause { IfErr result (HasCause (G.may_leave gate.now) (known pass.new)) }
+    ensures cause { IfErr result (IsCauseOf (G.may_leave gate.now) (known pass.new)) }
 {
     let by = pass.number();
     if leaves(gate, by, Point::BeforeGive) {

@@ -2,7 +2,7 @@
 
 ghost use Rattle.std.specs.Prelude.{◌≡◌, ◌<◌, Bool, IfOk, OnErr, OnOk, false, length};
 ghost use Rattle.tree_core.specs.declared.node.Status.TheVariants.{Held};
-ghost use Rattle.tree_core.specs.Replays.{noted};
+ghost use Rattle.tree_core.specs.Replays.{with_event};
 ghost use Rattle.tree_core.specs.Stories.{status};
 ghost use Rattle.fork_tree.specs.Calls.{IsClaim, release_event};
 ghost use Rattle.fork_tree.specs.Drains.{GrowsBy};
@@ -83,7 +83,7 @@ impl<W: Work> TurnTree<W> {
         requires worked { IsResult (W.rules self.old.tree.worker) W.State.place W.Leaf.place self.old.tree.story node parts }
         ensures worker { self.new.tree.worker ≡ self.old.tree.worker }
         ensures ok { OnOk result (IsClaimEnded false by node self.old.tree.story self.new.tree.story) }
-        ensures err { OnErr result (self.new.tree.story ≡ noted self.old.tree.story (release_event by node)) }
+        ensures err { OnErr result (self.new.tree.story ≡ with_event self.old.tree.story (release_event by node)) }
         ensures grows { GrowsBy by self.old.tree.story self.new.tree.story }
     {
         match parts {
@@ -105,7 +105,7 @@ impl<W: Work> TurnTree<W> {
         requires there { node < length self.old.tree.story.nodes }
         requires held { status self.old.tree.story node ≡ Held by }
         ensures worker { self.new.tree.worker ≡ self.old.tree.worker }
-        ensures story { self.new.tree.story ≡ noted self.old.tree.story (release_event by node) }
+        ensures story { self.new.tree.story ≡ with_event self.old.tree.story (release_event by node) }
         ensures grows { GrowsBy by self.old.tree.story self.new.tree.story }
     {
         self.tree.release(by, node);

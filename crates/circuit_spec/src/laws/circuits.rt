@@ -5,12 +5,12 @@ ghost use Rattle.cnf_form.specs.Literals.{Literal};
 ghost use Rattle.cnf_form.specs.Valuations.{satisfies};
 ghost use Rattle.bv_dag.specs.Queries.{Condition};
 ghost use Rattle.bv_dag.specs.declared.nodes.Node.{Node};
-ghost use Rattle.circuit_spec.specs.Circuits.{Circuit, clauses, with_asserted, with_node};
+ghost use Rattle.circuit_spec.specs.Circuits.{Circuit, clauses, with_asserted, circuit_with};
 ghost use Rattle.circuit_spec.specs.Formulas.{Formula};
 
 /// A valuation that satisfies the clauses with one more term, or with what is asserted, satisfies those before.
 pub fn terms_only_add_clauses()
-    ensures term { (v : ℕ → Bool) (c : Circuit) (n : Node) → satisfies v (with_node c n).formula.clauses ≡ true → satisfies v c.formula.clauses ≡ true }
+    ensures term { (v : ℕ → Bool) (c : Circuit) (n : Node) → satisfies v (circuit_with c n).formula.clauses ≡ true → satisfies v c.formula.clauses ≡ true }
     ensures asserted { (v : ℕ → Bool) (rows : List (List Literal)) (ids : List ℕ) (f : Formula) → satisfies v (with_asserted rows ids f).clauses ≡ true → satisfies v f.clauses ≡ true }
 {}
 

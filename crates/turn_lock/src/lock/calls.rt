@@ -2,7 +2,7 @@
 
 ghost use Rattle.std.specs.Prelude.{◌≡◌, true, false, IfOk, IfSome, IfNone};
 ghost use Rattle.turn_lock.specs.Growth.{StartsWith, GoesOnBy};
-ghost use Rattle.turn_lock.specs.Views.{opening_view, looked, given, Follows, parent, child, merged};
+ghost use Rattle.turn_lock.specs.Views.{opening_view, looked, given, Follows, parent, child, merged_known};
 ghost use Rattle.turn_lock.specs.Passes.{known, IsPassOf, AllEnded, AreOf};
 
 use super::{Pass, TurnLock};
@@ -146,7 +146,7 @@ impl<V: Growing> TurnLock<V> {
         requires other_turn { (known other).has_turn ≡ false }
 
         ensures lock { IsPassOf self.now pass.new }
-        ensures pass { known pass.new ≡ merged (known pass.old) (known other) }
+        ensures pass { known pass.new ≡ merged_known (known pass.old) (known other) }
     {
         let Pass {
             number: _,

@@ -1,7 +1,7 @@
 use Rattle.std.proofs.Common.{◌++◌, ◌∷◌, [], List, sym, subst, arith}
 use Rattle.cnf_form.specs.Propagation.{unassigned}
 use Rattle.cdcl_core.specs.declared.trail.Entry.{Entry}
-use Rattle.cdcl_core.specs.Trails.{values_of, IsTrail, IsCalm, IsCalmBefore}
+use Rattle.cdcl_core.specs.Trails.{trail_values, IsTrail, IsCalm, IsCalmBefore}
 use Rattle.cdcl_core.proofs.Values.{no_trail}
 use Rattle.cdcl_core.proofs.Backjumping.{cut_trail, cut_calm}
 use Rattle.cdcl_core.proofs.backjump.go_back.Goals as goal
@@ -19,7 +19,7 @@ returns-in-Some-clause-trail c =
 pub returns-in-Some-clause-calm : goal.returns-in-Some-clause-calm
 returns-in-Some-clause-calm c =
     λ k d early at.
-    subst (λ (es : List Entry). IsCalm (values_of es) d) (sym c.cut.ensures.entries) (cut_calm c.args.clauses.now c.args.trail.now.entries c.in-Some.place c.requires c.in-Some.ensures.some k d at)
+    subst (λ (es : List Entry). IsCalm (trail_values es) d) (sym c.cut.ensures.entries) (cut_calm c.args.clauses.now c.args.trail.now.entries c.in-Some.place c.requires c.in-Some.ensures.some k d at)
 
 pub returns-in-None-clause-trail : goal.returns-in-None-clause-trail
 returns-in-None-clause-trail c =

@@ -4,7 +4,7 @@ use Rattle.std.proofs.lemmas.Bool.{and_from}
 use Rattle.std.proofs.lemmas.List.{take_all}
 use Rattle.std.proofs.lemmas.List.Folds.{list_all_more}
 use Rattle.cnf_form.proofs.Occurs.{has_its_variable, occurs_at}
-use Rattle.cdcl_core.specs.Trails.{values_of}
+use Rattle.cdcl_core.specs.Trails.{trail_values}
 use Rattle.cdcl_core.specs.Passes.{has_true}
 use Rattle.cdcl_core.proofs.Reading.{got_at}
 use Rattle.cdcl_core.proofs.Forcing.{below_at, false_clause}
@@ -18,7 +18,7 @@ state_of-requires-clause-below c =
 pub returns-in-Falsified : goal.returns-in-Falsified
 returns-in-Falsified c =
     let at = got_at c.args.clauses.now c.loop-i.i c.at.result.now c.at.ensures.value in
-    false_clause c.args.clauses.now (values_of c.args.trail.now.entries) c.loop-i.i c.at.result.now at.0 at.1 c.in-Falsified.ensures
+    false_clause c.args.clauses.now (trail_values c.args.trail.now.entries) c.loop-i.i c.at.result.now at.0 at.1 c.in-Falsified.ensures
 
 pub returns-in-Forces : goal.returns-in-Forces
 returns-in-Forces c =
@@ -31,8 +31,8 @@ returns-in-Open c =
 pub loop-i-preserved : goal.loop-i-preserved
 loop-i-preserved c =
     let at = got_at c.args.clauses.now c.loop-i.i c.at.result.now c.at.ensures.value in
-    list_all_more (has_true (values_of c.args.trail.now.entries)) c.args.clauses.now c.loop-i.i c.at.result.now at.0
-    ∙ and_from _ _ c.loop-i.invariant (ap (has_true (values_of c.args.trail.now.entries)) (sym at.1) ∙ c.in-Satisfied.ensures)
+    list_all_more (has_true (trail_values c.args.trail.now.entries)) c.args.clauses.now c.loop-i.i c.at.result.now at.0
+    ∙ and_from _ _ c.loop-i.invariant (ap (has_true (trail_values c.args.trail.now.entries)) (sym at.1) ∙ c.in-Satisfied.ensures)
 
 pub returns : goal.returns
-returns c = ap (list_all (has_true (values_of c.args.trail.now.entries))) (sym (take_all c.loop-i.i c.args.clauses.now (omega (arith, c.len-i-end.ensures, c.loop-i-test.false)))) ∙ c.loop-i.invariant
+returns c = ap (list_all (has_true (trail_values c.args.trail.now.entries))) (sym (take_all c.loop-i.i c.args.clauses.now (omega (arith, c.len-i-end.ensures, c.loop-i-test.false)))) ∙ c.loop-i.invariant

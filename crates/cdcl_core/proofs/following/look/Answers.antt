@@ -1,6 +1,6 @@
 use Rattle.std.proofs.Common.{◌+◌, refl, subst, sym, Some, arith}
 use Rattle.cdcl_core.specs.declared.trail.Entry.{Entry}
-use Rattle.cdcl_core.specs.Trails.{Assignment, values_of}
+use Rattle.cdcl_core.specs.Trails.{Assignment, trail_values}
 use Rattle.cdcl_core.specs.Passes.{ArePending}
 use Rattle.cdcl_core.proofs.Reading.{got_at}
 use Rattle.cdcl_core.proofs.Forcing.{below_at, false_clause, followed_forced}
@@ -27,7 +27,7 @@ returns-then-shows_calm-clause-looked c =
 pub returns-in-Falsified-clause-conflict : goal.returns-in-Falsified-clause-conflict
 returns-in-Falsified-clause-conflict c =
     let at = got_at c.args.clauses.now c.args.place c.at-clause.result.now c.at-clause.ensures.value in
-    false_clause c.args.clauses.now (values_of c.args.trail.now.entries) c.args.place c.at-clause.result.now at.0 at.1 c.in-Falsified.ensures
+    false_clause c.args.clauses.now (trail_values c.args.trail.now.entries) c.args.place c.at-clause.result.now at.0 at.1 c.in-Falsified.ensures
 
 pub returns-in_ok-push-in-Forces-clause-followed : goal.returns-in_ok-push-in-Forces-clause-followed
 returns-in_ok-push-in-Forces-clause-followed c =
@@ -54,4 +54,4 @@ returns-in-Satisfied-clause-looked c =
     let at = got_at c.args.clauses.now c.args.place c.at-clause.result.now c.at-clause.ensures.value in
     λ first to_come late pending none.
     looked_within c.args.clauses.now c.args.trail.now.entries first c.args.place to_come c.at-clause.result.now at.0 at.1
-    (calm_satisfied (values_of c.args.trail.now.entries) c.at-clause.result.now c.in-Satisfied.ensures) pending
+    (calm_satisfied (trail_values c.args.trail.now.entries) c.at-clause.result.now c.in-Satisfied.ensures) pending

@@ -1,5 +1,5 @@
 use Rattle.std.proofs.Common.{None, Some, refl, sym, subst, ap, ◌∙◌}
-use Rattle.tree_core.specs.Replays.{noted}
+use Rattle.tree_core.specs.Replays.{with_event}
 use Rattle.tree_core.specs.Stories.{Story}
 use Rattle.tree_core.specs.declared.cause.Cause.TheVariants.{Steps}
 use Rattle.fork_tree.specs.Contents.{choices_in}
@@ -60,25 +60,25 @@ returns-in-Ok-CutSteps-clause-less g c =
 pub returns-then-is_err-clause-held : goal.returns-then-is_err-clause-held
 returns-then-is_err-clause-held g c = let e = release_event c.args.by c.args.node in
     held-less c.args.tree.now.story c.release-then-is_err.new.self.story e
-    (c.release-then-is_err.ensures.story ∙ ap (λ s. noted s e) c.reserve.ensures.story)
+    (c.release-then-is_err.ensures.story ∙ ap (λ s. with_event s e) c.reserve.ensures.story)
     c.is_whole.ensures.named c.requires.there c.requires.held (λ st by. refl) refl refl
 
 pub returns-then-is_err-clause-one_given_up : goal.returns-then-is_err-clause-one_given_up
 returns-then-is_err-clause-one_given_up g c = let e = release_event c.args.by c.args.node in
     releases_more c.args.tree.now.story c.release-then-is_err.new.self.story e
-    (c.release-then-is_err.ensures.story ∙ ap (λ s. noted s e) c.reserve.ensures.story)
+    (c.release-then-is_err.ensures.story ∙ ap (λ s. with_event s e) c.reserve.ensures.story)
 
 pub returns-else-is_err-clause-held : goal.returns-else-is_err-clause-held
 returns-else-is_err-clause-held g c = let e = split_event c.args.by c.args.node c.in-Ok-Kids.kids in
     held-less c.args.tree.now.story c.split.new.self.story e
-    (c.split.ensures.story ∙ ap (λ s. noted s e) c.reserve.ensures.story)
+    (c.split.ensures.story ∙ ap (λ s. with_event s e) c.reserve.ensures.story)
     c.is_whole.ensures.named c.requires.there c.requires.held (λ st by. refl) refl refl
 
 pub returns-else-is_err-clause-none_given_up : goal.returns-else-is_err-clause-none_given_up
 returns-else-is_err-clause-none_given_up g c =
     let e = split_event c.args.by c.args.node c.in-Ok-Kids.kids in
     releases_kept c.args.tree.now.story c.split.new.self.story e
-    (c.split.ensures.story ∙ ap (λ s. noted s e) c.reserve.ensures.story) refl
+    (c.split.ensures.story ∙ ap (λ s. with_event s e) c.reserve.ensures.story) refl
 
 pub returns-else-is_err-clause-less : goal.returns-else-is_err-clause-less
 returns-else-is_err-clause-less g c = let e = split_event c.args.by c.args.node c.in-Ok-Kids.kids in
@@ -88,7 +88,7 @@ returns-else-is_err-clause-less g c = let e = split_event c.args.by c.args.node 
     c.worker.ensures c.in-Ok-Kids.field-0-is c.in-Ok-Kids.ensures in
     kids-less (g.W.Work.rules c.args.tree.now.worker) (choices_in c.in-Ok-Kids.kids.items)
     c.args.tree.now.story c.split.new.self.story e c.args.state.now
-    (c.split.ensures.story ∙ ap (λ s. noted s e) c.reserve.ensures.story) c.is_whole.ensures.named
+    (c.split.ensures.story ∙ ap (λ s. with_event s e) c.reserve.ensures.story) c.is_whole.ensures.named
     c.requires.there c.requires.held (λ st by. refl) refl split.parts split.few
 
 pub finish-requires : goal.finish-requires

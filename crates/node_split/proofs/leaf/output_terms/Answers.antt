@@ -7,7 +7,7 @@ use Rattle.cow_pages.specs.declared.byte.Byte.TheVariants.{Number}
 use Rattle.sym_machine.proofs.Standing.{IsGrown-trans}
 use Rattle.sym_state.specs.Values.{IsByte}
 use Rattle.sym_state.proofs.Growing.{IsByte-grown}
-use Rattle.node_split.specs.Leaving.{AreTermsOf}
+use Rattle.node_split.specs.Leaving.{AreTermsOfBytes}
 use Rattle.node_split.proofs.Leaving.{grown_none, no_terms, terms-more}
 use Rattle.node_split.proofs.leaf.output_terms.Goals as goal
 
@@ -40,7 +40,7 @@ returns-clause-grown c = c.loop-byte.invariant.grown
 
 pub returns-clause-terms : goal.returns-clause-terms
 returns-clause-terms c =
-    subst (λ (bs : List Byte). AreTermsOf c.args.state.now.terms bs c.loop-byte.state.terms c.loop-byte.ids.items)
+    subst (λ (bs : List Byte). AreTermsOfBytes c.args.state.now.terms bs c.loop-byte.state.terms c.loop-byte.ids.items)
     (take_all c.loop-byte.byte-index c.deref-byte-items.result.now (omega (arith, c.loop-byte-test.false))
     ∙ c.deref-byte-items.ensures.value ∙ c.in_ok-bytes.ensures ∙ c.output.ensures.value)
     c.loop-byte.invariant.terms

@@ -2,7 +2,7 @@ use Rattle.std.proofs.Common.{◌≡◌, ◌∙◌, true, ap, map}
 use Rattle.cnf_form.proofs.Soundness.{no_valuation}
 use Rattle.cnf_form.specs.Valuations.{satisfies, valuation}
 use Rattle.bv_dag.specs.Queries.{holds}
-use Rattle.circuit_spec.specs.Bytes.{bytes_of, byte_of}
+use Rattle.circuit_spec.specs.Bytes.{bytes_of, input_byte}
 use Rattle.circuit_spec.specs.Circuits.{clauses}
 use Rattle.circuit_spec.proofs.Solutions.{solution}
 use Rattle.query_decide.proofs.Failing.{refuted_fails}
@@ -16,7 +16,7 @@ returns-in-Found c =
     let is = c.formula.ensures ∙ c.in_ok-encoding.ensures.formula in
     let found = rw (c.in-Found.is, is) at c.in_ok-values.ensures.found in
     let satisfied : satisfies v (clauses q) ≡ true = found in
-    let bytes = c.in_ok-bytes-in-Found.ensures ∙ ap (map (byte_of v)) c.in_ok-encoding.ensures.inputs in
+    let bytes = c.in_ok-bytes-in-Found.ensures ∙ ap (map (input_byte v)) c.in_ok-encoding.ensures.inputs in
     ap (holds q) bytes ∙ solution q v c.requires.dag c.requires.bits satisfied
 
 pub returns-in-Refuted : goal.returns-in-Refuted

@@ -1,6 +1,6 @@
 use Rattle.std.proofs.Common.{◌≡◌, ◌∙◌, ◌+◌, ◌≤◌, ◌++◌, Vec, Global, ap, arith, drop, get_or, length, string_bytes, sym, ℕ}
 use Rattle.tree_core.specs.declared.event.Event.{Event}
-use Rattle.fork_tree.specs.Written.{born_by, lines_from, nodes_after, written}
+use Rattle.fork_tree.specs.Written.{born_by, lines_from, nodes_after, written_deed}
 use Rattle.report_text.specs.Events.{deed_text, events_text}
 use Rattle.text_parts.proofs.Made.{pushed}
 use Rattle.report_text.proofs.EventTexts.{events_end, events_next, fits_in, nodes_next}
@@ -28,9 +28,9 @@ loop-event-preserved g c =
     let born : c.born-first.result ≡ born_by e.deed =
     c.born-first.ensures ∙ ap (λ (x : Event g.row.R.Denot ℕ). born_by x.deed) c.event-item.is in
     let line : string_bytes c.push_str.new.self ≡ string_bytes c.loop-event.text
-    ++ deed_text e.by e.node (written cut nodes first e.deed) =
+    ++ deed_text e.by e.node (written_deed cut nodes first e.deed) =
     pushed _ _ _ _ c.in_ok-push_str.ensures.bytes
-    (c.deref.ensures ∙ c.in_ok-line.ensures ∙ ap (λ (x : Event g.row.R.Denot ℕ). deed_text x.by x.node (written cut nodes first x.deed)) c.event-item.is) in
+    (c.deref.ensures ∙ c.in_ok-line.ensures ∙ ap (λ (x : Event g.row.R.Denot ℕ). deed_text x.by x.node (written_deed cut nodes first x.deed)) c.event-item.is) in
     record {
       written =
           ap (λ n. string_bytes c.push_str.new.self ++ events_text (lines_from cut nodes (first + n) (drop (i + 1) events))) born

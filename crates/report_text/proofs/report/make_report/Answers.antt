@@ -1,7 +1,7 @@
 use Rattle.std.proofs.Common.{◌<◌, ◌∙◌, ◌^◌, List, map, ap, refl, subst, sym, length}
 use Rattle.std.specs.Prelude.{All}
 use Rattle.fork_spec.specs.Leaves.{Leaf}
-use Rattle.report_text.specs.Entries.{IsLeafAt, IsReportable, node_of}
+use Rattle.report_text.specs.Entries.{IsLeafAt, IsReportable, leaf_node_of}
 use Rattle.report_text.specs.Legible.{HasSmallLog}
 use Rattle.report_text.specs.Summaries.{count, summary_text}
 use Rattle.report_text.specs.Reports.{leaves_in}
@@ -38,7 +38,7 @@ returns g c = record {
     leaf_nodes_of_entries c.args.regions.now 0 c.in_ok-leaves.leaves.items,
   ) refl;
   summary = c.in_ok-summary_line.ensures ∙ ap summary_text c.summarize-summary.ensures
-      ∙ ap (λ (ls : List LeafAt). summary_text (count (leaves_in (map node_of ls)))) c.deref.ensures.value
+      ∙ ap (λ (ls : List LeafAt). summary_text (count (leaves_in (map leaf_node_of ls)))) c.deref.ensures.value
       ∙ ap (λ (ks : List Leaf). summary_text (count ks)) (leaves_of_nodes c.args.regions.now 0 c.in_ok-leaves.leaves.items);
   small_logs = subst (All (λ (l : LeafAt). HasSmallLog l.part.now.evidence)) c.deref-2.ensures.value c.in_ok-push_leaves.ensures.small;
 }

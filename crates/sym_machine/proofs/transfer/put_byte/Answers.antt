@@ -5,7 +5,7 @@ use Rattle.cow_pages.specs.declared.byte.Byte.{Byte}
 use Rattle.sym_state.specs.Moves.{MakesByte, stored_at}
 use Rattle.sym_state.specs.Symbolic.{Symbolic, IsFormed}
 use Rattle.sym_state.specs.Values.{worth_of}
-use Rattle.sym_state.specs.Expressions.{byte_of, value_expression}
+use Rattle.sym_state.specs.Expressions.{register_byte, value_expression}
 use Rattle.sym_machine.specs.Steps.{Puts}
 use Rattle.sym_machine.proofs.Unfolds.{unfolded-put}
 use Rattle.sym_machine.proofs.Putting.{puts_byte}
@@ -35,5 +35,5 @@ returns-clause-puts c =
 pub returns-clause-terms : goal.returns-clause-terms
 returns-clause-terms c =
     unfolded-put c.args.state.now c.byte_at.new.self c.put.new.self c.args.address c.in_ok-byte.byte
-    (byte_of c.args.at (value_expression c.args.state.now.terms c.args.value)) c.put.result
+    (register_byte c.args.at (value_expression c.args.state.now.terms c.args.value)) c.put.result
     c.in_ok-byte.ensures.ok.grown c.in_ok-byte.ensures.expression c.put.ensures.ok c.put.ensures.bytes c.put.ensures.flags

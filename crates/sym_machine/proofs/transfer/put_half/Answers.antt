@@ -1,5 +1,5 @@
 use Rattle.std.proofs.Common.{ap}
-use Rattle.sym_state.specs.Expressions.{byte_of, value_expression}
+use Rattle.sym_state.specs.Expressions.{register_byte, value_expression}
 use Rattle.sym_state.specs.Unfolded.{unfolded}
 use Rattle.sym_state.proofs.Expressing.{expression-grown}
 use Rattle.sym_machine.proofs.Putting.{puts_half, puts_wide}
@@ -20,7 +20,7 @@ returns-clause-puts c =
 pub returns-clause-terms : goal.returns-clause-terms
 returns-clause-terms c =
     let v = value_expression c.args.state.now.terms c.args.value in
-    put_two (unfolded c.args.state.now) (unfolded c.put_byte.new.state) (unfolded c.put_byte-2.new.state) c.args.address (byte_of 0 v) (byte_of 1 v)
-    (byte_of 1 (value_expression c.put_byte.new.state.terms c.args.value)) c.put_byte-2.result
+    put_two (unfolded c.args.state.now) (unfolded c.put_byte.new.state) (unfolded c.put_byte-2.new.state) c.args.address (register_byte 0 v) (register_byte 1 v)
+    (register_byte 1 (value_expression c.put_byte.new.state.terms c.args.value)) c.put_byte-2.result
     c.in_ok-put_byte.ensures.terms c.put_byte-2.ensures.terms
-    (ap (byte_of 1) (expression-grown _ _ c.args.value c.in_ok-put_byte.ensures.puts.continues c.requires.wide))
+    (ap (register_byte 1) (expression-grown _ _ c.args.value c.in_ok-put_byte.ensures.puts.continues c.requires.wide))

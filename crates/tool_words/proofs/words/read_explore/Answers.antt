@@ -1,7 +1,7 @@
 use Rattle.std.proofs.Common.{rules, ◌≡◌, ◌∙◌, ap, option_map, map, Some, Err, refl}
 use Rattle.clap.specs.Words.{found_of}
 use Rattle.tool_words.specs.Job.{explore_with}
-use Rattle.tool_words.specs.Region.{regions_of}
+use Rattle.tool_words.specs.Region.{regions_said}
 use Rattle.tool_words.specs.Seen.{job_seen}
 use Rattle.tool_words.proofs.Exploring.{explore_job_is, no_budgets, no_workers, same_error}
 use Rattle.tool_words.proofs.words.read_explore.Goals.{in_default-via-in-Some+in-Some+in-Some+in-Some+in_default, in_default-via-in-Some+in-Some+in-Some+in_default, in_default-via-in-Some+in-Some+in_default, in_default-via-in-Some+in_default, in_default-via-in_default}
@@ -39,5 +39,5 @@ returns c =
     c.read_budgets.ensures c.read_workers.ensures in
     let found = c.in-Some-Some-Some-Some-Some in
     let there = rw (found.is-0, found.is-1, found.is-2, found.is-3, found.is-4) at job in
-    let regions : regions_of (map (λ v. v.now) found.inputs.now) ≡ Some c.in_ok-regions.regions = search rules in
+    let regions : regions_said (map (λ v. v.now) found.inputs.now) ≡ Some c.in_ok-regions.regions = search rules in
     there ∙ rw (regions, c.in_ok-from_str.ensures.ok, c.in_ok-from_str-2.ensures.ok) refl

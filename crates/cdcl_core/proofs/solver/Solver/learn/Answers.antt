@@ -2,7 +2,7 @@ use Rattle.std.proofs.Common.{◌≡◌, ◌∙◌, ◌==◌, ◌≤◌, ◌++�
 use Rattle.cnf_form.specs.Literals.{Literal}
 use Rattle.cnf_form.specs.Refutations.{is_empty_clause}
 use Rattle.proof_check.proofs.Turns.{empty_by_length}
-use Rattle.cdcl_core.specs.Trails.{values_of, IsTrail, AreCalmFirst}
+use Rattle.cdcl_core.specs.Trails.{trail_values, IsTrail, AreCalmFirst}
 use Rattle.cdcl_core.proofs.Learning.{ends, ends_over, learns}
 use Rattle.cdcl_core.proofs.solver.Solver.learn.Goals as goal
 
@@ -30,6 +30,6 @@ returns-clause-search c =
     learns c.args.formula.now c.lesson.new.self.clauses c.push-2.new.self c.lesson.new.self.log c.push-4.new.self c.lesson.new.self.trail c.go_back-calm.new.trail c.in_ok-step.step c.lesson.new.self.calm c.go_back-calm.result
     c.in_ok-step.ensures.search c.in_ok-step.ensures.lesson some trail c.go_back-calm.ensures.size
     (subst (λ (cs : List (List Literal)). c.go_back-calm.result ≤ length cs) seen c.go_back-calm.ensures.count)
-    (subst (λ (cs : List (List Literal)). AreCalmFirst c.go_back-calm.result (values_of c.go_back-calm.new.trail.entries) cs) seen c.go_back-calm.ensures.calm)
+    (subst (λ (cs : List (List Literal)). AreCalmFirst c.go_back-calm.result (trail_values c.go_back-calm.new.trail.entries) cs) seen c.go_back-calm.ensures.calm)
     (c.in_ok-push-2.ensures.ok ∙ ap (λ (d : List Literal). c.lesson.new.self.clauses ++ d ∷ []) (c.literals-2.ensures.value ∙ c.clause-3.ensures))
     c.in_ok-push-4.ensures.ok

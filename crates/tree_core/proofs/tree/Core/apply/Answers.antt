@@ -4,35 +4,35 @@ use Rattle.tree_core.specs.declared.event.Kid.{Kid}
 use Rattle.tree_core.specs.Nodes.{Node}
 use Rattle.tree_core.specs.Stories.{Story}
 use Rattle.tree_core.specs.Replays.{IsFit, is_allowed, births, kids_of, deed_kept}
-use Rattle.tree_core.specs.Cores.{Kept, IsCore, LacksRoom, let_go, takes, ends, unworked_of}
+use Rattle.tree_core.specs.Cores.{CoreValue, IsCore, LacksRoom, let_go, takes, ends, unworked_of}
 use Rattle.tree_core.proofs.Keeping.{core-noted, ends-held}
 use Rattle.tree_core.proofs.Rooms.{may_come, lacks_room, still_claimed}
 use Rattle.tree_core.proofs.tree.Core.apply.Goals as goal
 
 pub make_room-requires-clause-held : goal.make_room-requires-clause-held
 make_room-requires-clause-held g c = let R : Type 0 = g.row.R.Denot in let i = c.self.inside in let s : Story R = record { nodes = i.nodes.items; events = i.events.items } in
-    let fit : IsFit g.R.Cover.covers s c.args.event = subst (λ (k : Kept R). IsFit g.R.Cover.covers k.story c.args.event) (sym c.self.view_is) c.requires.fit in
+    let fit : IsFit g.R.Cover.covers s c.args.event = subst (λ (k : CoreValue R). IsFit g.R.Cover.covers k.story c.args.event) (sym c.self.view_is) c.requires.fit in
     let may : IsTrue (is_allowed s c.args.event) = may_come s c.args.event _ _ c.status_at-status.result c.is_allowed.result c.deref.ensures.value c.deref-2.ensures.value c.status_at-status.ensures c.is_allowed.ensures c.if-not-is_allowed.false in
     ends-held g.R.Cover.covers s i.latest.items i.contents.items i.held c.args.event c.self.invariant.0 fit.0 may
 
 pub held_after-self-inside-requires-clause-ends : goal.held_after-self-inside-requires-clause-ends
 held_after-self-inside-requires-clause-ends g c = let R : Type 0 = g.row.R.Denot in let i = c.self.inside in let s : Story R = record { nodes = i.nodes.items; events = i.events.items } in
-    let fit : IsFit g.R.Cover.covers s c.args.event = subst (λ (k : Kept R). IsFit g.R.Cover.covers k.story c.args.event) (sym c.self.view_is) c.requires.fit in
+    let fit : IsFit g.R.Cover.covers s c.args.event = subst (λ (k : CoreValue R). IsFit g.R.Cover.covers k.story c.args.event) (sym c.self.view_is) c.requires.fit in
     let may : IsTrue (is_allowed s c.args.event) = may_come s c.args.event _ _ c.status_at-status.result c.is_allowed.result c.deref.ensures.value c.deref-2.ensures.value c.status_at-status.ensures c.is_allowed.ensures c.if-not-is_allowed.false in
     ends-held g.R.Cover.covers s i.latest.items i.contents.items i.held c.args.event c.self.invariant.0 fit.0 may
 
 pub returns-in_err-make_room-clause-memory : goal.returns-in_err-make_room-clause-memory
 returns-in_err-make_room-clause-memory g c = λ is. let i = c.self.inside in
-    subst (λ (k : Kept g.row.R.Denot). LacksRoom k c.args.event.deed) c.self.view_is (lacks_room i.nodes i.latest i.contents i.events i.held c.args.event.deed c.in_err-make_room.ensures.err)
+    subst (λ (k : CoreValue g.row.R.Denot). LacksRoom k c.args.event.deed) c.self.view_is (lacks_room i.nodes i.latest i.contents i.events i.held c.args.event.deed c.in_err-make_room.ensures.err)
 
 pub returns-clause-allowed : goal.returns-clause-allowed
 returns-clause-allowed g c = let R : Type 0 = g.row.R.Denot in let i = c.self.inside in let s : Story R = record { nodes = i.nodes.items; events = i.events.items } in
-    subst (λ (k : Kept R). IsTrue (is_allowed k.story c.args.event)) c.self.view_is
+    subst (λ (k : CoreValue R). IsTrue (is_allowed k.story c.args.event)) c.self.view_is
     (may_come s c.args.event _ _ c.status_at-status.result c.is_allowed.result c.deref.ensures.value c.deref-2.ensures.value c.status_at-status.ensures c.is_allowed.ensures c.if-not-is_allowed.false)
 
 pub invariant_of-self-2 : goal.invariant_of-self-2
 invariant_of-self-2 g c = let R : Type 0 = g.row.R.Denot in let i = c.self.inside in let s : Story R = record { nodes = i.nodes.items; events = i.events.items } in let e = c.args.event in
-    let fit : IsFit g.R.Cover.covers s e = subst (λ (k : Kept R). IsFit g.R.Cover.covers k.story e) (sym c.self.view_is) c.requires.fit in
+    let fit : IsFit g.R.Cover.covers s e = subst (λ (k : CoreValue R). IsFit g.R.Cover.covers k.story e) (sym c.self.view_is) c.requires.fit in
     let may : IsTrue (is_allowed s e) = may_come s e _ _ c.status_at-status.result c.is_allowed.result c.deref.ensures.value c.deref-2.ensures.value c.status_at-status.ensures c.is_allowed.ensures c.if-not-is_allowed.false in
     let held : c.held_after-self-inside.result + ends e.deed ≡ i.held + takes e.deed = c.held_after-self-inside.ensures in
     let core = core-noted g.R.Cover.covers s i.latest.items i.contents.items i.held c.held_after-self-inside.result e c.self.invariant.0 fit may held in

@@ -1,6 +1,6 @@
 use Rattle.std.proofs.Common.{◌≡◌, ◌∷◌, ◌++◌, [], List, Option, Some, ap, sym, subst, ◌∙◌}
 use Rattle.atomic_table.specs.Table.{opening}
-use Rattle.turn_lock.specs.Turns.{Kept}
+use Rattle.turn_lock.specs.Turns.{IsTurnKept}
 use Rattle.turn_lock.specs.Views.{opening_view}
 use Rattle.turn_lock.specs.Hands.{in_table}
 use Rattle.turn_lock.proofs.Joining.{opens}
@@ -13,7 +13,7 @@ new-requires g c = let key = c.of-key.result.value in
     (Option g.row.V.Denot)). l ++ Some c.args.value ∷ []) c.in_ok-slots.ensures.items
     ∙ ap (λ (z : g.row.V.Denot). Some z ∷ []) (sym c.of-key.ensures)) in
     subst
-    (λ (l : List (Option g.row.V.Denot)). Kept
+    (λ (l : List (Option g.row.V.Denot)). IsTurnKept
     (in_table g.V.Growing.fixed) g.V.Growing.nodes g.V.Growing.events g.V.Growing.worker key
     (opening (0 ∷ c.event_count-count.result ∷ []) l
     (opening_view (in_table g.V.Growing.fixed) g.V.Growing.nodes g.V.Growing.events key)))
