@@ -112,7 +112,8 @@ fn choice_row(
     yes: &[Lit],
     no: &[Lit],
 ) -> Result<Vec<Lit>, NoMemory>
-    ensures { IfOk result (λ r. (r.items, gates.new) ≡ each (mux_gate condition) yes.now no.now gates.old) }
+    ensures { IfOk result (λ r. (r.items, gates.new)
+        ≡ each (mux_gate condition) yes.now no.now gates.old) }
 {
     gates.each(&Gate::Mux(condition), yes, no)
 }
@@ -160,7 +161,8 @@ impl Circuit {
 
     // The literals of an input byte: eight new variables where it occurs for the first time.
     fn push_input(&mut self, alloc: Global, index: usize) -> Result<(), NoMemory>
-        ensures { OnOk result (self.new ≡ with_input (slice_index_or self.old.inputs index None) self.old index) }
+        ensures { OnOk result (self.new
+            ≡ with_input (slice_index_or self.old.inputs index None) self.old index) }
     {
         if let Some(Some(row)) = self.inputs.get(index) {
             let same = Vec::from_slice(alloc, &row.literals)?;
@@ -234,7 +236,8 @@ impl Circuit {
 
     /// The formula, with a clause for each term that is asserted, and the literals of each input byte that has occurred.
     pub fn encoding(self, asserted: &[usize]) -> Result<Encoding, NoMemory>
-        ensures formula { IfOk result (λ e. e.formula ≡ (with_asserted self.rows asserted.now self.formula).clauses) }
+        ensures formula { IfOk result (λ e. e.formula
+            ≡ (with_asserted self.rows asserted.now self.formula).clauses) }
         ensures inputs { IfOk result (λ e. e.inputs ≡ self.inputs) }
     {
         let Circuit {

@@ -61,7 +61,8 @@ impl Encoding {
 
     /// The input bytes that a valuation of the clauses means: 0 for a byte that doesn't occur.
     pub fn bytes(&self, alloc: Global, values: &Val) -> Result<Bytes, NoMemory>
-        ensures { IfOk result (λ bytes. bytes ≡ map (input_byte (valuation values.now)) self.now.inputs) }
+        ensures { IfOk result (λ bytes. bytes
+            ≡ map (input_byte (valuation values.now)) self.now.inputs) }
     {
         let bytes = self
             .inputs

@@ -60,7 +60,8 @@ impl Gates {
         divisor: &[Lit],
         rest: &[Lit],
     ) -> Result<(Lit, Vec<Lit>), NoMemory>
-        ensures { IfOk result (λ r. record { bit = r.0; rest = r.1.items; formula = self.new } ≡ division_step a divisor.now rest.now self.old) }
+        ensures { IfOk result (λ r. record { bit = r.0; rest = r.1.items; formula = self.new }
+            ≡ division_step a divisor.now rest.now self.old) }
     {
         let shifted = brought_down(self.alloc(), a, rest)?;
         let (difference, carry) = self.adder(&shifted, divisor, constant(true))?;
@@ -70,7 +71,9 @@ impl Gates {
 
     // The quotient, and the remainder with a zero above it.
     fn divide(&mut self, a: &[Lit], b: &[Lit]) -> Result<(Vec<Lit>, Vec<Lit>), NoMemory>
-        ensures { IfOk result (λ r. record { quotient = r.0.items; rest = r.1.items; formula = self.new } ≡ divided a.now b.now self.old) }
+        ensures { IfOk result (λ r.
+            record { quotient = r.0.items; rest = r.1.items; formula = self.new }
+            ≡ divided a.now b.now self.old) }
     {
         let divisor = negated_divisor(self.alloc(), b)?;
         let mut rest = copies(self.alloc(), b.len(), constant(false))?;

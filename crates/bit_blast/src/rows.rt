@@ -82,7 +82,8 @@ impl Gates {
 
     /// One gate for each place of two rows, from the low end.
     pub fn each(&mut self, gate: &Gate, a: &[Lit], b: &[Lit]) -> Result<Vec<Lit>, NoMemory>
-        ensures { IfOk result (λ r. (r.items, self.new) ≡ each (gate_of gate.now) a.now b.now self.old) }
+        ensures { IfOk result (λ r. (r.items, self.new)
+            ≡ each (gate_of gate.now) a.now b.now self.old) }
     {
         let width = a.len().min(b.len());
         let mut row = Vec::with_capacity(self.alloc(), width)?;

@@ -54,7 +54,8 @@ impl Gates {
         stage: Stage,
         bit: Lit,
     ) -> Result<Stage, NoMemory>
-        ensures { IfOk result (λ s. stage_of s self.new ≡ next_stage direction fill width (stage_of stage self.old) bit) }
+        ensures { IfOk result (λ s. stage_of s self.new
+            ≡ next_stage direction fill width (stage_of stage self.old) bit) }
     {
         let Stage { row, unit, big } = stage;
         if unit < width as u128 {
@@ -72,7 +73,8 @@ impl Gates {
 
     #[tactic(auto, unfolding(circuit_spec::specs::Shifts::shift_end))]
     fn shift_end(&mut self, fill: Lit, stage: &Stage) -> Result<Vec<Lit>, NoMemory>
-        ensures { IfOk result (λ r. (r.items, self.new) ≡ shift_end fill (stage_of stage.now self.old)) }
+        ensures { IfOk result (λ r. (r.items, self.new)
+            ≡ shift_end fill (stage_of stage.now self.old)) }
     {
         let free = copies(self.alloc(), stage.row.len(), fill)?;
         self.each(&Gate::Mux(stage.big), &free, &stage.row)
@@ -87,7 +89,8 @@ impl Gates {
         a: &[Lit],
         b: &[Lit],
     ) -> Result<Vec<Lit>, NoMemory>
-        ensures { IfOk result (λ r. (r.items, self.new) ≡ shift_row direction fill a.now b.now self.old) }
+        ensures { IfOk result (λ r. (r.items, self.new)
+            ≡ shift_row direction fill a.now b.now self.old) }
     {
         let mut stage = Stage {
             row: Vec::from_slice(self.alloc(), a)?,

@@ -11,7 +11,8 @@ pub record Graph : Type 0 where
 
 -- each node fits after those before it
 abbrev pub AllFit : ℕ → List Node → Type 0
-AllFit inputs nodes = (id : ℕ) (n : Node) → slice_get nodes id ≡ Some n → Fits inputs (widths_of (take id nodes)) n
+AllFit inputs nodes = (id : ℕ) (n : Node) → slice_get nodes id ≡ Some n
+    → Fits inputs (widths_of (take id nodes)) n
 
 -- a graph of which each node fits after those before it
 pub record IsDag (graph : Graph) : Type 0 where

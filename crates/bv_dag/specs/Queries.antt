@@ -14,7 +14,9 @@ AreBits graph asserted = All (λ id. width_of graph id ≡ 1) asserted
 
 -- there is one byte for each input, and each asserted term is worth 1
 abbrev pub holds : Condition → List ℕ → Bool
-holds condition input = (length input == condition.graph.inputs) && list_all (λ id. number_of condition.graph id input == 1) condition.asserted
+holds condition input =
+    (length input == condition.graph.inputs)
+    && list_all (λ id. number_of condition.graph id input == 1) condition.asserted
 
 -- no input bytes meet the condition
 abbrev pub IsUnsatisfiable : Condition → Type 0

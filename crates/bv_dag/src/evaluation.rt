@@ -49,7 +49,8 @@ pub fn are_met(
     requires bits { AreBits terms.now condition.now }
     requires first { AreFirstWords terms.now input.now words.old.items }
     ensures first { OnOk result (AreFirstWords terms.now input.now words.new.items) }
-    ensures met { IfOk result (λ yes. yes ≡ holds (record { graph = terms.now; asserted = condition.now }) input.now) }
+    ensures met { IfOk result (λ yes. yes
+        ≡ holds (record { graph = terms.now; asserted = condition.now }) input.now) }
 {
     for id in condition {
         if number_on(words, terms, input, *id)? != 1 {

@@ -49,7 +49,8 @@ impl Query {
     /// Asserts one more term.
     pub fn assert(&mut self, id: usize) -> Result<(), NoMemory>
         requires { width_of self.old.graph id ≡ 1 }
-        ensures ok { OnOk result (self.new ≡ record { graph = self.old.graph; asserted = self.old.asserted ++ id ∷ [] }) }
+        ensures ok { OnOk result (self.new
+            ≡ record { graph = self.old.graph; asserted = self.old.asserted ++ id ∷ [] }) }
         ensures err { OnErr result (self.new ≡ self.old) }
     {
         self.asserted.push(id)?;

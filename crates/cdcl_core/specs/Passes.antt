@@ -22,13 +22,15 @@ has_true a c = list_any (is_true a) c
 -- what a clause is under a partial assignment of variables below n
 abbrev pub IsState : (ℕ → Option Bool) → ℕ → List Literal → State → Type 0
 IsState a n c Falsified = is_falsified a c ≡ true
-IsState a n c (Forces l) = (unit_literal a c ≡ Some l) × IsFree a n l × (list_any (same_literal l) c ≡ true)
+IsState a n c (Forces l) = (unit_literal a c ≡ Some l) × IsFree a n l
+    × (list_any (same_literal l) c ≡ true)
 IsState a n c (Open l) = IsCalm a c × IsFree a n l × (list_any (same_literal l) c ≡ true)
 IsState a n c Satisfied = has_true a c ≡ true
 
 -- the entry at this place makes the literal true
 abbrev pub IsLiteralAt : List Entry → ℕ → Literal → Type 0
-IsLiteralAt entries place l = (entry : Entry) × (slice_get entries place ≡ Some entry) × (entry.literal ≡ l)
+IsLiteralAt entries place l = (entry : Entry) × (slice_get entries place ≡ Some entry)
+    × (entry.literal ≡ l)
 
 -- an entry from this place on makes a literal of the clause false
 pub record IsTouched (entries : List Entry) (first : ℕ) (c : List Literal) : Type 0 where
@@ -39,14 +41,17 @@ pub record IsTouched (entries : List Entry) (first : ℕ) (c : List Literal) : T
   pub has : list_any (same_literal (negation entry.literal)) c ≡ true
 
 -- each clause is calm, or has yet to be looked at: for an entry from this place on, or since it is one of those to come
-abbrev pub ArePending : List (List Literal) → List Entry → (first : ℕ) → (to_come : ℕ → Bool) → Type 0
-ArePending clauses entries first to_come = (k : ℕ) (c : List Literal) → slice_get clauses k ≡ Some c → IsCalm (trail_values entries) c ⊎ IsTouched entries first c ⊎ (to_come k ≡ true)
+abbrev pub ArePending : List (List Literal) → List Entry → (first : ℕ) → (to_come : ℕ → Bool)
+    → Type 0
+ArePending clauses entries first to_come = (k : ℕ) (c : List Literal) → slice_get clauses k ≡ Some c
+    → IsCalm (trail_values entries) c ⊎ IsTouched entries first c ⊎ (to_come k ≡ true)
 
 -- where unit propagation ends: at a clause that is false, at a choice of a variable that occurs, with each clause calm, or
 -- with each satisfied
 abbrev pub IsSettled : List (List Literal) → ℕ → (ℕ → Option Bool) → Settled → Type 0
 IsSettled clauses n a (AtConflict k) = hint_is_falsified a (numbered clauses k) ≡ true
-IsSettled clauses n a (AtChoice l) = AreCalm a clauses × IsFree a n l × (occurs clauses l.variable ≡ true)
+IsSettled clauses n a (AtChoice l) = AreCalm a clauses × IsFree a n l
+    × (occurs clauses l.variable ≡ true)
 IsSettled clauses n a AtEnd = list_all (has_true a) clauses ≡ true
 
 -- a trail went on from another: it is a trail still, and each further entry gave a variable a value
@@ -54,4 +59,5 @@ pub record IsFollowed (clauses : List (List Literal)) (old now : Assignment) : T
   pub trail : IsTrail clauses now.entries
   pub size : length now.marks ≡ length old.marks
   pub longer : length old.entries ≤ length now.entries
-  pub no_more : length now.entries + free_count now.marks ≤ length old.entries + free_count old.marks
+  pub no_more : length now.entries + free_count now.marks
+      ≤ length old.entries + free_count old.marks

@@ -16,8 +16,10 @@ is_among ks k = list_any (λ j. j == k) ks
 
 -- no place is lost
 abbrev pub AreKept : List (List ℕ) → List (List ℕ) → Type 0
-AreKept old now = (l : Literal) (k : ℕ) → is_among (places_of old l) k ≡ true → is_among (places_of now l) k ≡ true
+AreKept old now = (l : Literal) (k : ℕ) → is_among (places_of old l) k ≡ true
+    → is_among (places_of now l) k ≡ true
 
 -- each clause is noted with each of its literals
 abbrev pub AreNoted : List (List Literal) → List (List ℕ) → Type 0
-AreNoted clauses lists = (k : ℕ) (c : List Literal) (l : Literal) → slice_get clauses k ≡ Some c → list_any (same_literal l) c ≡ true → is_among (places_of lists l) k ≡ true
+AreNoted clauses lists = (k : ℕ) (c : List Literal) (l : Literal) → slice_get clauses k ≡ Some c
+    → list_any (same_literal l) c ≡ true → is_among (places_of lists l) k ≡ true

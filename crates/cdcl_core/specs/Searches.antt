@@ -36,7 +36,8 @@ IfLog (Spent log) P = P log
 
 -- what a search keeps: its clauses are the formula's and those learnt, each of which follows, was new and has no variable
 -- but the formula's, the trail is one over these clauses, and the first n of them are calm
-pub record IsSearch (formula : List (List Literal)) (clauses : List (List Literal)) (log : List Step) (now : Assignment) (n : ℕ) : Type 0 where
+pub record IsSearch (formula : List (List Literal)) (clauses : List (List Literal))
+    (log : List Step) (now : Assignment) (n : ℕ) : Type 0 where
   pub all : clauses ≡ formula ++ clauses_of log
   pub follows : follows_all formula log ≡ true
   pub fresh : is_fresh formula log ≡ true

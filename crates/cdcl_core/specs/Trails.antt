@@ -21,13 +21,18 @@ pub record Assignment : Type 0 where
 
 -- a trail with one more entry
 abbrev pub with_entry : Assignment → Entry → Assignment
-with_entry t e = record { marks = slice_set t.marks e.literal.variable (Some e.literal.positive); entries = t.entries ++ e ∷ [] }
+with_entry t e = record {
+  marks = slice_set t.marks e.literal.variable (Some e.literal.positive);
+  entries = t.entries ++ e ∷ [];
+}
 
 -- the values by number are those of the trail, and each of its variables has the number of its entry, from 1
-pub record IsKept (marks : List (Option Bool)) (numbers : List ℕ) (entries : List Entry) : Type 0 where
+pub record IsKept (marks : List (Option Bool)) (numbers : List ℕ)
+    (entries : List Entry) : Type 0 where
   pub values : marked marks ≡ trail_values entries
   pub room : length numbers ≡ length marks
-  pub numbered : (p : ℕ) (e : Entry) → slice_get entries p ≡ Some e → slice_index_or numbers e.literal.variable 0 ≡ p + 1
+  pub numbered : (p : ℕ) (e : Entry) → slice_get entries p ≡ Some e
+      → slice_index_or numbers e.literal.variable 0 ≡ p + 1
 
 -- no literal that is made true now makes the clause false
 abbrev pub IsCalm : (ℕ → Option Bool) → List Literal → Type 0
@@ -35,7 +40,8 @@ IsCalm a c = (l : Literal) → a l.variable ≡ None → is_falsified (assign a 
 
 -- each of the first clauses is calm
 abbrev pub AreCalmFirst : ℕ → (ℕ → Option Bool) → List (List Literal) → Type 0
-AreCalmFirst n a clauses = (k : ℕ) (c : List Literal) → k < n → slice_get clauses k ≡ Some c → IsCalm a c
+AreCalmFirst n a clauses = (k : ℕ) (c : List Literal) → k < n → slice_get clauses k ≡ Some c
+    → IsCalm a c
 
 -- each clause is calm
 abbrev pub AreCalm : (ℕ → Option Bool) → List (List Literal) → Type 0
@@ -50,7 +56,8 @@ IsMadeTrue clauses a l (Some n) = unit_of_hint a (numbered clauses n) ≡ Some l
 -- each entry's variable has no value before it, and each literal is made true by a decision or by its clause
 unfoldable pub IsTrailFrom : List (List Literal) → (ℕ → Option Bool) → List Entry → Type 0
 IsTrailFrom clauses a [] = Unit {0}
-IsTrailFrom clauses a (e ∷ es) = (a e.literal.variable ≡ None) × IsMadeTrue clauses a e.literal e.reason × IsTrailFrom clauses (assign a e.literal) es
+IsTrailFrom clauses a (e ∷ es) = (a e.literal.variable ≡ None)
+    × IsMadeTrue clauses a e.literal e.reason × IsTrailFrom clauses (assign a e.literal) es
 
 abbrev pub IsTrail : List (List Literal) → List Entry → Type 0
 IsTrail clauses entries = IsTrailFrom clauses unassigned entries

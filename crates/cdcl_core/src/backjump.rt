@@ -30,7 +30,8 @@ fn second(trail: &Trail, clause: &Clause) -> usize
 // The place of the first decision from this place on.
 fn decision_from(trail: &Trail, start: usize) -> Option<usize>
     ensures some { IfSome result (IsDecisionAt trail.now.entries) }
-    ensures first { IfSome result (λ place. (p : ℕ) → p < place → IsDecisionAt trail.now.entries p → p < start) }
+    ensures first { IfSome result (λ place. (p : ℕ) → p < place → IsDecisionAt trail.now.entries p
+        → p < start) }
 {
     let entries = trail.entries();
     for place in start..entries.len() {

@@ -66,7 +66,8 @@ impl Places {
 
     // Notes the clause at this place.
     fn add(&mut self, alloc: Global, clause: &[Lit], place: usize) -> Result<(), NoMemory>
-        ensures noted { OnOk result ((l : Literal) → list_any (same_literal l) clause.now ≡ true → is_among (places_of self.new l) place ≡ true) }
+        ensures noted { OnOk result ((l : Literal) → list_any (same_literal l) clause.now ≡ true
+            → is_among (places_of self.new l) place ≡ true) }
         ensures kept { AreKept self.old self.new }
     {
         for literal in clause {
@@ -152,7 +153,9 @@ impl ClauseList {
 
     /// Whether the step's clause follows by its hints from the clauses, and is a superset of none of them.
     pub fn may_come_next(&mut self, step: &LogStep) -> Result<bool, NoMemory>
-        ensures answer { IfOk result (λ yes. yes ≡ (follows self.old step.now.clause step.now.hints && is_new self.old step.now.clause)) }
+        ensures answer { IfOk result (λ yes. yes
+            ≡ (follows self.old step.now.clause step.now.hints
+            && is_new self.old step.now.clause)) }
         ensures same { self.new ≡ self.old }
     {
         self.checker.may_come_next(step)
@@ -160,7 +163,8 @@ impl ClauseList {
 
     /// The places of clauses, with all of those in which the literal stands.
     pub fn places(&self, literal: Lit) -> &[usize]
-        ensures { (k : ℕ) (c : List Literal) → slice_get self.now k ≡ Some c → list_any (same_literal literal) c ≡ true → is_among result.now k ≡ true }
+        ensures { (k : ℕ) (c : List Literal) → slice_get self.now k ≡ Some c
+            → list_any (same_literal literal) c ≡ true → is_among result.now k ≡ true }
     {
         self.places.of(literal)
     }

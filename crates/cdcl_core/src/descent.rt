@@ -34,7 +34,8 @@ pub enum Settled {
 fn open_literal(trail: &Trail, clauses: &Clauses) -> Settled
     requires below { list_all (is_below (length trail.now.marks)) clauses.now ≡ true }
     requires calm { AreCalm (trail_values trail.now.entries) clauses.now }
-    ensures { IsSettled clauses.now (length trail.now.marks) (trail_values trail.now.entries) result }
+    ensures { IsSettled clauses.now (length trail.now.marks)
+        (trail_values trail.now.entries) result }
 {
     let mut spot = Spot::new(0, 0);
     for i in 0..clauses.len() {
@@ -53,7 +54,8 @@ fn open_literal(trail: &Trail, clauses: &Clauses) -> Settled
 fn next_choice(trail: &Trail, clauses: &ClauseList, order: &mut Order) -> Settled
     requires below { list_all (is_below (length trail.now.marks)) clauses.now ≡ true }
     requires calm { AreCalm (trail_values trail.now.entries) clauses.now }
-    ensures { IsSettled clauses.now (length trail.now.marks) (trail_values trail.now.entries) result }
+    ensures { IsSettled clauses.now (length trail.now.marks)
+        (trail_values trail.now.entries) result }
 {
     match order.pick(trail, clauses) {
         Some(literal) => Settled::AtChoice(literal),
@@ -77,8 +79,10 @@ fn choose(
     ensures trail { OnOk result (IsTrail clauses.now trail.new.entries) }
     ensures size { OnOk result (length trail.new.marks ≡ length trail.old.marks) }
     ensures fewer { OnOk result (free_count trail.new.marks < free_count trail.old.marks) }
-    ensures conflict { IfOk result (λ o. IfSome o (λ k. hint_is_falsified (trail_values trail.new.entries) (numbered clauses.now k) ≡ true)) }
-    ensures calm { IfOk result (λ o. o ≡ None → AreCalm (trail_values trail.new.entries) clauses.now) }
+    ensures conflict { IfOk result (λ o. IfSome o
+        (λ k. hint_is_falsified (trail_values trail.new.entries) (numbered clauses.now k) ≡ true)) }
+    ensures calm { IfOk result (λ o. o ≡ None
+        → AreCalm (trail_values trail.new.entries) clauses.now) }
 {
     let first = trail.entries().len();
     trail.push(Entry {

@@ -26,8 +26,11 @@ fn look(
     requires below { list_all (is_below (length trail.old.marks)) clauses.now ≡ true }
     requires trail { IsTrail clauses.now trail.old.entries }
     ensures followed { OnOk result (IsFollowed clauses.now trail.old trail.new) }
-    ensures conflict { IfOk result (λ o. IfSome o (λ k. hint_is_falsified (trail_values trail.new.entries) (numbered clauses.now k) ≡ true)) }
-    ensures looked { (first : ℕ) (to_come : ℕ → Bool) → first ≤ length trail.old.entries → ArePending clauses.now trail.old.entries first (λ k. (place == k) || to_come k) → IfOk result (λ o. o ≡ None → ArePending clauses.now trail.new.entries first to_come) }
+    ensures conflict { IfOk result (λ o. IfSome o
+        (λ k. hint_is_falsified (trail_values trail.new.entries) (numbered clauses.now k) ≡ true)) }
+    ensures looked { (first : ℕ) (to_come : ℕ → Bool) → first ≤ length trail.old.entries
+        → ArePending clauses.now trail.old.entries first (λ k. (place == k) || to_come k)
+        → IfOk result (λ o. o ≡ None → ArePending clauses.now trail.new.entries first to_come) }
 {
     if place >= clauses.len() {
         return Ok(None);
@@ -66,8 +69,12 @@ fn look_at(
     requires below { list_all (is_below (length trail.old.marks)) clauses.now ≡ true }
     requires trail { IsTrail clauses.now trail.old.entries }
     ensures followed { OnOk result (IsFollowed clauses.now trail.old trail.new) }
-    ensures conflict { IfOk result (λ o. IfSome o (λ k. hint_is_falsified (trail_values trail.new.entries) (numbered clauses.now k) ≡ true)) }
-    ensures looked { (first : ℕ) → first ≤ length trail.old.entries → ArePending clauses.now trail.old.entries first (is_among places.now) → IfOk result (λ o. o ≡ None → ArePending clauses.now trail.new.entries first (λ k. false)) }
+    ensures conflict { IfOk result (λ o. IfSome o
+        (λ k. hint_is_falsified (trail_values trail.new.entries) (numbered clauses.now k) ≡ true)) }
+    ensures looked { (first : ℕ) → first ≤ length trail.old.entries
+        → ArePending clauses.now trail.old.entries first (is_among places.now)
+        → IfOk result (λ o. o ≡ None
+        → ArePending clauses.now trail.new.entries first (λ k. false)) }
 {
     for place in places {
         if let Some(number) = look(trail, clauses, spots, *place)? {
@@ -87,8 +94,11 @@ fn look_after(
     requires below { list_all (is_below (length trail.old.marks)) clauses.now ≡ true }
     requires trail { IsTrail clauses.now trail.old.entries }
     ensures followed { OnOk result (IsFollowed clauses.now trail.old trail.new) }
-    ensures conflict { IfOk result (λ o. IfSome o (λ k. hint_is_falsified (trail_values trail.new.entries) (numbered clauses.now k) ≡ true)) }
-    ensures looked { (place : ℕ) → IsLiteralAt trail.old.entries place literal → ArePending clauses.now trail.old.entries place (λ k. false) → IfOk result (λ o. o ≡ None → ArePending clauses.now trail.new.entries (place + 1) (λ k. false)) }
+    ensures conflict { IfOk result (λ o. IfSome o
+        (λ k. hint_is_falsified (trail_values trail.new.entries) (numbered clauses.now k) ≡ true)) }
+    ensures looked { (place : ℕ) → IsLiteralAt trail.old.entries place literal
+        → ArePending clauses.now trail.old.entries place (λ k. false) → IfOk result (λ o. o ≡ None
+        → ArePending clauses.now trail.new.entries (place + 1) (λ k. false)) }
 {
     look_at(
         trail,
@@ -120,8 +130,10 @@ pub fn follow(
     requires below { list_all (is_below (length trail.old.marks)) clauses.now ≡ true }
     requires trail { IsTrail clauses.now trail.old.entries }
     ensures followed { OnOk result (IsFollowed clauses.now trail.old trail.new) }
-    ensures conflict { IfOk result (λ o. IfSome o (λ k. hint_is_falsified (trail_values trail.new.entries) (numbered clauses.now k) ≡ true)) }
-    ensures calm { ArePending clauses.now trail.old.entries first (λ k. false) → IfOk result (λ o. o ≡ None → AreCalm (trail_values trail.new.entries) clauses.now) }
+    ensures conflict { IfOk result (λ o. IfSome o
+        (λ k. hint_is_falsified (trail_values trail.new.entries) (numbered clauses.now k) ≡ true)) }
+    ensures calm { ArePending clauses.now trail.old.entries first (λ k. false)
+        → IfOk result (λ o. o ≡ None → AreCalm (trail_values trail.new.entries) clauses.now) }
 {
     let mut place = first;
     while let Some(literal) = literal_at(trail, place) {
@@ -144,8 +156,11 @@ fn look_from(
     requires below { list_all (is_below (length trail.old.marks)) clauses.now ≡ true }
     requires trail { IsTrail clauses.now trail.old.entries }
     ensures followed { OnOk result (IsFollowed clauses.now trail.old trail.new) }
-    ensures conflict { IfOk result (λ o. IfSome o (λ k. hint_is_falsified (trail_values trail.new.entries) (numbered clauses.now k) ≡ true)) }
-    ensures looked { (first : ℕ) → first ≤ length trail.old.entries → ArePending clauses.now trail.old.entries first (nat_le start) → IfOk result (λ o. o ≡ None → ArePending clauses.now trail.new.entries first (λ k. false)) }
+    ensures conflict { IfOk result (λ o. IfSome o
+        (λ k. hint_is_falsified (trail_values trail.new.entries) (numbered clauses.now k) ≡ true)) }
+    ensures looked { (first : ℕ) → first ≤ length trail.old.entries
+        → ArePending clauses.now trail.old.entries first (nat_le start) → IfOk result (λ o. o ≡ None
+        → ArePending clauses.now trail.new.entries first (λ k. false)) }
 {
     for place in start..clauses.len() {
         if let Some(number) = look(trail, clauses, spots, place)? {
@@ -167,8 +182,10 @@ pub fn settle(
     requires trail { IsTrail clauses.now trail.old.entries }
     requires calm { AreCalmFirst calm (trail_values trail.old.entries) clauses.now }
     ensures followed { OnOk result (IsFollowed clauses.now trail.old trail.new) }
-    ensures conflict { IfOk result (λ o. IfSome o (λ k. hint_is_falsified (trail_values trail.new.entries) (numbered clauses.now k) ≡ true)) }
-    ensures calm { IfOk result (λ o. o ≡ None → AreCalm (trail_values trail.new.entries) clauses.now) }
+    ensures conflict { IfOk result (λ o. IfSome o
+        (λ k. hint_is_falsified (trail_values trail.new.entries) (numbered clauses.now k) ≡ true)) }
+    ensures calm { IfOk result (λ o. o ≡ None
+        → AreCalm (trail_values trail.new.entries) clauses.now) }
 {
     let first = trail.entries().len();
     if let Some(number) = look_from(trail, clauses.list(), spots, calm)? {

@@ -68,7 +68,8 @@ fn negations(alloc: Global, last: u32) -> Result<Vec<Lit>, NoMemory> {
 
 // Whether the literal may be chosen: its variable has no value, and occurs in a clause.
 fn may_be_chosen(trail: &Trail, clauses: &ClauseList, literal: Lit) -> bool
-    ensures free { IsTrue result → IsFree (trail_values trail.now.entries) (length trail.now.marks) literal }
+    ensures free { IsTrue result
+        → IsFree (trail_values trail.now.entries) (length trail.now.marks) literal }
     ensures occurs { IsTrue result → occurs clauses.now literal.variable ≡ true }
 {
     trail.is_free(literal) && clauses.mentions(literal)
@@ -87,7 +88,8 @@ impl Order {
 
     /// Takes out variables until one has no value and occurs in a clause, and answers the literal to choose for that one.
     pub fn pick(&mut self, trail: &Trail, clauses: &ClauseList) -> Option<Lit>
-        ensures free { IfSome result (IsFree (trail_values trail.now.entries) (length trail.now.marks)) }
+        ensures free { IfSome result (IsFree (trail_values trail.now.entries)
+            (length trail.now.marks)) }
         ensures occurs { IfSome result (λ l. occurs clauses.now l.variable ≡ true) }
         ensures listed { IfSome result (Contains self.old.literals.items) }
     {

@@ -101,7 +101,8 @@ impl Trail {
 
     /// The number, from 1, of the entry that gave the literal's variable its value.
     pub fn number(&self, literal: Lit) -> usize
-        ensures { (n : ℕ) → n < result → trail_values (take n self.now.entries) literal.variable ≡ None }
+        ensures { (n : ℕ) → n < result → trail_values (take n self.now.entries) literal.variable
+            ≡ None }
     {
         number_of(&self.numbers, literal.variable())
     }
@@ -145,14 +146,16 @@ impl Trail {
 
     /// Whether the literal's variable may have a value, and has none.
     pub fn is_free(&self, literal: Lit) -> bool
-        ensures { IsTrue result ↔ IsFree (trail_values self.now.entries) (length self.now.marks) literal }
+        ensures { IsTrue result
+            ↔ IsFree (trail_values self.now.entries) (length self.now.marks) literal }
     {
         (literal.variable() as usize) < self.size() && self.value(literal.variable()).is_none()
     }
 
     /// A valuation in which each literal is true that is true here.
     pub fn valuation(&self, alloc: Global) -> Result<Val, NoMemory>
-        ensures { IfOk result (λ v. (l : Literal) → is_true (trail_values self.now.entries) l ≡ true → literal_value (valuation v) l ≡ true) }
+        ensures { IfOk result (λ v. (l : Literal) → is_true (trail_values self.now.entries) l ≡ true
+            → literal_value (valuation v) l ≡ true) }
     {
         Ok(Val::new(values(alloc, &self.marks)?))
     }

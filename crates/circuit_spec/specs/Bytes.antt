@@ -25,7 +25,9 @@ bytes_of q v = map (input_byte v) (circuit_of q).inputs
 
 -- the valuation means just these input bytes, wherever one occurs
 abbrev pub MeansBytes : Condition → (ℕ → Bool) → List ℕ → Type 0
-MeansBytes q v input = (i : ℕ) (row : List Literal) → slice_index_or (circuit_of q).inputs i None ≡ Some row → number_of_row v row ≡ slice_index input i
+MeansBytes q v input = (i : ℕ) (row : List Literal)
+    → slice_index_or (circuit_of q).inputs i None ≡ Some row
+    → number_of_row v row ≡ slice_index input i
 
 -- the clauses of a condition, and the literals of each input byte that occurs
 pub record Encoding : Type 0 where

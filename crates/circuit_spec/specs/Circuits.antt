@@ -30,7 +30,8 @@ abbrev pub lowest_of : List Literal → Literal
 lowest_of a = slice_index_or a 0 (constant false)
 
 -- the literals of a term of two others
-unfoldable pub binary_row : BinaryOp → List Literal → List Literal → Formula → List Literal × Formula
+unfoldable pub binary_row : BinaryOp → List Literal → List Literal → Formula → List Literal
+    × Formula
 binary_row Add a b f = add_row a b f
 binary_row Sub a b f = sub_row a b f
 binary_row Mul a b f = mul_row a b f
@@ -61,7 +62,12 @@ abbrev pub with_row : Circuit → List Literal × Formula → Circuit
 with_row c made = record { formula = made.1; inputs = c.inputs; rows = c.rows ++ made.0 ∷ [] }
 
 abbrev pub with_new_input : Circuit → ℕ → List Literal × Formula → Circuit
-with_new_input c i made = record { formula = made.1; inputs = slice_set c.inputs i (Some made.0); rows = c.rows ++ made.0 ∷ [] }
+with_new_input c i made =
+    record {
+      formula = made.1;
+      inputs = slice_set c.inputs i (Some made.0);
+      rows = c.rows ++ made.0 ∷ [];
+    }
 
 -- An input byte has eight new variables where it occurs for the first time, and the same ones after that.
 abbrev pub with_input : Option (List Literal) → Circuit → ℕ → Circuit
@@ -74,11 +80,17 @@ circuit_with c (Num w v) = with_row c (number_row w v, c.formula)
 circuit_with c (Input i) = with_input (slice_index_or c.inputs i None) c i
 circuit_with c (Not a) = with_row c (negations (row_at c.rows a), c.formula)
 circuit_with c (Neg a) = with_row c (neg_row (row_at c.rows a) c.formula)
-circuit_with c (Binary op a b) = with_row c (binary_row op (row_at c.rows a) (row_at c.rows b) c.formula)
-circuit_with c (Compare op a b) = with_row c (one_literal (compare_gate op (row_at c.rows a) (row_at c.rows b) c.formula))
-circuit_with c (Ite t a b) = with_row c (each (mux_gate (lowest_of (row_at c.rows t))) (row_at c.rows a) (row_at c.rows b) c.formula)
-circuit_with c (Extract high low a) = with_row c (drop low (take (high + 1) (row_at c.rows a)), c.formula)
-circuit_with c (Extend by signed a) = with_row c (row_at c.rows a ++ replicate by (extension_of signed (row_at c.rows a)), c.formula)
+circuit_with c (Binary op a b) =
+    with_row c (binary_row op (row_at c.rows a) (row_at c.rows b) c.formula)
+circuit_with c (Compare op a b) =
+    with_row c (one_literal (compare_gate op (row_at c.rows a) (row_at c.rows b) c.formula))
+circuit_with c (Ite t a b) =
+    with_row c (each (mux_gate (lowest_of (row_at c.rows t))) (row_at c.rows a)
+    (row_at c.rows b) c.formula)
+circuit_with c (Extract high low a) =
+    with_row c (drop low (take (high + 1) (row_at c.rows a)), c.formula)
+circuit_with c (Extend by signed a) =
+    with_row c (row_at c.rows a ++ replicate by (extension_of signed (row_at c.rows a)), c.formula)
 circuit_with c (Concat high low) = with_row c (row_at c.rows low ++ row_at c.rows high, c.formula)
 
 -- no terms yet, over so many input bytes

@@ -10,10 +10,12 @@ above_zeros low made = (zeros low ++ made.0, made.1)
 
 -- what the bit b at place `low` of one factor adds to the product: the other factor above so many zeros, where b is 1
 unfoldable pub partial_row : List Literal → ℕ → Literal → Formula → List Literal × Formula
-partial_row a low b f = above_zeros low (each and_gate (take (length a - low) a) (replicate (length a - low) b) f)
+partial_row a low b f =
+    above_zeros low (each and_gate (take (length a - low) a) (replicate (length a - low) b) f)
 
 -- Multiplication by shift and add: the product so far, and what each further bit of b adds to it.
-unfoldable pub products : List Literal → List Literal → (low : ℕ) → List Literal → Formula → List Literal × Formula
+unfoldable pub products : List Literal → List Literal → (low : ℕ) → List Literal → Formula
+    → List Literal × Formula
 products a [] low total f = (total, f)
 products a (b ∷ bs) low total f =
     let partial = partial_row a low b f in
@@ -50,10 +52,12 @@ restored shifted d = with_bit d.carry (each (mux_gate d.carry) d.sums shifted d.
 
 -- One bit more of the dividend: the divisor, given by the negations of its bits, is taken from the rest.
 unfoldable pub division_step : Literal → List Literal → List Literal → Formula → Restored
-division_step a negated rest f = restored (brought_down a rest) (adder (brought_down a rest) negated (constant true) f)
+division_step a negated rest f =
+    restored (brought_down a rest) (adder (brought_down a rest) negated (constant true) f)
 
 abbrev pub with_quotient : List Literal → Restored → Division
-with_quotient quotient r = record { quotient = r.bit ∷ quotient; rest = r.rest; formula = r.formula }
+with_quotient quotient r =
+    record { quotient = r.bit ∷ quotient; rest = r.rest; formula = r.formula }
 
 -- Restoring division, from the highest bit of the dividend down; the lists have the lowest first.
 unfoldable pub division : List Literal → List Literal → Division → Division
@@ -64,7 +68,8 @@ division (a ∷ as') negated start =
 
 -- the divisor has a zero above it, and so has the rest
 abbrev pub divided : List Literal → List Literal → Formula → Division
-divided a b f = division a (negations (b ++ constant false ∷ [])) (record { quotient = []; rest = zeros (length b) ++ constant false ∷ []; formula = f })
+divided a b f = division a (negations (b ++ constant false ∷ []))
+    (record { quotient = []; rest = zeros (length b) ++ constant false ∷ []; formula = f })
 
 abbrev pub udiv_row : List Literal → List Literal → Formula → List Literal × Formula
 udiv_row a b f = let d = divided a b f in (d.quotient, d.formula)

@@ -33,7 +33,8 @@ fresh_row zero f = ([], f)
 fresh_row (suc w) f = with_first (next_variable f) (fresh_row w (with_variable f))
 
 -- one gate for each place of two rows, from the low end
-unfoldable pub each : (Literal → Literal → Formula → Literal × Formula) → List Literal → List Literal → Formula → List Literal × Formula
+unfoldable pub each : (Literal → Literal → Formula → Literal × Formula) → List Literal
+    → List Literal → Formula → List Literal × Formula
 each g [] bs f = ([], f)
 each g (a ∷ as') [] f = ([], f)
 each g (a ∷ as') (b ∷ bs) f =

@@ -38,5 +38,8 @@ unfoldable pub shift_end : Literal → Stage → List Literal × Formula
 shift_end fill s = each (mux_gate s.big) (replicate (length s.row) fill) s.row s.formula
 
 -- The barrel shifter, stage by stage, the lowest bit of the distance first.
-unfoldable pub shift_row : Direction → Literal → List Literal → List Literal → Formula → List Literal × Formula
-shift_row direction fill a b f = shift_end fill (fold (next_stage direction fill (length a)) (record { row = a; unit = 1; big = constant false; formula = f }) b)
+unfoldable pub shift_row : Direction → Literal → List Literal → List Literal → Formula
+    → List Literal × Formula
+shift_row direction fill a b f =
+    shift_end fill (fold (next_stage direction fill (length a))
+    (record { row = a; unit = 1; big = constant false; formula = f }) b)

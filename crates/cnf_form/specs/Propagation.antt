@@ -65,7 +65,9 @@ and_then_holds (Some l) rest = rest l
 unfoldable pub reaches_conflict : List (List Literal) → List ℕ → (ℕ → Option Bool) → Bool
 reaches_conflict clauses [] a = false
 reaches_conflict clauses (h ∷ []) a = hint_is_falsified a (numbered clauses h)
-reaches_conflict clauses (h ∷ k ∷ hs) a = and_then_holds (unit_of_hint a (numbered clauses h)) (λ l. reaches_conflict clauses (k ∷ hs) (assign a l))
+reaches_conflict clauses (h ∷ k ∷ hs) a =
+    and_then_holds (unit_of_hint a (numbered clauses h))
+    (λ l. reaches_conflict clauses (k ∷ hs) (assign a l))
 
 -- whether a clause follows from others by reverse unit propagation (RUP) along its hints, numbers of the others
 unfoldable pub follows : List (List Literal) → List Literal → List ℕ → Bool

@@ -17,7 +17,8 @@ clauses_of log = map (λ s. s.clause) log
 -- whether each clause of the log follows by its hints from those before it
 unfoldable pub follows_all : List (List Literal) → List Step → Bool
 follows_all before [] = true
-follows_all before (s ∷ ss) = follows before s.clause s.hints && follows_all (before ++ s.clause ∷ []) ss
+follows_all before (s ∷ ss) =
+    follows before s.clause s.hints && follows_all (before ++ s.clause ∷ []) ss
 
 -- whether none of the clauses is a subset of this one
 unfoldable pub is_new : List (List Literal) → List Literal → Bool

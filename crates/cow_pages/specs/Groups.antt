@@ -30,7 +30,8 @@ page_at_place places place = slice_index_or places place None
 
 -- a group with another byte at an offset of the page at a place, if there is one
 abbrev pub with_byte_in : Places → ℕ → ℕ → Byte → Places
-with_byte_in places place offset byte = slice_set places place (with_byte_at (page_at_place places place) offset byte)
+with_byte_in places place offset byte =
+    slice_set places place (with_byte_at (page_at_place places place) offset byte)
 
 -- the groups of a memory, each with its number
 abbrev pub Groups : Type 0
@@ -53,7 +54,8 @@ group_at groups i = slice_index_or groups i (0, [])
 
 -- the numbers rise, each group has 64 places, and each page all of its bytes
 pub record AreGroups (groups : Groups) : Type 0 where
-  pub in_order : (i j : ℕ) → i < j → j < length groups → (group_at groups i).0 < (group_at groups j).0
+  pub in_order : (i j : ℕ) → i < j → j < length groups
+      → (group_at groups i).0 < (group_at groups j).0
   pub full : (i : ℕ) → i < length groups → length (group_at groups i).1 ≡ 64
   pub whole : (i place : ℕ) → i < length groups
       → IfSome (page_at_place (group_at groups i).1 place) HasAllBytes

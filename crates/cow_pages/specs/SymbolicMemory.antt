@@ -71,7 +71,8 @@ with_page memory number (Some page) = insert memory number page
 -- memory with another byte at an address. Where no page is mapped it stays as it is
 abbrev pub memory_with : SymbolicMemory → ℕ → Byte → SymbolicMemory
 memory_with memory address byte =
-    with_page memory (address / 256) (with_byte_at (get memory (address / 256)) (address % 256) byte)
+    with_page memory (address / 256)
+    (with_byte_at (get memory (address / 256)) (address % 256) byte)
 
 -- The codes of bytes and pages, by which they are told apart.
 abbrev pub byte_to_sum : Byte → ℕ ⊎ ℕ
@@ -90,7 +91,8 @@ abbrev pub byte_code : Coded Byte
 byte_code = code_by (ℕ ⊎ ℕ) (coded⊎ coded_ℕ coded_ℕ) byte_to_sum byte_of_sum byte_again
 
 abbrev pub symbolic_page_code : Coded SymbolicPage
-symbolic_page_code = code_by (ℕ × List Byte) (coded× coded_ℕ (coded_list byte_code)) (λ p. (p.flags, p.bytes)) (λ c. record { flags = c.0; bytes = c.1 }) (λ _. refl)
+symbolic_page_code = code_by (ℕ × List Byte) (coded× coded_ℕ (coded_list byte_code))
+    (λ p. (p.flags, p.bytes)) (λ c. record { flags = c.0; bytes = c.1 }) (λ _. refl)
 
 abbrev pub memory_code : Coded SymbolicMemory
 memory_code = code coded_ℕ symbolic_page_code

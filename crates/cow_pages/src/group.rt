@@ -50,7 +50,8 @@ fn share_page(page: &Option<Arc<Page>>) -> Result<Option<Arc<Page>>, NoMemory>
 /// share the page, a copy of its own gets it.
 fn write_page(page: &mut Option<Arc<Page>>, offset: u8, byte: Byte) -> Result<bool, NoMemory>
     ensures there { IfOk result (λ there. there ≡ is_some (shared_page page.old)) }
-    ensures ok { OnOk result (shared_page page.new ≡ with_byte_at (shared_page page.old) offset byte) }
+    ensures ok { OnOk result (shared_page page.new
+        ≡ with_byte_at (shared_page page.old) offset byte) }
     ensures err { OnErr result (shared_page page.new ≡ shared_page page.old) }
 {
     match page {

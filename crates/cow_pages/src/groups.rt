@@ -54,7 +54,8 @@ fn write_byte(
     byte: Byte,
 ) -> Result<bool, NoMemory>
     requires { place < 64 }
-    ensures there { IfOk result (λ there. there ≡ is_some (page_at_place (arc_value group.old) place)) }
+    ensures there { IfOk result (λ there. there
+        ≡ is_some (page_at_place (arc_value group.old) place)) }
     ensures ok { OnOk result
         (arc_value group.new ≡ with_byte_in (arc_value group.old) place offset byte) }
     ensures err { OnErr result (arc_value group.new ≡ arc_value group.old) }
@@ -149,7 +150,8 @@ impl GroupList {
     /// Puts a page to its place.
     pub(crate) fn add_page(&mut self, number: u32, page: Page) -> Result<(), NoMemory>
         requires { HasAllBytes page }
-        ensures ok { OnOk result (memory_in self.new ≡ map.insert (memory_in self.old) number page) }
+        ensures ok { OnOk result (memory_in self.new
+            ≡ map.insert (memory_in self.old) number page) }
         ensures err { OnErr result (memory_in self.new ≡ memory_in self.old) }
     {
         let page = Arc::new(*self.groups.allocator(), page)?;
@@ -163,9 +165,11 @@ impl GroupList {
 
     /// Puts a byte to this address, if its page is here, and says whether it is.
     fn write(&mut self, address: u32, byte: Byte) -> Result<bool, NoMemory>
-        ensures there { IfOk result (λ there. there ≡ is_some (map.get (memory_in self.old) (address / 256))) }
+        ensures there { IfOk result (λ there. there
+            ≡ is_some (map.get (memory_in self.old) (address / 256))) }
         ensures whole { IfSome (map.get (memory_in self.old) (address / 256)) HasAllBytes }
-        ensures ok { OnOk result (memory_in self.new ≡ memory_with (memory_in self.old) address byte) }
+        ensures ok { OnOk result (memory_in self.new
+            ≡ memory_with (memory_in self.old) address byte) }
         ensures err { OnErr result (memory_in self.new ≡ memory_in self.old) }
     {
         let number = address / PAGE_SIZE;
@@ -187,9 +191,11 @@ impl GroupList {
         byte: Byte,
     ) -> Result<(), NoMemory>
         requires { IsSome (map.get (memory_over base.now self.old) (address / 256)) }
-        ensures whole { OnOk result (IfSome (map.get (memory_over base.now self.old) (address / 256)) HasAllBytes) }
+        ensures whole { OnOk result (IfSome
+            (map.get (memory_over base.now self.old) (address / 256)) HasAllBytes) }
         ensures ok { OnOk result
-            (memory_over base.now self.new ≡ memory_with (memory_over base.now self.old) address byte) }
+            (memory_over base.now self.new
+            ≡ memory_with (memory_over base.now self.old) address byte) }
         ensures err { OnErr result (memory_over base.now self.new ≡ memory_over base.now self.old) }
     {
         if self.write(address, byte)? {

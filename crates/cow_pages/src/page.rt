@@ -77,7 +77,8 @@ impl Content {
     /// The four bytes from this offset on as a word, low byte first, if all bytes are bare numbers.
     fn word(&self, offset: usize) -> Option<u32>
         requires { offset + 3 < length (content_bytes self.now) }
-        ensures { IfSome result (IsWordAt (λ at. slice_index_or (content_bytes self.now) at (Byte.Number 0)) offset) }
+        ensures { IfSome result (IsWordAt
+            (λ at. slice_index_or (content_bytes self.now) at (Byte.Number 0)) offset) }
     {
         match self {
             Content::Numbers(numbers) => Some(
@@ -109,7 +110,8 @@ impl Content {
     /// Puts a byte at this offset.
     fn set(&mut self, offset: usize, byte: Byte) -> Result<(), NoMemory>
         requires { offset < length (content_bytes self.old) }
-        ensures ok { OnOk result (content_bytes self.new ≡ slice_set (content_bytes self.old) offset byte) }
+        ensures ok { OnOk result (content_bytes self.new
+            ≡ slice_set (content_bytes self.old) offset byte) }
         ensures err { OnErr result (content_bytes self.new ≡ content_bytes self.old) }
     {
         match self {
@@ -134,7 +136,8 @@ impl Page {
     /// A page of these numbers.
     pub(crate) fn of_numbers(alloc: Global, flags: u8, numbers: &[u8]) -> Result<Page, NoMemory>
         requires { length numbers.now ≡ 256 }
-        ensures { IfOk result (λ page. page ≡ record { flags = flags; bytes = number_bytes numbers.now }) }
+        ensures { IfOk result (λ page. page
+            ≡ record { flags = flags; bytes = number_bytes numbers.now }) }
     {
         Ok(Page {
             flags,

@@ -51,7 +51,8 @@ pub(crate) fn push_to<T: Copy>(
     value: T,
 ) -> Result<(), NoMemory>
     requires { len ≤ vec_len (arc_value chunk.old) }
-    ensures ok { OnOk result ((arc_value chunk.new).items ≡ take len (arc_value chunk.old).items ++ value ∷ []) }
+    ensures ok { OnOk result ((arc_value chunk.new).items
+        ≡ take len (arc_value chunk.old).items ++ value ∷ []) }
     ensures err { OnErr result ((arc_value chunk.new).items ≡ (arc_value chunk.old).items) }
 {
     if let Some(items) = Arc::get_mut(chunk) {
@@ -71,7 +72,8 @@ pub(crate) fn set_in<T: Copy>(
     value: T,
 ) -> Result<(), NoMemory>
     requires { i < vec_len (arc_value chunk.old) }
-    ensures ok { OnOk result ((arc_value chunk.new).items ≡ slice_set (arc_value chunk.old).items i value) }
+    ensures ok { OnOk result ((arc_value chunk.new).items
+        ≡ slice_set (arc_value chunk.old).items i value) }
     ensures err { OnErr result ((arc_value chunk.new).items ≡ (arc_value chunk.old).items) }
 {
     if let Some(items) = Arc::get_mut(chunk) {

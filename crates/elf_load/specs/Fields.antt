@@ -40,7 +40,8 @@ program_header_at bytes at = record {
 
 -- the program headers, each of 32 bytes
 unfoldable pub headers : List ℕ → List ProgramHeader
-headers bytes = map (λ i. program_header_at bytes ((header_of bytes).table_offset + 32 * i)) (range_with_len 0 (header_of bytes).row_count)
+headers bytes = map (λ i. program_header_at bytes ((header_of bytes).table_offset + 32 * i))
+    (range_with_len 0 (header_of bytes).row_count)
 
 -- PT_LOAD
 abbrev pub is_loaded : ProgramHeader → Bool

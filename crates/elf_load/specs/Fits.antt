@@ -14,7 +14,8 @@ is_in_image image address = nat_lt address 4294967296 && contains_key image.page
 
 -- one of its bytes is on no mapped page
 abbrev pub is_unmapped : Image → Region → Bool
-is_unmapped image r = list_any (λ address. not (is_in_image image address)) (range_with_len r.start r.count)
+is_unmapped image r = list_any (λ address. not (is_in_image image address))
+    (range_with_len r.start r.count)
 
 -- two regions share an address
 abbrev pub share_byte : Region → Region → Bool

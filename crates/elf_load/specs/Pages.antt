@@ -14,7 +14,8 @@ flags_in None = 0
 flags_in (Some p) = p.flags
 
 -- what these areas have at a page's number
-pub record IsPage (bytes : List ℕ) (areas : List ProgramHeader) (number : ℕ) (found : Option Page) : Type 0 where
+pub record IsPage (bytes : List ℕ) (areas : List ProgramHeader) (number : ℕ)
+    (found : Option Page) : Type 0 where
   pub mapped : is_some found ≡ is_touched areas number
   pub flags : flags_in found ≡ page_flags areas number
   pub content : (i : ℕ) → i < 256 → byte_in found i ≡ byte_at bytes areas (256 * number + i)

@@ -20,7 +20,9 @@ refused_short bytes = nat_lt (length bytes) 52
 
 -- EI_MAG0 to EI_MAG3
 abbrev pub refused_magic : List ℕ → Bool
-refused_magic bytes = not (slice_index bytes 0 == 0x7F && slice_index bytes 1 == 0x45 && slice_index bytes 2 == 0x4C && slice_index bytes 3 == 0x46)
+refused_magic bytes = not
+    (slice_index bytes 0 == 0x7F && slice_index bytes 1 == 0x45 && slice_index bytes 2 == 0x4C
+    && slice_index bytes 3 == 0x46)
 
 -- EI_CLASS is not ELFCLASS32
 abbrev pub refused_class : List ℕ → Bool
@@ -48,11 +50,14 @@ refused_flags bytes = not (bit_and (header_of bytes).flags 0x9 == 0)
 
 -- the size of the header, or that of a program header where there is one, is not the standard's
 abbrev pub refused_header_size : List ℕ → Bool
-refused_header_size bytes = not ((header_of bytes).header_size == 52) || (not ((header_of bytes).row_count == 0) && not ((header_of bytes).row_size == 32))
+refused_header_size bytes =
+    not ((header_of bytes).header_size == 52)
+    || (not ((header_of bytes).row_count == 0) && not ((header_of bytes).row_size == 32))
 
 -- the table of program headers passes the end
 abbrev pub refused_headers_past_end : List ℕ → Bool
-refused_headers_past_end bytes = nat_lt (length bytes) ((header_of bytes).table_offset + 32 * (header_of bytes).row_count)
+refused_headers_past_end bytes =
+    nat_lt (length bytes) ((header_of bytes).table_offset + 32 * (header_of bytes).row_count)
 
 -- the first of the rows on the header
 unfoldable pub header_refusal : List ℕ → Option Refused
@@ -80,7 +85,9 @@ refused_file_over_memory hs = list_any (λ h. is_loaded h && nat_lt h.memory_siz
 
 -- bytes past the end of a file of this length
 abbrev pub refused_bytes_past_end : ℕ → List ProgramHeader → Bool
-refused_bytes_past_end file_length hs = list_any (λ h. is_loaded h && (nat_lt 0 h.file_size && nat_lt file_length (h.offset + h.file_size))) hs
+refused_bytes_past_end file_length hs =
+    list_any (λ h. is_loaded h
+    && (nat_lt 0 h.file_size && nat_lt file_length (h.offset + h.file_size))) hs
 
 -- the first of the rows on program headers
 unfoldable pub program_refusal : ℕ → List ProgramHeader → Option Refused
@@ -122,7 +129,9 @@ first_refusal (Some refused) second = Some refused
 
 -- why a file is refused: the first row whose test holds
 unfoldable pub refusal : List ℕ → Option Refused
-refusal bytes = first_refusal (header_refusal bytes) (first_refusal (program_refusal (length bytes) (headers bytes)) (segment_refusal (segments bytes)))
+refusal bytes = first_refusal (header_refusal bytes)
+    (first_refusal (program_refusal (length bytes) (headers bytes))
+    (segment_refusal (segments bytes)))
 
 -- a load may end in this error: it was refused memory, or the file is refused so
 abbrev pub MayFail : Option Refused → LoadError → Type 0

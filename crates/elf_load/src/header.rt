@@ -128,7 +128,9 @@ impl ProgramHeader {
 
     /// It is for loading, and has bytes past the end of a file of this length.
     pub fn has_bytes_past(&self, file_length: usize) -> bool
-        ensures { result ≡ (is_loaded self.now && (nat_lt 0 self.now.file_size && nat_lt file_length (self.now.offset + self.now.file_size))) }
+        ensures { result ≡ (is_loaded self.now
+            && (nat_lt 0 self.now.file_size
+            && nat_lt file_length (self.now.offset + self.now.file_size))) }
     {
         self.is_loaded()
             && self.file_size > 0

@@ -60,7 +60,8 @@ fn has_headers_past_end(bytes: &[u8], header: &Header) -> bool
 pub fn check_header(bytes: &[u8]) -> Result<Header, Refused>
     ensures header { IfOk result (λ header. header ≡ header_of bytes.now) }
     ensures whole { OnOk result (52 ≤ length bytes.now) }
-    ensures table { IfOk result (λ header. header.table_offset + 32 * header.row_count ≤ length bytes.now) }
+    ensures table { IfOk result (λ header. header.table_offset + 32 * header.row_count
+        ≤ length bytes.now) }
     ensures fine { OnOk result (header_refusal bytes.now ≡ None) }
     ensures refused { IfErr result (λ refused. header_refusal bytes.now ≡ Some refused) }
 {

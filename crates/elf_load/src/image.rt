@@ -79,7 +79,8 @@ impl Image {
 
     /// The byte at this address, if its page is mapped.
     pub fn byte(&self, address: u32) -> Option<u8>
-        ensures { result ≡ option_map (λ p. slice_index p.bytes (address % 256)) (map.get self.now.pages (address / 256)) }
+        ensures { result ≡ option_map (λ p. slice_index p.bytes (address % 256))
+            (map.get self.now.pages (address / 256)) }
     {
         let found = self.page(address / 256)?;
         Some(found.bytes[address as usize % PAGE_SIZE])

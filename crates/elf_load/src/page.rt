@@ -32,9 +32,12 @@ pub fn blank_page() -> Page
 fn put_bytes(page: &mut [u8], start: usize, area: &ProgramHeader, bytes: &[u8])
     requires size { length page.old ≡ 256 }
     requires in_memory { start < 2 ^ 32 }
-    requires given { 0 < area.now.file_size → area.now.offset + area.now.file_size ≤ length bytes.now }
+    requires given { 0 < area.now.file_size
+        → area.now.offset + area.now.file_size ≤ length bytes.now }
     ensures { (i : ℕ) → i < 256 →
-        slice_index page.new i ≡ (if gives_byte area.now (start + i) then slice_index bytes.now (area.now.offset + (start + i - area.now.address)) else slice_index page.old i) }
+        slice_index page.new i ≡ (if gives_byte area.now (start + i)
+        then slice_index bytes.now (area.now.offset + (start + i - area.now.address))
+        else slice_index page.old i) }
 {
     let address = area.address as usize;
     let from = start.max(address);
@@ -48,10 +51,14 @@ fn put_bytes(page: &mut [u8], start: usize, area: &ProgramHeader, bytes: &[u8])
 /// Adds what an area puts onto the page of this number.
 pub fn add_area(page: &mut Page, number: u32, area: &ProgramHeader, bytes: &[u8])
     requires in_memory { number < 2 ^ 24 }
-    requires given { 0 < area.now.file_size → area.now.offset + area.now.file_size ≤ length bytes.now }
+    requires given { 0 < area.now.file_size
+        → area.now.offset + area.now.file_size ≤ length bytes.now }
     ensures flags { page.new.flags ≡ bit_or (bit_and area.now.flags 7) page.old.flags }
     ensures content { (i : ℕ) → i < 256 →
-        slice_index page.new.bytes i ≡ (if gives_byte area.now (256 * number + i) then slice_index bytes.now (area.now.offset + (256 * number + i - area.now.address)) else slice_index page.old.bytes i) }
+        slice_index page.new.bytes i
+        ≡ (if gives_byte area.now (256 * number + i)
+        then slice_index bytes.now (area.now.offset + (256 * number + i - area.now.address))
+        else slice_index page.old.bytes i) }
     ensures size { length page.new.bytes ≡ 256 }
 {
     page.flags = (area.flags & 7) as u8 | page.flags;

@@ -17,7 +17,8 @@ use std::collections::BTreeMap;
 /// The page of this number, or a blank one where there is none.
 fn page_or_blank(pages: &BTreeMap<u32, Page>, number: u32) -> Page
     ensures flags { result.flags ≡ flags_in (tree.get nat_cmp pages.now number) }
-    ensures content { (i : ℕ) → slice_index result.bytes i ≡ byte_in (tree.get nat_cmp pages.now number) i }
+    ensures content { (i : ℕ)
+        → slice_index result.bytes i ≡ byte_in (tree.get nat_cmp pages.now number) i }
 {
     match pages.get(&number) {
         Some(page) => *page,
@@ -32,7 +33,8 @@ fn map_area(
     bytes: &[u8],
 ) -> Result<(), NoMemory>
     requires { IsPlaced (length bytes.now) area.now }
-    ensures { OnOk result ((areas : List ProgramHeader) → HoldsAreas bytes.now areas pages.old → HoldsAreas bytes.now (area.now ∷ areas) pages.new) }
+    ensures { OnOk result ((areas : List ProgramHeader) → HoldsAreas bytes.now areas pages.old
+        → HoldsAreas bytes.now (area.now ∷ areas) pages.new) }
 {
     let past = area.last_page() + 1;
     for number in area.first_page()..past {

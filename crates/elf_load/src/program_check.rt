@@ -53,7 +53,8 @@ pub fn check_program_headers(rows: &[ProgramHeader], file_length: usize) -> Resu
     ensures fine { OnOk result (program_refusal file_length rows.now ≡ None) }
     ensures over_none { OnOk result (refused_file_over_memory rows.now ≡ false) }
     ensures past_none { OnOk result (refused_bytes_past_end file_length rows.now ≡ false) }
-    ensures refused { IfErr result (λ refused. program_refusal file_length rows.now ≡ Some refused) }
+    ensures refused { IfErr result (λ refused. program_refusal file_length rows.now
+        ≡ Some refused) }
 {
     if any_dynamic(rows) {
         return Err(Refused::Dynamic);

@@ -41,23 +41,30 @@ is_among vs n = list_any (λ v. n == v) vs
 
 -- the leaf's condition without its last so many assertions
 abbrev pub all_but_last : ℕ → Leaf → Condition
-all_but_last count leaf = record { graph = leaf.condition.graph; asserted = take (length leaf.condition.asserted - count) leaf.condition.asserted }
+all_but_last count leaf =
+    record {
+      graph = leaf.condition.graph;
+      asserted = take (length leaf.condition.asserted - count) leaf.condition.asserted;
+    }
 
 -- on its assignment the other assertions hold, and the term has the value
-pub record IsWitness (regions : List Region) (leaf : Leaf) (count term : ℕ) (f : Found) : Type 0 where
+pub record IsWitness (regions : List Region) (leaf : Leaf) (count term : ℕ)
+    (f : Found) : Type 0 where
   pub assignment : IsAssignment regions f.input
   pub holds_others : holds (all_but_last count leaf) f.input ≡ true
   pub has_value : worth leaf f.input term ≡ f.value
 
 -- The budget of targets is spent: the term takes so many values, the leaf is what is left, and something is. The other sides of its fork are just these values.
-pub record SpendsTargets (regions : List Region) (targets : ℕ) (sides : List Choice) (leaf : Leaf) (spent : Spent) : Type 0 where
+pub record SpendsTargets (regions : List Region) (targets : ℕ) (sides : List Choice) (leaf : Leaf)
+    (spent : Spent) : Type 0 where
   pub wide : width_of leaf.condition.graph spent.term ≡ 32
   pub each : length spent.found ≡ targets
   pub asserted : targets ≤ length leaf.condition.asserted
   pub increasing : AreIncreasing (values_of spent.found)
   pub reached : All (IsWitness regions leaf targets spent.term) spent.found
   pub rest : (input : List ℕ) → IsAssignment regions input →
-      covers leaf input ≡ (holds (all_but_last targets leaf) input && not (is_among (values_of spent.found) (worth leaf input spent.term)))
+      covers leaf input ≡ (holds (all_but_last targets leaf) input
+      && not (is_among (values_of spent.found) (worth leaf input spent.term)))
   pub some : (input : List ℕ) × IsAssignment regions input × IsTrue (covers leaf input)
   pub others : sides ≡ map Value (values_of spent.found) ++ Rest ∷ []
 
@@ -70,7 +77,8 @@ pub record IsQuestion (q : Condition) : Type 0 where
 
 -- The budget of conflicts is spent on the last of the leaf's assertions: the question, which is over the bytes of the regions, is
 -- the part of the leaf's condition that matters for it, and just so many clauses were learnt for it.
-pub record SpendsConflicts (regions : List Region) (conflicts : ℕ) (leaf : Leaf) (learnt : Learnt) : Type 0 where
+pub record SpendsConflicts (regions : List Region) (conflicts : ℕ) (leaf : Leaf)
+    (learnt : Learnt) : Type 0 where
   pub front : List ℕ
   pub last : ℕ
   pub asserted : leaf.condition.asserted ≡ front ++ last ∷ []

@@ -35,7 +35,8 @@ abbrev pub standing_of : LeafNode → Standing
 standing_of l = record { choices = l.leaf.choices; status = IsLeaf; cut = cause_of l.leaf.end }
 
 -- The events are a walk that leaves nothing to be done. Each leaf is one of its leaves, with its choices and its cause, and there are no others.
-pub record IsHistory (workers targets : ℕ) (lines : List Line) (leaves : List LeafNode) : Type 0 where
+pub record IsHistory (workers targets : ℕ) (lines : List Line)
+    (leaves : List LeafNode) : Type 0 where
   pub nodes : List Standing
   pub walked : walk workers targets lines ≡ Some nodes
   pub quiet : is_quiet nodes ≡ true
@@ -44,7 +45,8 @@ pub record IsHistory (workers targets : ℕ) (lines : List Line) (leaves : List 
 
 -- a node is parted into kids with these choices, which are numbered from this node on
 abbrev pub IsSplitInto : (first : ℕ) → (choices : List Choice) → Deed (Option Cause) Sides → Type 0
-IsSplitInto first choices (Split sides) = (sides.first ≡ first) × (map (λ (side : Side). side.choice) sides.sides ≡ choices)
+IsSplitInto first choices (Split sides) = (sides.first ≡ first)
+    × (map (λ (side : Side). side.choice) sides.sides ≡ choices)
 IsSplitInto first choices _ = ⊥
 
 -- one of the events does so

@@ -16,7 +16,11 @@ pub record Place : Type 0 where
 
 -- the place of a leaf
 abbrev pub place_of : Leaf → Place
-place_of leaf = record { choices = leaf.choices; covers = λ input. are_bytes input && covers leaf input }
+place_of leaf = record {
+  choices = leaf.choices;
+  covers = λ input. are_bytes input
+      && covers leaf input;
+}
 
 -- the side that a decision takes
 abbrev pub side_of : Decision → Choice
@@ -58,17 +62,21 @@ pub record ArePlacesApart (decides : List ℕ → List Decision) (p q : Place) :
   pub c : Choice
   pub d : Choice
   pub first : FirstDiffer p.choices q.choices c d
-  pub part : (a b : List ℕ) → IsTrue (p.covers a) → IsTrue (q.covers b) → PartAt c d (decides a) (decides b)
+  pub part : (a b : List ℕ) → IsTrue (p.covers a) → IsTrue (q.covers b)
+      → PartAt c d (decides a) (decides b)
 
 -- two leaves part, by the decisions of at most so many steps
-pub record ArePartedLeaves (image : Image) (regions : List Region) (most : ℕ) (leaf other : Leaf) : Type 0 where
+pub record ArePartedLeaves (image : Image) (regions : List Region) (most : ℕ)
+    (leaf other : Leaf) : Type 0 where
   pub c : Choice
   pub d : Choice
   pub first : FirstDiffer leaf.choices other.choices c d
-  pub part : (a b : List ℕ) → IsAssignment regions a → IsTrue (covers leaf a) → IsAssignment regions b → IsTrue (covers other b) →
+  pub part : (a b : List ℕ) → IsAssignment regions a → IsTrue (covers leaf a)
+      → IsAssignment regions b → IsTrue (covers other b) →
       PartAt c d (decisions image regions a most) (decisions image regions b most)
 
 -- all assignments that a leaf covers make the same decisions in its steps
 abbrev pub DecidesAlike : Image → List Region → Leaf → Type 0
-DecidesAlike image regions leaf = (a b : List ℕ) → IsAssignment regions a → IsTrue (covers leaf a) → IsAssignment regions b → IsTrue (covers leaf b) →
+DecidesAlike image regions leaf = (a b : List ℕ) → IsAssignment regions a → IsTrue (covers leaf a)
+    → IsAssignment regions b → IsTrue (covers leaf b) →
     decisions image regions a leaf.steps ≡ decisions image regions b leaf.steps

@@ -28,17 +28,21 @@ pub record Part : Type 0 where
 
 -- A leaf is shown: by a sample, and where it was cut by targets by the values too. One that is cut by conflicts has no
 -- sample: it is shown by the question.
-abbrev pub Shows : List Region → Budgets → (sides : List Choice) → Leaf → LeafEnd → Option (List ℕ) → Option Evidence → Type 0
+abbrev pub Shows : List Region → Budgets → (sides : List Choice) → Leaf → LeafEnd → Option (List ℕ)
+    → Option Evidence → Type 0
 Shows regions budgets sides leaf (Exits status) (Some sample) None = IsSample regions leaf sample
 Shows regions budgets sides leaf (Traps trap) (Some sample) None = IsSample regions leaf sample
 Shows regions budgets sides leaf (Cut Steps) (Some sample) None = IsSample regions leaf sample
-Shows regions budgets sides leaf (Cut Targets) (Some sample) (Some (OnTargets spent)) = IsSample regions leaf sample × SpendsTargets regions budgets.targets sides leaf spent
-Shows regions budgets sides leaf (Cut Conflicts) None (Some (OnConflicts learnt)) = SpendsConflicts regions budgets.conflicts leaf learnt
+Shows regions budgets sides leaf (Cut Targets) (Some sample) (Some (OnTargets spent)) =
+    IsSample regions leaf sample × SpendsTargets regions budgets.targets sides leaf spent
+Shows regions budgets sides leaf (Cut Conflicts) None (Some (OnConflicts learnt)) =
+    SpendsConflicts regions budgets.conflicts leaf learnt
 Shows regions budgets sides leaf _ _ _ = ⊥
 
 -- A leaf is right, within these budgets and as a side of a fork with these choices, of none where it is no kid: it is one in full,
 -- over the bytes of the regions; its runs are as it says, and decide alike; and it is shown.
-pub record IsRight (image : Image) (regions : List Region) (budgets : Budgets) (sides : List Choice) (part : Part) : Type 0 where
+pub record IsRight (image : Image) (regions : List Region) (budgets : Budgets) (sides : List Choice)
+    (part : Part) : Type 0 where
   pub full : IsFull part.leaf
   pub inputs : part.leaf.condition.graph.inputs ≡ count_of regions
   pub faithful : IsFaithful image regions budgets.steps part.leaf

@@ -26,7 +26,9 @@ AreWithin most steps (Cut Targets) = steps < most
 AreWithin most steps (Cut Conflicts) = steps < most
 
 -- the run of each assignment that the leaf covers is as the leaf says
-pub record IsFaithful (image : Image) (regions : List Region) (most : ℕ) (leaf : Leaf) : Type 0 where
+pub record IsFaithful (image : Image) (regions : List Region) (most : ℕ)
+    (leaf : Leaf) : Type 0 where
   pub within : AreWithin most leaf.steps leaf.end
   pub runs : (input : List ℕ) → IsAssignment regions input → IsTrue (covers leaf input) →
-      IsRunOf (run image regions input leaf.steps) leaf.steps leaf.path (end_on leaf input leaf.end) (map (worth leaf input) leaf.outputs)
+      IsRunOf (run image regions input leaf.steps) leaf.steps leaf.path (end_on leaf input leaf.end)
+      (map (worth leaf input) leaf.outputs)

@@ -47,7 +47,8 @@ is_one_cut_at_most _ _ = false
 
 -- the two sides of a branch
 abbrev pub are_branch_sides : List Side → Bool
-are_branch_sides (first ∷ second ∷ []) = is_same first.choice No && is_same second.choice Yes && is_one_cut_at_most first.cut second.cut
+are_branch_sides (first ∷ second ∷ []) = is_same first.choice No && is_same second.choice Yes
+    && is_one_cut_at_most first.cut second.cut
 are_branch_sides _ = false
 
 -- the value of a side that isn't cut
@@ -128,7 +129,11 @@ side_status (Some cause) = Leaf
 
 -- a side of the fork at the node that these choices lead to
 abbrev pub side_at : List Choice → Side → Standing
-side_at choices side = record { choices = choices ++ side.choice ∷ []; status = side_status side.cut; cut = side.cut }
+side_at choices side = record {
+  choices = choices ++ side.choice ∷ [];
+  status = side_status side.cut;
+  cut = side.cut;
+}
 
 -- the nodes that come behind the others
 abbrev pub side_births : List Choice → Deed (Option Cause) Sides → List Standing
@@ -138,24 +143,29 @@ side_births choices _ = []
 -- the nodes after an event on this one of them
 abbrev pub done_on : List Standing → Line → Standing → List Standing
 done_on nodes line node =
-    slice_set nodes line.node (record node { status = left_by line.by line.deed; cut = cut_by line.deed })
+    slice_set nodes line.node
+    (record node { status = left_by line.by line.deed; cut = cut_by line.deed })
     ++ side_births node.choices line.deed
 
 -- whether the event may come, on this one of the nodes: its worker is one of so many and may do it, and it is in form
 abbrev pub may_come : (workers targets : ℕ) → List Standing → Line → Standing → Bool
 may_come workers targets nodes line node =
-    nat_lt line.by workers && allows node.status line.by line.deed && is_in_form targets (length nodes) line.deed
+    nat_lt line.by workers && allows node.status line.by line.deed
+    && is_in_form targets (length nodes) line.deed
 
 -- the nodes after an event, and none where it may not come
 unfoldable pub walk_step : (workers targets : ℕ) → List Standing → Line → Option (List Standing)
 walk_step workers targets nodes line =
-    option_and_then (λ node. if may_come workers targets nodes line node then Some (done_on nodes line node) else None) (slice_get nodes line.node)
+    option_and_then (λ node. if may_come workers targets nodes line node
+    then Some (done_on nodes line node) else None) (slice_get nodes line.node)
 
 -- the nodes after more events, and none from the first on that may not come
-unfoldable pub walk_from : (workers targets : ℕ) → List Standing → List Line → Option (List Standing)
+unfoldable pub walk_from : (workers targets : ℕ) → List Standing → List Line
+    → Option (List Standing)
 walk_from workers targets nodes [] = Some nodes
 walk_from workers targets nodes (line ∷ lines) =
-    option_and_then (λ next. walk_from workers targets next lines) (walk_step workers targets nodes line)
+    option_and_then (λ next. walk_from workers targets next lines)
+    (walk_step workers targets nodes line)
 
 -- the nodes after all events, from the root on
 abbrev pub walk : (workers targets : ℕ) → List Line → Option (List Standing)

@@ -18,7 +18,8 @@ parts first sides = Split (record { first = first; sides = sides })
 abbrev pub branch_lines : List Line
 branch_lines =
     line 0 0 Claim
-    ∷ line 0 0 (parts 1 (record { choice = No; cut = None } ∷ record { choice = Yes; cut = Some Conflicts } ∷ []))
+    ∷ line 0 0 (parts 1 (record { choice = No; cut = None }
+    ∷ record { choice = Yes; cut = Some Conflicts } ∷ []))
     ∷ line 1 1 Claim
     ∷ line 1 1 Release
     ∷ line 0 1 Claim

@@ -11,19 +11,23 @@ ghost use Rattle.fork_spec.specs.WorkedWalks.{branch_lines, branch_nodes, claime
 pub fn a_walk_goes_on_from_its_first_events()
     ensures { (workers targets : ℕ) (nodes : List Standing) (first more : List Line)
         → walk_from workers targets nodes (first ++ more)
-        ≡ option_and_then (λ reached. walk_from workers targets reached more) (walk_from workers targets nodes first) }
+        ≡ option_and_then (λ reached. walk_from workers targets reached more)
+        (walk_from workers targets nodes first) }
 {}
 
 /// A node may part into the values of a term, two at least and no more than there may be, by increasing value.
 pub fn a_node_may_part_into_values()
-    ensures { (targets : ℕ) (values : List ℕ) → IsTrue (is_increasing values) → IsTrue (are_small values) → 2 ≤ length values → length values ≤ targets
+    ensures { (targets : ℕ) (values : List ℕ) → IsTrue (is_increasing values)
+        → IsTrue (are_small values) → 2 ≤ length values → length values ≤ targets
         → IsTrue (are_sides targets (map value_side values)) }
 {}
 
 /// It may also part into one value or more and the rest, for each cause that may cut the rest.
 pub fn a_node_may_part_into_values_and_the_rest()
-    ensures { (targets : ℕ) (values : List ℕ) (cut : Option Cause) → IsTrue (is_increasing values) → IsTrue (are_small values) → 1 ≤ length values → length values ≤ targets
-        → IsTrue (is_rest_cut targets (length values) cut) → IsTrue (are_sides targets (map value_side values ++ rest_side cut ∷ [])) }
+    ensures { (targets : ℕ) (values : List ℕ) (cut : Option Cause) → IsTrue (is_increasing values)
+        → IsTrue (are_small values) → 1 ≤ length values → length values ≤ targets
+        → IsTrue (is_rest_cut targets (length values) cut)
+        → IsTrue (are_sides targets (map value_side values ++ rest_side cut ∷ [])) }
 {}
 
 /// Two walks, followed by hand: with two workers and a budget of two values.
@@ -44,12 +48,19 @@ pub fn worked_refusals()
     ensures claimed_twice { walk 2 2 (claimed_and 1 Claim) ≡ None }
     ensures held_by_another { walk 2 2 (claimed_and 1 (Finish None)) ≡ None }
     ensures cut_by_targets { walk 2 2 (claimed_and 0 (Cut (Some Targets))) ≡ None }
-    ensures wrong_first_kid { walk 2 2 (claimed_and 0 (parts 2 (value_side 7 ∷ value_side 9 ∷ []))) ≡ None }
+    ensures wrong_first_kid { walk 2 2 (claimed_and 0 (parts 2 (value_side 7 ∷ value_side 9 ∷ [])))
+        ≡ None }
     ensures one_kid { walk 2 2 (claimed_and 0 (parts 1 (value_side 7 ∷ []))) ≡ None }
-    ensures rest_alone { walk 2 2 (claimed_and 0 (parts 1 (rest_side (Some Conflicts) ∷ []))) ≡ None }
-    ensures not_increasing { walk 2 2 (claimed_and 0 (parts 1 (value_side 9 ∷ value_side 7 ∷ []))) ≡ None }
-    ensures too_large { walk 2 2 (claimed_and 0 (parts 1 (value_side 7 ∷ value_side (2 ^ 32) ∷ []))) ≡ None }
-    ensures too_many { walk 2 2 (claimed_and 0 (parts 1 (value_side 7 ∷ value_side 8 ∷ value_side 9 ∷ []))) ≡ None }
-    ensures too_few { walk 2 2 (claimed_and 0 (parts 1 (value_side 7 ∷ rest_side (Some Targets) ∷ []))) ≡ None }
-    ensures open_rest { walk 2 2 (claimed_and 0 (parts 1 (value_side 7 ∷ rest_side None ∷ []))) ≡ None }
+    ensures rest_alone { walk 2 2 (claimed_and 0 (parts 1 (rest_side (Some Conflicts) ∷ [])))
+        ≡ None }
+    ensures not_increasing { walk 2 2 (claimed_and 0 (parts 1 (value_side 9 ∷ value_side 7 ∷ [])))
+        ≡ None }
+    ensures too_large { walk 2 2 (claimed_and 0 (parts 1 (value_side 7 ∷ value_side (2 ^ 32) ∷ [])))
+        ≡ None }
+    ensures too_many { walk 2 2
+        (claimed_and 0 (parts 1 (value_side 7 ∷ value_side 8 ∷ value_side 9 ∷ []))) ≡ None }
+    ensures too_few { walk 2 2
+        (claimed_and 0 (parts 1 (value_side 7 ∷ rest_side (Some Targets) ∷ []))) ≡ None }
+    ensures open_rest { walk 2 2 (claimed_and 0 (parts 1 (value_side 7 ∷ rest_side None ∷ [])))
+        ≡ None }
 {}

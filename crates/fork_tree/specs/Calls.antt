@@ -35,7 +35,8 @@ module _ {S L : Type 0} where
   abbrev pub claim_event : ℕ → ℕ → Event (Content S L) (Vec (Kid (Content S L)))
   claim_event by node = record { by = by; node = node; deed = ClaimIt }
 
-  abbrev pub split_event : ℕ → ℕ → Vec (Kid (Content S L)) → Event (Content S L) (Vec (Kid (Content S L)))
+  abbrev pub split_event : ℕ → ℕ → Vec (Kid (Content S L))
+      → Event (Content S L) (Vec (Kid (Content S L)))
   split_event by node kids = record { by = by; node = node; deed = Split kids }
 
   abbrev pub finish_event : ℕ → ℕ → L → Event (Content S L) (Vec (Kid (Content S L)))

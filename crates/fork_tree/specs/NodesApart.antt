@@ -17,20 +17,28 @@ pub record IsBelow (p q : Place) : Type 0 where
   pub within : (input : List ℕ) → IsTrue (p.covers input) → IsTrue (q.covers input)
 
 -- any two of these kids are apart
-abbrev pub AreKidsApart : {R : Type 0} → (place : R → Place) → (List ℕ → List Decision) → List (Kid R) → Type 0
-AreKidsApart {R} place decides kids = (i j : ℕ) (a b : Kid R) → i ≢ j → slice_get kids i ≡ Some a → slice_get kids j ≡ Some b →
+abbrev pub AreKidsApart : {R : Type 0} → (place : R → Place) → (List ℕ → List Decision)
+    → List (Kid R) → Type 0
+AreKidsApart {R} place decides kids = (i j : ℕ) (a b : Kid R) → i ≢ j → slice_get kids i ≡ Some a
+    → slice_get kids j ≡ Some b →
     ArePlacesApart decides (place a.content) (place b.content)
 
 -- any two nodes of a story that have no kids are apart
-abbrev pub AreNodesApart : {R : Type 0} → (place : R → Place) → (List ℕ → List Decision) → Story R → Type 0
-AreNodesApart {R} place decides s = (m k : ℕ) (a b : R) → m ≢ k → m < length s.nodes → k < length s.nodes →
-    is_live (status s m) ≡ true → is_live (status s k) ≡ true → content s m ≡ Some a → content s k ≡ Some b →
+abbrev pub AreNodesApart : {R : Type 0} → (place : R → Place) → (List ℕ → List Decision) → Story R
+    → Type 0
+AreNodesApart {R} place decides s = (m k : ℕ) (a b : R) → m ≢ k → m < length s.nodes
+    → k < length s.nodes →
+    is_live (status s m) ≡ true → is_live (status s k) ≡ true → content s m ≡ Some a
+    → content s k ≡ Some b →
     ArePlacesApart decides (place a) (place b)
 
 -- what a deed makes of a node with this content is under it, and kids are apart
-abbrev pub KeepsApart : {R : Type 0} → (place : R → Place) → (List ℕ → List Decision) → R → Deed R (Vec (Kid R)) → Type 0
+abbrev pub KeepsApart : {R : Type 0} → (place : R → Place) → (List ℕ → List Decision) → R
+    → Deed R (Vec (Kid R)) → Type 0
 KeepsApart place decides r Claim = Unit {0}
-KeepsApart {R} place decides r (Split kids) = All (λ (kid : Kid R). IsBelow (place kid.content) (place r)) kids.items × AreKidsApart place decides kids.items
+KeepsApart {R} place decides r (Split kids) =
+    All (λ (kid : Kid R). IsBelow (place kid.content) (place r)) kids.items
+    × AreKidsApart place decides kids.items
 KeepsApart place decides r (Finish leaf) = IsBelow (place leaf) (place r)
 KeepsApart place decides r (Cut leaf) = IsBelow (place leaf) (place r)
 KeepsApart place decides r Release = Unit {0}

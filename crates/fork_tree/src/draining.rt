@@ -25,10 +25,13 @@ pub fn drain<W: Work>(
 ) -> Result<(), NoMemory>
     requires none_held { held_count tree.old.story ≡ 0 }
     ensures worker { tree.new.worker ≡ tree.old.worker }
-    ensures drained { OnOk result (IsDrained (W.rules tree.old.worker) W.State.place W.Leaf.place tree.new.story) }
+    ensures drained { OnOk result (IsDrained
+        (W.rules tree.old.worker) W.State.place W.Leaf.place tree.new.story) }
     ensures grows { GrowsBy by tree.old.story tree.new.story }
-    ensures none_given_up { OnOk result ((k : ℕ) → releases_by k tree.new.story.events ≡ releases_by k tree.old.story.events) }
-    ensures one_given_up { OnErr result ((k : ℕ) → releases_by k tree.new.story.events ≤ releases_by k tree.old.story.events + 1) }
+    ensures none_given_up { OnOk result ((k : ℕ)
+        → releases_by k tree.new.story.events ≡ releases_by k tree.old.story.events) }
+    ensures one_given_up { OnErr result ((k : ℕ)
+        → releases_by k tree.new.story.events ≤ releases_by k tree.old.story.events + 1) }
     ensures none_held { held_count tree.new.story ≡ 0 }
 {
     while work_next(rt, alloc, tree, by)? {}
@@ -47,9 +50,13 @@ fn work_next<W: Work>(
     ensures worker { tree.new.worker ≡ tree.old.worker }
     ensures none_held { held_count tree.new.story ≡ 0 }
     ensures grows { GrowsBy by tree.old.story tree.new.story }
-    ensures none_given_up { OnOk result ((k : ℕ) → releases_by k tree.new.story.events ≡ releases_by k tree.old.story.events) }
-    ensures one_given_up { OnErr result ((k : ℕ) → releases_by k tree.new.story.events ≤ releases_by k tree.old.story.events + 1) }
-    ensures less { result ≡ Ok true → fuel (W.rules tree.old.worker) tree.new.story < fuel (W.rules tree.old.worker) tree.old.story }
+    ensures none_given_up { OnOk result ((k : ℕ)
+        → releases_by k tree.new.story.events ≡ releases_by k tree.old.story.events) }
+    ensures one_given_up { OnErr result ((k : ℕ)
+        → releases_by k tree.new.story.events ≤ releases_by k tree.old.story.events + 1) }
+    ensures less { result ≡ Ok true
+        → fuel (W.rules tree.old.worker) tree.new.story
+        < fuel (W.rules tree.old.worker) tree.old.story }
     ensures quiet { result ≡ Ok false → IsQuiet tree.new.story }
 {
     tree.reserve(0)?;
@@ -80,9 +87,13 @@ fn enter<W: Work>(
     ensures worker { tree.new.worker ≡ tree.old.worker }
     ensures held { held_count tree.new.story + 1 ≡ held_count tree.old.story }
     ensures grows { GrowsBy by tree.old.story tree.new.story }
-    ensures none_given_up { OnOk result ((k : ℕ) → releases_by k tree.new.story.events ≡ releases_by k tree.old.story.events) }
-    ensures one_given_up { OnErr result ((k : ℕ) → releases_by k tree.new.story.events ≤ releases_by k tree.old.story.events + 1) }
-    ensures less { OnOk result (fuel (W.rules tree.old.worker) tree.new.story < fuel (W.rules tree.old.worker) tree.old.story + ((W.rules tree.old.worker).targets + 2) ^ (W.rules tree.old.worker).left state.now) }
+    ensures none_given_up { OnOk result ((k : ℕ)
+        → releases_by k tree.new.story.events ≡ releases_by k tree.old.story.events) }
+    ensures one_given_up { OnErr result ((k : ℕ)
+        → releases_by k tree.new.story.events ≤ releases_by k tree.old.story.events + 1) }
+    ensures less { OnOk result (fuel (W.rules tree.old.worker) tree.new.story
+        < fuel (W.rules tree.old.worker) tree.old.story
+        + ((W.rules tree.old.worker).targets + 2) ^ (W.rules tree.old.worker).left state.now) }
 {
     tree.is_whole();
     match tree.worker().work(rt, alloc, &OpenGate, by, state) {

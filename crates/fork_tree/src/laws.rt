@@ -25,44 +25,66 @@ use crate::work::Work;
 
 /// What is written of the story of a tree is a walk that leads to its nodes: of one free root, and where an event that may come is noted.
 pub fn what_is_written_of_a_story_is_a_walk<R: Drop>()
-    ensures opening { (choices : R → List Choice) (cut : R → Option Cause) (targets : ℕ) (root : R) → choices root ≡ [] → IsWalked choices cut targets (opening root false) }
-    ensures noted { (choices : R → List Choice) (cut : R → Option Cause) (targets : ℕ) (s : Story R) (e : Event R (Vec (Kid R))) (r : R) → All (λ (x : Event R ℕ). x.node < length s.nodes) s.events
-        → e.node < length s.nodes → content s e.node ≡ Some r → IsTrue (is_allowed s e) → IsInForm choices cut targets r e.deed
+    ensures opening { (choices : R → List Choice) (cut : R → Option Cause) (targets : ℕ) (root : R)
+        → choices root ≡ [] → IsWalked choices cut targets (opening root false) }
+    ensures noted { (choices : R → List Choice) (cut : R → Option Cause) (targets : ℕ) (s : Story R)
+        (e : Event R (Vec (Kid R))) (r : R)
+        → All (λ (x : Event R ℕ). x.node < length s.nodes) s.events
+        → e.node < length s.nodes → content s e.node ≡ Some r → IsTrue (is_allowed s e)
+        → IsInForm choices cut targets r e.deed
         → IsWalked choices cut targets s → IsWalked choices cut targets (with_event s e) }
-    ensures lines { (cut : R → Option Cause) (s : Story R) (e : Event R (Vec (Kid R))) → nodes_after 1 s.events ≡ length s.nodes
-        → lines_of cut (with_event s e) ≡ lines_of cut s ++ record { by = e.by; node = e.node; deed = written_now cut (length s.nodes) e.deed } ∷ [] }
+    ensures lines { (cut : R → Option Cause) (s : Story R) (e : Event R (Vec (Kid R)))
+        → nodes_after 1 s.events ≡ length s.nodes
+        → lines_of cut (with_event s e)
+        ≡ lines_of cut s ++ record {
+          by = e.by;
+          node = e.node;
+          deed = written_now cut (length s.nodes) e.deed;
+        } ∷ [] }
 {}
 
 /// Where no node is free or held, the walk leaves nothing to be done, and has as many leaves as the tree.
 pub fn the_walk_of_a_quiet_story_is_quiet<R: Drop>()
-    ensures quiet { (choices : R → List Choice) (cut : R → Option Cause) (s : Story R) (nodes : List Standing) → AreNodesOf choices cut s nodes
+    ensures quiet { (choices : R → List Choice) (cut : R → Option Cause) (s : Story R)
+        (nodes : List Standing) → AreNodesOf choices cut s nodes
         → ((m : ℕ) → m < length s.nodes → is_settled (status s m) ≡ true) → is_quiet nodes ≡ true }
-    ensures leaves { (choices : R → List Choice) (cut : R → Option Cause) (s : Story R) (nodes : List Standing) → AreNodesOf choices cut s nodes
+    ensures leaves { (choices : R → List Choice) (cut : R → Option Cause) (s : Story R)
+        (nodes : List Standing) → AreNodesOf choices cut s nodes
         → count_by is_leaf nodes ≡ count_below (λ m. is_leaf_status (status s m)) (length s.nodes) }
 {}
 
 /// Nodes without kids are apart: of one free root, and where what an event makes of its node is under it and apart.
 pub fn nodes_without_kids_stay_apart<R: Drop>()
-    ensures opening { (place : R → Place) (decides : List ℕ → List Decision) (root : R) → AreNodesApart place decides (opening root false) }
-    ensures noted { (place : R → Place) (decides : List ℕ → List Decision) (s : Story R) (e : Event R (Vec (Kid R))) (r : R) → All (λ (x : Event R ℕ). x.node < length s.nodes) s.events
-        → e.node < length s.nodes → content s e.node ≡ Some r → IsTrue (is_allowed s e) → KeepsApart place decides r e.deed
+    ensures opening { (place : R → Place) (decides : List ℕ → List Decision) (root : R)
+        → AreNodesApart place decides (opening root false) }
+    ensures noted { (place : R → Place) (decides : List ℕ → List Decision) (s : Story R)
+        (e : Event R (Vec (Kid R))) (r : R)
+        → All (λ (x : Event R ℕ). x.node < length s.nodes) s.events
+        → e.node < length s.nodes → content s e.node ≡ Some r → IsTrue (is_allowed s e)
+        → KeepsApart place decides r e.deed
         → AreNodesApart place decides s → AreNodesApart place decides (with_event s e) }
 {}
 
 /// Where no node of a tree is free or held, a walk that leads to its nodes leaves nothing to be done, and has as many leaves as the
 /// tree.
 pub fn the_walk_of_a_quiet_tree_is_quiet<R: Drop>()
-    ensures quiet { (choices : R → List Choice) (cut : R → Option Cause) (s : Story R) (nodes : List Standing) → AreNodesOf choices cut s nodes
+    ensures quiet { (choices : R → List Choice) (cut : R → Option Cause) (s : Story R)
+        (nodes : List Standing) → AreNodesOf choices cut s nodes
         → IsQuiet s → is_quiet nodes ≡ true }
-    ensures leaves { (choices : R → List Choice) (cut : R → Option Cause) (s : Story R) (nodes : List Standing) → AreNodesOf choices cut s nodes
+    ensures leaves { (choices : R → List Choice) (cut : R → Option Cause) (s : Story R)
+        (nodes : List Standing) → AreNodesOf choices cut s nodes
         → count_by is_leaf nodes ≡ leaf_nodes s }
 {}
 
 /// A drained tree is a history of its leaves, where all of them are listed, for any number of workers that all of its workers are
 /// among.
 pub fn a_drained_tree_is_a_history<W: Work>()
-    ensures { (worker : W) (leaf_of : W.Leaf → Leaf) (s : Story (Content W.State W.Leaf)) (workers : ℕ) (entries : List LeafNode)
-        → IsDrained (W.rules worker) W.State.place W.Leaf.place s → All (λ (e : Event (Content W.State W.Leaf) ℕ). e.by < workers) s.events
-        → Reads (W.rules worker) W.Leaf.place leaf_of → All (IsLeafOf leaf_of s) entries → length entries ≡ leaf_nodes s
-        → IsHistory workers (W.rules worker).targets (lines_of (cut_in (W.rules worker).cut) s) entries }
+    ensures { (worker : W) (leaf_of : W.Leaf → Leaf) (s : Story (Content W.State W.Leaf))
+        (workers : ℕ) (entries : List LeafNode)
+        → IsDrained (W.rules worker) W.State.place W.Leaf.place s
+        → All (λ (e : Event (Content W.State W.Leaf) ℕ). e.by < workers) s.events
+        → Reads (W.rules worker) W.Leaf.place leaf_of → All (IsLeafOf leaf_of s) entries
+        → length entries ≡ leaf_nodes s
+        → IsHistory workers (W.rules worker).targets
+        (lines_of (cut_in (W.rules worker).cut) s) entries }
 {}

@@ -104,7 +104,8 @@ impl<W: Work> Tree<W> {
     pub fn claim(&mut self, by: u32) -> Result<Claim<W::State>, NoMemory>
         requires room { 2 ≤ self.old.event_room }
         ensures worker { self.new.worker ≡ self.old.worker }
-        ensures ok { IfOk result (λ claim. IsClaim (W.rules self.old.worker).IsWell self.old.story by claim self.new.story) }
+        ensures ok { IfOk result (λ claim. IsClaim
+            (W.rules self.old.worker).IsWell self.old.story by claim self.new.story) }
         ensures err { OnErr result (self.new.story ≡ self.old.story) }
     {
         let Some(node) = self.free.pop(by) else {
@@ -125,7 +126,8 @@ impl<W: Work> Tree<W> {
 
     /// Parts a node that the worker holds into kids.
     pub fn split(&mut self, by: u32, node: usize, kids: Vec<Kid<Content<W::State, W::Leaf>>>)
-        requires fit { IsSplitFit (W.rules self.old.worker) W.State.place W.Leaf.place self.old.story by node kids }
+        requires fit { IsSplitFit
+            (W.rules self.old.worker) W.State.place W.Leaf.place self.old.story by node kids }
         requires room { vec_len kids ≤ self.old.node_room }
         ensures worker { self.new.worker ≡ self.old.worker }
         ensures story { self.new.story ≡ with_event self.old.story (split_event by node kids) }
@@ -138,7 +140,8 @@ impl<W: Work> Tree<W> {
 
     /// Makes a node that the worker holds a leaf, where all its runs have ended.
     pub fn finish(&mut self, by: u32, node: usize, leaf: W::Leaf)
-        requires fit { IsEndFit (W.rules self.old.worker) W.State.place W.Leaf.place None self.old.story by node leaf }
+        requires fit { IsEndFit
+            (W.rules self.old.worker) W.State.place W.Leaf.place None self.old.story by node leaf }
         ensures worker { self.new.worker ≡ self.old.worker }
         ensures story { self.new.story ≡ with_event self.old.story (finish_event by node leaf) }
     {
@@ -148,7 +151,8 @@ impl<W: Work> Tree<W> {
 
     /// Makes a node that the worker holds a leaf, where it has spent its steps.
     pub fn cut(&mut self, by: u32, node: usize, leaf: W::Leaf)
-        requires fit { IsEndFit (W.rules self.old.worker) W.State.place W.Leaf.place (Some Steps) self.old.story by node leaf }
+        requires fit { IsEndFit (W.rules self.old.worker) W.State.place W.Leaf.place
+            (Some Steps) self.old.story by node leaf }
         ensures worker { self.new.worker ≡ self.old.worker }
         ensures story { self.new.story ≡ with_event self.old.story (cut_event by node leaf) }
     {
@@ -177,9 +181,11 @@ impl<W: Work> Tree<W> {
 
     /// At every moment the story follows the worker's rules, and is that of a core.
     pub fn is_whole(&self)
-        ensures follows { FollowsRules (W.rules self.now.worker) W.State.place W.Leaf.place self.now.story }
+        ensures follows { FollowsRules
+            (W.rules self.now.worker) W.State.place W.Leaf.place self.now.story }
         ensures replays { Replays ⟦<Content<W::State, W::Leaf> as Cover>⟧.covers self.now.story }
-        ensures partition { Partition ⟦<Content<W::State, W::Leaf> as Cover>⟧.covers self.now.story }
+        ensures partition { Partition ⟦<Content<W::State, W::Leaf> as Cover>⟧.covers
+            self.now.story }
         ensures named { All (λ e. e.node < length self.now.story.nodes) self.now.story.events }
     {
         let _ = self.core.events();

@@ -39,5 +39,6 @@ pub trait Work: Drop {
         state: &Self::State,
     ) -> Result<Parts<Self::State, Self::Leaf>, NoMemory>
         requires well { (rules self.now).IsWell state.now }
-        ensures { IfOk result (IsWorked (rules self.now) Self.State.place Self.Leaf.place state.now) };
+        ensures { IfOk result (IsWorked
+            (rules self.now) Self.State.place Self.Leaf.place state.now) };
 }

@@ -80,7 +80,8 @@ fn widen(lists: &mut Vec<VecDeque<usize>>, capacity: usize) -> Result<(), NoMemo
     requires fits { All (λ list. deque_len list ≤ capacity) lists.old.items }
     ensures count { length lists.new.items ≡ length lists.old.items }
     ensures nodes { flat_map deque_items lists.new.items ≡ flat_map deque_items lists.old.items }
-    ensures kept { (least : ℕ) → All (λ list. least ≤ deque_capacity list) lists.old.items → All (λ list. least ≤ deque_capacity list) lists.new.items }
+    ensures kept { (least : ℕ) → All (λ list. least ≤ deque_capacity list) lists.old.items
+        → All (λ list. least ≤ deque_capacity list) lists.new.items }
     ensures ok { OnOk result (All (λ list. capacity ≤ deque_capacity list) lists.new.items) }
 {
     for i in 0..lists.len() {

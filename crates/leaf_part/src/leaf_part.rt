@@ -99,9 +99,23 @@ impl LeafPart {
         sample: Option<Bytes>,
         evidence: Option<Evidence>,
     ) -> Result<LeafPart, NoMemory>
-        requires { IsFull (record { choices = choices.items; path = path.items; steps = steps; end = end; condition = condition; outputs = outputs.items }) }
+        requires { IsFull (record {
+          choices = choices.items;
+          path = path.items;
+          steps = steps;
+          end = end;
+          condition = condition;
+          outputs = outputs.items;
+        }) }
         ensures { IfOk result (λ part. part ≡ record {
-          leaf = record { choices = choices.items; path = path.items; steps = steps; end = end; condition = condition; outputs = outputs.items };
+          leaf = record {
+            choices = choices.items;
+            path = path.items;
+            steps = steps;
+            end = end;
+            condition = condition;
+            outputs = outputs.items;
+          };
           sample = sample;
           evidence = option_map evidence_of evidence;
         }) }

@@ -36,5 +36,6 @@ line_said said = NodeLine said.id said.width said.node
 
 -- whether the line may stand, where it is read with it
 abbrev pub IsPushed : Reading → LeafLine → Reading → Bool → Type 0
-IsPushed old line new true = (stands AmongNodes old line ≡ true) × (record new { place = behind_nodes new } ≡ with_line old line)
+IsPushed old line new true = (stands AmongNodes old line ≡ true)
+    × (record new { place = behind_nodes new } ≡ with_line old line)
 IsPushed old line new false = stands AmongNodes old line ≡ false

@@ -16,7 +16,8 @@ pub fn behind<'a>(text: &'a [u8], word: &str) -> Option<&'a [u8]>
 
 /// What the first of the words that the text begins with means.
 pub fn named<'a, X: Copy>(text: &'a [u8], table: &[(&str, X)]) -> Option<(X, &'a [u8])>
-    ensures { option_map (λ found. (found.0, found.1.now)) result ≡ spec.named (map (λ entry. (entry.0.now, entry.1)) table.now) text.now }
+    ensures { option_map (λ found. (found.0, found.1.now)) result
+        ≡ spec.named (map (λ entry. (entry.0.now, entry.1)) table.now) text.now }
 {
     for entry in table {
         let (word, meaning) = *entry;
@@ -72,7 +73,8 @@ pub fn one<'a>(text: &'a [u8], word: &str) -> Option<(u64, &'a [u8])>
 /// Two numbers, each before a word.
 #[tactic(auto, unfolding(text_parts::specs::Pieces::two))]
 pub fn two<'a>(text: &'a [u8], word: &str, other: &str) -> Option<((u64, u64), &'a [u8])>
-    ensures { option_map (λ found. (found.0, found.1.now)) result ≡ spec.two word.now other.now text.now }
+    ensures { option_map (λ found. (found.0, found.1.now)) result
+        ≡ spec.two word.now other.now text.now }
 {
     let (a, rest) = one(text, word)?;
     let (b, rest) = one(rest, other)?;
@@ -87,7 +89,8 @@ pub fn three<'a>(
     other: &str,
     third: &str,
 ) -> Option<((u64, u64, u64), &'a [u8])>
-    ensures { option_map (λ found. (found.0, found.1.now)) result ≡ spec.three word.now other.now third.now text.now }
+    ensures { option_map (λ found. (found.0, found.1.now)) result
+        ≡ spec.three word.now other.now third.now text.now }
 {
     let (a, rest) = one(text, word)?;
     let ((b, c), rest) = two(rest, other, third)?;

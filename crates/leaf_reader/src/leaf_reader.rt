@@ -24,7 +24,8 @@ impl LeafReading {
     /// The next line, whatever its kind, if it may stand.
     fn take_line<'a>(&mut self, alloc: Global, text: &'a [u8]) -> Result<Option<&'a [u8]>, NoMemory>
         requires { IsSoundReading (reading_of self.old) }
-        ensures { IfOk result (λ found. IsNextLine (reading_of self.old) text.now (reading_of self.new) (option_map (λ rest. rest.now) found)) }
+        ensures { IfOk result (λ found. IsNextLine (reading_of self.old) text.now
+            (reading_of self.new) (option_map (λ rest. rest.now) found)) }
     {
         match self.place {
             Spot::AtFormat => Ok(self.take_format(text)),
@@ -56,8 +57,10 @@ fn take_lines(
     text: &[u8],
 ) -> Result<Result<(), SmtRefused>, NoMemory>
     requires { reading_of reading.old ≡ start }
-    ensures whole { IfOk result (λ read. IfOk read (λ _. IsWhole text.now (reading_of reading.new))) }
-    ensures refused { IfOk result (λ read. IfErr read (λ refused. IsRefusedAt text.now refused.line)) }
+    ensures whole { IfOk result (λ read. IfOk read
+        (λ _. IsWhole text.now (reading_of reading.new))) }
+    ensures refused { IfOk result (λ read. IfErr read
+        (λ refused. IsRefusedAt text.now refused.line)) }
 {
     let mut lines: usize = 0;
     let mut rest = text;
@@ -79,8 +82,10 @@ fn take_lines(
 pub fn read_leaf(alloc: Global, text: &[u8]) -> Result<Result<LeafText, SmtRefused>, NoMemory>
     ensures is_its_text { IfOk result (λ read. IfOk read (λ leaf. text.now ≡ leaf_text leaf)) }
     ensures full { IfOk result (λ read. IfOk read (λ leaf. IsFull leaf)) }
-    ensures only { (leaf : Leaf) → IsFull leaf → text.now ≡ leaf_text leaf → IfOk result (λ read. read ≡ Ok leaf) }
-    ensures refused { IfOk result (λ read. IfErr read (λ refused. IsRefusedAt text.now refused.line)) }
+    ensures only { (leaf : Leaf) → IsFull leaf → text.now ≡ leaf_text leaf
+        → IfOk result (λ read. read ≡ Ok leaf) }
+    ensures refused { IfOk result (λ read. IfErr read
+        (λ refused. IsRefusedAt text.now refused.line)) }
 {
     let mut reading = LeafReading::new(alloc);
     match take_lines(alloc, &mut reading, text)? {

@@ -74,7 +74,8 @@ fn take_step(text: &[u8]) -> Option<(PathStep, &[u8])>
 
 /// All choices of a list.
 pub fn take_choices(alloc: Global, text: &[u8]) -> Result<Option<(Vec<Choice>, &[u8])>, NoMemory>
-    ensures { IfOk result (λ found. option_map (λ found. (found.0.items, found.1.now)) found ≡ spec.all_choices text.now) }
+    ensures { IfOk result (λ found. option_map (λ found. (found.0.items, found.1.now)) found
+        ≡ spec.all_choices text.now) }
 {
     let mut choices = Vec::new(alloc);
     let mut rest = text;
@@ -92,7 +93,8 @@ pub fn take_choices(alloc: Global, text: &[u8]) -> Result<Option<(Vec<Choice>, &
 
 /// All entries of a path.
 pub fn take_path(alloc: Global, text: &[u8]) -> Result<Option<(Vec<PathStep>, &[u8])>, NoMemory>
-    ensures { IfOk result (λ found. option_map (λ found. (found.0.items, found.1.now)) found ≡ spec.all_steps text.now) }
+    ensures { IfOk result (λ found. option_map (λ found. (found.0.items, found.1.now)) found
+        ≡ spec.all_steps text.now) }
 {
     let mut path = Vec::new(alloc);
     let mut rest = text;

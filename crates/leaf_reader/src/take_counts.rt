@@ -25,7 +25,8 @@ impl LeafReading {
     pub fn take_inputs<'a>(&mut self, alloc: Global, text: &'a [u8]) -> Option<&'a [u8]>
         requires here { self.old.place ≡ spot.AtInputs }
         requires no_nodes { self.old.dag.nodes ≡ [] }
-        ensures { IsNextLine (reading_of self.old) text.now (reading_of self.new) (option_map (λ rest. rest.now) result) }
+        ensures { IsNextLine (reading_of self.old) text.now (reading_of self.new)
+            (option_map (λ rest. rest.now) result) }
     {
         let (count, rest) = take_count(behind(text, "; inputs ")?)?;
         self.dag = Dag::new(alloc, count as usize);
@@ -37,7 +38,8 @@ impl LeafReading {
     #[tactic(auto, unfolding(smt_text::specs::LineReading::next_line, smt_text::specs::Grammar::next_state))]
     pub fn take_nodes<'a>(&mut self, text: &'a [u8]) -> Option<&'a [u8]>
         requires { self.old.place ≡ spot.AtNodes }
-        ensures { IsNextLine (reading_of self.old) text.now (reading_of self.new) (option_map (λ rest. rest.now) result) }
+        ensures { IsNextLine (reading_of self.old) text.now (reading_of self.new)
+            (option_map (λ rest. rest.now) result) }
     {
         let (count, rest) = one(behind(text, "; nodes ")?, "\n")?;
         self.node_count = count as usize;
@@ -49,7 +51,8 @@ impl LeafReading {
     #[tactic(auto, unfolding(smt_text::specs::LineReading::next_line, smt_text::specs::Grammar::next_state))]
     pub fn take_outputs<'a>(&mut self, text: &'a [u8]) -> Option<&'a [u8]>
         requires { self.old.place ≡ spot.AtOutputs }
-        ensures { IsNextLine (reading_of self.old) text.now (reading_of self.new) (option_map (λ rest. rest.now) result) }
+        ensures { IsNextLine (reading_of self.old) text.now (reading_of self.new)
+            (option_map (λ rest. rest.now) result) }
     {
         let (count, rest) = take_count(behind(text, "; outputs ")?)?;
         self.output_count = count as usize;
@@ -61,7 +64,8 @@ impl LeafReading {
     #[tactic(auto, unfolding(smt_text::specs::LineReading::next_line, smt_text::specs::Grammar::next_state))]
     pub fn take_logic<'a>(&mut self, text: &'a [u8]) -> Option<&'a [u8]>
         requires { self.old.place ≡ spot.AtLogic }
-        ensures { IsNextLine (reading_of self.old) text.now (reading_of self.new) (option_map (λ rest. rest.now) result) }
+        ensures { IsNextLine (reading_of self.old) text.now (reading_of self.new)
+            (option_map (λ rest. rest.now) result) }
     {
         let rest = behind(text, "(set-logic QF_ABV)\n")?;
         self.place = self.behind_inputs();
@@ -72,7 +76,8 @@ impl LeafReading {
     #[tactic(auto, unfolding(smt_text::specs::LineReading::next_line, smt_text::specs::Grammar::next_state))]
     pub fn take_base<'a>(&mut self, text: &'a [u8]) -> Option<&'a [u8]>
         requires { self.old.place ≡ spot.AtBase }
-        ensures { IsNextLine (reading_of self.old) text.now (reading_of self.new) (option_map (λ rest. rest.now) result) }
+        ensures { IsNextLine (reading_of self.old) text.now (reading_of self.new)
+            (option_map (λ rest. rest.now) result) }
     {
         let rest = behind(
             text,
@@ -86,7 +91,8 @@ impl LeafReading {
     #[tactic(auto, unfolding(smt_text::specs::LineReading::next_line, smt_text::specs::Grammar::next_state))]
     pub fn take_exit<'a>(&mut self, text: &'a [u8]) -> Option<&'a [u8]>
         requires { self.old.place ≡ spot.AtExit }
-        ensures { IsNextLine (reading_of self.old) text.now (reading_of self.new) (option_map (λ rest. rest.now) result) }
+        ensures { IsNextLine (reading_of self.old) text.now (reading_of self.new)
+            (option_map (λ rest. rest.now) result) }
     {
         let rest = behind(text, "(exit)\n")?;
         self.place = Spot::Closed;

@@ -66,7 +66,8 @@ impl LeafReading {
     #[tactic(auto, unfolding(smt_text::specs::LineReading::next_line, smt_text::specs::Grammar::next_state))]
     pub fn take_format<'a>(&mut self, text: &'a [u8]) -> Option<&'a [u8]>
         requires { self.old.place ≡ spot.AtFormat }
-        ensures { IsNextLine (reading_of self.old) text.now (reading_of self.new) (option_map (λ rest. rest.now) result) }
+        ensures { IsNextLine (reading_of self.old) text.now (reading_of self.new)
+            (option_map (λ rest. rest.now) result) }
     {
         let rest = behind(text, "; rvklee leaf 1\n")?;
         self.place = Spot::AtKind;
@@ -77,7 +78,8 @@ impl LeafReading {
     #[tactic(auto, unfolding(smt_text::specs::LineReading::next_line, smt_text::specs::Grammar::next_state))]
     pub fn take_kind<'a>(&mut self, text: &'a [u8]) -> Option<&'a [u8]>
         requires { self.old.place ≡ spot.AtKind }
-        ensures { IsNextLine (reading_of self.old) text.now (reading_of self.new) (option_map (λ rest. rest.now) result) }
+        ensures { IsNextLine (reading_of self.old) text.now (reading_of self.new)
+            (option_map (λ rest. rest.now) result) }
     {
         let (kind, rest) = kind_word(behind(text, "; kind ")?)?;
         self.kind = kind;
@@ -93,7 +95,8 @@ impl LeafReading {
         text: &'a [u8],
     ) -> Result<Option<&'a [u8]>, NoMemory>
         requires { self.old.place ≡ spot.AtChoices }
-        ensures { IfOk result (λ found. IsNextLine (reading_of self.old) text.now (reading_of self.new) (option_map (λ rest. rest.now) found)) }
+        ensures { IfOk result (λ found. IsNextLine (reading_of self.old) text.now
+            (reading_of self.new) (option_map (λ rest. rest.now) found)) }
     {
         let Some(list) = behind(text, "; choices ") else {
             return Ok(None);
@@ -114,7 +117,8 @@ impl LeafReading {
         text: &'a [u8],
     ) -> Result<Option<&'a [u8]>, NoMemory>
         requires { self.old.place ≡ spot.AtPath }
-        ensures { IfOk result (λ found. IsNextLine (reading_of self.old) text.now (reading_of self.new) (option_map (λ rest. rest.now) found)) }
+        ensures { IfOk result (λ found. IsNextLine (reading_of self.old) text.now
+            (reading_of self.new) (option_map (λ rest. rest.now) found)) }
     {
         let Some(list) = behind(text, "; path ") else {
             return Ok(None);
@@ -131,7 +135,8 @@ impl LeafReading {
     #[tactic(auto, unfolding(smt_text::specs::LineReading::next_line, smt_text::specs::Grammar::next_state))]
     pub fn take_steps<'a>(&mut self, text: &'a [u8]) -> Option<&'a [u8]>
         requires { self.old.place ≡ spot.AtSteps }
-        ensures { IsNextLine (reading_of self.old) text.now (reading_of self.new) (option_map (λ rest. rest.now) result) }
+        ensures { IsNextLine (reading_of self.old) text.now (reading_of self.new)
+            (option_map (λ rest. rest.now) result) }
     {
         let (steps, rest) = one(behind(text, "; steps ")?, "\n")?;
         self.steps = u32::try_from(steps).ok()?;
@@ -143,7 +148,8 @@ impl LeafReading {
     #[tactic(auto, unfolding(smt_text::specs::LineReading::next_line, smt_text::specs::Grammar::next_state))]
     pub fn take_end<'a>(&mut self, text: &'a [u8]) -> Option<&'a [u8]>
         requires { self.old.place ≡ spot.AtEnd }
-        ensures { IsNextLine (reading_of self.old) text.now (reading_of self.new) (option_map (λ rest. rest.now) result) }
+        ensures { IsNextLine (reading_of self.old) text.now (reading_of self.new)
+            (option_map (λ rest. rest.now) result) }
     {
         let (said, rest) = end_word(behind(text, "; end ")?)?;
         self.end = end_said(self.kind, said)?;

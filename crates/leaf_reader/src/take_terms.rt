@@ -24,7 +24,8 @@ struct NodeSaid {
 /// The line of a node, whatever its number and its width.
 #[tactic(auto, unfolding(smt_text::specs::LineReading::node_line))]
 fn node_said(text: &[u8]) -> Option<(NodeSaid, &[u8])>
-    ensures { option_map (λ found. (line_said found.0, found.1.now)) result ≡ spec.node_line text.now }
+    ensures { option_map (λ found. (line_said found.0, found.1.now)) result
+        ≡ spec.node_line text.now }
 {
     let rest = behind(text, "(define-fun n")?;
     let ((id, width), rest) = two(rest, " () (_ BitVec ", ") ")?;
@@ -58,7 +59,8 @@ impl LeafReading {
         requires here { self.old.place ≡ spot.AmongInputs }
         requires more { self.old.declared < self.old.dag.inputs }
         requires few { self.old.dag.inputs < 2 ^ 32 }
-        ensures { IsNextLine (reading_of self.old) text.now (reading_of self.new) (option_map (λ rest. rest.now) result) }
+        ensures { IsNextLine (reading_of self.old) text.now (reading_of self.new)
+            (option_map (λ rest. rest.now) result) }
     {
         let (i, rest) = one(behind(text, "(declare-fun b")?, " () (_ BitVec 8))\n")?;
         if i as usize != self.declared {
@@ -71,7 +73,8 @@ impl LeafReading {
 
     /// Puts the node behind the others, if it is the next and fits, and answers whether it is that wide.
     fn push_node(&mut self, said: NodeSaid) -> Result<bool, NoMemory>
-        ensures { IfOk result (λ yes. IsPushed (reading_of self.old) (line_said said) (reading_of self.new) yes) }
+        ensures { IfOk result (λ yes. IsPushed (reading_of self.old) (line_said said)
+            (reading_of self.new) yes) }
     {
         let id = self.dag.len();
         if said.id as usize != id || !self.dag.fits(&said.node) {
@@ -84,7 +87,8 @@ impl LeafReading {
     /// The next node.
     pub fn take_node<'a>(&mut self, text: &'a [u8]) -> Result<Option<&'a [u8]>, NoMemory>
         requires { self.old.place ≡ spot.AmongNodes }
-        ensures { IfOk result (λ found. IsNextLine (reading_of self.old) text.now (reading_of self.new) (option_map (λ rest. rest.now) found)) }
+        ensures { IfOk result (λ found. IsNextLine (reading_of self.old) text.now
+            (reading_of self.new) (option_map (λ rest. rest.now) found)) }
     {
         let Some((said, rest)) = node_said(text) else {
             return Ok(None);
@@ -100,7 +104,8 @@ impl LeafReading {
     #[tactic(auto, unfolding(smt_text::specs::LineReading::next_line, smt_text::specs::Grammar::next_state))]
     pub fn take_status<'a>(&mut self, text: &'a [u8]) -> Option<&'a [u8]>
         requires { self.old.place ≡ spot.AtStatus }
-        ensures { IsNextLine (reading_of self.old) text.now (reading_of self.new) (option_map (λ rest. rest.now) result) }
+        ensures { IsNextLine (reading_of self.old) text.now (reading_of self.new)
+            (option_map (λ rest. rest.now) result) }
     {
         let (id, rest) = one(behind(text, "(define-fun status () (_ BitVec 8) n")?, ")\n")?;
         let status = id as usize;
@@ -116,7 +121,8 @@ impl LeafReading {
     #[tactic(auto, unfolding(smt_text::specs::LineReading::next_line, smt_text::specs::Grammar::next_state))]
     pub fn take_output<'a>(&mut self, text: &'a [u8]) -> Result<Option<&'a [u8]>, NoMemory>
         requires { self.old.place ≡ spot.AmongOutputs }
-        ensures { IfOk result (λ found. IsNextLine (reading_of self.old) text.now (reading_of self.new) (option_map (λ rest. rest.now) found)) }
+        ensures { IfOk result (λ found. IsNextLine (reading_of self.old) text.now
+            (reading_of self.new) (option_map (λ rest. rest.now) found)) }
     {
         let Some(((i, id), rest)) = output_said(text) else {
             return Ok(None);
@@ -134,7 +140,8 @@ impl LeafReading {
     fn take_check<'a>(&mut self, text: &'a [u8]) -> Option<&'a [u8]>
         requires here { self.old.place ≡ spot.AmongAssertions }
         requires no_assertion { spec.assertion_said text.now ≡ None }
-        ensures { IsNextLine (reading_of self.old) text.now (reading_of self.new) (option_map (λ rest. rest.now) result) }
+        ensures { IsNextLine (reading_of self.old) text.now (reading_of self.new)
+            (option_map (λ rest. rest.now) result) }
     {
         let rest = behind(text, "(check-sat)\n")?;
         self.place = Spot::AtExit;
@@ -145,7 +152,8 @@ impl LeafReading {
     #[tactic(auto, unfolding(smt_text::specs::LineReading::next_line, smt_text::specs::Grammar::next_state))]
     pub fn take_assertion<'a>(&mut self, text: &'a [u8]) -> Result<Option<&'a [u8]>, NoMemory>
         requires { self.old.place ≡ spot.AmongAssertions }
-        ensures { IfOk result (λ found. IsNextLine (reading_of self.old) text.now (reading_of self.new) (option_map (λ rest. rest.now) found)) }
+        ensures { IfOk result (λ found. IsNextLine (reading_of self.old) text.now
+            (reading_of self.new) (option_map (λ rest. rest.now) found)) }
     {
         let Some((id, rest)) = assertion_said(text) else {
             return Ok(self.take_check(text));

@@ -46,7 +46,8 @@ fn take_head(text: &[u8]) -> Option<(Head, &[u8])>
 /// The value and the width of a number.
 #[tactic(auto, unfolding(smt_text::specs::LineReading::read_operands))]
 fn take_num(text: &[u8]) -> Option<(Node, &[u8])>
-    ensures { option_map (λ found. (found.0, found.1.now)) result ≡ spec.read_operands head.Num text.now }
+    ensures { option_map (λ found. (found.0, found.1.now)) result
+        ≡ spec.read_operands head.Num text.now }
 {
     let ((value, width), rest) = two(text, " ", ")")?;
     let width = u32::try_from(width).ok()?;
@@ -77,7 +78,8 @@ fn take_ite(text: &[u8]) -> Option<(Node, &[u8])>
 /// What follows the test of whether two terms are equal.
 #[tactic(auto, unfolding(smt_text::specs::LineReading::read_operands))]
 fn take_equal_or_ite(text: &[u8]) -> Option<(Node, &[u8])>
-    ensures { option_map (λ found. (found.0, found.1.now)) result ≡ spec.read_operands head.Equal text.now }
+    ensures { option_map (λ found. (found.0, found.1.now)) result
+        ≡ spec.read_operands head.Equal text.now }
 {
     match take_equal(text) {
         Some(found) => Some(found),
@@ -88,7 +90,8 @@ fn take_equal_or_ite(text: &[u8]) -> Option<(Node, &[u8])>
 /// The bounds and the operand of a part.
 #[tactic(auto, unfolding(smt_text::specs::LineReading::read_operands))]
 fn take_extract(text: &[u8]) -> Option<(Node, &[u8])>
-    ensures { option_map (λ found. (found.0, found.1.now)) result ≡ spec.read_operands head.Extract text.now }
+    ensures { option_map (λ found. (found.0, found.1.now)) result
+        ≡ spec.read_operands head.Extract text.now }
 {
     let ((high, low, operand), rest) = three(text, " ", ") n", ")")?;
     let node = Node::Extract {
@@ -102,7 +105,8 @@ fn take_extract(text: &[u8]) -> Option<(Node, &[u8])>
 /// By how many bits a term is extended, and which.
 #[tactic(auto, unfolding(smt_text::specs::LineReading::read_operands))]
 fn take_extend(signed: bool, text: &[u8]) -> Option<(Node, &[u8])>
-    ensures { option_map (λ found. (found.0, found.1.now)) result ≡ spec.read_operands (head.Extend signed) text.now }
+    ensures { option_map (λ found. (found.0, found.1.now)) result
+        ≡ spec.read_operands (head.Extend signed) text.now }
 {
     let ((by, operand), rest) = two(text, ") n", ")")?;
     let node = Node::Extend {
@@ -116,7 +120,8 @@ fn take_extend(signed: bool, text: &[u8]) -> Option<(Node, &[u8])>
 /// What stands behind the head of a term.
 #[tactic(auto, unfolding(smt_text::specs::LineReading::read_operands))]
 fn take_operands(head: Head, text: &[u8]) -> Option<(Node, &[u8])>
-    ensures { option_map (λ found. (found.0, found.1.now)) result ≡ spec.read_operands head text.now }
+    ensures { option_map (λ found. (found.0, found.1.now)) result
+        ≡ spec.read_operands head text.now }
 {
     match head {
         Head::Num => take_num(text),

@@ -10,7 +10,8 @@ use Rattle.node_split.specs.Copies.{AreCopies}
 use Rattle.node_split.specs.declared.leaf.LeafTerms.{LeafTerms}
 
 -- terms of 8 bits that are worth what these bytes are
-pub record AreTermsOfBytes (old : Graph) (bytes : List Byte) (new : Graph) (ids : List ℕ) : Type 0 where
+pub record AreTermsOfBytes (old : Graph) (bytes : List Byte) (new : Graph)
+    (ids : List ℕ) : Type 0 where
   pub eight_bits : AreBytes new ids
   pub worth : (input : List ℕ) → All (λ b. b < 256) input
       → map (λ id. number_of new id input) ids ≡ map (byte_worth old input) bytes

@@ -22,9 +22,13 @@ pub record Worker : Type 0 where
 
 -- the code of workers, by which they are told apart
 abbrev pub worker_code : Coded Worker
-worker_code = code_by (Program × (ℕ × (ℕ × ℕ))) (coded× program_code (coded× coded_ℕ (coded× coded_ℕ coded_ℕ)))
+worker_code = code_by (Program × (ℕ × (ℕ × ℕ)))
+    (coded× program_code (coded× coded_ℕ (coded× coded_ℕ coded_ℕ)))
     (λ w. (w.program, (w.budgets.steps, (w.budgets.targets, w.budgets.conflicts))))
-    (λ c. record { program = c.0; budgets = record { steps = c.1.0; targets = c.1.1.0; conflicts = c.1.1.1 } }) (λ _. refl)
+    (λ c. record {
+      program = c.0;
+      budgets = record { steps = c.1.0; targets = c.1.1.0; conflicts = c.1.1.1 };
+    }) (λ _. refl)
 
 -- runs are open with steps left; leaves are right as the report claims
 abbrev pub rules_of : Program → Budgets → Rules Symbolic Part

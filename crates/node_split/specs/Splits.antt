@@ -37,20 +37,24 @@ pub record IsRunOn (side : Choice) (run : Symbolic) (kid : Piece) : Type 0 where
   pub holds : HoldsRun kid.content run
 
 -- a side that is a run on which this test holds
-pub record IsSide (s : Symbolic) (choice : Choice) (test : List ℕ → Bool) (kid : Piece) : Type 0 where
+pub record IsSide (s : Symbolic) (choice : Choice) (test : List ℕ → Bool)
+    (kid : Piece) : Type 0 where
   pub run : Symbolic
   pub on : IsRunOn choice run kid
   pub narrower : IsNarrower s run choice test
 
 -- A side of a fork of a program's run into sides with these choices, a run or a leaf that is cut for this cause: it stands for
 -- those of the run's assignments that pass a test.
-pub record IsSideIn (p : Program) (budgets : Budgets) (sides : List Choice) (s : Symbolic) (choice : Choice) (cut : Option Cause)
+pub record IsSideIn (p : Program) (budgets : Budgets) (sides : List Choice) (s : Symbolic)
+    (choice : Choice) (cut : Option Cause)
     (test : List ℕ → Bool) (kid : Piece) : Type 0 where
   pub same : kid.choice ≡ choice
   pub placed : (content_place kid.content).choices ≡ s.choices ++ choice ∷ []
-  pub covers : (input : List ℕ) → (content_place kid.content).covers input ≡ (stands_for s input && test input)
+  pub covers : (input : List ℕ)
+      → (content_place kid.content).covers input ≡ (stands_for s input && test input)
   pub part : IsPart (rules_of p budgets) (left_to_do s) sides kid kid.content
-  pub form : side_of_kid (cut_in (rules_of p budgets).cut) kid ≡ record { choice = choice; cut = cut }
+  pub form : side_of_kid (cut_in (rules_of p budgets).cut) kid
+      ≡ record { choice = choice; cut = cut }
 
 -- the side that is this leaf
 abbrev pub leaf_side : Choice → Part → Piece
@@ -74,11 +78,13 @@ pub record IsSideTested (s : Symbolic) (term : ℕ) (side : Bool) (t : Tested) :
 abbrev pub IsBranchSide : Budgets → Symbolic → (term : ℕ) → (side : Bool) → Piece → Type 0
 IsBranchSide budgets s term side kid = (p : Program) → IsOpen p s → s.steps < budgets.steps
     → (cut : Option Cause) × IsTrue (is_one_cut_at_most None cut)
-    × IsSideIn p budgets (No ∷ Yes ∷ []) s (branch_choice side) cut (λ input. is_side side (number_of s.terms term input)) kid
+    × IsSideIn p budgets (No ∷ Yes ∷ []) s (branch_choice side) cut
+    (λ input. is_side side (number_of s.terms term input)) kid
 
 -- the run on which the term has this value
 abbrev pub IsValueSide : Symbolic → (term : ℕ) → Found → Piece → Type 0
-IsValueSide s term f kid = IsSide s (Value f.value) (λ input. number_of s.terms term input == f.value) kid
+IsValueSide s term f kid =
+    IsSide s (Value f.value) (λ input. number_of s.terms term input == f.value) kid
 
 -- a side for each value, in their order
 abbrev pub AreSidesOf : Symbolic → ℕ → List Found → List Piece → Type 0
@@ -94,4 +100,5 @@ IsForkOf p budgets s kids = IsSplit (rules_of p budgets) run_place leaf_place s 
 -- program's run that has steps left
 abbrev pub IsForked : Budgets → Symbolic → Forked → Type 0
 IsForked budgets s (One place decided) = IsForced s place decided
-IsForked budgets s (Split kids) = (p : Program) → IsOpen p s → s.steps < budgets.steps → IsForkOf p budgets s kids.items
+IsForked budgets s (Split kids) = (p : Program) → IsOpen p s → s.steps < budgets.steps
+    → IsForkOf p budgets s kids.items

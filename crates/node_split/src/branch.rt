@@ -85,9 +85,11 @@ fn open_side(
 ) -> Result<Kid<Content<State, LeafPart>>, NoMemory>
     requires bit { width_of tested.run.terms tested.test ≡ 1 }
     requires each_input { length sample ≡ tested.run.terms.inputs }
-    ensures { IfOk result (λ kid. (s : Symbolic) (term : ℕ) → IsBranch s term → IsSideTested s term side tested
+    ensures { IfOk result (λ kid. (s : Symbolic) (term : ℕ) → IsBranch s term
+        → IsSideTested s term side tested
         → stands_for s sample ≡ true → is_side side (number_of s.terms term sample) ≡ true
-        → IsSide s (branch_choice side) (λ input. is_side side (number_of s.terms term input)) kid) }
+        → IsSide s (branch_choice side)
+        (λ input. is_side side (number_of s.terms term input)) kid) }
 {
     let (mut run, test) = tested.into_parts();
     narrow(&mut run, choice_of(side), test, sample)?;
@@ -104,8 +106,10 @@ fn spent_side(
 ) -> Result<Kid<Content<State, LeafPart>>, NoMemory>
     requires writable { HasTextRoom tested.old.run }
     requires bit { width_of tested.old.run.terms tested.old.test ≡ 1 }
-    ensures { IfOk result (λ kid. (budgets : Budgets) (s : Symbolic) (term : ℕ) → IsSideTested s term side tested.old
-        → IsAsked (condition_of tested.old.run) tested.old.test budgets.conflicts (Spent learnt.question learnt.log)
+    ensures { IfOk result (λ kid. (budgets : Budgets) (s : Symbolic) (term : ℕ)
+        → IsSideTested s term side tested.old
+        → IsAsked (condition_of tested.old.run) tested.old.test budgets.conflicts
+        (Spent learnt.question learnt.log)
         → IsBranchSide budgets s term side kid) }
 {
     tested.run.assert(tested.test)?;
@@ -126,7 +130,9 @@ fn other_side(
     requires writable { HasTextRoom state.now }
     requires at { IsBranch state.now term }
     ensures some { IfOk result (λ kid. IfSome kid (IsBranchSide budgets.now state.now term side)) }
-    ensures none { IfOk result (λ kid. IfNone kid ((input : List ℕ) → stands_for state.now input ≡ true → is_side side (number_of state.now.terms term input) ≡ false)) }
+    ensures none { IfOk result (λ kid. IfNone kid
+        ((input : List ℕ) → stands_for state.now input ≡ true
+        → is_side side (number_of state.now.terms term input) ≡ false)) }
 {
     let mut tested = with_test(state, term, side)?;
     match ask_run(
@@ -159,7 +165,8 @@ fn own_side(
     requires ready { IsReady state.now }
     requires at { IsBranch state.now term }
     requires on_side { is_side side (number_of state.now.terms term state.now.sample) ≡ true }
-    ensures { IfOk result (IsSide state.now (branch_choice side) (λ input. is_side side (number_of state.now.terms term input))) }
+    ensures { IfOk result (IsSide state.now (branch_choice side)
+        (λ input. is_side side (number_of state.now.terms term input))) }
 {
     let tested = with_test(state, term, side)?;
     let sample = sample_of(alloc, state)?;
@@ -173,7 +180,8 @@ fn in_order(
     own: Kid<Content<State, LeafPart>>,
     other: Kid<Content<State, LeafPart>>,
 ) -> Result<Vec<Kid<Content<State, LeafPart>>>, NoMemory>
-    ensures { IfOk result (λ kids. kids.items ≡ (if side then other ∷ own ∷ [] else own ∷ other ∷ [])) }
+    ensures { IfOk result (λ kids. kids.items
+        ≡ (if side then other ∷ own ∷ [] else own ∷ other ∷ [])) }
 {
     let mut kids = Vec::with_capacity(alloc, 2)?;
     let (first, second) = if side { (other, own) } else { (own, other) };

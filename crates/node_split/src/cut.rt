@@ -49,8 +49,10 @@ pub fn cut_conflicts(
 ) -> Result<Kid<Content<State, LeafPart>>, NoMemory>
     requires small { IsSmallChoice choice }
     requires writable { HasTextRoom run.old }
-    ensures { IfOk result (λ kid. (p : Program) (budgets : Budgets) (sides : List spec.Choice) (s : Symbolic) (test : List ℕ → Bool)
-        → IsOpen p s → s.steps < budgets.steps → IsFormed s → IsNarrowed s run.old test → IsLearntFor budgets.conflicts (condition_of run.old) learnt
+    ensures { IfOk result (λ kid. (p : Program) (budgets : Budgets) (sides : List spec.Choice)
+        (s : Symbolic) (test : List ℕ → Bool)
+        → IsOpen p s → s.steps < budgets.steps → IsFormed s → IsNarrowed s run.old test
+        → IsLearntFor budgets.conflicts (condition_of run.old) learnt
         → IsSideIn p budgets sides s choice (Some Conflicts) test kid) }
 {
     learnt.question.is_whole();
@@ -72,9 +74,12 @@ pub fn cut_targets(
     requires writable { HasTextRoom run.old }
     requires width { width_of run.old.terms term ≡ 32 }
     ensures { IfOk result (λ kid. (p : Program) (budgets : Budgets) (s : Symbolic)
-        → IsOpen p s → s.steps < budgets.steps → IsFormed s → IsUnknown s.terms 32 term → IsWithout s term (values_of found.items) run.old → stands_for run.old run.old.sample ≡ true
+        → IsOpen p s → s.steps < budgets.steps → IsFormed s → IsUnknown s.terms 32 term
+        → IsWithout s term (values_of found.items) run.old
+        → stands_for run.old run.old.sample ≡ true
         → AreValues s term budgets.targets found.items → length found.items ≡ budgets.targets
-        → IsSideIn p budgets (map OfValue (values_of found.items) ++ Rest ∷ []) s Rest (Some Targets)
+        → IsSideIn p budgets (map OfValue (values_of found.items) ++ Rest ∷ []) s Rest
+        (Some Targets)
         (λ input. not (is_among (values_of found.items) (number_of s.terms term input))) kid) }
 {
     run.choose(Choice::Rest)?;

@@ -28,7 +28,8 @@ use tree_core::Cause;
 /// The leaf of a run that has spent its steps. The run is of no use after that.
 pub fn cut_steps(alloc: Global, state: &mut State) -> Result<LeafPart, NoMemory>
     requires writable { HasTextRoom state.old }
-    ensures { IfOk result (λ part. (p : Program) (budgets : Budgets) → budgets.steps ≡ state.old.steps → IsOpen p state.old
+    ensures { IfOk result (λ part. (p : Program) (budgets : Budgets)
+        → budgets.steps ≡ state.old.steps → IsOpen p state.old
         → EndsAs (rules_of p budgets) run_place leaf_place (Some Steps) state.old part) }
 {
     let terms = leaf_terms(alloc, state, &[])?;
@@ -46,7 +47,8 @@ pub fn cut_steps(alloc: Global, state: &mut State) -> Result<LeafPart, NoMemory>
 // The leaf of a run whose runs have all trapped so.
 fn trapped(alloc: Global, state: &mut State, trap: Trap) -> Result<LeafPart, NoMemory>
     requires writable { HasTextRoom state.old }
-    ensures { IfOk result (λ part. (p : Program) (budgets : Budgets) → IsEnded p state.old (Traps trap) → state.old.steps ≤ budgets.steps
+    ensures { IfOk result (λ part. (p : Program) (budgets : Budgets)
+        → IsEnded p state.old (Traps trap) → state.old.steps ≤ budgets.steps
         → EndsAs (rules_of p budgets) run_place leaf_place None state.old part) }
 {
     let terms = leaf_terms(alloc, state, &[])?;
@@ -67,7 +69,8 @@ fn exit_status(state: &mut State) -> Result<usize, NoMemory>
 // The leaf of a run whose runs have all exited.
 fn exited(alloc: Global, state: &mut State) -> Result<LeafPart, NoMemory>
     requires writable { HasTextRoom state.old }
-    ensures { IfOk result (λ part. (p : Program) (budgets : Budgets) → IsEnded p state.old Exits → state.old.steps ≤ budgets.steps
+    ensures { IfOk result (λ part. (p : Program) (budgets : Budgets) → IsEnded p state.old Exits
+        → state.old.steps ≤ budgets.steps
         → EndsAs (rules_of p budgets) run_place leaf_place None state.old part) }
 {
     let status = exit_status(state)?;
@@ -80,7 +83,8 @@ fn exited(alloc: Global, state: &mut State) -> Result<LeafPart, NoMemory>
 /// The leaf of a run whose runs have all ended so. The run is of no use after that.
 pub fn finish(alloc: Global, state: &mut State, end: RunEnd) -> Result<LeafPart, NoMemory>
     requires writable { HasTextRoom state.old }
-    ensures { IfOk result (λ part. (p : Program) (budgets : Budgets) → IsEnded p state.old end → state.old.steps ≤ budgets.steps
+    ensures { IfOk result (λ part. (p : Program) (budgets : Budgets) → IsEnded p state.old end
+        → state.old.steps ≤ budgets.steps
         → EndsAs (rules_of p budgets) run_place leaf_place None state.old part) }
 {
     match end {

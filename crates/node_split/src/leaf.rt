@@ -54,7 +54,8 @@ impl LeafTerms {
 // The terms of the bytes written.
 fn output_terms(alloc: Global, state: &mut State) -> Result<Vec<usize>, NoMemory>
     ensures grown { OnOk result (IsGrown state.old state.new) }
-    ensures terms { IfOk result (λ ids. AreTermsOfBytes state.old.terms state.old.output state.new.terms ids.items) }
+    ensures terms { IfOk result (λ ids.
+        AreTermsOfBytes state.old.terms state.old.output state.new.terms ids.items) }
 {
     let bytes = listed(alloc, state.output())?;
     let mut ids = Vec::with_capacity(alloc, bytes.len())?;
@@ -110,7 +111,8 @@ pub fn leaf_terms(alloc: Global, state: &mut State, more: &[usize]) -> Result<Le
     requires { All (λ id. id < length state.old.terms.nodes) more.now }
     ensures grown { OnOk result (IsGrown state.old state.new) }
     ensures terms { IfOk result (HasTerms state.old) }
-    ensures more { IfOk result (λ t. AreCopies state.old.terms more.now t.condition.graph t.more.items) }
+    ensures more { IfOk result (λ t.
+        AreCopies state.old.terms more.now t.condition.graph t.more.items) }
 {
     let outputs = output_terms(alloc, state)?;
     picked(alloc, state, &outputs, more)
@@ -126,7 +128,12 @@ pub fn leaf_of(
     evidence: Option<Evidence>,
 ) -> Result<LeafPart, NoMemory>
     requires full { IsFull (left_as state.now terms end) }
-    ensures { IfOk result (λ part. part ≡ record { leaf = left_as state.now terms end; sample = sample; evidence = option_map evidence_of evidence }) }
+    ensures { IfOk result (λ part. part
+        ≡ record {
+          leaf = left_as state.now terms end;
+          sample = sample;
+          evidence = option_map evidence_of evidence;
+        }) }
 {
     let choices = listed(alloc, state.choices())?;
     let path = listed(alloc, state.path())?;

@@ -36,7 +36,8 @@ pub struct Pin {
 fn value_side(alloc: Global, state: &State, pin: &Pin, at: &Found) -> Result<State, NoMemory>
     requires at { IsPin state.now pin.now.place pin.now.term }
     requires has { HasValue state.now pin.now.term at.now }
-    ensures { IfOk result (λ side. IsNarrower state.now side (OfValue at.now.value) (λ input. number_of state.now.terms pin.now.term input == at.now.value)) }
+    ensures { IfOk result (λ side. IsNarrower state.now side (OfValue at.now.value)
+        (λ input. number_of state.now.terms pin.now.term input == at.now.value)) }
 {
     let mut side = state.share()?;
     let equal = side.tested(Test::Beq, Value::Term(pin.term), Value::Number(at.value))?;

@@ -116,7 +116,8 @@ impl Worker {
         mut stop: Stop,
     ) -> Result<Parts<State, LeafPart>, NoMemory>
         requires stopped { StoppedBy self.now.program self.now.budgets.steps run.old stop }
-        ensures { IfOk result (IsWorked (rules_of self.now.program self.now.budgets) run_place leaf_place run.old) }
+        ensures { IfOk result (IsWorked
+            (rules_of self.now.program self.now.budgets) run_place leaf_place run.old) }
     {
         loop {
             let forked = match stop {

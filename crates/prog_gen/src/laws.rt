@@ -13,5 +13,6 @@ pub fn a_generated_file_is_a_program()
 
 /// Its input bytes fit.
 pub fn a_generated_input_fits()
-    ensures { (number : ℕ) (image : Image) → 1 ≤ number → number ≤ 12 → Loads (generated_file number) image → unfit image (generated_regions number) ≡ None }
+    ensures { (number : ℕ) (image : Image) → 1 ≤ number → number ≤ 12
+        → Loads (generated_file number) image → unfit image (generated_regions number) ≡ None }
 {}

@@ -41,4 +41,5 @@ pub record IsLastFiled (keys : List ℕ) (first key n : ℕ) : Type 0 where
 pub record AreFiled (keys : List ℕ) (chains : Chains) : Type 0 where
   pub size : length chains.earlier ≡ length keys
   pub lasts : (key : ℕ) → IsLastFiled keys (length keys) key (slice_index_or chains.lasts key 0)
-  pub earlier : (k key : ℕ) → slice_get keys k ≡ Some key → IsLastFiled keys k key (slice_index_or chains.earlier k 0)
+  pub earlier : (k key : ℕ) → slice_get keys k ≡ Some key
+      → IsLastFiled keys k key (slice_index_or chains.earlier k 0)

@@ -93,7 +93,9 @@ impl Checker {
 
     /// Whether the step's clause follows by its hints from the clauses, and is a superset of none of them.
     pub fn may_come_next(&mut self, step: &LogStep) -> Result<bool, NoMemory>
-        ensures answer { IfOk result (λ yes. yes ≡ (follows self.old step.now.clause step.now.hints && is_new self.old step.now.clause)) }
+        ensures answer { IfOk result (λ yes. yes
+            ≡ (follows self.old step.now.clause step.now.hints
+            && is_new self.old step.now.clause)) }
         ensures same { self.new ≡ self.old }
     {
         if !follows(&mut self.marks, self.clauses.clauses(), &[], step)? {

@@ -74,7 +74,8 @@ fn numbered<'a>(formula: &'a Clauses, earlier: &'a [LogStep], number: usize) -> 
 }
 
 fn unit_of_hint(marks: &Marks, formula: &Clauses, earlier: &[LogStep], hint: usize) -> Option<Lit>
-    ensures { result ≡ unit_of_hint (marked marks.now) (numbered (formula.now ++ clauses_of earlier.now) hint) }
+    ensures { result ≡ unit_of_hint (marked marks.now)
+        (numbered (formula.now ++ clauses_of earlier.now) hint) }
 {
     match numbered(formula, earlier, hint) {
         Some(clause) => unit_literal(marks, clause),
@@ -83,7 +84,8 @@ fn unit_of_hint(marks: &Marks, formula: &Clauses, earlier: &[LogStep], hint: usi
 }
 
 fn hint_is_falsified(marks: &Marks, formula: &Clauses, earlier: &[LogStep], hint: usize) -> bool
-    ensures { result ≡ hint_is_falsified (marked marks.now) (numbered (formula.now ++ clauses_of earlier.now) hint) }
+    ensures { result ≡ hint_is_falsified (marked marks.now)
+        (numbered (formula.now ++ clauses_of earlier.now) hint) }
 {
     match numbered(formula, earlier, hint) {
         Some(clause) => is_falsified(marks, clause),
@@ -109,7 +111,8 @@ pub fn follows(
     earlier: &[LogStep],
     step: &LogStep,
 ) -> Result<bool, NoMemory>
-    ensures { IfOk result (λ yes. yes ≡ follows (formula.now ++ clauses_of earlier.now) step.now.clause step.now.hints) }
+    ensures { IfOk result (λ yes. yes
+        ≡ follows (formula.now ++ clauses_of earlier.now) step.now.clause step.now.hints) }
 {
     falsify(marks, step.clause().literals())?;
     let hints = step.hints();

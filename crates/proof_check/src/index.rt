@@ -64,7 +64,8 @@ impl Model for Index {
 fn reach(lasts: &mut Vec<usize>, key: usize) -> Result<(), NoMemory>
     requires { key < 2 ^ 34 }
     ensures there { OnOk result (key < vec_len lasts.new) }
-    ensures items { OnOk result (lasts.new.items ≡ lasts.old.items ++ replicate (key + 1 - vec_len lasts.old) 0) }
+    ensures items { OnOk result (lasts.new.items
+        ≡ lasts.old.items ++ replicate (key + 1 - vec_len lasts.old) 0) }
     ensures err { OnErr result (lasts.new.items ≡ lasts.old.items) }
 {
     if lasts.len() <= key {
@@ -87,7 +88,8 @@ impl Index {
     /// Files the next place under a key.
     pub fn push(&mut self, key: usize) -> Result<(), NoMemory>
         requires { key < 2 ^ 34 }
-        ensures ok { OnOk result ((keys : List ℕ) → AreFiled keys self.old → AreFiled (keys ++ key ∷ []) self.new) }
+        ensures ok { OnOk result ((keys : List ℕ) → AreFiled keys self.old
+            → AreFiled (keys ++ key ∷ []) self.new) }
         ensures err { OnErr result (self.new ≡ self.old) }
     {
         self.earlier.reserve(1)?;

@@ -52,7 +52,8 @@ const UNMARKED: Mark = Mark {
 fn reach(marks: &mut Vec<Mark>, place: usize) -> Result<(), NoMemory>
     requires { place < 2 ^ 32 }
     ensures there { OnOk result (place < vec_len marks.new) }
-    ensures items { OnOk result (marks.new.items ≡ marks.old.items ++ replicate (place + 1 - vec_len marks.old) UNMARKED) }
+    ensures items { OnOk result (marks.new.items
+        ≡ marks.old.items ++ replicate (place + 1 - vec_len marks.old) UNMARKED) }
     ensures err { OnErr result (marks.new.items ≡ marks.old.items) }
 {
     if marks.len() <= place {

@@ -27,4 +27,5 @@ has_room kept q = is_some (kept_for kept q) || nat_lt (length kept) MOST_KEPT
 
 -- what is kept after a question is put with its answer: these too, where there is room
 abbrev pub kept_after : KeptAnswers → Answered → KeptAnswers
-kept_after kept s = if has_room kept s.query then insert_entry condition_cmp kept s.query s.answer else kept
+kept_after kept s = if has_room kept s.query then insert_entry condition_cmp kept s.query s.answer
+    else kept

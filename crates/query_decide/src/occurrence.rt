@@ -22,7 +22,8 @@ pub enum Occurrence {
 
 // The input bytes under either of two terms.
 fn joined(first: Occurrence, second: Occurrence) -> Occurrence
-    ensures { (one two : List ℕ) → IsOccurrence one first → IsOccurrence two second → IsOccurrence (one ++ two) result }
+    ensures { (one two : List ℕ) → IsOccurrence one first → IsOccurrence two second
+        → IsOccurrence (one ++ two) result }
 {
     match (first, second) {
         (Occurrence::NoInput, _) => second,
@@ -34,7 +35,8 @@ fn joined(first: Occurrence, second: Occurrence) -> Occurrence
 
 // Those under the term at a place.
 fn at(found: &[Occurrence], place: usize) -> Occurrence
-    ensures { (under : List (List ℕ)) → AreOccurrences under found.now → IsOccurrence (inputs_at under place) result }
+    ensures { (under : List (List ℕ)) → AreOccurrences under found.now
+        → IsOccurrence (inputs_at under place) result }
 {
     match found.get(place) {
         Some(occurrence) => *occurrence,
@@ -44,7 +46,8 @@ fn at(found: &[Occurrence], place: usize) -> Occurrence
 
 // Those under a term, from those under the terms before it.
 fn of_node(found: &[Occurrence], node: &Node) -> Occurrence
-    ensures { (under : List (List ℕ)) → AreOccurrences under found.now → IsOccurrence (node_inputs (inputs_at under) node.now) result }
+    ensures { (under : List (List ℕ)) → AreOccurrences under found.now
+        → IsOccurrence (node_inputs (inputs_at under) node.now) result }
 {
     match node {
         Node::Num { .. } => Occurrence::NoInput,

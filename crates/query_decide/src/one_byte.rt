@@ -27,7 +27,8 @@ fn one_byte(alloc: Global, count: usize, place: usize, value: u8) -> Result<Vec<
 
 // The part of a question that is asked last: its last term alone, or nothing where it has none.
 fn last_part(alloc: Global, query: &Query) -> Result<Query, NoMemory>
-    ensures { IfOk result (λ last. (input : List ℕ) → holds query.now input ≡ true → holds last input ≡ true) }
+    ensures { IfOk result (λ last. (input : List ℕ) → holds query.now input ≡ true
+        → holds last input ≡ true) }
 {
     let asserted = query.asserted();
     let before = asserted.len().saturating_sub(1);
@@ -42,8 +43,10 @@ pub fn try_byte(
     place: usize,
     first: u8,
 ) -> Result<Option<Vec<u8>>, NoMemory>
-    ensures some { IfOk result (λ found. IfSome found (λ input. holds query.now input.items ≡ true)) }
-    ensures none { IfOk result (λ found. found ≡ None → (b : ℕ) → b < 256 → holds query.now (slice_set (replicate query.now.graph.inputs 0) place b) ≡ false) }
+    ensures some { IfOk result (λ found. IfSome found
+        (λ input. holds query.now input.items ≡ true)) }
+    ensures none { IfOk result (λ found. found ≡ None → (b : ℕ) → b < 256
+        → holds query.now (slice_set (replicate query.now.graph.inputs 0) place b) ≡ false) }
 {
     let last = last_part(alloc, query)?;
     for steps in 0..VALUES {

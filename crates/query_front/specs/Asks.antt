@@ -16,4 +16,5 @@ abbrev pub IsAsked : Condition → (new budget : ℕ) → Asked → Type 0
 IsAsked q new budget (Sat input) = holds (with_term q new) input ≡ true
 IsAsked q new budget Unsat = IsUnsatisfiable (with_term q new)
 IsAsked q new budget (Spent part log) =
-    IsDag part.graph × AreBits part.graph part.asserted × IsPartFor (with_term q new) new part × IsSpent part budget log
+    IsDag part.graph × AreBits part.graph part.asserted × IsPartFor (with_term q new) new part
+    × IsSpent part budget log

@@ -55,7 +55,8 @@ fn decided(
     budget: u32,
 ) -> Result<Asked, NoMemory>
     requires { length sample.now ≡ part.graph.inputs }
-    ensures { IfOk result (λ asked. (q : Condition) (new : ℕ) → IsPartOfQuery q new part → holds q sample.now ≡ true → IsAsked q new budget asked) }
+    ensures { IfOk result (λ asked. (q : Condition) (new : ℕ) → IsPartOfQuery q new part
+        → holds q sample.now ≡ true → IsAsked q new budget asked) }
 {
     shared.count_decided();
     match decide(alloc, &part, sample.as_slice(), budget)? {
@@ -90,7 +91,8 @@ pub fn ask_part(
     budget: u32,
 ) -> Result<Asked, NoMemory>
     requires { length sample.now ≡ part.graph.inputs }
-    ensures { IfOk result (λ asked. (q : Condition) (new : ℕ) → IsPartOfQuery q new part → holds q sample.now ≡ true → IsAsked q new budget asked) }
+    ensures { IfOk result (λ asked. (q : Condition) (new : ℕ) → IsPartOfQuery q new part
+        → holds q sample.now ≡ true → IsAsked q new budget asked) }
 {
     match known(rt, alloc, shared, &part, sample)? {
         Some(Satisfiability::Sat(input)) => Ok(Asked::Sat(merge(alloc, sample, &input, &part)?)),
@@ -113,8 +115,10 @@ pub fn ask<T: Table>(
 ) -> Result<Asked, NoMemory>
     requires condition { AreBits (T.graph terms.now) condition.items }
     requires bit { width_of (T.graph terms.now) new ≡ 1 }
-    requires sampled { holds (record { graph = T.graph terms.now; asserted = condition.items }) sample.now ≡ true }
-    ensures { IfOk result (IsAsked (record { graph = T.graph terms.now; asserted = condition.items }) new budget) }
+    requires sampled { holds
+        (record { graph = T.graph terms.now; asserted = condition.items }) sample.now ≡ true }
+    ensures { IfOk result (IsAsked
+        (record { graph = T.graph terms.now; asserted = condition.items }) new budget) }
 {
     let part = part_of(alloc, terms, condition, new)?;
     ask_part(rt, alloc, shared, part, sample, budget)

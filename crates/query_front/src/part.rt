@@ -20,7 +20,8 @@ pub fn part_of<T: Table>(
 ) -> Result<Query, NoMemory>
     requires condition { AreBits (T.graph terms.now) condition.items }
     requires bit { width_of (T.graph terms.now) new ≡ 1 }
-    ensures { IfOk result (IsPartOfQuery (record { graph = T.graph terms.now; asserted = condition.items }) new) }
+    ensures { IfOk result (IsPartOfQuery
+        (record { graph = T.graph terms.now; asserted = condition.items }) new) }
 {
     let mut all = condition;
     all.push(new)?;

@@ -13,7 +13,8 @@ use std::collections::BinaryHeap;
 // Adds a place to a heap.
 fn add(places: &mut BinaryHeap<usize>, id: usize) -> Result<(), NoMemory>
     ensures adds { OnOk result (Adds (heap_items places.old) (heap_items places.new) (id ∷ [])) }
-    ensures ordered { OnOk result (KeepsHeap nat_cmp (heap_items places.old) (heap_items places.new)) }
+    ensures ordered { OnOk result (KeepsHeap nat_cmp (heap_items places.old)
+        (heap_items places.new)) }
 {
     places.push(id)?;
     Ok(())
@@ -21,8 +22,10 @@ fn add(places: &mut BinaryHeap<usize>, id: usize) -> Result<(), NoMemory>
 
 // Adds two places to a heap.
 fn add_both(places: &mut BinaryHeap<usize>, first: usize, second: usize) -> Result<(), NoMemory>
-    ensures adds { OnOk result (Adds (heap_items places.old) (heap_items places.new) (first ∷ second ∷ [])) }
-    ensures ordered { OnOk result (KeepsHeap nat_cmp (heap_items places.old) (heap_items places.new)) }
+    ensures adds { OnOk result (Adds (heap_items places.old) (heap_items places.new)
+        (first ∷ second ∷ [])) }
+    ensures ordered { OnOk result (KeepsHeap nat_cmp (heap_items places.old)
+        (heap_items places.new)) }
 {
     add(places, first)?;
     add(places, second)
@@ -30,8 +33,10 @@ fn add_both(places: &mut BinaryHeap<usize>, first: usize, second: usize) -> Resu
 
 /// Adds the operands of a node to a heap of places.
 pub(crate) fn add_operands(places: &mut BinaryHeap<usize>, node: Node) -> Result<(), NoMemory>
-    ensures adds { OnOk result (Adds (heap_items places.old) (heap_items places.new) (operands node)) }
-    ensures ordered { OnOk result (KeepsHeap nat_cmp (heap_items places.old) (heap_items places.new)) }
+    ensures adds { OnOk result (Adds (heap_items places.old) (heap_items places.new)
+        (operands node)) }
+    ensures ordered { OnOk result (KeepsHeap nat_cmp (heap_items places.old)
+        (heap_items places.new)) }
 {
     match node {
         Node::Num { .. } => Ok(()),

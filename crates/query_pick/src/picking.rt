@@ -26,7 +26,8 @@ fn copied<T: Table>(alloc: Global, terms: &T, places: &[usize]) -> Result<Dag, N
     requires { (tops : List ℕ) × IsCone (T.graph terms.now) tops places.now }
     ensures inputs { IfOk result (λ dag. dag.inputs ≡ (T.graph terms.now).inputs) }
     ensures dag { IfOk result (λ dag. IsDag dag) }
-    ensures same { IfOk result (λ dag. trees dag.nodes ≡ map (tree_of (T.graph terms.now)) places.now) }
+    ensures same { IfOk result (λ dag. trees dag.nodes
+        ≡ map (tree_of (T.graph terms.now)) places.now) }
 {
     let mut dag = Dag::with_capacity(alloc, terms.inputs(), places.len())?;
     for id in places {
@@ -39,7 +40,8 @@ fn copied<T: Table>(alloc: Global, terms: &T, places: &[usize]) -> Result<Dag, N
 fn numbers_of(alloc: Global, places: &[usize], some: &[usize]) -> Result<Vec<usize>, NoMemory>
     requires increasing { IsStrictlyIncreasing places.now }
     requires there { All (Contains places.now) some.now }
-    ensures same { IfOk result (λ numbers. map (λ k. slice_index places.now k) numbers.items ≡ some.now) }
+    ensures same { IfOk result (λ numbers. map (λ k. slice_index places.now k) numbers.items
+        ≡ some.now) }
     ensures there { IfOk result (λ numbers. All (λ k. k < length places.now) numbers.items) }
 {
     let mut numbers = Vec::with_capacity(alloc, some.len())?;
@@ -61,7 +63,8 @@ pub fn pick_terms<T: Table>(alloc: Global, terms: &T, ids: &[usize]) -> Result<P
     ensures same_widths { IfOk result (λ p.
         map (width_of p.graph) p.ids.items ≡ map (width_of (T.graph terms.now)) ids.now) }
     ensures same_values { IfOk result (λ p. (input : List ℕ) →
-        map (λ id. val p.graph id input) p.ids.items ≡ map (λ id. val (T.graph terms.now) id input) ids.now) }
+        map (λ id. val p.graph id input) p.ids.items
+        ≡ map (λ id. val (T.graph terms.now) id input) ids.now) }
     ensures only_cone { IfOk result (λ p. IsFromCone (T.graph terms.now) ids.now p.graph) }
 {
     let places = cone(alloc, terms, ids)?;
@@ -78,10 +81,13 @@ pub fn pick_terms<T: Table>(alloc: Global, terms: &T, ids: &[usize]) -> Result<P
 pub fn pick<T: Table>(alloc: Global, terms: &T, conditions: &[usize]) -> Result<Query, NoMemory>
     requires { AreBits (T.graph terms.now) conditions.now }
     ensures inputs { IfOk result (λ query. query.graph.inputs ≡ (T.graph terms.now).inputs) }
-    ensures same_trees { IfOk result (λ query. map (tree_of query.graph) query.asserted ≡ map (tree_of (T.graph terms.now)) conditions.now) }
+    ensures same_trees { IfOk result (λ query. map (tree_of query.graph) query.asserted
+        ≡ map (tree_of (T.graph terms.now)) conditions.now) }
     ensures same_meaning { IfOk result (λ query. (input : List ℕ) →
-        holds query input ≡ holds (record { graph = (T.graph terms.now); asserted = conditions.now }) input) }
-    ensures only_cone { IfOk result (λ query. IsFromCone (T.graph terms.now) conditions.now query.graph) }
+        holds query input ≡ holds
+        (record { graph = (T.graph terms.now); asserted = conditions.now }) input) }
+    ensures only_cone { IfOk result (λ query. IsFromCone
+        (T.graph terms.now) conditions.now query.graph) }
 {
     let picked = pick_terms(alloc, terms, conditions)?;
     Ok(Query::new(picked.graph, picked.ids))

@@ -14,7 +14,8 @@ label_of labels input = option_and_then (slice_get labels) input
 
 -- every label of the one kind is now the other
 abbrev pub relabelled : (kept gone : Option ℕ) → List ℕ → List ℕ
-relabelled (Some kept) (Some gone) labels = map (λ label. if label == gone then kept else label) labels
+relabelled (Some kept) (Some gone) labels =
+    map (λ label. if label == gone then kept else label) labels
 relabelled (Some kept) None labels = labels
 relabelled None _ labels = labels
 
@@ -30,23 +31,31 @@ are_same None other = false
 
 -- whether a term is the new one, or stands on a byte of the class of one under the new one
 abbrev pub is_reached : (labels : List ℕ) → (firsts : List (Option ℕ)) → (new id : ℕ) → Bool
-is_reached labels firsts new id = (id == new) || are_same (label_of labels (slice_index_or firsts id None)) (label_of labels (slice_index_or firsts new None))
+is_reached labels firsts new id =
+    (id == new) || are_same (label_of labels (slice_index_or firsts id None))
+    (label_of labels (slice_index_or firsts new None))
 
 -- a byte joined with one under each of these operands
-abbrev pub joined_all : (firsts : List (Option ℕ)) → (first : Option ℕ) → List ℕ → (operands : List ℕ) → List ℕ
-joined_all firsts first labels operands = fold (λ before a. joined before first (slice_index_or firsts a None)) labels operands
+abbrev pub joined_all : (firsts : List (Option ℕ)) → (first : Option ℕ) → List ℕ
+    → (operands : List ℕ) → List ℕ
+joined_all firsts first labels operands =
+    fold (λ before a. joined before first (slice_index_or firsts a None)) labels operands
 
 -- an input byte that a chain of asserted terms leads to, of which each stands on two bytes in a row
 pub data IsLinked (q : Condition) (start : ℕ) : ℕ → Type 0 where
   here : IsLinked q start start
-  over : {i k : ℕ} (term : ℕ) → IsLinked q start i → Contains q.asserted term → Contains (inputs_under q.graph term) i → Contains (inputs_under q.graph term) k → IsLinked q start k
+  over : {i k : ℕ} (term : ℕ) → IsLinked q start i → Contains q.asserted term
+      → Contains (inputs_under q.graph term) i → Contains (inputs_under q.graph term) k
+      → IsLinked q start k
 
 -- every two bytes of one label are linked
 abbrev pub AreLinked : Condition → List ℕ → Type 0
-AreLinked q labels = (i k : ℕ) → i < q.graph.inputs → k < q.graph.inputs → slice_index labels i ≡ slice_index labels k → IsLinked q i k
+AreLinked q labels = (i k : ℕ) → i < q.graph.inputs → k < q.graph.inputs
+    → slice_index labels i ≡ slice_index labels k → IsLinked q i k
 
 -- the labels tell which bytes are linked
 pub record AreClasses (q : Condition) (labels : List ℕ) : Type 0 where
   pub each : length labels ≡ q.graph.inputs
-  pub one : (term i k : ℕ) → Contains q.asserted term → Contains (inputs_under q.graph term) i → Contains (inputs_under q.graph term) k → slice_index labels i ≡ slice_index labels k
+  pub one : (term i k : ℕ) → Contains q.asserted term → Contains (inputs_under q.graph term) i
+      → Contains (inputs_under q.graph term) k → slice_index labels i ≡ slice_index labels k
   pub linked : AreLinked q labels

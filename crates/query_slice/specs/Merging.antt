@@ -10,7 +10,9 @@ is_among places i = list_any (λ k. k == i) places
 
 -- the answer's byte at each place that is among these, and the sample's at the others
 unfoldable pub merged : (under sample answer : List ℕ) → List ℕ
-merged under sample answer = map (λ i. if is_among under i then slice_index answer i else slice_index sample i) (range_with_len 0 (length sample))
+merged under sample answer =
+    map (λ i. if is_among under i then slice_index answer i else slice_index sample i)
+    (range_with_len 0 (length sample))
 
 -- the input byte that a node is, if it is one
 abbrev pub own_input : Option Node → List ℕ

@@ -9,7 +9,8 @@ use std::alloc::{AllocError as NoMemory, Global};
 
 // The first input byte under either of two terms.
 fn either(first: Option<usize>, second: Option<usize>) -> Option<usize>
-    ensures { (one two : List ℕ) → first ≡ first_of one → second ≡ first_of two → result ≡ first_of (one ++ two) }
+    ensures { (one two : List ℕ) → first ≡ first_of one → second ≡ first_of two
+        → result ≡ first_of (one ++ two) }
 {
     match first {
         Some(_) => first,
@@ -20,7 +21,8 @@ fn either(first: Option<usize>, second: Option<usize>) -> Option<usize>
 /// The one under the term at a place, and none past the end.
 pub(crate) fn first_at(firsts: &[Option<usize>], place: usize) -> Option<usize>
     ensures value { result ≡ slice_index_or firsts.now place None }
-    ensures first { (under : List (List ℕ)) → firsts.now ≡ map first_of under → result ≡ first_of (inputs_at under place) }
+    ensures first { (under : List (List ℕ)) → firsts.now ≡ map first_of under
+        → result ≡ first_of (inputs_at under place) }
 {
     match firsts.get(place) {
         Some(first) => *first,
@@ -30,7 +32,8 @@ pub(crate) fn first_at(firsts: &[Option<usize>], place: usize) -> Option<usize>
 
 // The one under a term, from those under the terms before it.
 fn first_of_node(firsts: &[Option<usize>], node: &Node) -> Option<usize>
-    ensures { (under : List (List ℕ)) → firsts.now ≡ map first_of under → result ≡ first_of (node_inputs (inputs_at under) node.now) }
+    ensures { (under : List (List ℕ)) → firsts.now ≡ map first_of under
+        → result ≡ first_of (node_inputs (inputs_at under) node.now) }
 {
     match node {
         Node::Num { .. } => None,

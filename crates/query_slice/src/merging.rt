@@ -23,7 +23,8 @@ fn node_at(nodes: &[Node], id: usize) -> Node
 fn take_byte(bytes: &mut Vec<u8>, answer: &[u8], node: Node)
     requires as_long { length bytes.old.items ≡ length answer.now }
     requires there { (place : ℕ) → node ≡ Input place → place < length answer.now }
-    ensures { (places sample : List ℕ) → length sample ≡ length answer.now → bytes.old.items ≡ merged places sample answer.now
+    ensures { (places sample : List ℕ) → length sample ≡ length answer.now
+        → bytes.old.items ≡ merged places sample answer.now
         → bytes.new.items ≡ merged (places ++ own_input (Some node)) sample answer.now }
 {
     if let Node::Input(place) = node {
@@ -42,7 +43,8 @@ fn merged_over(
     requires as_long { length answer.now ≡ length sample.now }
     requires all_fit { AllFit (length sample.now) nodes.now }
     requires there { All (λ id. id < length nodes.now) places.now }
-    ensures { IfOk result (λ bytes. bytes.items ≡ merged (own_inputs nodes.now places.now) sample.now answer.now) }
+    ensures { IfOk result (λ bytes. bytes.items
+        ≡ merged (own_inputs nodes.now places.now) sample.now answer.now) }
 {
     let mut bytes = Vec::from_slice(alloc, sample)?;
     for id in places {
@@ -60,7 +62,8 @@ pub fn merge(
 ) -> Result<Bytes, NoMemory>
     requires sample { length sample.now ≡ query.now.graph.inputs }
     requires answer { length answer.now ≡ query.now.graph.inputs }
-    ensures { IfOk result (λ bytes. bytes ≡ merged (asserted_inputs query.now) sample.now answer.now) }
+    ensures { IfOk result (λ bytes. bytes
+        ≡ merged (asserted_inputs query.now) sample.now answer.now) }
 {
     let nodes = query.dag().nodes();
     let places = cone(alloc, query.dag(), query.asserted())?;

@@ -26,7 +26,8 @@ fn reached(
     new: usize,
     asserted: &[usize],
 ) -> Result<Vec<usize>, NoMemory>
-    ensures { IfOk result (λ kept. kept.items ≡ filter (is_reached classes.now firsts.now new) asserted.now) }
+    ensures { IfOk result (λ kept. kept.items
+        ≡ filter (is_reached classes.now firsts.now new) asserted.now) }
 {
     let mut kept = Vec::new(alloc);
     for id in asserted {

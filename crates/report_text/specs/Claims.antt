@@ -63,7 +63,8 @@ HaveInputs r = All (λ (leaf : Leaf). leaf.condition.graph.inputs ≡ count_of r
 
 -- each assignment is covered by exactly one of the leaves
 abbrev pub IsExactCover : Report → Type 0
-IsExactCover r = (input : List ℕ) → IsAssignment r.regions input → count_by (λ leaf. covers leaf input) (leaves r) ≡ 1
+IsExactCover r = (input : List ℕ) → IsAssignment r.regions input
+    → count_by (λ leaf. covers leaf input) (leaves r) ≡ 1
 
 -- the runs of each leaf are as it says, within the budget of steps
 abbrev pub AreFaithful : Report → Type 0
@@ -75,18 +76,21 @@ AreAlike r = All (DecidesAlike r.image r.regions) (leaves r)
 
 -- any two leaves part by a decision of their runs
 abbrev pub ArePartedAll : Report → Type 0
-ArePartedAll r = (i j : ℕ) (leaf other : Leaf) → i ≢ j → slice_get (leaves r) i ≡ Some leaf → slice_get (leaves r) j ≡ Some other →
+ArePartedAll r = (i j : ℕ) (leaf other : Leaf) → i ≢ j → slice_get (leaves r) i ≡ Some leaf
+    → slice_get (leaves r) j ≡ Some other →
     ArePartedLeaves r.image r.regions r.budgets.steps leaf other
 
 -- the test is a run of this leaf, which has this rank: its input is one that the leaf covers, and its run is as the test says
-pub record IsRun (image : Image) (regions : List Region) (leaf : Leaf) (rank : ℕ) (test : Test) : Type 0 where
+pub record IsRun (image : Image) (regions : List Region) (leaf : Leaf) (rank : ℕ)
+    (test : Test) : Type 0 where
   pub same_rank : test.leaf ≡ rank
   pub same_regions : test.regions ≡ regions
   pub same_steps : test.steps ≡ leaf.steps
   pub same_path : test.path ≡ leaf.path
   pub assignment : IsAssignment regions test.input
   pub covered : IsTrue (covers leaf test.input)
-  pub runs : IsRunOf (run image regions test.input test.steps) test.steps test.path test.end test.output
+  pub runs : IsRunOf (run image regions test.input test.steps) test.steps test.path test.end
+      test.output
 
 -- beside a leaf stands a run of it, unless it was cut where it had spent its targets or its conflicts
 abbrev pub IsTested : Image → List Region → Leaf → LeafEnd → (rank : ℕ) → Beside → Type 0
@@ -99,22 +103,27 @@ IsTested image regions leaf _ rank _ = ⊥
 
 -- this holds at each rank
 abbrev pub AreRuns : Report → Type 0
-AreRuns r = (rank : ℕ) (e : Entry) → slice_get r.entries rank ≡ Some e → IsTested r.image r.regions e.leaf e.leaf.end rank e.beside
+AreRuns r = (rank : ℕ) (e : Entry) → slice_get r.entries rank ≡ Some e
+    → IsTested r.image r.regions e.leaf e.leaf.end rank e.beside
 
 -- a cut leaf has spent its budget: it has made all steps; or beside it stand as many values of a term as it may have,
 -- which are the other sides of the split of which, by the events, its node is a side; or beside it stands the question on
 -- the last of its assertions, with as many clauses as may be learnt for one
-abbrev pub HasSpent : List Region → Budgets → List Line → (node : ℕ) → Leaf → LeafEnd → Beside → Type 0
+abbrev pub HasSpent : List Region → Budgets → List Line → (node : ℕ) → Leaf → LeafEnd → Beside
+    → Type 0
 HasSpent regions budgets lines node leaf (Exits status) beside = Unit {0}
 HasSpent regions budgets lines node leaf (Traps trap) beside = Unit {0}
 HasSpent regions budgets lines node leaf (Cut Steps) beside = leaf.steps ≡ budgets.steps
 HasSpent regions budgets lines node leaf (Cut Targets) (Spending spent) =
-    (sides : List Choice) × IsSideOf lines node sides × SpendsTargets regions budgets.targets sides leaf spent
-HasSpent regions budgets lines node leaf (Cut Conflicts) (Learning learnt) = SpendsConflicts regions budgets.conflicts leaf learnt
+    (sides : List Choice) × IsSideOf lines node sides
+    × SpendsTargets regions budgets.targets sides leaf spent
+HasSpent regions budgets lines node leaf (Cut Conflicts) (Learning learnt) =
+    SpendsConflicts regions budgets.conflicts leaf learnt
 HasSpent regions budgets lines node leaf (Cut _) beside = ⊥
 
 abbrev pub ShowBudgets : Report → Type 0
-ShowBudgets r = All (λ (e : Entry). HasSpent r.regions r.budgets r.lines e.node e.leaf e.leaf.end e.beside) r.entries
+ShowBudgets r = All (λ (e : Entry).
+    HasSpent r.regions r.budgets r.lines e.node e.leaf e.leaf.end e.beside) r.entries
 
 -- the events are one run of so many workers through the fork tree that leaves nothing to be done, and the leaves of its tree are those that are written
 abbrev pub HasHistory : Report → Type 0

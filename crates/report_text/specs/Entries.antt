@@ -28,7 +28,8 @@ use Rattle.report_text.specs.declared.leaves.LeafAt.{LeafAt}
 use Rattle.report_text.specs.declared.ranking.RankedLeaf.{RankedLeaf}
 
 -- beside a leaf stands the test that its sample makes, or what shows the budget that was spent
-abbrev pub IsBeside : List Region → (rank : ℕ) → Leaf → Option (List ℕ) → Option Evidence → Beside → Type 0
+abbrev pub IsBeside : List Region → (rank : ℕ) → Leaf → Option (List ℕ) → Option Evidence → Beside
+    → Type 0
 IsBeside regions rank leaf sample (Some (OnTargets spent)) (Spending written) = written ≡ spent
 IsBeside regions rank leaf sample (Some (OnConflicts learnt)) (Learning written) = written ≡ learnt
 IsBeside regions rank leaf (Some input) None (Tested test) = test ≡ test_of regions rank leaf input
@@ -43,7 +44,12 @@ beside_of regions rank leaf None None = Spending (record { term = 0; found = [] 
 
 -- the entry of a leaf at this node, of this rank
 abbrev pub entry_of : List Region → (rank : ℕ) → LeafAt → Entry
-entry_of regions rank l = record { leaf = l.part.now.leaf; node = l.node; beside = beside_of regions rank l.part.now.leaf l.part.now.sample l.part.now.evidence }
+entry_of regions rank l =
+    record {
+      leaf = l.part.now.leaf;
+      node = l.node;
+      beside = beside_of regions rank l.part.now.leaf l.part.now.sample l.part.now.evidence;
+    }
 
 -- the leaf at its node
 abbrev pub leaf_node_of : LeafAt → LeafNode
@@ -84,29 +90,38 @@ module _ {S L : Type 0} (part_of : L → Part) where
 
   -- the leaves of a tree, each once, in the order of their choices
   pub record AreByRank (s : Story (Content S L)) (leaves : List LeafAt) : Type 0 where
-    pub each : (rank : ℕ) (l : LeafAt) → slice_get leaves rank ≡ Some l → IsLeafAt s l.node l.part.now
+    pub each : (rank : ℕ) (l : LeafAt) → slice_get leaves rank ≡ Some l
+        → IsLeafAt s l.node l.part.now
     pub all : IsPermutation (leaf_numbers s) (map (λ (l : LeafAt). l.node) leaves)
-    pub ranked : (i j : ℕ) (l k : LeafAt) → i < j → slice_get leaves i ≡ Some l → slice_get leaves j ≡ Some k → precedes l.part.now.leaf.choices k.part.now.leaf.choices ≡ true
+    pub ranked : (i j : ℕ) (l k : LeafAt) → i < j → slice_get leaves i ≡ Some l
+        → slice_get leaves j ≡ Some k → precedes l.part.now.leaf.choices k.part.now.leaf.choices
+        ≡ true
 
   -- the entry of a leaf of this rank
-  pub record IsEntry (regions : List Region) (s : Story (Content S L)) (rank : ℕ) (entry : Entry) : Type 0 where
+  pub record IsEntry (regions : List Region) (s : Story (Content S L)) (rank : ℕ)
+      (entry : Entry) : Type 0 where
     pub part : Part
     pub at : IsLeafAt s entry.node part
     pub same_leaf : entry.leaf ≡ part.leaf
     pub beside : IsBeside regions rank part.leaf part.sample part.evidence entry.beside
 
   -- the entries of all leaves of a tree, by rank
-  pub record AreEntries (regions : List Region) (s : Story (Content S L)) (entries : List Entry) : Type 0 where
-    pub each : (rank : ℕ) (entry : Entry) → slice_get entries rank ≡ Some entry → IsEntry regions s rank entry
+  pub record AreEntries (regions : List Region) (s : Story (Content S L))
+      (entries : List Entry) : Type 0 where
+    pub each : (rank : ℕ) (entry : Entry) → slice_get entries rank ≡ Some entry
+        → IsEntry regions s rank entry
     pub all : IsPermutation (leaf_numbers s) (map (λ (entry : Entry). entry.node) entries)
     pub ranked : AreRanked (leaves_of entries)
 
   -- what a worker's rules ask of its leaves is what a report claims of them
-  pub record AskAsClaimed (rules : Rules S L) (leaf_place : L → Place) (image : Image) (regions : List Region) (budgets : Budgets) : Type 0 where
-    pub right : (sides : List Choice) (leaf : L) → rules.IsRight sides leaf → IsRight image regions budgets sides (part_of leaf)
+  pub record AskAsClaimed (rules : Rules S L) (leaf_place : L → Place) (image : Image)
+      (regions : List Region) (budgets : Budgets) : Type 0 where
+    pub right : (sides : List Choice) (leaf : L) → rules.IsRight sides leaf
+        → IsRight image regions budgets sides (part_of leaf)
     pub cut : (leaf : L) → rules.cut leaf ≡ cause_of (part_of leaf).leaf.end
     pub place : IsPlacedByPart part_of leaf_place
-    pub decides : (input : List ℕ) → rules.decides input ≡ decisions image regions input budgets.steps
+    pub decides : (input : List ℕ)
+        → rules.decides input ≡ decisions image regions input budgets.steps
     pub targets : rules.targets ≡ budgets.targets
 
 -- there is what stands beside a leaf: its evidence, or a byte for each place
@@ -121,13 +136,16 @@ IsReportable part = HasBeside part.leaf.condition.graph.inputs part.sample part.
 
 -- so it is of each leaf of a tree
 abbrev pub AreReportable : {S L : Type 0} → (part_of : L → Part) → Story (Content S L) → Type 0
-AreReportable {S} {L} part_of s = (m : ℕ) (leaf : L) → m < length s.nodes → status s m ≡ IsLeaf → content s m ≡ Some (Shut leaf) → IsReportable (part_of leaf)
+AreReportable {S} {L} part_of s = (m : ℕ) (leaf : L) → m < length s.nodes → status s m ≡ IsLeaf
+    → content s m ≡ Some (Shut leaf) → IsReportable (part_of leaf)
 
 -- these files and this line are the report of the leaves of a tree, in the folder `out`; the numbers in the logs are those that texts have
-pub record IsReportOfTree {S L : Type 0} (part_of : L → Part) (cut : L → Option Cause) (out : List ℕ) (regions : List Region) (budgets : Budgets) (workers : ℕ)
+pub record IsReportOfTree {S L : Type 0} (part_of : L → Part) (cut : L → Option Cause)
+    (out : List ℕ) (regions : List Region) (budgets : Budgets) (workers : ℕ)
     (s : Story (Content S L)) (puts : List Put) (text : List ℕ) : Type 0 where
   pub leaves : List LeafAt
   pub by_rank : AreByRank part_of s leaves
-  pub files : puts ≡ files_of out budgets workers regions (lines_of (cut_in cut) s) (entries_of regions 0 leaves)
+  pub files : puts ≡ files_of out budgets workers regions (lines_of (cut_in cut) s)
+      (entries_of regions 0 leaves)
   pub summary : text ≡ summary_of (entries_of regions 0 leaves)
   pub small_logs : All (λ (l : LeafAt). HasSmallLog l.part.now.evidence) leaves

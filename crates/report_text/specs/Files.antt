@@ -22,24 +22,30 @@ leaf_put out rank leaf = record { name = leaf_name out rank; bytes = leaf_text l
 
 abbrev pub beside_put : List ℕ → ℕ → Beside → Put
 beside_put out rank (Tested test) = record { name = test_name out rank; bytes = test_text test }
-beside_put out rank (Spending spent) = record { name = spent_name out rank; bytes = targets_text spent }
-beside_put out rank (Learning learnt) = record { name = spent_name out rank; bytes = conflicts_text learnt }
+beside_put out rank (Spending spent) =
+    record { name = spent_name out rank; bytes = targets_text spent }
+beside_put out rank (Learning learnt) =
+    record { name = spent_name out rank; bytes = conflicts_text learnt }
 
 -- two for each leaf, whose ranks begin with this one
 unfoldable pub files_from : List ℕ → ℕ → List Entry → List Put
 files_from out rank [] = []
-files_from out rank (e ∷ es) = leaf_put out rank e.leaf ∷ beside_put out rank e.beside ∷ files_from out (rank + 1) es
+files_from out rank (e ∷ es) =
+    leaf_put out rank e.leaf ∷ beside_put out rank e.beside ∷ files_from out (rank + 1) es
 
 abbrev pub events_put : List ℕ → List Line → Put
 events_put out lines = record { name = events_name out; bytes = events_text lines }
 
 abbrev pub report_put : List ℕ → Budgets → (workers : ℕ) → List Region → List LeafNode → Put
-report_put out budgets workers regions leaves = record { name = report_name out; bytes = report_text budgets workers regions leaves }
+report_put out budgets workers regions leaves =
+    record { name = report_name out; bytes = report_text budgets workers regions leaves }
 
 -- the events, the leaves with what stands beside them, and the JSON
-abbrev pub files_of : List ℕ → Budgets → (workers : ℕ) → List Region → List Line → List Entry → List Put
+abbrev pub files_of : List ℕ → Budgets → (workers : ℕ) → List Region → List Line → List Entry
+    → List Put
 files_of out budgets workers regions lines entries =
-    events_put out lines ∷ files_from out 0 entries ++ report_put out budgets workers regions (leaf_nodes_of entries) ∷ []
+    events_put out lines ∷ files_from out 0 entries
+    ++ report_put out budgets workers regions (leaf_nodes_of entries) ∷ []
 
 -- the line that is said
 abbrev pub summary_of : List Entry → List ℕ

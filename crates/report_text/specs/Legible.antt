@@ -16,7 +16,8 @@ use Rattle.report_text.specs.Claims.{Beside, Entry, Learning, Report, Spending, 
 -- the numbers of sides and their values have 32 bits, and the line of what is finished says of no cut
 abbrev pub IsLegibleDeed : Deed (Option Cause) Sides → Type 0
 IsLegibleDeed Claim = Unit {0}
-IsLegibleDeed (Split sides) = IsSmall sides.first × All (λ (side : Side). IsSmallChoice side.choice) sides.sides
+IsLegibleDeed (Split sides) = IsSmall sides.first
+    × All (λ (side : Side). IsSmallChoice side.choice) sides.sides
 IsLegibleDeed (Finish cut) = cut ≡ None
 IsLegibleDeed (Cut cut) = Unit {0}
 IsLegibleDeed Release = Unit {0}
@@ -34,7 +35,8 @@ IsLegibleFound found = IsSmall found.value × All (λ b. b < 256) found.input
 
 -- the term has a number of 64 bits, and so many values have one of 32
 abbrev pub IsLegibleSpent : Spent → Type 0
-IsLegibleSpent spent = IsSmall (length spent.found) × IsCount spent.term × All IsLegibleFound spent.found
+IsLegibleSpent spent = IsSmall (length spent.found) × IsCount spent.term
+    × All IsLegibleFound spent.found
 
 -- the variables of a step's clause have numbers of 32 bits, and its hints numbers of 64
 pub record HasSmallNumbers (s : Step) : Type 0 where
@@ -72,5 +74,6 @@ pub record HasSmallCounts (r : Report) : Type 0 where
   pub few_workers : IsSmall r.workers
   pub few_targets : IsSmall r.budgets.targets
   pub few_conflicts : IsSmall r.budgets.conflicts
-  pub few_nodes : (nodes : List Standing) → walk r.workers r.budgets.targets r.lines ≡ Some nodes → IsSmall (length nodes)
+  pub few_nodes : (nodes : List Standing) → walk r.workers r.budgets.targets r.lines ≡ Some nodes
+      → IsSmall (length nodes)
   pub small_logs : All (λ (e : Entry). HasSmallLogBeside e.beside) r.entries

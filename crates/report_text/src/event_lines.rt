@@ -67,7 +67,8 @@ fn side_string<R: Marked>(alloc: Global, node: &Node<R>) -> Result<String, NoMem
 
 /// The sides that these nodes were born as.
 fn sides_string<R: Marked>(alloc: Global, nodes: &[Node<R>]) -> Result<String, NoMemory>
-    ensures { IfOk result (λ text. string_bytes text ≡ spec.sides_text (map (side_born R.cut) nodes.now)) }
+    ensures { IfOk result (λ text. string_bytes text
+        ≡ spec.sides_text (map (side_born R.cut) nodes.now)) }
 {
     let mut text = String::new(alloc);
     for node in nodes {
@@ -79,7 +80,8 @@ fn sides_string<R: Marked>(alloc: Global, nodes: &[Node<R>]) -> Result<String, N
 
 /// The line of a deed that says no more than who did it, and to which node.
 fn plain_line(alloc: Global, deed: &str, by: u32, node: usize) -> Result<String, NoMemory>
-    ensures { IfOk result (λ line. string_bytes line ≡ deed.now ++ codes " " ++ spec.actors_text by node ++ codes "\n") }
+    ensures { IfOk result (λ line. string_bytes line
+        ≡ deed.now ++ codes " " ++ spec.actors_text by node ++ codes "\n") }
 {
     let (mut worker, mut place) = (Buffer::new(), Buffer::new());
     let (by, node) = (worker.format(by), place.format(node));
@@ -88,7 +90,9 @@ fn plain_line(alloc: Global, deed: &str, by: u32, node: usize) -> Result<String,
 
 /// The line of a leaf that was cut.
 fn cut_line(alloc: Global, by: u32, node: usize, cut: Option<Cause>) -> Result<String, NoMemory>
-    ensures { IfOk result (λ line. string_bytes line ≡ codes "cut " ++ spec.actors_text by node ++ codes " " ++ spec.cut_text cut ++ codes "\n") }
+    ensures { IfOk result (λ line. string_bytes line
+        ≡ codes "cut " ++ spec.actors_text by node ++ codes " " ++ spec.cut_text cut
+        ++ codes "\n") }
 {
     let (mut worker, mut place) = (Buffer::new(), Buffer::new());
     let (by, node) = (worker.format(by), place.format(node));
@@ -105,7 +109,8 @@ fn split_line<R: Marked>(
     nodes: &[Node<R>],
 ) -> Result<String, NoMemory>
     ensures { IfOk result (λ line. string_bytes line
-        ≡ codes "split " ++ spec.actors_text by node ++ codes " " ++ decimal first ++ spec.sides_text (map (side_born R.cut) nodes.now) ++ codes "\n") }
+        ≡ codes "split " ++ spec.actors_text by node ++ codes " " ++ decimal first
+        ++ spec.sides_text (map (side_born R.cut) nodes.now) ++ codes "\n") }
 {
     let (mut worker, mut place, mut kid) = (Buffer::new(), Buffer::new(), Buffer::new());
     let (by, node, first) = (worker.format(by), place.format(node), kid.format(first));
@@ -121,7 +126,9 @@ fn event_line<R: Marked>(
     event: &Noted<R>,
 ) -> Result<String, NoMemory>
     requires { first + born_by event.now.deed ≤ length nodes.now }
-    ensures { IfOk result (λ line. string_bytes line ≡ spec.deed_text event.now.by event.now.node (written_deed R.cut nodes.now first event.now.deed)) }
+    ensures { IfOk result (λ line. string_bytes line
+        ≡ spec.deed_text event.now.by event.now.node
+        (written_deed R.cut nodes.now first event.now.deed)) }
 {
     let (by, node) = (event.by, event.node);
     match &event.deed {
@@ -150,7 +157,8 @@ pub fn write_events<R: Marked>(
     events: &[Noted<R>],
 ) -> Result<Bytes, NoMemory>
     requires { nodes_after 1 events.now ≡ length nodes.now }
-    ensures { IfOk result (λ text. text ≡ spec.events_text (lines_of R.cut (record { nodes = nodes.now; events = events.now }))) }
+    ensures { IfOk result (λ text. text
+        ≡ spec.events_text (lines_of R.cut (record { nodes = nodes.now; events = events.now }))) }
 {
     let mut text = String::new(alloc);
     let mut first = 1;

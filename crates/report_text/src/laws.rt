@@ -31,7 +31,8 @@ use fork_tree::Work;
 
 /// Lists of choices that first differ in two choices stand in the order of these, and of two different choices one is before the other.
 pub fn choices_are_ordered_where_they_differ()
-    ensures first { (cs ds : List Choice) (c d : Choice) → FirstDiffer cs ds c d → precedes cs ds ≡ is_before c d }
+    ensures first { (cs ds : List Choice) (c d : Choice) → FirstDiffer cs ds c d
+        → precedes cs ds ≡ is_before c d }
     ensures one { (c d : Choice) → c ≢ d → (is_before c d ≡ true) ⊎ (is_before d c ≡ true) }
 {}
 
@@ -40,28 +41,46 @@ pub fn choices_are_ordered_where_they_differ()
 pub fn the_entries_of_a_tree_are_a_report<W: Work>()
 where
     W::Leaf: HasPart,
-    ensures { (worker : W) (image : Image) (regions : List Region) (budgets : Budgets) (workers : ℕ) (s : Story (Content W.State W.Leaf)) (entries : List Entry)
-        → AskAsClaimed W.Leaf.part (W.rules worker) W.Leaf.place image regions budgets → IsDrained (W.rules worker) W.State.place W.Leaf.place s → AreEntries W.Leaf.part regions s entries
-        → ((input : List ℕ) → IsAssignment regions input → covered (λ c. (place_in W.State.place W.Leaf.place c).covers) (root_content s) input ≡ true)
-        → All (λ (e : Event (Content W.State W.Leaf) ℕ). e.by < workers) s.events → ReleaseOnce s.events
-        → IsReport (record { image = image; regions = regions; budgets = budgets; workers = workers; lines = lines_of (cut_in (W.rules worker).cut) s; entries = entries }) }
+    ensures { (worker : W) (image : Image) (regions : List Region) (budgets : Budgets) (workers : ℕ)
+        (s : Story (Content W.State W.Leaf)) (entries : List Entry)
+        → AskAsClaimed W.Leaf.part (W.rules worker) W.Leaf.place image regions budgets
+        → IsDrained (W.rules worker) W.State.place W.Leaf.place s
+        → AreEntries W.Leaf.part regions s entries
+        → ((input : List ℕ) → IsAssignment regions input
+        → covered (λ c. (place_in W.State.place W.Leaf.place c).covers) (root_content s) input
+        ≡ true)
+        → All (λ (e : Event (Content W.State W.Leaf) ℕ). e.by < workers) s.events
+        → ReleaseOnce s.events
+        → IsReport (record {
+          image = image;
+          regions = regions;
+          budgets = budgets;
+          workers = workers;
+          lines = lines_of (cut_in (W.rules worker).cut) s;
+          entries = entries;
+        }) }
 {}
 
 /// Leaves that stand by rank are the entries of their tree.
 pub fn leaves_by_rank_are_entries<W: Work>()
 where
     W::Leaf: HasPart,
-    ensures { (regions : List Region) (s : Story (Content W.State W.Leaf)) (leaves : List LeafAt) → AreByRank W.Leaf.part s leaves
-        → ((rank : ℕ) (l : LeafAt) → slice_get leaves rank ≡ Some l → IsReportable l.part.now) → AreEntries W.Leaf.part regions s (entries_of regions 0 leaves) }
+    ensures { (regions : List Region) (s : Story (Content W.State W.Leaf)) (leaves : List LeafAt)
+        → AreByRank W.Leaf.part s leaves
+        → ((rank : ℕ) (l : LeafAt) → slice_get leaves rank ≡ Some l → IsReportable l.part.now)
+        → AreEntries W.Leaf.part regions s (entries_of regions 0 leaves) }
 {}
 
 /// The text of events is that of no others.
 pub fn a_text_is_that_of_one_history()
-    ensures { (lines others : List Line) → AreLegible lines → AreLegible others → events_text lines ≡ events_text others → lines ≡ others }
+    ensures { (lines others : List Line) → AreLegible lines → AreLegible others
+        → events_text lines ≡ events_text others → lines ≡ others }
 {}
 
 /// What was spent is told by its text: values of a term, and a question with the clauses that were learnt for it.
 pub fn a_text_tells_what_was_spent()
-    ensures targets { (spent other : Spent) → IsLegibleSpent spent → IsLegibleSpent other → targets_text spent ≡ targets_text other → spent ≡ other }
-    ensures conflicts { (learnt other : Learnt) → IsLegibleLearnt learnt → IsLegibleLearnt other → conflicts_text learnt ≡ conflicts_text other → learnt ≡ other }
+    ensures targets { (spent other : Spent) → IsLegibleSpent spent → IsLegibleSpent other
+        → targets_text spent ≡ targets_text other → spent ≡ other }
+    ensures conflicts { (learnt other : Learnt) → IsLegibleLearnt learnt → IsLegibleLearnt other
+        → conflicts_text learnt ≡ conflicts_text other → learnt ≡ other }
 {}

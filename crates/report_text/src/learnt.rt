@@ -16,7 +16,8 @@ use text_parts::push_numbered;
 
 /// Appends a literal, behind a blank.
 fn write_literal(text: &mut String, literal: Lit) -> Result<(), NoMemory>
-    ensures ok { OnOk result (string_bytes text.new ≡ string_bytes text.old ++ literal_text literal) }
+    ensures ok { OnOk result (string_bytes text.new
+        ≡ string_bytes text.old ++ literal_text literal) }
     ensures small { IsSmall literal.variable }
 {
     let sign = if literal.is_positive() { " " } else { " -" };
@@ -25,7 +26,8 @@ fn write_literal(text: &mut String, literal: Lit) -> Result<(), NoMemory>
 
 /// Appends the literals of a clause.
 fn write_literals(text: &mut String, literals: &[Lit]) -> Result<(), NoMemory>
-    ensures ok { OnOk result (string_bytes text.new ≡ string_bytes text.old ++ flat_map literal_text literals.now) }
+    ensures ok { OnOk result (string_bytes text.new
+        ≡ string_bytes text.old ++ flat_map literal_text literals.now) }
     ensures small { OnOk result (All (λ l. IsSmall l.variable) literals.now) }
 {
     for literal in literals {
@@ -36,7 +38,8 @@ fn write_literals(text: &mut String, literals: &[Lit]) -> Result<(), NoMemory>
 
 /// Appends the numbers of clauses.
 fn write_hints(text: &mut String, hints: &[usize]) -> Result<(), NoMemory>
-    ensures ok { OnOk result (string_bytes text.new ≡ string_bytes text.old ++ flat_map hint_text hints.now) }
+    ensures ok { OnOk result (string_bytes text.new
+        ≡ string_bytes text.old ++ flat_map hint_text hints.now) }
     ensures small { All (λ h. h < 2 ^ 64) hints.now }
 {
     for hint in hints {
@@ -47,7 +50,8 @@ fn write_hints(text: &mut String, hints: &[usize]) -> Result<(), NoMemory>
 
 /// Appends the line of a clause that was learnt.
 fn write_learnt_line(text: &mut String, step: &LogStep) -> Result<(), NoMemory>
-    ensures ok { OnOk result (string_bytes text.new ≡ string_bytes text.old ++ learnt_line step.now) }
+    ensures ok { OnOk result (string_bytes text.new
+        ≡ string_bytes text.old ++ learnt_line step.now) }
     ensures small { OnOk result (HasSmallNumbers step.now) }
 {
     text.push_str("c")?;
@@ -59,7 +63,8 @@ fn write_learnt_line(text: &mut String, step: &LogStep) -> Result<(), NoMemory>
 
 /// Appends a line for each clause that was learnt.
 fn write_learnt_lines(text: &mut String, log: &[LogStep]) -> Result<(), NoMemory>
-    ensures ok { OnOk result (string_bytes text.new ≡ string_bytes text.old ++ flat_map learnt_line log.now) }
+    ensures ok { OnOk result (string_bytes text.new
+        ≡ string_bytes text.old ++ flat_map learnt_line log.now) }
     ensures small { OnOk result (All HasSmallNumbers log.now) }
 {
     for step in log {
@@ -70,7 +75,8 @@ fn write_learnt_lines(text: &mut String, log: &[LogStep]) -> Result<(), NoMemory
 
 /// Appends how many clauses were learnt, and how many inputs and terms the question has.
 fn write_heading(text: &mut String, learnt: &Learnt) -> Result<(), NoMemory>
-    ensures ok { OnOk result (string_bytes text.new ≡ string_bytes text.old ++ learnt_heading learnt.now) }
+    ensures ok { OnOk result (string_bytes text.new
+        ≡ string_bytes text.old ++ learnt_heading learnt.now) }
 {
     let dag = learnt.question.dag();
     push_numbered(text, "; spent conflicts ", learnt.log.steps().len())?;

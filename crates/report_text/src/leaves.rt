@@ -91,7 +91,8 @@ where
     W::Leaf: HasPart,
     requires { numbers.now ≡ leaf_numbers tree.now.story }
     ensures nodes { IfOk result (λ ranked. map (λ r. r.node) ranked.items ≡ numbers.now) }
-    ensures choices { IfOk result (λ ranked. All (ChoicesLead W.Leaf.part tree.now.story) ranked.items) }
+    ensures choices { IfOk result (λ ranked. All
+        (ChoicesLead W.Leaf.part tree.now.story) ranked.items) }
 {
     let mut ranked = Vec::with_capacity(alloc, numbers.len())?;
     for node in numbers {
@@ -109,8 +110,10 @@ where
     W::Leaf: HasPart,
     requires done { IsDrained (W.rules tree.now.worker) W.State.place W.Leaf.place tree.now.story }
     requires placed { IsPlacedByPart W.Leaf.part W.Leaf.place }
-    ensures all { IfOk result (λ ranked. IsPermutation (leaf_numbers tree.now.story) (map (λ r. r.node) ranked.items)) }
-    ensures lead { IfOk result (λ ranked. All (ChoicesLead W.Leaf.part tree.now.story) ranked.items) }
+    ensures all { IfOk result (λ ranked. IsPermutation (leaf_numbers tree.now.story)
+        (map (λ r. r.node) ranked.items)) }
+    ensures lead { IfOk result (λ ranked. All
+        (ChoicesLead W.Leaf.part tree.now.story) ranked.items) }
     ensures ordered { IfOk result (λ ranked. AreInOrder (map (λ r. r.choices.now) ranked.items)) }
 {
     let numbers = leaf_numbers(alloc, tree)?;
@@ -128,8 +131,10 @@ fn leaves_at<'a, W: Work>(
 where
     W::Leaf: HasPart,
     requires { All (ChoicesLead W.Leaf.part tree.now.story) ranked.now }
-    ensures nodes { IfOk result (λ leaves. map (λ l. l.node) leaves.items ≡ map (λ r. r.node) ranked.now) }
-    ensures each { IfOk result (λ leaves. All (λ l. IsLeafAt W.Leaf.part tree.now.story l.node l.part.now) leaves.items) }
+    ensures nodes { IfOk result (λ leaves. map (λ l. l.node) leaves.items
+        ≡ map (λ r. r.node) ranked.now) }
+    ensures each { IfOk result (λ leaves. All
+        (λ l. IsLeafAt W.Leaf.part tree.now.story l.node l.part.now) leaves.items) }
 {
     let mut leaves = Vec::with_capacity(alloc, ranked.len())?;
     for at in ranked {

@@ -78,7 +78,9 @@ fn beside_file(
     part: &LeafPart,
 ) -> Result<NamedFile, NoMemory>
     requires { IsReportable part.now }
-    ensures file { IfOk result (λ file. file ≡ beside_put out.now rank (beside_of regions.now rank part.now.leaf part.now.sample part.now.evidence)) }
+    ensures file { IfOk result (λ file. file
+        ≡ beside_put out.now rank
+        (beside_of regions.now rank part.now.leaf part.now.sample part.now.evidence)) }
     ensures small { IfOk result (λ file. HasSmallLog part.now.evidence) }
 {
     match (part.evidence(), part.sample()) {
@@ -109,8 +111,10 @@ fn push_files(
     part: &LeafPart,
 ) -> Result<(), NoMemory>
     requires { IsReportable part.now }
-    ensures files { OnOk result (files.new.items ≡ files.old.items ++ leaf_put out.now rank part.now.leaf
-        ∷ beside_put out.now rank (beside_of regions.now rank part.now.leaf part.now.sample part.now.evidence) ∷ []) }
+    ensures files { OnOk result (files.new.items
+        ≡ files.old.items ++ leaf_put out.now rank part.now.leaf
+        ∷ beside_put out.now rank
+        (beside_of regions.now rank part.now.leaf part.now.sample part.now.evidence) ∷ []) }
     ensures small { OnOk result (HasSmallLog part.now.evidence) }
 {
     files.push(leaf_file(alloc, out, rank, part)?)?;
@@ -127,7 +131,8 @@ fn push_leaves(
     leaves: &[LeafAt<'_>],
 ) -> Result<(), NoMemory>
     requires { All (λ l. IsReportable l.part.now) leaves.now }
-    ensures files { OnOk result (files.new.items ≡ files.old.items ++ files_from out.now 0 (entries_of regions.now 0 leaves.now)) }
+    ensures files { OnOk result (files.new.items
+        ≡ files.old.items ++ files_from out.now 0 (entries_of regions.now 0 leaves.now)) }
     ensures small { OnOk result (All (λ l. HasSmallLog l.part.now.evidence) leaves.now) }
 {
     for (rank, leaf) in leaves.iter().enumerate() {
@@ -141,7 +146,8 @@ fn events_file<W: Work>(alloc: Global, out: &str, tree: &Tree<W>) -> Result<Name
 where
     W::Leaf: Marked,
     requires { nodes_after 1 tree.now.story.events ≡ length tree.now.story.nodes }
-    ensures { IfOk result (λ file. file ≡ events_put out.now (lines_of (cut_in W.Leaf.cut) tree.now.story)) }
+    ensures { IfOk result (λ file. file
+        ≡ events_put out.now (lines_of (cut_in W.Leaf.cut) tree.now.story)) }
 {
     let text = write_events(alloc, tree.nodes(), tree.events())?;
     Ok(NamedFile::new(events_name(alloc, out)?, text))
@@ -157,7 +163,8 @@ fn report_file(
     leaves: &[LeafAt<'_>],
 ) -> Result<NamedFile, NoMemory>
     requires { length leaves.now < 2 ^ 32 }
-    ensures { IfOk result (λ file. file ≡ report_put out.now budgets.now workers regions.now (map leaf_node_of leaves.now)) }
+    ensures { IfOk result (λ file. file
+        ≡ report_put out.now budgets.now workers regions.now (map leaf_node_of leaves.now)) }
 {
     let text = write_report(alloc, budgets, workers, regions, leaves)?;
     Ok(NamedFile::new(report_name(alloc, out)?, text))
@@ -178,7 +185,9 @@ where
     requires placed { IsPlacedByPart W.Leaf.part W.Leaf.place }
     requires done { IsDrained (W.rules tree.now.worker) W.State.place W.Leaf.place tree.now.story }
     requires reportable { AreReportable W.Leaf.part tree.now.story }
-    ensures { IfOk result (λ report. IsReportOfTree W.Leaf.part W.Leaf.cut out.now regions.now budgets.now workers tree.now.story report.files.items report.summary) }
+    ensures { IfOk result (λ report.
+        IsReportOfTree W.Leaf.part W.Leaf.cut out.now regions.now budgets.now workers tree.now.story
+        report.files.items report.summary) }
 {
     let leaves = by_rank(alloc, tree)?;
     let summary = summarize(&leaves);

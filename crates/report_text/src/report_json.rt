@@ -41,7 +41,8 @@ fn leaf_value<E: Reported>(alloc: Global, leaf: &E) -> Result<Value, NoMemory>
 
 /// The objects of the leaves.
 fn leaf_values<E: Reported>(alloc: Global, leaves: &[E]) -> Result<Vec<Value>, NoMemory>
-    ensures { IfOk result (λ values. map view values.items ≡ map leaf_node_data (map E.leaf_node leaves.now)) }
+    ensures { IfOk result (λ values. map view values.items
+        ≡ map leaf_node_data (map E.leaf_node leaves.now)) }
 {
     let mut values = Vec::with_capacity(alloc, leaves.len())?;
     for leaf in leaves {
@@ -90,7 +91,8 @@ fn object_value(
     regions: Value,
     summary: Value,
 ) -> Result<Value, NoMemory>
-    ensures { IfOk result (λ value. view value ≡ object_data (view budgets) (view leaves) (view regions) (view summary)) }
+    ensures { IfOk result (λ value. view value
+        ≡ object_data (view budgets) (view leaves) (view regions) (view summary)) }
 {
     json!(in alloc; {
         "budgets": budgets,
@@ -109,7 +111,8 @@ fn report_value<E: Reported>(
     leaves: &[E],
 ) -> Result<Value, NoMemory>
     requires { length leaves.now < 2 ^ 32 }
-    ensures { IfOk result (λ value. view value ≡ report_data budgets.now workers regions.now (map E.leaf_node leaves.now)) }
+    ensures { IfOk result (λ value. view value
+        ≡ report_data budgets.now workers regions.now (map E.leaf_node leaves.now)) }
 {
     let budgets = budgets_value(alloc, budgets, workers)?;
     let summary = totals_value(alloc, summarize(leaves))?;
@@ -128,7 +131,8 @@ pub fn write_report<E: Reported>(
     leaves: &[E],
 ) -> Result<Bytes, NoMemory>
     requires { length leaves.now < 2 ^ 32 }
-    ensures { IfOk result (λ text. text ≡ report_text budgets.now workers regions.now (map E.leaf_node leaves.now)) }
+    ensures { IfOk result (λ text. text
+        ≡ report_text budgets.now workers regions.now (map E.leaf_node leaves.now)) }
 {
     let value = report_value(alloc, budgets, workers, regions, leaves)?;
     let mut text = value.to_string(alloc)?;

@@ -37,7 +37,8 @@ fn end_among(words: &[Word], end: LeafEnd) -> Option<End>
 /// The bytes that these terms are worth.
 fn bytes_at(alloc: Global, words: &[Word], ids: &[usize]) -> Result<Vec<u8>, NoMemory>
     requires { All (λ id. (vector_at words.now id).width ≡ 8) ids.now }
-    ensures { IfOk result (λ bytes. bytes.items ≡ map (λ id. (vector_at words.now id).number) ids.now) }
+    ensures { IfOk result (λ bytes. bytes.items
+        ≡ map (λ id. (vector_at words.now id).number) ids.now) }
 {
     let mut bytes = Vec::with_capacity(alloc, ids.len())?;
     for id in ids {

@@ -65,7 +65,8 @@ fn is_tested(end: LeafEnd) -> bool
 /// The summary of so many leaves and one more.
 fn with_leaf(before: Summary, end: LeafEnd, steps: u32) -> Summary
     requires { HasRoom before }
-    ensures counted { (leaves : List Leaf) (leaf : Leaf) → before ≡ count leaves → end ≡ leaf.end → steps ≡ leaf.steps → result ≡ count (leaves ++ leaf ∷ []) }
+    ensures counted { (leaves : List Leaf) (leaf : Leaf) → before ≡ count leaves → end ≡ leaf.end
+        → steps ≡ leaf.steps → result ≡ count (leaves ++ leaf ∷ []) }
     ensures steps { result.steps ≤ before.steps + (2 ^ 32 - 1) }
 {
     let finished = is_finished(end);

@@ -26,7 +26,8 @@ funct7 word = bits word 25 7
 
 -- a number of so many bits in two's complement, modulo 2 ^ 32
 unfoldable pub sign_extended : ℕ → ℕ → ℕ
-sign_extended count number = if nat_lt number (2 ^ (count - 1)) then number else number + (2 ^ 32 - 2 ^ count)
+sign_extended count number =
+    if nat_lt number (2 ^ (count - 1)) then number else number + (2 ^ 32 - 2 ^ count)
 
 -- The immediates. Each sum has the word's fields from the highest bit down, each times the place of its lowest bit.
 unfoldable pub i_immediate : ℕ → ℕ
@@ -36,10 +37,13 @@ unfoldable pub s_immediate : ℕ → ℕ
 s_immediate word = sign_extended 12 (bits word 25 7 * 32 + bits word 7 5)
 
 unfoldable pub b_immediate : ℕ → ℕ
-b_immediate word = sign_extended 13 (bits word 31 1 * 4096 + bits word 7 1 * 2048 + bits word 25 6 * 32 + bits word 8 4 * 2)
+b_immediate word = sign_extended 13
+    (bits word 31 1 * 4096 + bits word 7 1 * 2048 + bits word 25 6 * 32 + bits word 8 4 * 2)
 
 unfoldable pub u_immediate : ℕ → ℕ
 u_immediate word = bits word 12 20 * 4096
 
 unfoldable pub j_immediate : ℕ → ℕ
-j_immediate word = sign_extended 21 (bits word 31 1 * 0x100000 + bits word 12 8 * 4096 + bits word 20 1 * 2048 + bits word 21 10 * 2)
+j_immediate word = sign_extended 21
+    (bits word 31 1 * 0x100000 + bits word 12 8 * 4096 + bits word 20 1 * 2048
+    + bits word 21 10 * 2)

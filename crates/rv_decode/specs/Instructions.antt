@@ -9,23 +9,29 @@ use Rattle.rv_decode.specs.Ops.{branch_test, load_width, store_width, immediate_
 
 -- The words of one opcode.
 abbrev pub jalr_instr : ℕ → Option Instr
-jalr_instr word = if funct3 word == 0b000 then Some (Jalr (rd word) (rs1 word) (i_immediate word)) else None
+jalr_instr word = if funct3 word == 0b000 then Some (Jalr (rd word) (rs1 word) (i_immediate word))
+    else None
 
 abbrev pub branch_instr : ℕ → Option Instr
-branch_instr word = option_map (λ test. Branch test (rs1 word) (rs2 word) (b_immediate word)) (branch_test (funct3 word))
+branch_instr word = option_map (λ test. Branch test (rs1 word) (rs2 word) (b_immediate word))
+    (branch_test (funct3 word))
 
 abbrev pub load_instr : ℕ → Option Instr
-load_instr word = option_map (λ width. Load width (rd word) (rs1 word) (i_immediate word)) (load_width (funct3 word))
+load_instr word = option_map (λ width. Load width (rd word) (rs1 word) (i_immediate word))
+    (load_width (funct3 word))
 
 abbrev pub store_instr : ℕ → Option Instr
-store_instr word = option_map (λ width. Store width (rs1 word) (rs2 word) (s_immediate word)) (store_width (funct3 word))
+store_instr word = option_map (λ width. Store width (rs1 word) (rs2 word) (s_immediate word))
+    (store_width (funct3 word))
 
 abbrev pub immediate_instr : ℕ → Option Instr
-immediate_instr word = option_map (λ op. Immediate op (rd word) (rs1 word) (i_immediate word)) (immediate_op (funct3 word))
+immediate_instr word = option_map (λ op. Immediate op (rd word) (rs1 word) (i_immediate word))
+    (immediate_op (funct3 word))
 
 -- the amount of a shift stands where another instruction has its second register
 abbrev pub shift_instr : ℕ → Option Instr
-shift_instr word = option_map (λ op. ShiftImmediate op (rd word) (rs1 word) (rs2 word)) (shift_op (funct3 word) (funct7 word))
+shift_instr word = option_map (λ op. ShiftImmediate op (rd word) (rs1 word) (rs2 word))
+    (shift_op (funct3 word) (funct7 word))
 
 abbrev pub register_immediate_instr : ℕ → Option Instr
 register_immediate_instr word =
@@ -33,7 +39,8 @@ register_immediate_instr word =
     if funct3 word == 0b101 then shift_instr word else immediate_instr word
 
 abbrev pub binary_instr : ℕ → Option Instr
-binary_instr word = option_map (λ op. Binary op (rd word) (rs1 word) (rs2 word)) (register_op (funct3 word) (funct7 word))
+binary_instr word = option_map (λ op. Binary op (rd word) (rs1 word) (rs2 word))
+    (register_op (funct3 word) (funct7 word))
 
 abbrev pub fence_instr : ℕ → Option Instr
 fence_instr word = if funct3 word == 0b000 then Some Fence else None

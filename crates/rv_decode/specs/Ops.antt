@@ -54,7 +54,8 @@ immediate_op funct3 =
 abbrev pub shift_op : ℕ → ℕ → Option ShiftOp
 shift_op funct3 funct7 =
     if funct3 == 0b001 then (if funct7 == 0b000_0000 then Some Slli else None) else
-    if funct3 == 0b101 then (if funct7 == 0b000_0000 then Some Srli else if funct7 == 0b010_0000 then Some Srai else None) else None
+    if funct3 == 0b101 then (if funct7 == 0b000_0000 then Some Srli else if funct7 == 0b010_0000
+    then Some Srai else None) else None
 
 -- by funct3, under the funct7 0000000
 abbrev pub base_op : ℕ → Option RegisterOp

@@ -37,7 +37,8 @@ page_number_at pages i = let page = slice_index_or pages i past_the_end in page.
 
 -- the numbers rise, so that none comes twice
 abbrev pub AreByNumber : List (ℕ × Page) → Type 0
-AreByNumber pages = (i j : ℕ) → i < j → j < length pages → page_number_at pages i < page_number_at pages j
+AreByNumber pages = (i j : ℕ) → i < j → j < length pages
+    → page_number_at pages i < page_number_at pages j
 
 -- the page at this place has the number
 pub record IsPlaceOf (pages : List (ℕ × Page)) (number i : ℕ) : Type 0 where
@@ -46,7 +47,8 @@ pub record IsPlaceOf (pages : List (ℕ × Page)) (number i : ℕ) : Type 0 wher
 
 -- each address of a region is one of memory, on a mapped page
 abbrev pub IsMapped : (ℕ → Option ℕ) → Region → Type 0
-IsMapped flags r = (i : ℕ) → i < r.count → (r.start + i < 2 ^ 32) × (is_mapped flags (r.start + i) ≡ true)
+IsMapped flags r = (i : ℕ) → i < r.count → (r.start + i < 2 ^ 32)
+    × (is_mapped flags (r.start + i) ≡ true)
 
 abbrev pub AreMapped : (ℕ → Option ℕ) → List Region → Type 0
 AreMapped flags [] = Unit {0}
@@ -54,4 +56,5 @@ AreMapped flags (r ∷ rs) = IsMapped flags r × AreMapped flags rs
 
 -- memory with so many of the bytes from an address on
 abbrev pub filled : ℕ → ℕ → List ℕ → (ℕ → ℕ) → ℕ → ℕ
-filled start count bytes byte x = if nat_le start x && nat_lt x (start + count) then slice_index bytes (x - start) else byte x
+filled start count bytes byte x =
+    if nat_le start x && nat_lt x (start + count) then slice_index bytes (x - start) else byte x

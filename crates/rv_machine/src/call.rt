@@ -26,7 +26,8 @@ pub const MOST_WRITTEN: u32 = 4096;
 /// Whether each of so many addresses is on a mapped page.
 fn are_mapped(hart: &mut Hart, start: u32, count: u32) -> bool
     ensures same { hart.new ≡ hart.old }
-    ensures value { result ≡ list_all (is_mapped (flags_on hart.old.pages)) (addresses start count) }
+    ensures value { result ≡ list_all (is_mapped (flags_on hart.old.pages))
+        (addresses start count) }
 {
     let mut mapped = true;
     for i in 0..count {
@@ -45,7 +46,8 @@ pub fn is_file(file: u32) -> bool
 /// Writes bytes of memory to the output, 4096 at most, and answers their number in a0.
 #[tactic(auto, unfolding(rv_spec::specs::Machine::write))]
 fn write(hart: &mut Hart, file: u32, start: u32, asked: u32) -> Result<Step, NoMemory>
-    ensures ok { IfOk result (λ step. outcome_of hart.new step ≡ machine.write (state_of hart.old) file start asked) }
+    ensures ok { IfOk result (λ step. outcome_of hart.new step
+        ≡ machine.write (state_of hart.old) file start asked) }
     ensures err { OnErr result (hart.new ≡ hart.old) }
 {
     let count = asked.min(MOST_WRITTEN);
@@ -61,7 +63,8 @@ fn write(hart: &mut Hart, file: u32, start: u32, asked: u32) -> Result<Step, NoM
 
 /// Carries out the environment call that a7 names.
 pub fn call(hart: &mut Hart) -> Result<Step, NoMemory>
-    ensures ok { IfOk result (λ step. outcome_of hart.new step ≡ machine.call (state_of hart.old) (x (state_of hart.old) 17)) }
+    ensures ok { IfOk result (λ step. outcome_of hart.new step
+        ≡ machine.call (state_of hart.old) (x (state_of hart.old) 17)) }
     ensures err { OnErr result (hart.new ≡ hart.old) }
     ensures records { IfErr result (λ _. x (state_of hart.old) 17 ≡ 64) }
 {

@@ -31,7 +31,8 @@ fn jump_and_link(hart: &mut Hart, rd: Register, target: u32) -> Step
 
 /// Jumps to an address in a register, which the path notes.
 fn jump_to_register(hart: &mut Hart, rd: Register, target: u32) -> Result<Step, NoMemory>
-    ensures ok { IfOk result (λ step. outcome_of hart.new step ≡ machine.linked (machine.noted (state_of hart.old) (Target target)) rd target) }
+    ensures ok { IfOk result (λ step. outcome_of hart.new step
+        ≡ machine.linked (machine.noted (state_of hart.old) (Target target)) rd target) }
     ensures err { OnErr result (hart.new ≡ hart.old) }
 {
     hart.note(PathStep::Target(target))?;
@@ -40,7 +41,8 @@ fn jump_to_register(hart: &mut Hart, rd: Register, target: u32) -> Result<Step, 
 
 /// Goes along one side of a conditional branch. The path notes it before the target is tested.
 fn branch(hart: &mut Hart, taken: bool, target: u32) -> Result<Step, NoMemory>
-    ensures ok { IfOk result (λ step. outcome_of hart.new step ≡ machine.branch (state_of hart.old) taken target) }
+    ensures ok { IfOk result (λ step. outcome_of hart.new step
+        ≡ machine.branch (state_of hart.old) taken target) }
     ensures err { OnErr result (hart.new ≡ hart.old) }
 {
     if !taken {
@@ -62,7 +64,8 @@ fn jump_register(
     rs1: Register,
     offset: u32,
 ) -> Result<Step, NoMemory>
-    ensures ok { IfOk result (λ step. outcome_of hart.new step ≡ machine.execute (state_of hart.old) (Jalr rd rs1 offset)) }
+    ensures ok { IfOk result (λ step. outcome_of hart.new step
+        ≡ machine.execute (state_of hart.old) (Jalr rd rs1 offset)) }
     ensures err { OnErr result (hart.new ≡ hart.old) }
 {
     let sum = hart.x(rs1).wrapping_add(offset);
@@ -76,7 +79,8 @@ fn jump_register(
 /// Where memory is wanting for the path or the output; nothing changes then.
 pub fn execute(hart: &mut Hart, instr: Instr) -> Result<Step, NoMemory>
     requires { ShiftsBelow32 instr }
-    ensures ok { IfOk result (λ step. outcome_of hart.new step ≡ machine.execute (state_of hart.old) instr) }
+    ensures ok { IfOk result (λ step. outcome_of hart.new step
+        ≡ machine.execute (state_of hart.old) instr) }
     ensures err { OnErr result (hart.new ≡ hart.old) }
     ensures records { IfErr result (λ _. Records (state_of hart.old) instr) }
 {

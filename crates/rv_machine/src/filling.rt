@@ -13,7 +13,8 @@ fn fill(hart: &mut Hart, region: &Region, bytes: &[u8])
     requires enough { region.now.count ≤ length bytes.now }
     ensures rest { hart.new ≡ record hart.old { pages = hart.new.pages } }
     ensures flags { flags_on hart.new.pages ≡ flags_on hart.old.pages }
-    ensures bytes { byte_on hart.new.pages ≡ filled region.now.start region.now.count bytes.now (byte_on hart.old.pages) }
+    ensures bytes { byte_on hart.new.pages
+        ≡ filled region.now.start region.now.count bytes.now (byte_on hart.old.pages) }
 {
     for i in 0..region.count {
         hart.put(region.start + i, bytes[i as usize]);

@@ -72,7 +72,8 @@ fn append_bytes(
     count: u32,
 ) -> Result<(), NoMemory>
     ensures same { memory.new ≡ memory.old }
-    ensures ok { OnOk result (output.new.items ≡ output.old.items ++ map (byte_on memory.old) (addresses start count)) }
+    ensures ok { OnOk result (output.new.items
+        ≡ output.old.items ++ map (byte_on memory.old) (addresses start count)) }
     ensures err { OnErr result (output.new.items ≡ output.old.items) }
 {
     output.reserve(count as usize)?;
@@ -94,7 +95,14 @@ fn first_registers() -> [u32; 32]
 impl Hart {
     /// At the entry of an image, in its memory.
     pub fn of_image(alloc: Global, image: &Image) -> Result<Hart, NoMemory>
-        ensures { IfOk result (λ hart. hart ≡ record { pc = image.now.entry; registers = first_registers; pages = image.now.pages; output = []; path = [] }) }
+        ensures { IfOk result (λ hart. hart
+            ≡ record {
+              pc = image.now.entry;
+              registers = first_registers;
+              pages = image.now.pages;
+              output = [];
+              path = [];
+            }) }
     {
         Ok(Hart {
             pc: image.entry(),
@@ -122,7 +130,8 @@ impl Hart {
     /// The instruction that comes next, or why there is none.
     pub fn fetch(&mut self) -> Result<Instr, Trap>
         ensures same { self.new ≡ self.old }
-        ensures value { result ≡ fetch (flags_on self.old.pages) (byte_on self.old.pages) self.old.pc }
+        ensures value { result ≡ fetch (flags_on self.old.pages)
+            (byte_on self.old.pages) self.old.pc }
         ensures amount { IfOk result ShiftsBelow32 }
     {
         self.memory.fetch(self.pc)
@@ -157,14 +166,16 @@ impl Hart {
         requires { is_mapped (flags_on self.old.pages) address ≡ true }
         ensures rest { self.new ≡ record self.old { pages = self.new.pages } }
         ensures flags { flags_on self.new.pages ≡ flags_on self.old.pages }
-        ensures bytes { byte_on self.new.pages ≡ with_bytes (byte_on self.old.pages) address (byte ∷ []) }
+        ensures bytes { byte_on self.new.pages
+            ≡ with_bytes (byte_on self.old.pages) address (byte ∷ []) }
     {
         self.memory.write(address, byte);
     }
 
     /// Writes a register; x0 is never written.
     pub fn set(&mut self, register: Register, value: u32)
-        ensures { self.new ≡ record self.old { registers = written self.old.registers register value } }
+        ensures { self.new ≡ record self.old
+            { registers = written self.old.registers register value } }
     {
         let index = register.index();
         if index != 0 {
@@ -191,7 +202,11 @@ impl Hart {
     /// Writes a register, and goes to the next instruction.
     pub fn go_on_with(&mut self, register: Register, value: u32) -> Step
         ensures running { result ≡ Step.Running }
-        ensures state { self.new ≡ record self.old { pc = sum32 self.old.pc 4; registers = written self.old.registers register value } }
+        ensures state { self.new
+            ≡ record self.old {
+              pc = sum32 self.old.pc 4;
+              registers = written self.old.registers register value;
+            } }
     {
         self.set(register, value);
         self.go_on()
@@ -203,7 +218,11 @@ impl Hart {
     ///
     /// Where memory is wanting; nothing changes then.
     pub fn emit(&mut self, start: u32, count: u32) -> Result<(), NoMemory>
-        ensures ok { OnOk result (self.new ≡ record self.old { output = self.old.output ++ map (byte_on self.old.pages) (addresses start count) }) }
+        ensures ok { OnOk result (self.new
+            ≡ record self.old {
+              output = self.old.output
+                  ++ map (byte_on self.old.pages) (addresses start count);
+            }) }
         ensures err { OnErr result (self.new ≡ self.old) }
     {
         append_bytes(&mut self.memory, &mut self.output, start, count)
@@ -215,7 +234,8 @@ impl Hart {
     ///
     /// Where memory is wanting; nothing changes then.
     pub fn note(&mut self, entry: PathStep) -> Result<(), NoMemory>
-        ensures ok { OnOk result (self.new ≡ record self.old { path = self.old.path ++ entry ∷ [] }) }
+        ensures ok { OnOk result (self.new
+            ≡ record self.old { path = self.old.path ++ entry ∷ [] }) }
         ensures err { OnErr result (self.new ≡ self.old) }
     {
         self.path.push(entry)?;

@@ -43,9 +43,12 @@ impl Machine {
     /// Where memory is wanting for the path or the output.
     pub fn run(self, most: u32) -> Result<Ran, NoMemory>
         ensures onward { IfOk result (λ ran. (s : State) (made : ℕ) → IsAt self (run_from s made)
-            → IsRunOf (run_from s (made + most)) ((run_from s made).steps + ran.steps) ran.path.items ran.end ran.output.items) }
-        ensures started { IfOk result (λ ran. (image : Image) (regions : List Region) (input : List ℕ) → IsAt self (run image regions input 0)
-            → IsRunOf (run image regions input most) ran.steps ran.path.items ran.end ran.output.items) }
+            → IsRunOf (run_from s (made + most))
+            ((run_from s made).steps + ran.steps) ran.path.items ran.end ran.output.items) }
+        ensures started { IfOk result (λ ran. (image : Image) (regions : List Region)
+            (input : List ℕ) → IsAt self (run image regions input 0)
+            → IsRunOf (run image regions input most) ran.steps ran.path.items ran.end
+            ran.output.items) }
         ensures few { IfOk result (λ ran. ran.steps ≤ most) }
     {
         let mut machine = self;

@@ -92,7 +92,8 @@ fn put_byte(hart: &mut Hart, address: u32, value: u32)
     requires { can_write (flags_on hart.old.pages) address ≡ true }
     ensures rest { hart.new ≡ record hart.old { pages = hart.new.pages } }
     ensures flags { flags_on hart.new.pages ≡ flags_on hart.old.pages }
-    ensures bytes { byte_on hart.new.pages ≡ with_bytes (byte_on hart.old.pages) address (machine.stored Sb value) }
+    ensures bytes { byte_on hart.new.pages
+        ≡ with_bytes (byte_on hart.old.pages) address (machine.stored Sb value) }
 {
     hart.put(address, (value % 0x100) as u8);
 }
@@ -103,7 +104,8 @@ fn put_half(hart: &mut Hart, address: u32, value: u32)
     requires access { can_write (flags_on hart.old.pages) address ≡ true }
     ensures rest { hart.new ≡ record hart.old { pages = hart.new.pages } }
     ensures flags { flags_on hart.new.pages ≡ flags_on hart.old.pages }
-    ensures bytes { byte_on hart.new.pages ≡ with_bytes (byte_on hart.old.pages) address (machine.stored Sh value) }
+    ensures bytes { byte_on hart.new.pages
+        ≡ with_bytes (byte_on hart.old.pages) address (machine.stored Sh value) }
 {
     hart.put(address, (value % 0x100) as u8);
     hart.put(address + 1, (value / 0x100 % 0x100) as u8);
@@ -115,7 +117,8 @@ fn put_word(hart: &mut Hart, address: u32, value: u32)
     requires access { can_write (flags_on hart.old.pages) address ≡ true }
     ensures rest { hart.new ≡ record hart.old { pages = hart.new.pages } }
     ensures flags { flags_on hart.new.pages ≡ flags_on hart.old.pages }
-    ensures bytes { byte_on hart.new.pages ≡ with_bytes (byte_on hart.old.pages) address (machine.stored Sw value) }
+    ensures bytes { byte_on hart.new.pages
+        ≡ with_bytes (byte_on hart.old.pages) address (machine.stored Sw value) }
 {
     hart.put(address, (value % 0x100) as u8);
     hart.put(address + 1, (value / 0x100 % 0x100) as u8);
@@ -129,7 +132,8 @@ fn put(hart: &mut Hart, width: StoreWidth, address: u32, value: u32)
     requires access { can_write (flags_on hart.old.pages) address ≡ true }
     ensures rest { hart.new ≡ record hart.old { pages = hart.new.pages } }
     ensures flags { flags_on hart.new.pages ≡ flags_on hart.old.pages }
-    ensures bytes { byte_on hart.new.pages ≡ with_bytes (byte_on hart.old.pages) address (machine.stored width value) }
+    ensures bytes { byte_on hart.new.pages
+        ≡ with_bytes (byte_on hart.old.pages) address (machine.stored width value) }
 {
     match width {
         StoreWidth::Sb => put_byte(hart, address, value),

@@ -36,7 +36,8 @@ shifted_right a amount = a / 2 ^ amount
 
 -- copies of the sign are shifted in
 unfoldable pub shifted_right_signed : ℕ → ℕ → ℕ
-shifted_right_signed a amount = if is_negative_word a then 2 ^ 32 - 1 - (2 ^ 32 - 1 - a) / 2 ^ amount else a / 2 ^ amount
+shifted_right_signed a amount =
+    if is_negative_word a then 2 ^ 32 - 1 - (2 ^ 32 - 1 - a) / 2 ^ amount else a / 2 ^ amount
 
 -- the low five bits of a register say by how much it is shifted
 abbrev pub amount_of : ℕ → ℕ
@@ -64,10 +65,12 @@ differ false b = b
 -- Signed division rounds towards zero, and a remainder has the sign of the dividend. Division by zero gives all ones,
 -- and its remainder is the dividend; -2 ^ 31 by -1 gives -2 ^ 31, remainder 0.
 unfoldable pub quotient_signed : ℕ → ℕ → ℕ
-quotient_signed a b = if b == 0 then 2 ^ 32 - 1 else with_sign (differ (is_negative_word a) (is_negative_word b)) (magnitude a / magnitude b)
+quotient_signed a b = if b == 0 then 2 ^ 32 - 1
+    else with_sign (differ (is_negative_word a) (is_negative_word b)) (magnitude a / magnitude b)
 
 unfoldable pub remainder_signed : ℕ → ℕ → ℕ
-remainder_signed a b = if b == 0 then a else with_sign (is_negative_word a) (magnitude a % magnitude b)
+remainder_signed a b = if b == 0 then a
+    else with_sign (is_negative_word a) (magnitude a % magnitude b)
 
 unfoldable pub quotient : ℕ → ℕ → ℕ
 quotient a b = if b == 0 then 2 ^ 32 - 1 else a / b

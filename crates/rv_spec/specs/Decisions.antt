@@ -42,7 +42,8 @@ word_decisions s word = Number word ∷ instr_decisions s (instr word)
 
 -- what a step decides: nothing where no word is fetched
 unfoldable pub step_decisions : State → List Decision
-step_decisions s = if s.pc % 4 == 0 then (if can_execute s.flags s.pc then word_decisions s (word_at s.byte s.pc) else []) else []
+step_decisions s = if s.pc % 4 == 0
+    then (if can_execute s.flags s.pc then word_decisions s (word_at s.byte s.pc) else []) else []
 
 abbrev pub run_decisions : Run → Option End → List Decision
 run_decisions r None = step_decisions r.state
@@ -51,7 +52,8 @@ run_decisions r (Some end) = []
 -- what a run decides in at most so many steps
 unfoldable pub decisions_from : State → ℕ → List Decision
 decisions_from s zero = []
-decisions_from s (suc most) = let r = run_from s most in decisions_from s most ++ run_decisions r r.end
+decisions_from s (suc most) = let r = run_from s most
+    in decisions_from s most ++ run_decisions r r.end
 
 abbrev pub decisions : Image → List Region → List ℕ → ℕ → List Decision
 decisions image regions input most = decisions_from (first_state image regions input) most

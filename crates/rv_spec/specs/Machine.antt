@@ -58,7 +58,8 @@ x s r = slice_index s.registers r
 -- the instruction at an address, or why there is none: alignment is tested first, and then the page
 unfoldable pub fetch : (ℕ → Option ℕ) → (ℕ → ℕ) → ℕ → Result Instr Trap
 fetch flags byte pc =
-    if pc % 4 == 0 then (if can_execute flags pc then ok_or (instr (word_at byte pc)) Illegal else Err FetchAccess)
+    if pc % 4 == 0 then (if can_execute flags pc then ok_or (instr (word_at byte pc)) Illegal
+    else Err FetchAccess)
     else Err FetchMisaligned
 
 -- what an instruction leads to
@@ -95,7 +96,9 @@ loaded Lhu byte address = half_at byte address
 -- alignment is tested before the page
 abbrev pub load : State → LoadWidth → ℕ → ℕ → Outcome
 load s width rd address =
-    if is_load_aligned width address then (if is_mapped s.flags address then to_register s rd (loaded width s.byte address) else trapped LoadAccess s)
+    if is_load_aligned width address
+    then (if is_mapped s.flags address then to_register s rd (loaded width s.byte address)
+    else trapped LoadAccess s)
     else trapped LoadMisaligned s
 
 abbrev pub is_store_aligned : StoreWidth → ℕ → Bool
@@ -107,17 +110,21 @@ is_store_aligned Sw address = address % 4 == 0
 abbrev pub stored : StoreWidth → ℕ → List ℕ
 stored Sb value = value % 2 ^ 8 ∷ []
 stored Sh value = value % 2 ^ 8 ∷ value / 2 ^ 8 % 2 ^ 8 ∷ []
-stored Sw value = value % 2 ^ 8 ∷ value / 2 ^ 8 % 2 ^ 8 ∷ value / 2 ^ 16 % 2 ^ 8 ∷ value / 2 ^ 24 % 2 ^ 8 ∷ []
+stored Sw value = value % 2 ^ 8 ∷ value / 2 ^ 8 % 2 ^ 8 ∷ value / 2 ^ 16 % 2 ^ 8
+    ∷ value / 2 ^ 24 % 2 ^ 8 ∷ []
 
 abbrev pub store : State → StoreWidth → ℕ → ℕ → Outcome
 store s width address value =
     if is_store_aligned width address
-    then (if can_write s.flags address then Running (onward (record s { byte = with_bytes s.byte address (stored width value) }) s.registers) else trapped StoreAccess s)
+    then (if can_write s.flags address
+    then Running (onward (record s { byte = with_bytes s.byte address (stored width value) })
+    s.registers) else trapped StoreAccess s)
     else trapped StoreMisaligned s
 
 -- to a target, which may be no multiple of 4
 abbrev pub jump : State → ℕ → Outcome
-jump s target = if target % 4 == 0 then Running (record s { pc = target }) else trapped FetchMisaligned s
+jump s target = if target % 4 == 0 then Running (record s { pc = target })
+    else trapped FetchMisaligned s
 
 abbrev pub noted : State → PathStep → State
 noted s step = record s { path = s.path ++ step ∷ [] }
@@ -137,7 +144,9 @@ unfoldable pub write : State → (file start count : ℕ) → Outcome
 write s file start count =
     let bytes = addresses start (min count 4096) in
     if file == 1 || file == 2 then
-    (if list_all (is_mapped s.flags) bytes then Running (onward (record s { output = s.output ++ map s.byte bytes }) (written s.registers 10 (min count 4096)))
+    (if list_all (is_mapped s.flags) bytes
+    then Running (onward (record s { output = s.output ++ map s.byte bytes })
+    (written s.registers 10 (min count 4096)))
     else trapped LoadAccess s)
     else trapped Call s
 
@@ -149,11 +158,13 @@ call s a7 =
 
 -- to a target, and the next instruction's address into a register
 abbrev pub jump_and_link : State → ℕ → ℕ → Outcome
-jump_and_link s rd target = jump (record s { registers = written s.registers rd (sum32 s.pc 4) }) target
+jump_and_link s rd target =
+    jump (record s { registers = written s.registers rd (sum32 s.pc 4) }) target
 
 -- the trap of a misaligned target writes nothing
 abbrev pub linked : State → ℕ → ℕ → Outcome
-linked s rd target = if target % 4 == 0 then jump_and_link s rd target else trapped FetchMisaligned s
+linked s rd target = if target % 4 == 0 then jump_and_link s rd target
+    else trapped FetchMisaligned s
 
 -- with the lowest bit cleared
 abbrev pub even : ℕ → ℕ
@@ -164,8 +175,10 @@ abbrev pub execute : State → Instr → Outcome
 execute s (Lui rd upper) = to_register s rd upper
 execute s (Auipc rd upper) = to_register s rd (sum32 s.pc upper)
 execute s (Jal rd offset) = linked s rd (sum32 s.pc offset)
-execute s (Jalr rd rs1 offset) = let target = even (sum32 (x s rs1) offset) in linked (noted s (Target target)) rd target
-execute s (Branch test rs1 rs2 offset) = branch s (passes test (x s rs1) (x s rs2)) (sum32 s.pc offset)
+execute s (Jalr rd rs1 offset) = let target = even (sum32 (x s rs1) offset)
+    in linked (noted s (Target target)) rd target
+execute s (Branch test rs1 rs2 offset) =
+    branch s (passes test (x s rs1) (x s rs2)) (sum32 s.pc offset)
 execute s (Load width rd rs1 offset) = load s width rd (sum32 (x s rs1) offset)
 execute s (Store width rs1 rs2 offset) = store s width (sum32 (x s rs1) offset) (x s rs2)
 execute s (Immediate op rd rs1 immediate) = to_register s rd (with_immediate op (x s rs1) immediate)

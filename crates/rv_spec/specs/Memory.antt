@@ -46,16 +46,20 @@ is_in r address = nat_le r.start address && nat_lt address (r.start + r.count)
 -- memory with the input bytes in the regions, in their order
 abbrev pub placed : List Region → List ℕ → (ℕ → ℕ) → ℕ → ℕ
 placed [] input byte = byte
-placed (r ∷ rs) input byte = placed rs (drop r.count input) (λ x. if is_in r x then slice_index input (x - r.start) else byte x)
+placed (r ∷ rs) input byte =
+    placed rs (drop r.count input)
+    (λ x. if is_in r x then slice_index input (x - r.start) else byte x)
 
 -- the half word and the word at an address, low byte first
 abbrev pub half_at : (ℕ → ℕ) → ℕ → ℕ
 half_at byte address = byte address + 2 ^ 8 * byte (address + 1)
 
 abbrev pub word_at : (ℕ → ℕ) → ℕ → ℕ
-word_at byte address = byte address + 2 ^ 8 * byte (address + 1) + 2 ^ 16 * byte (address + 2) + 2 ^ 24 * byte (address + 3)
+word_at byte address = byte address + 2 ^ 8 * byte (address + 1) + 2 ^ 16 * byte (address + 2)
+    + 2 ^ 24 * byte (address + 3)
 
 -- memory with these bytes from an address on
 abbrev pub with_bytes : (ℕ → ℕ) → ℕ → List ℕ → ℕ → ℕ
 with_bytes byte address [] = byte
-with_bytes byte address (b ∷ bs) = with_bytes (λ at. if at == address then b else byte at) (address + 1) bs
+with_bytes byte address (b ∷ bs) =
+    with_bytes (λ at. if at == address then b else byte at) (address + 1) bs

@@ -31,7 +31,8 @@ abbrev pub run : Image → List Region → List ℕ → ℕ → Run
 run image regions input most = run_from (first_state image regions input) most
 
 -- a run has made just so many steps, with this path, this end if it has ended, and this output
-pub record IsRunOf (r : Run) (steps : ℕ) (path : List PathStep) (end : Option End) (output : List ℕ) : Type 0 where
+pub record IsRunOf (r : Run) (steps : ℕ) (path : List PathStep) (end : Option End)
+    (output : List ℕ) : Type 0 where
   pub all_steps : r.steps ≡ steps
   pub same_path : r.state.path ≡ path
   pub same_end : r.end ≡ end

@@ -19,7 +19,8 @@ pub fn comparisons()
     ensures below { with_immediate Sltiu 0xFFFFFFFE 0xFFFFFFFF ≡ 1 }
     ensures equal { with_immediate Sltiu 0xFFFFFFFF 0xFFFFFFFF ≡ 0 }
     ensures signed { with_immediate Slti 0xFFFFFFFF 0 ≡ 1 }
-    ensures branches { (passes Blt 0x80000000 1 ≡ true) × (passes Bge 0x80000000 1 ≡ false) × (passes Bgeu 0x80000000 1 ≡ true) }
+    ensures branches { (passes Blt 0x80000000 1 ≡ true) × (passes Bge 0x80000000 1 ≡ false)
+        × (passes Bgeu 0x80000000 1 ≡ true) }
 {}
 
 /// Five bits say by how much, and SRA shifts in the sign.
@@ -33,15 +34,21 @@ pub fn shifts()
 /// The lower and the upper halves of products.
 pub fn products()
     ensures lower { combined Mul 0xFFFFFFFF 7 ≡ 0xFFFFFFF9 }
-    ensures signed { (combined Mulh 0xFFFFFFFF 1 ≡ 0xFFFFFFFF) × (combined Mulh 0x80000000 0x80000000 ≡ 0x40000000) }
+    ensures signed { (combined Mulh 0xFFFFFFFF 1 ≡ 0xFFFFFFFF)
+        × (combined Mulh 0x80000000 0x80000000 ≡ 0x40000000) }
     ensures mixed { combined Mulhsu 0xFFFFFFFF 0xFFFFFFFF ≡ 0xFFFFFFFF }
     ensures unsigned { combined Mulhu 0xFFFFFFFF 0xFFFFFFFF ≡ 0xFFFFFFFE }
 {}
 
 /// Division by zero, the one overflow, and rounding towards zero.
 pub fn quotients()
-    ensures by_zero { (combined Div 0xFFFFFFF9 0 ≡ 0xFFFFFFFF) × (combined Rem 0xFFFFFFF9 0 ≡ 0xFFFFFFF9) × (combined Divu 7 0 ≡ 0xFFFFFFFF) × (combined Remu 7 0 ≡ 7) }
-    ensures overflow { (combined Div 0x80000000 0xFFFFFFFF ≡ 0x80000000) × (combined Rem 0x80000000 0xFFFFFFFF ≡ 0) }
-    ensures toward_zero { (combined Div 0xFFFFFFF9 2 ≡ 0xFFFFFFFD) × (combined Div 7 0xFFFFFFFE ≡ 0xFFFFFFFD) }
-    ensures remainders { (combined Rem 0xFFFFFFF9 2 ≡ 0xFFFFFFFF) × (combined Rem 7 0xFFFFFFFE ≡ 1) }
+    ensures by_zero { (combined Div 0xFFFFFFF9 0 ≡ 0xFFFFFFFF)
+        × (combined Rem 0xFFFFFFF9 0 ≡ 0xFFFFFFF9) × (combined Divu 7 0 ≡ 0xFFFFFFFF)
+        × (combined Remu 7 0 ≡ 7) }
+    ensures overflow { (combined Div 0x80000000 0xFFFFFFFF ≡ 0x80000000)
+        × (combined Rem 0x80000000 0xFFFFFFFF ≡ 0) }
+    ensures toward_zero { (combined Div 0xFFFFFFF9 2 ≡ 0xFFFFFFFD)
+        × (combined Div 7 0xFFFFFFFE ≡ 0xFFFFFFFD) }
+    ensures remainders { (combined Rem 0xFFFFFFF9 2 ≡ 0xFFFFFFFF)
+        × (combined Rem 7 0xFFFFFFFE ≡ 1) }
 {}

@@ -126,11 +126,13 @@ read_operands head.Num text =
 read_operands head.Input text = made Input (number text)
 read_operands head.Not text = made Not (one (codes ")") text)
 read_operands head.Neg text = made Neg (one (codes ")") text)
-read_operands (head.Binary op) text = made (λ (a, b). Binary op a b) (two (codes " n") (codes ")") text)
+read_operands (head.Binary op) text =
+    made (λ (a, b). Binary op a b) (two (codes " n") (codes ")") text)
 read_operands (head.Test op) text = made (λ (a, b). Compare op a b) (two (codes " n") answers text)
 read_operands head.Equal text = option_or (equal_operands text) (ite_operands text)
 read_operands head.Extract text =
-    option_and_then (λ ((high, low, a), rest). if_word high (if_word low (Some (Extract high low a, rest))))
+    option_and_then (λ ((high, low, a), rest). if_word high
+    (if_word low (Some (Extract high low a, rest))))
     (three (codes " ") (codes ") n") (codes ")") text)
 read_operands (head.Extend signed) text =
     option_and_then (λ ((by, a), rest). if_word by (Some (Extend by signed a, rest)))
@@ -142,13 +144,16 @@ term text = option_and_then (λ (head, rest). read_operands head rest) (term_hea
 
 unfoldable pub node_line : Reader LeafLine
 node_line text =
-    option_and_then (λ ((id, width), rest). made (NodeLine id width) (before term (codes ")\n") rest))
-    (option_and_then (two (codes " () (_ BitVec ") (codes ") ")) (behind (codes "(define-fun n") text))
+    option_and_then (λ ((id, width), rest). made (NodeLine id width)
+    (before term (codes ")\n") rest))
+    (option_and_then (two (codes " () (_ BitVec ") (codes ") "))
+    (behind (codes "(define-fun n") text))
 
 -- the line of a byte of output: its number, and that of its term
 abbrev pub output_said : Reader (ℕ × ℕ)
 output_said text =
-    option_and_then (two (codes " () (_ BitVec 8) n") (codes ")\n")) (behind (codes "(define-fun out") text)
+    option_and_then (two (codes " () (_ BitVec 8) n") (codes ")\n"))
+    (behind (codes "(define-fun out") text)
 
 -- the line of an assertion: the number of its term
 abbrev pub assertion_said : Reader ℕ
@@ -157,7 +162,8 @@ assertion_said text =
 
 -- a number below 2 ^ 32 before the end of its line
 abbrev pub count_to_end : Reader ℕ
-count_to_end text = option_and_then (λ (n, rest). if_word n (Some (n, rest))) (one (codes "\n") text)
+count_to_end text = option_and_then (λ (n, rest). if_word n (Some (n, rest)))
+    (one (codes "\n") text)
 
 -- ---- all lines
 
@@ -169,7 +175,8 @@ fixed line text = option_map (λ rest. (line, rest)) (behind (line_text line) te
 abbrev pub line_at : Spot → Reader LeafLine
 line_at AtFormat text = fixed FormatLine text
 line_at AtKind text =
-    made (λ cause. KindLine (kind_said cause)) (option_and_then kind_word (behind (codes "; kind ") text))
+    made (λ cause. KindLine (kind_said cause))
+    (option_and_then kind_word (behind (codes "; kind ") text))
 line_at AtChoices text =
     made ChoicesLine (option_and_then all_choices (behind (codes "; choices ") text))
 line_at AtPath text =
@@ -177,7 +184,8 @@ line_at AtPath text =
 line_at AtSteps text =
     made StepsLine (option_and_then (one (codes "\n")) (behind (codes "; steps ") text))
 line_at AtEnd text =
-    made (λ said. EndLine (word_said said)) (option_and_then end_word (behind (codes "; end ") text))
+    made (λ said. EndLine (word_said said))
+    (option_and_then end_word (behind (codes "; end ") text))
 line_at AtInputs text =
     made InputsLine (option_and_then (one (codes "\n")) (behind (codes "; inputs ") text))
 line_at AtNodes text =
@@ -186,11 +194,13 @@ line_at AtOutputs text =
     made OutputsLine (option_and_then (one (codes "\n")) (behind (codes "; outputs ") text))
 line_at AtLogic text = fixed LogicLine text
 line_at AmongInputs text =
-    made InputLine (option_and_then (one (codes " () (_ BitVec 8))\n")) (behind (codes "(declare-fun b") text))
+    made InputLine (option_and_then (one (codes " () (_ BitVec 8))\n"))
+    (behind (codes "(declare-fun b") text))
 line_at AtBase text = fixed BaseLine text
 line_at AmongNodes text = node_line text
 line_at AtStatus text =
-    made StatusLine (option_and_then (one (codes ")\n")) (behind (codes "(define-fun status () (_ BitVec 8) n") text))
+    made StatusLine (option_and_then (one (codes ")\n"))
+    (behind (codes "(define-fun status () (_ BitVec 8) n") text))
 line_at AmongOutputs text =
     made (λ (i, id). OutputLine i id) (output_said text)
 line_at AmongAssertions text =

@@ -15,7 +15,8 @@ const BYTES_A_TERM: usize = 64;
 
 /// Appends the line of an input.
 fn write_input_line(text: &mut String, i: usize) -> Result<(), NoMemory>
-    ensures ok { OnOk result (string_bytes text.new ≡ string_bytes text.old ++ line_text (InputLine i)) }
+    ensures ok { OnOk result (string_bytes text.new
+        ≡ string_bytes text.old ++ line_text (InputLine i)) }
 {
     push_numbered(text, "(declare-fun b", i)?;
     text.push_str(" () (_ BitVec 8))\n")
@@ -23,7 +24,8 @@ fn write_input_line(text: &mut String, i: usize) -> Result<(), NoMemory>
 
 /// Appends a line for each input.
 pub fn write_input_lines(text: &mut String, inputs: usize) -> Result<(), NoMemory>
-    ensures ok { OnOk result (string_bytes text.new ≡ string_bytes text.old ++ lines_text (spec.input_lines 0 inputs)) }
+    ensures ok { OnOk result (string_bytes text.new
+        ≡ string_bytes text.old ++ lines_text (spec.input_lines 0 inputs)) }
 {
     for i in 0..inputs {
         write_input_line(text, i)?;
@@ -33,7 +35,8 @@ pub fn write_input_lines(text: &mut String, inputs: usize) -> Result<(), NoMemor
 
 /// Appends the line of a term, by its place and width.
 fn write_node_line(text: &mut String, id: usize, width: u32, node: Node) -> Result<(), NoMemory>
-    ensures ok { OnOk result (string_bytes text.new ≡ string_bytes text.old ++ line_text (NodeLine id width node)) }
+    ensures ok { OnOk result (string_bytes text.new
+        ≡ string_bytes text.old ++ line_text (NodeLine id width node)) }
 {
     push_numbered(text, "(define-fun n", id)?;
     push_numbered(text, " () (_ BitVec ", width)?;
@@ -44,7 +47,8 @@ fn write_node_line(text: &mut String, id: usize, width: u32, node: Node) -> Resu
 
 /// Appends a line for each term.
 pub fn write_node_lines(text: &mut String, dag: &Dag) -> Result<(), NoMemory>
-    ensures ok { OnOk result (string_bytes text.new ≡ string_bytes text.old ++ lines_text (spec.node_lines dag.now)) }
+    ensures ok { OnOk result (string_bytes text.new
+        ≡ string_bytes text.old ++ lines_text (spec.node_lines dag.now)) }
 {
     text.reserve(dag.len().saturating_mul(BYTES_A_TERM))?;
     for (id, node) in dag.nodes().iter().enumerate() {
@@ -55,7 +59,8 @@ pub fn write_node_lines(text: &mut String, dag: &Dag) -> Result<(), NoMemory>
 
 /// Appends the line of the status, if the runs exit.
 pub fn write_status_lines(text: &mut String, end: LeafEnd) -> Result<(), NoMemory>
-    ensures ok { OnOk result (string_bytes text.new ≡ string_bytes text.old ++ lines_text (spec.status_lines end)) }
+    ensures ok { OnOk result (string_bytes text.new
+        ≡ string_bytes text.old ++ lines_text (spec.status_lines end)) }
 {
     match end {
         LeafEnd::Exits { status } => {
@@ -68,7 +73,8 @@ pub fn write_status_lines(text: &mut String, end: LeafEnd) -> Result<(), NoMemor
 
 /// Appends the line of a byte of the output.
 fn write_output_line(text: &mut String, i: usize, id: usize) -> Result<(), NoMemory>
-    ensures ok { OnOk result (string_bytes text.new ≡ string_bytes text.old ++ line_text (OutputLine i id)) }
+    ensures ok { OnOk result (string_bytes text.new
+        ≡ string_bytes text.old ++ line_text (OutputLine i id)) }
 {
     push_numbered(text, "(define-fun out", i)?;
     push_numbered(text, " () (_ BitVec 8) n", id)?;
@@ -77,7 +83,8 @@ fn write_output_line(text: &mut String, i: usize, id: usize) -> Result<(), NoMem
 
 /// Appends a line for each byte of the output.
 pub fn write_output_lines(text: &mut String, outputs: &[usize]) -> Result<(), NoMemory>
-    ensures ok { OnOk result (string_bytes text.new ≡ string_bytes text.old ++ lines_text (spec.output_lines outputs.now)) }
+    ensures ok { OnOk result (string_bytes text.new
+        ≡ string_bytes text.old ++ lines_text (spec.output_lines outputs.now)) }
 {
     for (i, id) in outputs.iter().enumerate() {
         write_output_line(text, i, *id)?;
@@ -87,7 +94,8 @@ pub fn write_output_lines(text: &mut String, outputs: &[usize]) -> Result<(), No
 
 /// Appends the line of an asserted term.
 fn write_assert_line(text: &mut String, id: usize) -> Result<(), NoMemory>
-    ensures ok { OnOk result (string_bytes text.new ≡ string_bytes text.old ++ line_text (AssertLine id)) }
+    ensures ok { OnOk result (string_bytes text.new
+        ≡ string_bytes text.old ++ line_text (AssertLine id)) }
 {
     push_numbered(text, "(assert (= n", id)?;
     text.push_str(" (_ bv1 1)))\n")
@@ -95,7 +103,8 @@ fn write_assert_line(text: &mut String, id: usize) -> Result<(), NoMemory>
 
 /// Appends a line for each asserted term.
 pub fn write_assert_lines(text: &mut String, asserted: &[usize]) -> Result<(), NoMemory>
-    ensures ok { OnOk result (string_bytes text.new ≡ string_bytes text.old ++ lines_text (map AssertLine asserted.now)) }
+    ensures ok { OnOk result (string_bytes text.new
+        ≡ string_bytes text.old ++ lines_text (map AssertLine asserted.now)) }
 {
     for id in asserted {
         write_assert_line(text, *id)?;

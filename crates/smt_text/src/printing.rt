@@ -25,7 +25,8 @@ fn write_runs_heading(
     steps: u32,
     end: LeafEnd,
 ) -> Result<(), NoMemory>
-    ensures ok { OnOk result (string_bytes text.new ≡ string_bytes text.old ++ lines_text (spec.runs_heading choices.now path.now steps end)) }
+    ensures ok { OnOk result (string_bytes text.new
+        ≡ string_bytes text.old ++ lines_text (spec.runs_heading choices.now path.now steps end)) }
 {
     text.push_str("; rvklee leaf 1\n; kind ")?;
     text.push_str(kind_name(end))?;
@@ -46,7 +47,8 @@ fn write_counts_heading(
     nodes: usize,
     outputs: usize,
 ) -> Result<(), NoMemory>
-    ensures ok { OnOk result (string_bytes text.new ≡ string_bytes text.old ++ lines_text (spec.counts_heading inputs nodes outputs)) }
+    ensures ok { OnOk result (string_bytes text.new
+        ≡ string_bytes text.old ++ lines_text (spec.counts_heading inputs nodes outputs)) }
 {
     push_numbered(text, "; inputs ", inputs)?;
     push_numbered(text, "\n; nodes ", nodes)?;
@@ -56,7 +58,8 @@ fn write_counts_heading(
 
 /// Appends the inputs, and the terms over them.
 fn write_terms(text: &mut String, dag: &Dag) -> Result<(), NoMemory>
-    ensures ok { OnOk result (string_bytes text.new ≡ string_bytes text.old ++ lines_text (spec.term_lines dag.now)) }
+    ensures ok { OnOk result (string_bytes text.new
+        ≡ string_bytes text.old ++ lines_text (spec.term_lines dag.now)) }
 {
     text.push_str("(set-logic QF_ABV)\n")?;
     write_input_lines(text, dag.inputs())?;
@@ -71,7 +74,8 @@ fn write_definitions(
     end: LeafEnd,
     outputs: &[usize],
 ) -> Result<(), NoMemory>
-    ensures ok { OnOk result (string_bytes text.new ≡ string_bytes text.old ++ lines_text (spec.definitions dag.now end outputs.now)) }
+    ensures ok { OnOk result (string_bytes text.new
+        ≡ string_bytes text.old ++ lines_text (spec.definitions dag.now end outputs.now)) }
 {
     write_terms(text, dag)?;
     write_status_lines(text, end)?;
@@ -80,7 +84,8 @@ fn write_definitions(
 
 // Appends a condition alone: its terms, and those that it asserts.
 fn write_query(text: &mut String, condition: &Query) -> Result<(), NoMemory>
-    ensures ok { OnOk result (string_bytes text.new ≡ string_bytes text.old ++ spec.query_text condition.now) }
+    ensures ok { OnOk result (string_bytes text.new
+        ≡ string_bytes text.old ++ spec.query_text condition.now) }
 {
     write_terms(text, condition.dag())?;
     write_assert_lines(text, condition.asserted())?;

@@ -6,4 +6,5 @@ use Rattle.sym_state.specs.Symbolic.{Symbolic}
 
 -- the bytes at so many addresses were put behind the output, and nothing else has changed
 pub record WritesOutput (old new : Symbolic) (start count : ℕ) : Type 0 where
-  pub is : new ≡ record old { output = old.output ++ map (memory_byte old.memory) (addresses start count) }
+  pub is : new ≡ record old
+      { output = old.output ++ map (memory_byte old.memory) (addresses start count) }

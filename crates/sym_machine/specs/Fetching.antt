@@ -35,7 +35,8 @@ pub record IsFetched (s : Symbolic) (fetched : Result Instr Trap) : Type 0 where
 pub record IsNextWord (s : Symbolic) (word : ℕ) : Type 0 where
   pub aligned : s.pc % 4 ≡ 0
   pub can : can_execute (memory_flags s.memory) s.pc ≡ true
-  pub is : (input : List ℕ) → stands_for s input ≡ true → word_at (concrete s input).byte s.pc ≡ word
+  pub is : (input : List ℕ) → stands_for s input ≡ true
+      → word_at (concrete s input).byte s.pc ≡ word
 
 abbrev pub IsFetchedWord : Symbolic → Result ℕ Trap → Type 0
 IsFetchedWord s (Ok word) = IsNextWord s word

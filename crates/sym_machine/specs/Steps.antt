@@ -43,7 +43,8 @@ pub record Keeps (old new : Symbolic) : Type 0 where
 -- on each assignment the run has come to what this makes of its state
 pub record Comes (old new : Symbolic) (step : Step) (makes : State → Outcome) : Type 0 where
   pub keeps : Keeps old new
-  pub is : (input : List ℕ) → stands_for old input ≡ true → makes (concrete old input) ≡ outcome_on new input step
+  pub is : (input : List ℕ) → stands_for old input ≡ true
+      → makes (concrete old input) ≡ outcome_on new input step
 
 -- Bytes were put to memory from an address on, on each assignment these, and nothing else was done
 -- but that terms were made.
@@ -55,7 +56,8 @@ pub record Puts (old new : Symbolic) (address : ℕ) (bytes : List ℕ → List 
   pub flags : (page : ℕ) → memory_flags new.memory page ≡ memory_flags old.memory page
   pub is : (input : List ℕ) → stands_for old input ≡ true →
       concrete new input
-      ≡ record (concrete old input) { byte = with_bytes (concrete old input).byte address (bytes input) }
+      ≡ record (concrete old input)
+      { byte = with_bytes (concrete old input).byte address (bytes input) }
 
 -- a list of decisions is the same on all assignments
 pub record AreUniform (s : Symbolic) (decides : State → List Decision) : Type 0 where
@@ -67,7 +69,8 @@ pub record Carries (old new : Symbolic) (step : Step) (instr : Instr) : Type 0 w
   pub comes : Comes old new step (λ c. machine.execute c instr)
   pub alike : AreUniform old (λ c. instr_decisions c (Some instr))
   pub terms : (input : List ℕ) → stands_for old input ≡ true →
-      unfolded new ≡ execute_of (unfolded old) instr (instr_decisions (concrete old input) (Some instr))
+      unfolded new ≡ execute_of (unfolded old) instr
+      (instr_decisions (concrete old input) (Some instr))
 
 -- a step was made
 pub record Steps (old new : Symbolic) (step : Step) : Type 0 where
@@ -77,7 +80,8 @@ pub record Steps (old new : Symbolic) (step : Step) : Type 0 where
   pub steps : new.steps ≡ old.steps + 1
   pub known : new.known ≡ nothing_known
   pub few : length new.output ≤ length old.output + 4096
-  pub is : (input : List ℕ) → stands_for old input ≡ true → next (concrete old input) ≡ outcome_on new input step
+  pub is : (input : List ℕ) → stands_for old input ≡ true
+      → next (concrete old input) ≡ outcome_on new input step
   pub alike : AreUniform old step_decisions
   pub terms : (input : List ℕ) → stands_for old input ≡ true →
       unfolded new ≡ next_unfolded (unfolded old) (step_decisions (concrete old input))

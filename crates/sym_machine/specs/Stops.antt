@@ -15,16 +15,19 @@ pub record StandsAt (s : Symbolic) (place : ℕ) (decision : List ℕ → Decisi
   pub front : List Decision
   pub back : List ℕ → List Decision
   pub before : length front ≡ place
-  pub is : (input : List ℕ) → stands_for s input ≡ true → step_decisions (concrete s input) ≡ front ++ decision input ∷ back input
+  pub is : (input : List ℕ) → stands_for s input ≡ true
+      → step_decisions (concrete s input) ≡ front ++ decision input ∷ back input
 
 -- the step decides this instruction's word, and then what the instruction decides
 pub record DecidesBy (s : Symbolic) (instr : Instr) : Type 0 where
   pub word : ℕ
   pub is : (input : List ℕ) → stands_for s input ≡ true →
-      step_decisions (concrete s input) ≡ Needs word ∷ instr_decisions (concrete s input) (Some instr)
+      step_decisions (concrete s input)
+      ≡ Needs word ∷ instr_decisions (concrete s input) (Some instr)
 
 -- it is decided by a term that is no number, and not known
-pub record IsOpenAt (s : Symbolic) (place bits term : ℕ) (decision : List ℕ → Decision) : Type 0 where
+pub record IsOpenAt (s : Symbolic) (place bits term : ℕ)
+    (decision : List ℕ → Decision) : Type 0 where
   pub in_range : place < most_decisions
   pub unknown : known_at s place ≡ None
   pub is_term : IsUnknown s.terms bits term

@@ -28,7 +28,8 @@ use sym_state::{State, Value};
 
 /// Whether each of so many addresses is on a mapped page.
 fn are_mapped(state: &State, start: u32, count: u32) -> bool
-    ensures { result ≡ list_all (is_mapped (memory_flags state.now.memory)) (addresses start count) }
+    ensures { result ≡ list_all (is_mapped (memory_flags state.now.memory))
+        (addresses start count) }
 {
     let mut mapped = true;
     for i in 0..count {
@@ -49,8 +50,10 @@ fn emit(state: &mut State, start: u32, count: u32) -> Result<(), NoMemory>
 
 /// Writes bytes of memory to the output, 4096 at most, and answers their number in a0.
 fn write_out(state: &mut State, start: u32, asked: u32) -> Result<Step, NoMemory>
-    ensures comes { IfOk result (λ step. Comes state.old state.new step (λ c. machine.write c 1 start asked)) }
-    ensures terms { IfOk result (λ _. unfolded state.new ≡ symbolic.write (unfolded state.old) start (min asked 4096)) }
+    ensures comes { IfOk result (λ step. Comes state.old state.new step
+        (λ c. machine.write c 1 start asked)) }
+    ensures terms { IfOk result (λ _. unfolded state.new
+        ≡ symbolic.write (unfolded state.old) start (min asked 4096)) }
 {
     let count = asked.min(MOST_WRITTEN);
     if !are_mapped(state, start, count) {
@@ -64,8 +67,10 @@ fn write_out(state: &mut State, start: u32, asked: u32) -> Result<Step, NoMemory
 fn needs(state: &State, place: usize, register: Register) -> Result<u32, Halt>
     requires ready { IsReady state.now }
     requires in_range { place < most_decisions }
-    requires stands { StandsAt state.now place (λ input. Needs (x (concrete state.now input) register)) }
-    ensures ok { IfOk result (λ number. (input : List ℕ) → stands_for state.now input ≡ true → x (concrete state.now input) register ≡ number) }
+    requires stands { StandsAt state.now place
+        (λ input. Needs (x (concrete state.now input) register)) }
+    ensures ok { IfOk result (λ number. (input : List ℕ) → stands_for state.now input ≡ true
+        → x (concrete state.now input) register ≡ number) }
     ensures err { IfErr result (Stops state.now state.now) }
 {
     number_at(state, place, state.value(register))

@@ -29,7 +29,8 @@ use sym_state::{State, Value};
 
 /// The operation of two registers that an operation with an immediate is.
 fn of_immediate(op: ImmediateOp) -> RegisterOp
-    ensures computes { (a b : ℕ) → arithmetic.combined result a b ≡ arithmetic.with_immediate op a b }
+    ensures computes { (a b : ℕ)
+        → arithmetic.combined result a b ≡ arithmetic.with_immediate op a b }
     ensures op { result ≡ symbolic.of_immediate op }
 {
     match op {
@@ -44,7 +45,8 @@ fn of_immediate(op: ImmediateOp) -> RegisterOp
 
 /// The operation of two registers that a shift by a number below 32 is.
 fn of_shift(op: ShiftOp) -> RegisterOp
-    ensures computes { (a amount : ℕ) → amount < 32 → arithmetic.combined result a amount ≡ arithmetic.shifted op a amount }
+    ensures computes { (a amount : ℕ) → amount < 32
+        → arithmetic.combined result a amount ≡ arithmetic.shifted op a amount }
     ensures op { result ≡ symbolic.of_shift op }
 {
     match op {
@@ -63,10 +65,15 @@ fn compute(
     second: Value,
 ) -> Result<Step, NoMemory>
     requires wide { IsWide state.old.terms second }
-    ensures comes { IfOk result (λ step. (of : machine.State → ℕ) → ((input : List ℕ) → stands_for state.old input ≡ true → of (concrete state.old input) ≡ worth_of state.old.terms input second) →
-        Comes state.old state.new step (λ c. machine.to_register c rd (arithmetic.combined op (x c rs1) (of c)))) }
-    ensures terms { IfOk result (λ _. unfolded state.new ≡ symbolic.to_register (unfolded state.old) rd
-        (combined_of op (expression_at (unfolded state.old).registers rs1) (value_expression state.old.terms second))) }
+    ensures comes { IfOk result (λ step. (of : machine.State → ℕ)
+        → ((input : List ℕ) → stands_for state.old input ≡ true
+        → of (concrete state.old input) ≡ worth_of state.old.terms input second) →
+        Comes state.old state.new step
+        (λ c. machine.to_register c rd (arithmetic.combined op (x c rs1) (of c)))) }
+    ensures terms { IfOk result (λ _. unfolded state.new
+        ≡ symbolic.to_register (unfolded state.old) rd
+        (combined_of op (expression_at (unfolded state.old).registers rs1)
+        (value_expression state.old.terms second))) }
 {
     let first = state.value(rs1);
     let value = state.combined(op, first, second)?;
@@ -83,7 +90,8 @@ fn branch_on(
 ) -> Result<Step, Halt>
     requires ready { IsReady state.old }
     requires decides { DecidesBy state.old (Branch test rs1 rs2 offset) }
-    ensures ok { IfOk result (λ step. Carries state.old state.new step (Branch test rs1 rs2 offset)) }
+    ensures ok { IfOk result (λ step. Carries state.old state.new step
+        (Branch test rs1 rs2 offset)) }
     ensures err { IfErr result (Stops state.old state.new) }
 {
     let target = state.address(offset);

@@ -20,9 +20,11 @@ use sym_state::{Code, State, Value};
 /// The word at an address, low byte first.
 pub(crate) fn word(state: &mut State, address: u32) -> Result<Value, NoMemory>
     requires aligned { address % 4 ≡ 0 }
-    ensures ok { IfOk result (λ value. MakesValue state.old state.new value (λ input. word_at (concrete state.old input).byte address)) }
+    ensures ok { IfOk result (λ value. MakesValue state.old state.new value
+        (λ input. word_at (concrete state.old input).byte address)) }
     ensures expression { IfOk result (λ value. value_expression state.new.terms value
-        ≡ word_of ((unfolded state.old).byte address) ((unfolded state.old).byte (address + 1)) ((unfolded state.old).byte (address + 2)) ((unfolded state.old).byte (address + 3))) }
+        ≡ word_of ((unfolded state.old).byte address) ((unfolded state.old).byte (address + 1))
+        ((unfolded state.old).byte (address + 2)) ((unfolded state.old).byte (address + 3))) }
     ensures err { OnErr result (state.new ≡ state.old) }
 {
     let (b0, b1, b2, b3) = state.word_bytes(address);

@@ -28,7 +28,11 @@ pub(crate) fn go_on(state: &mut State) -> Step
 pub(crate) fn go_on_with(state: &mut State, register: Register, value: Value) -> Step
     requires wide { IsWide state.old.terms value }
     ensures running { result ≡ Step.Running }
-    ensures state { state.new ≡ record state.old { pc = sum32 state.old.pc 4; registers = set_value state.old.registers register value } }
+    ensures state { state.new
+        ≡ record state.old {
+          pc = sum32 state.old.pc 4;
+          registers = set_value state.old.registers register value;
+        } }
 {
     state.set(register, value);
     go_on(state)
@@ -54,8 +58,10 @@ pub(crate) fn jump_to_register(
     rd: Register,
     target: u32,
 ) -> Result<Step, NoMemory>
-    ensures comes { IfOk result (λ step. Comes state.old state.new step (λ c. machine.linked (machine.noted c (Target target)) rd target)) }
-    ensures terms { IfOk result (λ _. unfolded state.new ≡ symbolic.linked (symbolic.noted (unfolded state.old) (Target target)) rd target) }
+    ensures comes { IfOk result (λ step. Comes state.old state.new step
+        (λ c. machine.linked (machine.noted c (Target target)) rd target)) }
+    ensures terms { IfOk result (λ _. unfolded state.new
+        ≡ symbolic.linked (symbolic.noted (unfolded state.old) (Target target)) rd target) }
 {
     state.note(PathStep::Target(target))?;
     Ok(jump_and_link(state, rd, target))
@@ -63,8 +69,10 @@ pub(crate) fn jump_to_register(
 
 /// Goes along one side of a conditional branch. The path notes it before the target is tested.
 pub(crate) fn branch(state: &mut State, taken: bool, target: u32) -> Result<Step, NoMemory>
-    ensures comes { IfOk result (λ step. Comes state.old state.new step (λ c. machine.branch c taken target)) }
-    ensures terms { IfOk result (λ _. unfolded state.new ≡ symbolic.branch (unfolded state.old) taken target) }
+    ensures comes { IfOk result (λ step. Comes state.old state.new step
+        (λ c. machine.branch c taken target)) }
+    ensures terms { IfOk result (λ _. unfolded state.new
+        ≡ symbolic.branch (unfolded state.old) taken target) }
 {
     if !taken {
         state.note(PathStep::NotTaken)?;

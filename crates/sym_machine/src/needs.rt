@@ -16,8 +16,10 @@ pub(crate) fn number_at(state: &State, place: usize, value: Value) -> Result<u32
     requires ready { IsReady state.now }
     requires wide { IsWide state.now.terms value }
     requires in_range { place < most_decisions }
-    requires stands { StandsAt state.now place (λ input. Needs (worth_of state.now.terms input value)) }
-    ensures ok { IfOk result (λ number. (input : List ℕ) → stands_for state.now input ≡ true → worth_of state.now.terms input value ≡ number) }
+    requires stands { StandsAt state.now place
+        (λ input. Needs (worth_of state.now.terms input value)) }
+    ensures ok { IfOk result (λ number. (input : List ℕ) → stands_for state.now input ≡ true
+        → worth_of state.now.terms input value ≡ number) }
     ensures err { IfErr result (StopsAt state.now) }
 {
     let term = match value {
@@ -36,7 +38,8 @@ pub(crate) fn side_of(state: &State, bit: Bit) -> Result<bool, Halt>
     requires ready { IsReady state.now }
     requires is_bit { IsBit state.now.terms bit }
     requires stands { StandsAt state.now 1 (λ input. Side (bit_worth state.now.terms input bit)) }
-    ensures ok { IfOk result (λ side. (input : List ℕ) → stands_for state.now input ≡ true → bit_worth state.now.terms input bit ≡ side) }
+    ensures ok { IfOk result (λ side. (input : List ℕ) → stands_for state.now input ≡ true
+        → bit_worth state.now.terms input bit ≡ side) }
     ensures err { IfErr result (StopsAt state.now) }
 {
     let term = match bit {

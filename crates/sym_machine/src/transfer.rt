@@ -72,9 +72,11 @@ fn is_store_aligned(width: StoreWidth, address: u32) -> bool
 /// The sum of a register and an offset, which has to be known.
 fn address_of(state: &mut State, rs1: Register, offset: u32) -> Result<u32, Halt>
     requires ready { IsReady state.old }
-    requires stands { StandsAt state.old 1 (λ input. Needs (sum32 (x (concrete state.old input) rs1) offset)) }
+    requires stands { StandsAt state.old 1
+        (λ input. Needs (sum32 (x (concrete state.old input) rs1) offset)) }
     ensures grown { IfOk result (λ _. IsGrown state.old state.new) }
-    ensures ok { IfOk result (λ address. (input : List ℕ) → stands_for state.old input ≡ true → sum32 (x (concrete state.old input) rs1) offset ≡ address) }
+    ensures ok { IfOk result (λ address. (input : List ℕ) → stands_for state.old input ≡ true
+        → sum32 (x (concrete state.old input) rs1) offset ≡ address) }
     ensures err { IfErr result (Stops state.old state.new) }
 {
     let base = state.value(rs1);
@@ -85,8 +87,11 @@ fn address_of(state: &mut State, rs1: Register, offset: u32) -> Result<u32, Halt
 /// The half word at an address in 32 bits, low byte first.
 fn half(state: &mut State, signed: bool, address: u32) -> Result<Value, NoMemory>
     requires aligned { address % 2 ≡ 0 }
-    ensures ok { IfOk result (λ value. MakesValue state.old state.new value (λ input. widened signed 16 (half_at (concrete state.old input).byte address))) }
-    ensures expression { IfOk result (λ value. value_expression state.new.terms value ≡ widened_half signed ((unfolded state.old).byte address) ((unfolded state.old).byte (address + 1))) }
+    ensures ok { IfOk result (λ value. MakesValue state.old state.new value
+        (λ input. widened signed 16 (half_at (concrete state.old input).byte address))) }
+    ensures expression { IfOk result (λ value. value_expression state.new.terms value
+        ≡ widened_half signed ((unfolded state.old).byte address)
+        ((unfolded state.old).byte (address + 1))) }
     ensures err { OnErr result (state.new ≡ state.old) }
 {
     let low = state.byte(address);
@@ -97,8 +102,10 @@ fn half(state: &mut State, signed: bool, address: u32) -> Result<Value, NoMemory
 /// What is loaded from an address.
 fn loaded(state: &mut State, width: LoadWidth, address: u32) -> Result<Value, NoMemory>
     requires aligned { machine.is_load_aligned width address ≡ true }
-    ensures ok { IfOk result (λ value. MakesValue state.old state.new value (λ input. machine.loaded width (concrete state.old input).byte address)) }
-    ensures expression { IfOk result (λ value. value_expression state.new.terms value ≡ symbolic.loaded width (unfolded state.old).byte address) }
+    ensures ok { IfOk result (λ value. MakesValue state.old state.new value
+        (λ input. machine.loaded width (concrete state.old input).byte address)) }
+    ensures expression { IfOk result (λ value. value_expression state.new.terms value
+        ≡ symbolic.loaded width (unfolded state.old).byte address) }
     ensures err { OnErr result (state.new ≡ state.old) }
 {
     match width {
@@ -117,8 +124,10 @@ fn load_from(
     rd: Register,
     address: u32,
 ) -> Result<Step, NoMemory>
-    ensures comes { IfOk result (λ step. Comes state.old state.new step (λ c. machine.load c width rd address)) }
-    ensures terms { IfOk result (λ _. unfolded state.new ≡ symbolic.load (unfolded state.old) width rd address) }
+    ensures comes { IfOk result (λ step. Comes state.old state.new step
+        (λ c. machine.load c width rd address)) }
+    ensures terms { IfOk result (λ _. unfolded state.new
+        ≡ symbolic.load (unfolded state.old) width rd address) }
 {
     if !is_load_aligned(width, address) {
         return Ok(trapped(Trap::LoadMisaligned));
@@ -153,8 +162,11 @@ fn put_byte(state: &mut State, address: u32, value: Value, at: u32) -> Result<()
     requires mapped { is_mapped (memory_flags state.old.memory) address ≡ true }
     requires wide { IsWide state.old.terms value }
     requires at { at < 4 }
-    ensures puts { OnOk result (Puts state.old state.new address (λ input. worth_of state.old.terms input value / 2 ^ (8 * at) % 2 ^ 8 ∷ [])) }
-    ensures terms { OnOk result (unfolded state.new ≡ symbolic.with_put (unfolded state.old) address (register_byte at (value_expression state.old.terms value) ∷ [])) }
+    ensures puts { OnOk result (Puts state.old state.new address
+        (λ input. worth_of state.old.terms input value / 2 ^ (8 * at) % 2 ^ 8 ∷ [])) }
+    ensures terms { OnOk result (unfolded state.new
+        ≡ symbolic.with_put (unfolded state.old) address
+        (register_byte at (value_expression state.old.terms value) ∷ [])) }
 {
     let byte = state.byte_at(value, at)?;
     state.put(address, byte)
@@ -165,8 +177,11 @@ fn put_half(state: &mut State, address: u32, value: Value) -> Result<(), NoMemor
     requires aligned { address % 2 ≡ 0 }
     requires mapped { is_mapped (memory_flags state.old.memory) address ≡ true }
     requires wide { IsWide state.old.terms value }
-    ensures puts { OnOk result (Puts state.old state.new address (λ input. machine.stored Sh (worth_of state.old.terms input value))) }
-    ensures terms { OnOk result (unfolded state.new ≡ symbolic.with_put (unfolded state.old) address (symbolic.stored Sh (value_expression state.old.terms value))) }
+    ensures puts { OnOk result (Puts state.old state.new address
+        (λ input. machine.stored Sh (worth_of state.old.terms input value))) }
+    ensures terms { OnOk result (unfolded state.new
+        ≡ symbolic.with_put (unfolded state.old) address
+        (symbolic.stored Sh (value_expression state.old.terms value))) }
 {
     put_byte(state, address, value, 0)?;
     put_byte(state, address + 1, value, 1)
@@ -177,8 +192,11 @@ fn put_word(state: &mut State, address: u32, value: Value) -> Result<(), NoMemor
     requires aligned { address % 4 ≡ 0 }
     requires mapped { is_mapped (memory_flags state.old.memory) address ≡ true }
     requires wide { IsWide state.old.terms value }
-    ensures puts { OnOk result (Puts state.old state.new address (λ input. machine.stored Sw (worth_of state.old.terms input value))) }
-    ensures terms { OnOk result (unfolded state.new ≡ symbolic.with_put (unfolded state.old) address (symbolic.stored Sw (value_expression state.old.terms value))) }
+    ensures puts { OnOk result (Puts state.old state.new address
+        (λ input. machine.stored Sw (worth_of state.old.terms input value))) }
+    ensures terms { OnOk result (unfolded state.new
+        ≡ symbolic.with_put (unfolded state.old) address
+        (symbolic.stored Sw (value_expression state.old.terms value))) }
 {
     put_byte(state, address, value, 0)?;
     put_byte(state, address + 1, value, 1)?;
@@ -191,8 +209,11 @@ fn put(state: &mut State, width: StoreWidth, address: u32, value: Value) -> Resu
     requires aligned { machine.is_store_aligned width address ≡ true }
     requires mapped { is_mapped (memory_flags state.old.memory) address ≡ true }
     requires wide { IsWide state.old.terms value }
-    ensures puts { OnOk result (Puts state.old state.new address (λ input. machine.stored width (worth_of state.old.terms input value))) }
-    ensures terms { OnOk result (unfolded state.new ≡ symbolic.with_put (unfolded state.old) address (symbolic.stored width (value_expression state.old.terms value))) }
+    ensures puts { OnOk result (Puts state.old state.new address
+        (λ input. machine.stored width (worth_of state.old.terms input value))) }
+    ensures terms { OnOk result (unfolded state.new
+        ≡ symbolic.with_put (unfolded state.old) address
+        (symbolic.stored width (value_expression state.old.terms value))) }
 {
     match width {
         StoreWidth::Sb => put_byte(state, address, value, 0),
@@ -208,8 +229,11 @@ fn store_to(
     address: u32,
     rs2: Register,
 ) -> Result<Step, NoMemory>
-    ensures comes { IfOk result (λ step. Comes state.old state.new step (λ c. machine.store c width address (x c rs2))) }
-    ensures terms { IfOk result (λ _. unfolded state.new ≡ symbolic.store (unfolded state.old) width address (expression_at (unfolded state.old).registers rs2)) }
+    ensures comes { IfOk result (λ step. Comes state.old state.new step
+        (λ c. machine.store c width address (x c rs2))) }
+    ensures terms { IfOk result (λ _. unfolded state.new
+        ≡ symbolic.store (unfolded state.old) width address
+        (expression_at (unfolded state.old).registers rs2)) }
 {
     if !is_store_aligned(width, address) {
         return Ok(trapped(Trap::StoreMisaligned));
@@ -232,7 +256,8 @@ pub(crate) fn store(
 ) -> Result<Step, Halt>
     requires ready { IsReady state.old }
     requires decides { DecidesBy state.old (Store width rs1 rs2 offset) }
-    ensures ok { IfOk result (λ step. Carries state.old state.new step (Store width rs1 rs2 offset)) }
+    ensures ok { IfOk result (λ step. Carries state.old state.new step
+        (Store width rs1 rs2 offset)) }
     ensures err { IfErr result (Stops state.old state.new) }
 {
     let address = address_of(state, rs1, offset)?;

@@ -7,5 +7,6 @@ use Rattle.sym_state.specs.declared.code.Code.TheVariants.{Closed, Word, Bytes}
 
 abbrev pub IsCode : SymbolicMemory → (address : ℕ) → Code → Type 0
 IsCode memory address Closed = can_execute (memory_flags memory) address ≡ false
-IsCode memory address (Word word) = (can_execute (memory_flags memory) address ≡ true) × IsWordAt (memory_byte memory) address word
+IsCode memory address (Word word) = (can_execute (memory_flags memory) address ≡ true)
+    × IsWordAt (memory_byte memory) address word
 IsCode memory address Bytes = can_execute (memory_flags memory) address ≡ true

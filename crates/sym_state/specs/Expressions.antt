@@ -62,7 +62,8 @@ widened_byte signed (Number n) = Number (widened signed 8 n)
 widened_byte signed (Unknown t) = settled (extension_by 24 signed t)
 
 abbrev pub half_expression : (signed : Bool) → (low high : Expression) → Expression
-half_expression signed low high = settled (extension_by 16 signed (half_tree (tree_in 8 low) (tree_in 8 high)))
+half_expression signed low high =
+    settled (extension_by 16 signed (half_tree (tree_in 8 low) (tree_in 8 high)))
 
 -- two bytes in a register, the low one first
 abbrev pub widened_half : (signed : Bool) → (low high : Expression) → Expression
@@ -71,12 +72,15 @@ widened_half signed (Number low) (Unknown t) = half_expression signed (Number lo
 widened_half signed (Unknown s) high = half_expression signed (Unknown s) high
 
 abbrev pub word_expression : (b0 b1 b2 b3 : Expression) → Expression
-word_expression b0 b1 b2 b3 = settled (word_tree (tree_in 8 b0) (tree_in 8 b1) (tree_in 8 b2) (tree_in 8 b3))
+word_expression b0 b1 b2 b3 =
+    settled (word_tree (tree_in 8 b0) (tree_in 8 b1) (tree_in 8 b2) (tree_in 8 b3))
 
 -- four bytes, the lowest first
 abbrev pub word_of : (b0 b1 b2 b3 : Expression) → Expression
-word_of (Number a) (Number b) (Number c) (Number d) = Number (a + 2 ^ 8 * b + 2 ^ 16 * c + 2 ^ 24 * d)
-word_of (Number a) (Number b) (Number c) (Unknown d) = word_expression (Number a) (Number b) (Number c) (Unknown d)
+word_of (Number a) (Number b) (Number c) (Number d) =
+    Number (a + 2 ^ 8 * b + 2 ^ 16 * c + 2 ^ 24 * d)
+word_of (Number a) (Number b) (Number c) (Unknown d) =
+    word_expression (Number a) (Number b) (Number c) (Unknown d)
 word_of (Number a) (Number b) (Unknown c) d = word_expression (Number a) (Number b) (Unknown c) d
 word_of (Number a) (Unknown b) c d = word_expression (Number a) (Unknown b) c d
 word_of (Unknown a) b c d = word_expression (Unknown a) b c d

@@ -22,7 +22,8 @@ bytes_expressed terms memory address = byte_expression terms (memory_byte memory
 -- memory with so many input bytes from an address on, numbered from the first on
 abbrev pub inputs_filled : (start count first : ℕ) → (ℕ → Expression) → ℕ → Expression
 inputs_filled start count first byte x =
-    if nat_le start x && nat_lt x (start + count) then Unknown (Byte (first + (x - start))) else byte x
+    if nat_le start x && nat_lt x (start + count) then Unknown (Byte (first + (x - start)))
+    else byte x
 
 -- each byte of memory is a number, or a term that is none
 abbrev pub HasBytes : Graph → SymbolicMemory → Type 0

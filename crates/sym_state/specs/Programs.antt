@@ -15,9 +15,11 @@ IsFitted p = unfit p.image p.regions ≡ None
 
 -- The codes of regions and programs, by which they are told apart.
 abbrev pub region_code : Coded Region
-region_code = code_by (ℕ × ℕ) (coded× coded_ℕ coded_ℕ) (λ r. (r.start, r.count)) (λ c. record { start = c.0; count = c.1 }) (λ _. refl)
+region_code = code_by (ℕ × ℕ) (coded× coded_ℕ coded_ℕ) (λ r. (r.start, r.count))
+    (λ c. record { start = c.0; count = c.1 }) (λ _. refl)
 
 abbrev pub program_code : Coded Program
 program_code =
-    code_by (Image × List Region) (coded× image_code (coded_list region_code)) (λ p. (p.image, p.regions))
+    code_by (Image × List Region) (coded× image_code (coded_list region_code))
+    (λ p. (p.image, p.regions))
     (λ c. record { image = c.0; regions = c.1 }) (λ _. refl)

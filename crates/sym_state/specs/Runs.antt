@@ -13,7 +13,8 @@ use Rattle.sym_state.specs.Symbolic.{Symbolic, KnowsTruth, concrete, most_steps,
 -- all assignments that it stands for have made the same decisions in the steps made
 pub record DecidedAlike (p : Program) (s : Symbolic) : Type 0 where
   pub made : List Decision
-  pub alike : (input : List ℕ) → stands_for s input ≡ true → decisions p.image p.regions input s.steps ≡ made
+  pub alike : (input : List ℕ) → stands_for s input ≡ true
+      → decisions p.image p.regions input s.steps ≡ made
 
 -- what a step starts from: the sample is one of its assignments, and what is known of the step is true
 pub record IsReady (s : Symbolic) : Type 0 where
@@ -22,7 +23,8 @@ pub record IsReady (s : Symbolic) : Type 0 where
 
 -- its terms are those of a program's run, whichever of its assignments that is of
 abbrev pub AreTermsOf : Program → Symbolic → Type 0
-AreTermsOf p s = (input : List ℕ) → stands_for s input ≡ true → unfolded s ≡ unfolded_run p.image p.regions input s.steps
+AreTermsOf p s = (input : List ℕ) → stands_for s input ≡ true
+    → unfolded s ≡ unfolded_run p.image p.regions input s.steps
 
 -- the runs of a program have made these steps and are where it is
 pub record IsOpen (p : Program) (s : Symbolic) : Type 0 where
@@ -31,7 +33,8 @@ pub record IsOpen (p : Program) (s : Symbolic) : Type 0 where
   -- a step writes 4096 bytes at most
   pub few_outputs : length s.output ≤ 4096 * s.steps
   pub sound : (input : List ℕ) → stands_for s input ≡ true →
-      run p.image p.regions input s.steps ≡ record { state = concrete s input; end = None; steps = s.steps }
+      run p.image p.regions input s.steps
+      ≡ record { state = concrete s input; end = None; steps = s.steps }
   pub alike : DecidedAlike p s
   pub terms : AreTermsOf p s
 
@@ -42,7 +45,8 @@ pub record IsFirst (p : Program) (s : Symbolic) : Type 0 where
   pub condition : s.condition ≡ []
   pub inputs : s.terms.inputs ≡ count_of p.regions
   pub known : s.known ≡ nothing_known
-  pub state : (input : List ℕ) → IsAssignment p.regions input → concrete s input ≡ first_state p.image p.regions input
+  pub state : (input : List ℕ) → IsAssignment p.regions input
+      → concrete s input ≡ first_state p.image p.regions input
   pub terms : unfolded s ≡ first_unfolded p.image p.regions
 
 -- how far a run may still go: each step, and each decision that gets known, makes it less

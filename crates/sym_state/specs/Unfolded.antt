@@ -36,7 +36,8 @@ unfolded s = record {
 abbrev pub inputs_placed : List Region → (first : ℕ) → (ℕ → Expression) → ℕ → Expression
 inputs_placed [] first byte = byte
 inputs_placed (r ∷ rs) first byte =
-    inputs_placed rs (first + r.count) (λ x. if is_in r x then Unknown (Byte (first + (x - r.start))) else byte x)
+    inputs_placed rs (first + r.count)
+    (λ x. if is_in r x then Unknown (Byte (first + (x - r.start))) else byte x)
 
 -- in which the run of a program begins
 abbrev pub first_unfolded : Image → List Region → Unfolded

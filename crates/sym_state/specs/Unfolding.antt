@@ -40,7 +40,8 @@ to_register u rd e = onward u (set_expression u.registers rd e)
 abbrev pub loaded : LoadWidth → (ℕ → Expression) → ℕ → Expression
 loaded Lb byte address = widened_byte true (byte address)
 loaded Lh byte address = widened_half true (byte address) (byte (address + 1))
-loaded Lw byte address = word_of (byte address) (byte (address + 1)) (byte (address + 2)) (byte (address + 3))
+loaded Lw byte address =
+    word_of (byte address) (byte (address + 1)) (byte (address + 2)) (byte (address + 3))
 loaded Lbu byte address = widened_byte false (byte address)
 loaded Lhu byte address = widened_half false (byte address) (byte (address + 1))
 
@@ -58,7 +59,8 @@ stored Sw e = register_byte 0 e ∷ register_byte 1 e ∷ register_byte 2 e ∷ 
 -- memory with these bytes from an address on
 abbrev pub with_expressions : (ℕ → Expression) → ℕ → List Expression → ℕ → Expression
 with_expressions byte address [] = byte
-with_expressions byte address (e ∷ es) = with_expressions (λ at. if at == address then e else byte at) (address + 1) es
+with_expressions byte address (e ∷ es) =
+    with_expressions (λ at. if at == address then e else byte at) (address + 1) es
 
 abbrev pub with_put : Unfolded → ℕ → List Expression → Unfolded
 with_put u address es = record u { byte = with_expressions u.byte address es }
@@ -83,17 +85,20 @@ branch u false target = onward (noted u NotTaken) u.registers
 abbrev pub linked : Unfolded → (rd target : ℕ) → Unfolded
 linked u rd target =
     if target % 4 == 0
-    then record u { pc = target; registers = set_expression u.registers rd (Number (sum32 u.pc 4)) } else u
+    then record u { pc = target; registers = set_expression u.registers rd (Number (sum32 u.pc 4)) }
+    else u
 
 abbrev pub write : Unfolded → (start count : ℕ) → Unfolded
 write u start count =
     if list_all (is_mapped u.flags) (addresses start count)
-    then onward (record u { output = u.output ++ map u.byte (addresses start count) }) (set_expression u.registers 10 (Number count))
+    then onward (record u { output = u.output ++ map u.byte (addresses start count) })
+    (set_expression u.registers 10 (Number count))
     else u
 
 -- the call that the first number names: 64 writes, where the next is a file
 abbrev pub call : Unfolded → List Decision → Unfolded
-call u (Needs a7 ∷ Needs file ∷ Needs start ∷ Needs count ∷ []) = if a7 == 64 then write u start (min count 4096) else u
+call u (Needs a7 ∷ Needs file ∷ Needs start ∷ Needs count ∷ []) =
+    if a7 == 64 then write u start (min count 4096) else u
 call u decisions = u
 
 -- The operations of two registers that those with an immediate are.
@@ -124,17 +129,22 @@ abbrev pub execute_of : Unfolded → Instr → List Decision → Unfolded
 execute_of u (Lui rd upper) decisions = to_register u rd (Number upper)
 execute_of u (Auipc rd upper) decisions = to_register u rd (Number (sum32 u.pc upper))
 execute_of u (Jal rd offset) decisions = linked u rd (sum32 u.pc offset)
-execute_of u (Jalr rd rs1 offset) decisions = with_number u decisions (λ target. linked (noted u (Target target)) rd target)
-execute_of u (Branch test rs1 rs2 offset) decisions = with_side u decisions (λ taken. branch u taken (sum32 u.pc offset))
-execute_of u (Load width rd rs1 offset) decisions = with_number u decisions (λ address. load u width rd address)
+execute_of u (Jalr rd rs1 offset) decisions =
+    with_number u decisions (λ target. linked (noted u (Target target)) rd target)
+execute_of u (Branch test rs1 rs2 offset) decisions =
+    with_side u decisions (λ taken. branch u taken (sum32 u.pc offset))
+execute_of u (Load width rd rs1 offset) decisions =
+    with_number u decisions (λ address. load u width rd address)
 execute_of u (Store width rs1 rs2 offset) decisions =
     with_number u decisions (λ address. store u width address (expression_at u.registers rs2))
 execute_of u (Immediate op rd rs1 immediate) decisions =
-    to_register u rd (combined_of (of_immediate op) (expression_at u.registers rs1) (Number immediate))
+    to_register u rd (combined_of (of_immediate op) (expression_at u.registers rs1)
+    (Number immediate))
 execute_of u (ShiftImmediate op rd rs1 amount) decisions =
     to_register u rd (combined_of (of_shift op) (expression_at u.registers rs1) (Number amount))
 execute_of u (Binary op rd rs1 rs2) decisions =
-    to_register u rd (combined_of op (expression_at u.registers rs1) (expression_at u.registers rs2))
+    to_register u rd (combined_of op (expression_at u.registers rs1)
+    (expression_at u.registers rs2))
 execute_of u Fence decisions = onward u u.registers
 execute_of u Ecall decisions = call u decisions
 execute_of u Ebreak decisions = u
@@ -152,4 +162,5 @@ next_unfolded u decisions = u
 unfoldable pub unfolded_run : Image → List Region → List ℕ → ℕ → Unfolded
 unfolded_run image regions input zero = first_unfolded image regions
 unfolded_run image regions input (suc most) =
-    next_unfolded (unfolded_run image regions input most) (step_decisions (run image regions input most).state)
+    next_unfolded (unfolded_run image regions input most)
+    (step_decisions (run image regions input most).state)

@@ -20,8 +20,10 @@ use term_simplify::Builder;
 /// The term of a byte.
 pub(crate) fn byte_term(terms: &mut Builder, byte: Byte) -> Result<usize, NoMemory>
     requires is_byte { IsByte terms.old byte }
-    ensures ok { IfOk result (λ id. GivesTerm terms.old terms.new 8 id (λ input. byte_worth terms.old input byte)) }
-    ensures tree { IfOk result (λ id. tree_of terms.new id ≡ tree_in 8 (byte_expression terms.old byte)) }
+    ensures ok { IfOk result (λ id. GivesTerm terms.old terms.new 8 id
+        (λ input. byte_worth terms.old input byte)) }
+    ensures tree { IfOk result (λ id. tree_of terms.new id
+        ≡ tree_in 8 (byte_expression terms.old byte)) }
     ensures err { OnErr result (terms.new ≡ terms.old) }
 {
     match byte {
@@ -34,7 +36,8 @@ pub(crate) fn byte_term(terms: &mut Builder, byte: Byte) -> Result<usize, NoMemo
 fn known_byte(terms: &Builder, id: usize) -> Byte
     requires width { width_of terms.now id ≡ 8 }
     ensures is_byte { IsByte terms.now result }
-    ensures worth { (input : List ℕ) → byte_worth terms.now input result ≡ number_of terms.now id input }
+    ensures worth { (input : List ℕ)
+        → byte_worth terms.now input result ≡ number_of terms.now id input }
     ensures expression { byte_expression terms.now result ≡ settled (tree_of terms.now id) }
 {
     match terms.terms().node(id) {
@@ -47,8 +50,10 @@ fn known_byte(terms: &Builder, id: usize) -> Byte
 pub(crate) fn byte_at(terms: &mut Builder, value: Value, at: u32) -> Result<Byte, NoMemory>
     requires wide { IsWide terms.old value }
     requires at { at < 4 }
-    ensures ok { IfOk result (λ byte. GivesByte terms.old terms.new byte (λ input. worth_of terms.old input value / 2 ^ (8 * at) % 2 ^ 8)) }
-    ensures expression { IfOk result (λ byte. byte_expression terms.new byte ≡ register_byte at (value_expression terms.old value)) }
+    ensures ok { IfOk result (λ byte. GivesByte terms.old terms.new byte
+        (λ input. worth_of terms.old input value / 2 ^ (8 * at) % 2 ^ 8)) }
+    ensures expression { IfOk result (λ byte. byte_expression terms.new byte
+        ≡ register_byte at (value_expression terms.old value)) }
     ensures err { OnErr result (terms.new ≡ terms.old) }
 {
     match value {
@@ -63,8 +68,10 @@ pub(crate) fn byte_at(terms: &mut Builder, value: Value, at: u32) -> Result<Byte
 /// A byte in 32 bits, with copies of its sign above it or zeros.
 pub(crate) fn from_byte(terms: &mut Builder, signed: bool, byte: Byte) -> Result<Value, NoMemory>
     requires is_byte { IsByte terms.old byte }
-    ensures ok { IfOk result (λ value. GivesValue terms.old terms.new value (λ input. operations.widened signed 8 (byte_worth terms.old input byte))) }
-    ensures expression { IfOk result (λ value. value_expression terms.new value ≡ widened_byte signed (byte_expression terms.old byte)) }
+    ensures ok { IfOk result (λ value. GivesValue terms.old terms.new value
+        (λ input. operations.widened signed 8 (byte_worth terms.old input byte))) }
+    ensures expression { IfOk result (λ value. value_expression terms.new value
+        ≡ widened_byte signed (byte_expression terms.old byte)) }
     ensures err { OnErr result (terms.new ≡ terms.old) }
 {
     match byte {
@@ -83,8 +90,12 @@ fn half_term(terms: &mut Builder, signed: bool, low: Byte, high: Byte) -> Result
     requires high { IsByte terms.old high }
     ensures continues { Continues terms.old terms.new }
     ensures ok { IfOk result (λ id. GivesTerm terms.old terms.new 32 id
-        (λ input. operations.widened signed 16 (byte_worth terms.old input low + 2 ^ 8 * byte_worth terms.old input high))) }
-    ensures tree { IfOk result (λ id. tree_of terms.new id ≡ extension_by 16 signed (operations.half_tree (tree_in 8 (byte_expression terms.old low)) (tree_in 8 (byte_expression terms.old high)))) }
+        (λ input. operations.widened signed 16
+        (byte_worth terms.old input low + 2 ^ 8 * byte_worth terms.old input high))) }
+    ensures tree { IfOk result (λ id. tree_of terms.new id
+        ≡ extension_by 16 signed
+        (operations.half_tree (tree_in 8 (byte_expression terms.old low))
+        (tree_in 8 (byte_expression terms.old high)))) }
 {
     let low = byte_term(terms, low)?;
     let high = byte_term(terms, high)?;
@@ -110,8 +121,10 @@ pub(crate) fn from_half(
     requires low { IsByte terms.old low }
     requires high { IsByte terms.old high }
     ensures ok { IfOk result (λ value. GivesValue terms.old terms.new value
-        (λ input. operations.widened signed 16 (byte_worth terms.old input low + 2 ^ 8 * byte_worth terms.old input high))) }
-    ensures expression { IfOk result (λ value. value_expression terms.new value ≡ widened_half signed (byte_expression terms.old low) (byte_expression terms.old high)) }
+        (λ input. operations.widened signed 16
+        (byte_worth terms.old input low + 2 ^ 8 * byte_worth terms.old input high))) }
+    ensures expression { IfOk result (λ value. value_expression terms.new value
+        ≡ widened_half signed (byte_expression terms.old low) (byte_expression terms.old high)) }
     ensures err { OnErr result (terms.new ≡ terms.old) }
 {
     if let (Byte::Number(low), Byte::Number(high)) = (low, high) {
@@ -133,8 +146,11 @@ fn word_term(terms: &mut Builder, b0: Byte, b1: Byte, b2: Byte, b3: Byte) -> Res
     requires b3 { IsByte terms.old b3 }
     ensures continues { Continues terms.old terms.new }
     ensures ok { IfOk result (λ id. GivesTerm terms.old terms.new 32 id
-        (λ input. byte_worth terms.old input b0 + 2 ^ 8 * byte_worth terms.old input b1 + 2 ^ 16 * byte_worth terms.old input b2 + 2 ^ 24 * byte_worth terms.old input b3)) }
-    ensures tree { IfOk result (λ id. tree_of terms.new id ≡ operations.word_tree (tree_in 8 (byte_expression terms.old b0)) (tree_in 8 (byte_expression terms.old b1))
+        (λ input. byte_worth terms.old input b0 + 2 ^ 8 * byte_worth terms.old input b1
+        + 2 ^ 16 * byte_worth terms.old input b2 + 2 ^ 24 * byte_worth terms.old input b3)) }
+    ensures tree { IfOk result (λ id. tree_of terms.new id
+        ≡ operations.word_tree (tree_in 8 (byte_expression terms.old b0))
+        (tree_in 8 (byte_expression terms.old b1))
         (tree_in 8 (byte_expression terms.old b2)) (tree_in 8 (byte_expression terms.old b3))) }
 {
     let b0 = byte_term(terms, b0)?;
@@ -164,8 +180,10 @@ pub(crate) fn from_word(
     requires b2 { IsByte terms.old b2 }
     requires b3 { IsByte terms.old b3 }
     ensures ok { IfOk result (λ value. GivesValue terms.old terms.new value
-        (λ input. byte_worth terms.old input b0 + 2 ^ 8 * byte_worth terms.old input b1 + 2 ^ 16 * byte_worth terms.old input b2 + 2 ^ 24 * byte_worth terms.old input b3)) }
-    ensures expression { IfOk result (λ value. value_expression terms.new value ≡ word_of (byte_expression terms.old b0) (byte_expression terms.old b1)
+        (λ input. byte_worth terms.old input b0 + 2 ^ 8 * byte_worth terms.old input b1
+        + 2 ^ 16 * byte_worth terms.old input b2 + 2 ^ 24 * byte_worth terms.old input b3)) }
+    ensures expression { IfOk result (λ value. value_expression terms.new value
+        ≡ word_of (byte_expression terms.old b0) (byte_expression terms.old b1)
         (byte_expression terms.old b2) (byte_expression terms.old b3)) }
     ensures err { OnErr result (terms.new ≡ terms.old) }
 {

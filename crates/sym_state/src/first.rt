@@ -71,8 +71,10 @@ fn fill(
     requires inputs { first + region.now.count ≤ terms.old.inputs }
     requires few { terms.old.inputs ≤ 256 }
     ensures { OnOk result (PutsBytes terms.old terms.new memory.old memory.new
-        (inputs_filled region.now.start region.now.count first (bytes_expressed terms.old memory.old))
-        (λ input. filled region.now.start region.now.count (drop first input) (bytes_worth terms.old memory.old input))) }
+        (inputs_filled region.now.start region.now.count first
+        (bytes_expressed terms.old memory.old))
+        (λ input. filled region.now.start region.now.count (drop first input)
+        (bytes_worth terms.old memory.old input))) }
 {
     for i in 0..region.count {
         let byte = terms.input(first + i as usize)?;

@@ -21,7 +21,8 @@ impl State {
     /// Writes a register; x0 is never written.
     pub fn set(&mut self, register: Register, value: Value)
         requires wide { IsWide self.old.terms value }
-        ensures value { self.new ≡ record self.old { registers = set_value self.old.registers register value } }
+        ensures value { self.new
+            ≡ record self.old { registers = set_value self.old.registers register value } }
         ensures formed { IsFormed self.new }
     {
         let index = register.index();
@@ -60,7 +61,8 @@ impl State {
     /// Notes an entry of the path.
     pub fn note(&mut self, entry: PathStep) -> Result<(), NoMemory>
         requires small { IsSmallStep entry }
-        ensures ok { OnOk result (self.new ≡ record self.old { path = self.old.path ++ entry ∷ [] }) }
+        ensures ok { OnOk result (self.new
+            ≡ record self.old { path = self.old.path ++ entry ∷ [] }) }
         ensures err { OnErr result (self.new ≡ self.old) }
         ensures formed { IsFormed self.new }
     {
@@ -71,7 +73,8 @@ impl State {
     /// Puts a byte behind the output.
     pub fn emit(&mut self, byte: Byte) -> Result<(), NoMemory>
         requires is_byte { IsByte self.old.terms byte }
-        ensures ok { OnOk result (self.new ≡ record self.old { output = self.old.output ++ byte ∷ [] }) }
+        ensures ok { OnOk result (self.new
+            ≡ record self.old { output = self.old.output ++ byte ∷ [] }) }
         ensures err { OnErr result (self.new ≡ self.old) }
         ensures formed { IsFormed self.new }
     {
@@ -84,8 +87,11 @@ impl State {
         requires mapped { IsSome (memory_flags self.old.memory (address / 256)) }
         requires is_byte { IsByte self.old.terms byte }
         ensures ok { OnOk result (self.new ≡ stored_at self.old address byte) }
-        ensures bytes { OnOk result ((at : ℕ) → memory_byte self.new.memory at ≡ (if at == address then byte else memory_byte self.old.memory at)) }
-        ensures flags { OnOk result ((page : ℕ) → memory_flags self.new.memory page ≡ memory_flags self.old.memory page) }
+        ensures bytes { OnOk result ((at : ℕ)
+            → memory_byte self.new.memory at
+            ≡ (if at == address then byte else memory_byte self.old.memory at)) }
+        ensures flags { OnOk result ((page : ℕ)
+            → memory_flags self.new.memory page ≡ memory_flags self.old.memory page) }
         ensures err { OnErr result (self.new ≡ self.old) }
         ensures formed { IsFormed self.new }
     {
@@ -95,7 +101,8 @@ impl State {
     /// Notes the side of a fork.
     pub fn choose(&mut self, choice: Choice) -> Result<(), NoMemory>
         requires small { IsSmallChoice choice }
-        ensures ok { OnOk result (self.new ≡ record self.old { choices = self.old.choices ++ choice ∷ [] }) }
+        ensures ok { OnOk result (self.new
+            ≡ record self.old { choices = self.old.choices ++ choice ∷ [] }) }
         ensures err { OnErr result (self.new ≡ self.old) }
         ensures formed { IsFormed self.new }
     {
@@ -106,7 +113,8 @@ impl State {
     /// Asks for one more term of one bit to be 1.
     pub fn assert(&mut self, term: usize) -> Result<(), NoMemory>
         requires bit { width_of self.old.terms term ≡ 1 }
-        ensures ok { OnOk result (self.new ≡ record self.old { condition = self.old.condition ++ term ∷ [] }) }
+        ensures ok { OnOk result (self.new
+            ≡ record self.old { condition = self.old.condition ++ term ∷ [] }) }
         ensures err { OnErr result (self.new ≡ self.old) }
         ensures formed { IsFormed self.new }
     {

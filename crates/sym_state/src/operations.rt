@@ -21,8 +21,10 @@ use term_simplify::Builder;
 /// The term of a value.
 pub(crate) fn term_of(terms: &mut Builder, value: Value) -> Result<usize, NoMemory>
     requires wide { IsWide terms.old value }
-    ensures ok { IfOk result (λ id. GivesTerm terms.old terms.new 32 id (λ input. worth_of terms.old input value)) }
-    ensures tree { IfOk result (λ id. tree_of terms.new id ≡ tree_in 32 (value_expression terms.old value)) }
+    ensures ok { IfOk result (λ id. GivesTerm terms.old terms.new 32 id
+        (λ input. worth_of terms.old input value)) }
+    ensures tree { IfOk result (λ id. tree_of terms.new id
+        ≡ tree_in 32 (value_expression terms.old value)) }
     ensures err { OnErr result (terms.new ≡ terms.old) }
 {
     match value {
@@ -35,7 +37,8 @@ pub(crate) fn term_of(terms: &mut Builder, value: Value) -> Result<usize, NoMemo
 pub(crate) fn value_of(terms: &Builder, id: usize) -> Value
     requires wide { width_of terms.now id ≡ 32 }
     ensures wide { IsWide terms.now result }
-    ensures worth { (input : List ℕ) → worth_of terms.now input result ≡ number_of terms.now id input }
+    ensures worth { (input : List ℕ)
+        → worth_of terms.now input result ≡ number_of terms.now id input }
     ensures expression { value_expression terms.now result ≡ settled (tree_of terms.now id) }
 {
     match terms.terms().node(id) {
@@ -48,7 +51,8 @@ pub(crate) fn value_of(terms: &Builder, id: usize) -> Value
 pub(crate) fn bit_of(terms: &Builder, id: usize) -> Bit
     requires bit { width_of terms.now id ≡ 1 }
     ensures is_bit { IsBit terms.now result }
-    ensures worth { (input : List ℕ) → bit_worth terms.now input result ≡ bit_worth terms.now input (Bit.Term id) }
+    ensures worth { (input : List ℕ)
+        → bit_worth terms.now input result ≡ bit_worth terms.now input (Bit.Term id) }
 {
     match terms.terms().node(id) {
         Node::Num { value, .. } => Bit::Known(value == 1),
@@ -63,7 +67,9 @@ fn combined_term(terms: &mut Builder, op: RegisterOp, a: Value, b: Value) -> Res
     ensures continues { Continues terms.old terms.new }
     ensures ok { IfOk result (λ id. GivesTerm terms.old terms.new 32 id
         (λ input. machine.combined op (worth_of terms.old input a) (worth_of terms.old input b))) }
-    ensures tree { IfOk result (λ id. tree_of terms.new id ≡ combined_tree op (tree_in 32 (value_expression terms.old a)) (tree_in 32 (value_expression terms.old b))) }
+    ensures tree { IfOk result (λ id. tree_of terms.new id
+        ≡ combined_tree op (tree_in 32 (value_expression terms.old a))
+        (tree_in 32 (value_expression terms.old b))) }
 {
     let a = term_of(terms, a)?;
     let b = term_of(terms, b)?;
@@ -81,7 +87,8 @@ pub(crate) fn combined(
     requires second { IsWide terms.old b }
     ensures ok { IfOk result (λ value. GivesValue terms.old terms.new value
         (λ input. machine.combined op (worth_of terms.old input a) (worth_of terms.old input b))) }
-    ensures expression { IfOk result (λ value. value_expression terms.new value ≡ combined_of op (value_expression terms.old a) (value_expression terms.old b)) }
+    ensures expression { IfOk result (λ value. value_expression terms.new value
+        ≡ combined_of op (value_expression terms.old a) (value_expression terms.old b)) }
     ensures err { OnErr result (terms.new ≡ terms.old) }
 {
     if let (Value::Number(a), Value::Number(b)) = (a, b) {
@@ -99,7 +106,8 @@ fn test_term(terms: &mut Builder, test: Test, a: Value, b: Value) -> Result<usiz
     requires second { IsWide terms.old b }
     ensures continues { Continues terms.old terms.new }
     ensures ok { IfOk result (λ id. GivesTerm terms.old terms.new 1 id
-        (λ input. machine.one_where (machine.passes test (worth_of terms.old input a) (worth_of terms.old input b)))) }
+        (λ input. machine.one_where
+        (machine.passes test (worth_of terms.old input a) (worth_of terms.old input b)))) }
 {
     let a = term_of(terms, a)?;
     let b = term_of(terms, b)?;
@@ -111,7 +119,8 @@ pub(crate) fn tested(terms: &mut Builder, test: Test, a: Value, b: Value) -> Res
     requires first { IsWide terms.old a }
     requires second { IsWide terms.old b }
     ensures ok { IfOk result (λ id. GivesTerm terms.old terms.new 1 id
-        (λ input. machine.one_where (machine.passes test (worth_of terms.old input a) (worth_of terms.old input b)))) }
+        (λ input. machine.one_where
+        (machine.passes test (worth_of terms.old input a) (worth_of terms.old input b)))) }
     ensures err { OnErr result (terms.new ≡ terms.old) }
 {
     let before = terms.len();
@@ -149,8 +158,10 @@ pub(crate) fn passes(terms: &mut Builder, test: Test, a: Value, b: Value) -> Res
 /// A value with its lowest bit cleared.
 pub(crate) fn cleared(terms: &mut Builder, a: Value) -> Result<Value, NoMemory>
     requires wide { IsWide terms.old a }
-    ensures ok { IfOk result (λ value. GivesValue terms.old terms.new value (λ input. even (worth_of terms.old input a))) }
-    ensures expression { IfOk result (λ value. value_expression terms.new value ≡ even_of (value_expression terms.old a)) }
+    ensures ok { IfOk result (λ value. GivesValue terms.old terms.new value
+        (λ input. even (worth_of terms.old input a))) }
+    ensures expression { IfOk result (λ value. value_expression terms.new value
+        ≡ even_of (value_expression terms.old a)) }
     ensures err { OnErr result (terms.new ≡ terms.old) }
 {
     match a {

@@ -22,8 +22,11 @@ impl State {
         requires first { IsWide self.old.terms a }
         requires second { IsWide self.old.terms b }
         ensures ok { IfOk result (λ value. MakesValue self.old self.new value
-            (λ input. machine.combined op (worth_of self.old.terms input a) (worth_of self.old.terms input b))) }
-        ensures expression { IfOk result (λ value. value_expression self.new.terms value ≡ combined_of op (value_expression self.old.terms a) (value_expression self.old.terms b)) }
+            (λ input. machine.combined op (worth_of self.old.terms input a)
+            (worth_of self.old.terms input b))) }
+        ensures expression { IfOk result (λ value. value_expression self.new.terms value
+            ≡ combined_of op (value_expression self.old.terms a)
+            (value_expression self.old.terms b)) }
         ensures err { OnErr result (self.new ≡ self.old) }
     {
         operations::combined(&mut self.terms, op, a, b)
@@ -34,7 +37,8 @@ impl State {
         requires first { IsWide self.old.terms a }
         requires second { IsWide self.old.terms b }
         ensures ok { IfOk result (λ bit. MakesBit self.old self.new bit
-            (λ input. machine.passes test (worth_of self.old.terms input a) (worth_of self.old.terms input b))) }
+            (λ input. machine.passes test (worth_of self.old.terms input a)
+            (worth_of self.old.terms input b))) }
         ensures err { OnErr result (self.new ≡ self.old) }
     {
         operations::passes(&mut self.terms, test, a, b)
@@ -45,7 +49,9 @@ impl State {
         requires first { IsWide self.old.terms a }
         requires second { IsWide self.old.terms b }
         ensures ok { IfOk result (λ id. MakesTerm self.old self.new 1 id
-            (λ input. machine.one_where (machine.passes test (worth_of self.old.terms input a) (worth_of self.old.terms input b)))) }
+            (λ input. machine.one_where
+            (machine.passes test (worth_of self.old.terms input a)
+            (worth_of self.old.terms input b)))) }
         ensures err { OnErr result (self.new ≡ self.old) }
     {
         operations::tested(&mut self.terms, test, a, b)
@@ -54,7 +60,8 @@ impl State {
     /// The term of one bit that is 1 where this one isn't.
     pub fn negated(&mut self, term: usize) -> Result<usize, NoMemory>
         requires bit { width_of self.old.terms term ≡ 1 }
-        ensures ok { IfOk result (λ id. MakesTerm self.old self.new 1 id (λ input. machine.one_where (not (number_of self.old.terms term input == 1)))) }
+        ensures ok { IfOk result (λ id. MakesTerm self.old self.new 1 id
+            (λ input. machine.one_where (not (number_of self.old.terms term input == 1)))) }
         ensures err { OnErr result (self.new ≡ self.old) }
     {
         operations::negated(&mut self.terms, term)
@@ -63,7 +70,8 @@ impl State {
     /// The term of a byte.
     pub fn byte_term(&mut self, byte: Byte) -> Result<usize, NoMemory>
         requires is_byte { IsByte self.old.terms byte }
-        ensures ok { IfOk result (λ id. MakesTerm self.old self.new 8 id (λ input. byte_worth self.old.terms input byte)) }
+        ensures ok { IfOk result (λ id. MakesTerm self.old self.new 8 id
+            (λ input. byte_worth self.old.terms input byte)) }
         ensures err { OnErr result (self.new ≡ self.old) }
     {
         bytes::byte_term(&mut self.terms, byte)
@@ -72,8 +80,10 @@ impl State {
     /// A value with its lowest bit cleared.
     pub fn cleared(&mut self, a: Value) -> Result<Value, NoMemory>
         requires wide { IsWide self.old.terms a }
-        ensures ok { IfOk result (λ value. MakesValue self.old self.new value (λ input. even (worth_of self.old.terms input a))) }
-        ensures expression { IfOk result (λ value. value_expression self.new.terms value ≡ even_of (value_expression self.old.terms a)) }
+        ensures ok { IfOk result (λ value. MakesValue self.old self.new value
+            (λ input. even (worth_of self.old.terms input a))) }
+        ensures expression { IfOk result (λ value. value_expression self.new.terms value
+            ≡ even_of (value_expression self.old.terms a)) }
         ensures err { OnErr result (self.new ≡ self.old) }
     {
         operations::cleared(&mut self.terms, a)
@@ -83,8 +93,10 @@ impl State {
     pub fn byte_at(&mut self, value: Value, at: u32) -> Result<Byte, NoMemory>
         requires wide { IsWide self.old.terms value }
         requires at { at < 4 }
-        ensures ok { IfOk result (λ byte. MakesByte self.old self.new byte (λ input. worth_of self.old.terms input value / 2 ^ (8 * at) % 2 ^ 8)) }
-        ensures expression { IfOk result (λ byte. byte_expression self.new.terms byte ≡ register_byte at (value_expression self.old.terms value)) }
+        ensures ok { IfOk result (λ byte. MakesByte self.old self.new byte
+            (λ input. worth_of self.old.terms input value / 2 ^ (8 * at) % 2 ^ 8)) }
+        ensures expression { IfOk result (λ byte. byte_expression self.new.terms byte
+            ≡ register_byte at (value_expression self.old.terms value)) }
         ensures err { OnErr result (self.new ≡ self.old) }
     {
         bytes::byte_at(&mut self.terms, value, at)
@@ -93,8 +105,10 @@ impl State {
     /// A byte in 32 bits, with copies of its sign above it or zeros.
     pub fn from_byte(&mut self, signed: bool, byte: Byte) -> Result<Value, NoMemory>
         requires is_byte { IsByte self.old.terms byte }
-        ensures ok { IfOk result (λ value. MakesValue self.old self.new value (λ input. operations.widened signed 8 (byte_worth self.old.terms input byte))) }
-        ensures expression { IfOk result (λ value. value_expression self.new.terms value ≡ widened_byte signed (byte_expression self.old.terms byte)) }
+        ensures ok { IfOk result (λ value. MakesValue self.old self.new value
+            (λ input. operations.widened signed 8 (byte_worth self.old.terms input byte))) }
+        ensures expression { IfOk result (λ value. value_expression self.new.terms value
+            ≡ widened_byte signed (byte_expression self.old.terms byte)) }
         ensures err { OnErr result (self.new ≡ self.old) }
     {
         bytes::from_byte(&mut self.terms, signed, byte)
@@ -105,8 +119,11 @@ impl State {
         requires low { IsByte self.old.terms low }
         requires high { IsByte self.old.terms high }
         ensures ok { IfOk result (λ value. MakesValue self.old self.new value
-            (λ input. operations.widened signed 16 (byte_worth self.old.terms input low + 2 ^ 8 * byte_worth self.old.terms input high))) }
-        ensures expression { IfOk result (λ value. value_expression self.new.terms value ≡ widened_half signed (byte_expression self.old.terms low) (byte_expression self.old.terms high)) }
+            (λ input. operations.widened signed 16
+            (byte_worth self.old.terms input low + 2 ^ 8 * byte_worth self.old.terms input high))) }
+        ensures expression { IfOk result (λ value. value_expression self.new.terms value
+            ≡ widened_half signed (byte_expression self.old.terms low)
+            (byte_expression self.old.terms high)) }
         ensures err { OnErr result (self.new ≡ self.old) }
     {
         bytes::from_half(&mut self.terms, signed, low, high)
@@ -119,8 +136,12 @@ impl State {
         requires b2 { IsByte self.old.terms b2 }
         requires b3 { IsByte self.old.terms b3 }
         ensures ok { IfOk result (λ value. MakesValue self.old self.new value
-            (λ input. byte_worth self.old.terms input b0 + 2 ^ 8 * byte_worth self.old.terms input b1 + 2 ^ 16 * byte_worth self.old.terms input b2 + 2 ^ 24 * byte_worth self.old.terms input b3)) }
-        ensures expression { IfOk result (λ value. value_expression self.new.terms value ≡ word_of (byte_expression self.old.terms b0) (byte_expression self.old.terms b1)
+            (λ input. byte_worth self.old.terms input b0
+            + 2 ^ 8 * byte_worth self.old.terms input b1
+            + 2 ^ 16 * byte_worth self.old.terms input b2
+            + 2 ^ 24 * byte_worth self.old.terms input b3)) }
+        ensures expression { IfOk result (λ value. value_expression self.new.terms value
+            ≡ word_of (byte_expression self.old.terms b0) (byte_expression self.old.terms b1)
             (byte_expression self.old.terms b2) (byte_expression self.old.terms b3)) }
         ensures err { OnErr result (self.new ≡ self.old) }
     {

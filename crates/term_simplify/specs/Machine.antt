@@ -66,4 +66,7 @@ abbrev pub BuildsCombined : (old new : Graph) → RegisterOp → (a b : ℕ) →
     (id : ℕ) → Type 0
 BuildsCombined old new op a b made id =
     Builds old new id made 32
-    (λ input. record { width = 32; number = combined op (number_of old a input) (number_of old b input) })
+    (λ input. record {
+      width = 32;
+      number = combined op (number_of old a input) (number_of old b input);
+    })

@@ -58,4 +58,7 @@ abbrev pub StandsCombined : (old new : Graph) → RegisterOp → (a b : ℕ) →
     (id : ℕ) → Type 0
 StandsCombined old new op a b made id =
     Stands new id made 32
-    (λ input. record { width = 32; number = combined op (number_of old a input) (number_of old b input) })
+    (λ input. record {
+      width = 32;
+      number = combined op (number_of old a input) (number_of old b input);
+    })

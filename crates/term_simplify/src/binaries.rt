@@ -31,7 +31,9 @@ fn is_ones(word: Word) -> bool
 
 /// A number and then a term.
 fn number_first(op: BinaryOp, x: Word, a: usize, b: usize) -> Plan
-    ensures { (graph : Graph) → a < length graph.nodes → b < length graph.nodes → Fits graph.inputs (widths_of graph.nodes) (Node.Binary op a b) → Makes graph result (number_first op x (tree_of graph a) (tree_of graph b)) }
+    ensures { (graph : Graph) → a < length graph.nodes → b < length graph.nodes
+        → Fits graph.inputs (widths_of graph.nodes) (Node.Binary op a b)
+        → Makes graph result (number_first op x (tree_of graph a) (tree_of graph b)) }
 {
     let value = x.number();
     let plain = Plan::Push(Node::Binary(op, a, b));
@@ -47,7 +49,9 @@ fn number_first(op: BinaryOp, x: Word, a: usize, b: usize) -> Plan
 
 /// A term and then a number.
 fn number_second(op: BinaryOp, y: Word, a: usize, b: usize) -> Plan
-    ensures { (graph : Graph) → a < length graph.nodes → b < length graph.nodes → Fits graph.inputs (widths_of graph.nodes) (Node.Binary op a b) → Makes graph result (number_second op y (tree_of graph a) (tree_of graph b)) }
+    ensures { (graph : Graph) → a < length graph.nodes → b < length graph.nodes
+        → Fits graph.inputs (widths_of graph.nodes) (Node.Binary op a b)
+        → Makes graph result (number_second op y (tree_of graph a) (tree_of graph b)) }
 {
     let value = y.number();
     let width = y.width();
@@ -74,7 +78,9 @@ fn number_second(op: BinaryOp, y: Word, a: usize, b: usize) -> Plan
 /// By the numbers that the operands are.
 fn binary_by(op: BinaryOp, left: Option<Word>, right: Option<Word>, a: usize, b: usize) -> Plan
     requires { AreAsWide left right }
-    ensures { (graph : Graph) → a < length graph.nodes → b < length graph.nodes → Fits graph.inputs (widths_of graph.nodes) (Node.Binary op a b) → Makes graph result (binary_by op left right (tree_of graph a) (tree_of graph b)) }
+    ensures { (graph : Graph) → a < length graph.nodes → b < length graph.nodes
+        → Fits graph.inputs (widths_of graph.nodes) (Node.Binary op a b)
+        → Makes graph result (binary_by op left right (tree_of graph a) (tree_of graph b)) }
 {
     match (left, right) {
         (Some(x), Some(y)) => number(op.apply(x, y)),
@@ -88,7 +94,8 @@ fn binary_by(op: BinaryOp, left: Option<Word>, right: Option<Word>, a: usize, b:
 #[tactic(auto, using(crate::proofs::Reading::placing))]
 pub(crate) fn binary(terms: &Terms, op: BinaryOp, a: usize, b: usize) -> Plan
     requires { Fits terms.now.inputs (widths_of terms.now.nodes) (Node.Binary op a b) }
-    ensures makes { Makes terms.now result (binary_of op (tree_of terms.now a) (tree_of terms.now b)) }
+    ensures makes { Makes terms.now result
+        (binary_of op (tree_of terms.now a) (tree_of terms.now b)) }
     ensures fit { IsDag terms.now }
 {
     let plain = binary_by(op, number_at(terms, a), number_at(terms, b), a, b);

@@ -30,7 +30,8 @@ fn is_same(left: &Node, right: &Node) -> bool
 
 /// The place of an equal node among the last few.
 fn recent(terms: &Terms, node: &Node) -> Option<usize>
-    ensures { IfSome result (λ id. Makes terms.now (Plan.Term id) (node_tree (tree_of terms.now) node.now)) }
+    ensures { IfSome result (λ id. Makes terms.now (Plan.Term id)
+        (node_tree (tree_of terms.now) node.now)) }
 {
     let len = terms.len();
     for id in len.saturating_sub(LOOKED_AT)..len {

@@ -146,7 +146,8 @@ impl Builder {
 
     /// Whether a term is below another, without sign.
     pub fn ult(&mut self, a: usize, b: usize) -> Result<usize, NoMemory>
-        requires { Fits self.old.inputs (widths_of self.old.nodes) (Node.Compare Comparison.Ult a b) }
+        requires { Fits self.old.inputs (widths_of self.old.nodes)
+            (Node.Compare Comparison.Ult a b) }
         ensures ok { IfOk result (BuildsNode self.old self.new (Node.Compare Comparison.Ult a b)) }
         ensures err { OnErr result (self.new ≡ self.old) }
     {
@@ -155,7 +156,8 @@ impl Builder {
 
     /// Whether a term is below another, as signed numbers.
     pub fn slt(&mut self, a: usize, b: usize) -> Result<usize, NoMemory>
-        requires { Fits self.old.inputs (widths_of self.old.nodes) (Node.Compare Comparison.Slt a b) }
+        requires { Fits self.old.inputs (widths_of self.old.nodes)
+            (Node.Compare Comparison.Slt a b) }
         ensures ok { IfOk result (BuildsNode self.old self.new (Node.Compare Comparison.Slt a b)) }
         ensures err { OnErr result (self.new ≡ self.old) }
     {
@@ -164,7 +166,8 @@ impl Builder {
 
     /// Whether two terms are equal.
     pub fn eq(&mut self, a: usize, b: usize) -> Result<usize, NoMemory>
-        requires { Fits self.old.inputs (widths_of self.old.nodes) (Node.Compare Comparison.Eq a b) }
+        requires { Fits self.old.inputs (widths_of self.old.nodes)
+            (Node.Compare Comparison.Eq a b) }
         ensures ok { IfOk result (BuildsNode self.old self.new (Node.Compare Comparison.Eq a b)) }
         ensures err { OnErr result (self.new ≡ self.old) }
     {

@@ -15,7 +15,8 @@ use term_table::Terms;
 fn bit_choice(terms: &Terms, x: Word, y: Word, c: usize, a: usize, b: usize) -> Plan
     requires there { c < length terms.now.nodes }
     requires fits { Fits terms.now.inputs (widths_of terms.now.nodes) (Node.Ite c a b) }
-    ensures { Makes terms.now result (bit_choice x y (tree_of terms.now c) (tree_of terms.now a) (tree_of terms.now b)) }
+    ensures { Makes terms.now result
+        (bit_choice x y (tree_of terms.now c) (tree_of terms.now a) (tree_of terms.now b)) }
 {
     let is_bit = x.width() == 1;
     if is_bit && x.number() == 1 && y.number() == 0 {
@@ -42,7 +43,9 @@ fn choice_between(
 ) -> Plan
     requires there { c < length terms.now.nodes }
     requires fits { Fits terms.now.inputs (widths_of terms.now.nodes) (Node.Ite c a b) }
-    ensures { Makes terms.now result (choice_between left right (tree_of terms.now c) (tree_of terms.now a) (tree_of terms.now b)) }
+    ensures { Makes terms.now result
+        (choice_between left right (tree_of terms.now c) (tree_of terms.now a)
+        (tree_of terms.now b)) }
 {
     match (left, right) {
         (Some(x), Some(y)) => bit_choice(terms, x, y, c, a, b),
@@ -57,7 +60,8 @@ fn choice_between(
 /// The first of two terms where the condition is 1, and else the second.
 pub(crate) fn choice(terms: &Terms, c: usize, a: usize, b: usize) -> Plan
     requires { Fits terms.now.inputs (widths_of terms.now.nodes) (Node.Ite c a b) }
-    ensures makes { Makes terms.now result (choice_of (tree_of terms.now c) (tree_of terms.now a) (tree_of terms.now b)) }
+    ensures makes { Makes terms.now result
+        (choice_of (tree_of terms.now c) (tree_of terms.now a) (tree_of terms.now b)) }
     ensures fit { IsDag terms.now }
 {
     match number_at(terms, c) {

@@ -39,7 +39,8 @@ fn bit_under(terms: &Terms, id: usize) -> Option<usize>
 /// Whether a term is a number.
 fn equality(terms: &Terms, id: usize, value: u64, otherwise: Plan) -> Plan
     requires { id < length terms.now.nodes }
-    ensures { (tree : Tree) → Makes terms.now otherwise tree → Makes terms.now result (equality_of (tree_of terms.now id) value tree) }
+    ensures { (tree : Tree) → Makes terms.now otherwise tree
+        → Makes terms.now result (equality_of (tree_of terms.now id) value tree) }
 {
     if excludes(terms, id, value) {
         return number(zero(1));
@@ -78,7 +79,8 @@ fn test_first(terms: &Terms, op: Comparison, x: Word, a: usize, b: usize) -> Pla
 fn test_second(terms: &Terms, op: Comparison, y: Word, a: usize, b: usize) -> Plan
     requires there { a < length terms.now.nodes }
     requires fits { Fits terms.now.inputs (widths_of terms.now.nodes) (Node.Compare op a b) }
-    ensures { Makes terms.now result (test_second op y (tree_of terms.now a) (tree_of terms.now b)) }
+    ensures { Makes terms.now result
+        (test_second op y (tree_of terms.now a) (tree_of terms.now b)) }
 {
     let value = y.number();
     let plain = Plan::Push(Node::Compare(op, a, b));
@@ -108,7 +110,8 @@ fn comparison_by(
     requires first { a < length terms.now.nodes }
     requires second { b < length terms.now.nodes }
     requires fits { Fits terms.now.inputs (widths_of terms.now.nodes) (Node.Compare op a b) }
-    ensures { Makes terms.now result (comparison_by op left right (tree_of terms.now a) (tree_of terms.now b)) }
+    ensures { Makes terms.now result
+        (comparison_by op left right (tree_of terms.now a) (tree_of terms.now b)) }
 {
     match (left, right) {
         (Some(x), Some(y)) => number(op.apply(x, y)),
@@ -122,7 +125,8 @@ fn comparison_by(
 #[tactic(auto, using(crate::proofs::Reading::placing))]
 pub(crate) fn comparison(terms: &Terms, op: Comparison, a: usize, b: usize) -> Plan
     requires { Fits terms.now.inputs (widths_of terms.now.nodes) (Node.Compare op a b) }
-    ensures makes { Makes terms.now result (comparison_of op (tree_of terms.now a) (tree_of terms.now b)) }
+    ensures makes { Makes terms.now result
+        (comparison_of op (tree_of terms.now a) (tree_of terms.now b)) }
     ensures fit { IsDag terms.now }
 {
     comparison_by(terms, op, number_at(terms, a), number_at(terms, b), a, b)

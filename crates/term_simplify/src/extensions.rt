@@ -58,7 +58,8 @@ pub(crate) fn extension(terms: &Terms, by: u32, signed: bool, id: usize) -> Plan
 /// One term above another.
 pub(crate) fn joined(terms: &Terms, high: usize, low: usize) -> Plan
     requires { Fits terms.now.inputs (widths_of terms.now.nodes) (Node.Concat high low) }
-    ensures makes { Makes terms.now result (joined_of (tree_of terms.now high) (tree_of terms.now low)) }
+    ensures makes { Makes terms.now result
+        (joined_of (tree_of terms.now high) (tree_of terms.now low)) }
     ensures fit { IsDag terms.now }
 {
     let plain = Plan::Push(Node::Concat { high, low });

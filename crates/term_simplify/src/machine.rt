@@ -29,7 +29,9 @@ impl Builder {
     pub(crate) fn step(&mut self, node: Node) -> Result<usize, NoMemory>
         requires { Fits self.old.inputs (widths_of self.old.nodes) node }
         ensures continues { Continues self.old self.new }
-        ensures ok { IfOk result (λ id. Stands self.new id (simplified (tree_of self.old) node) (node_width (widths_of self.old.nodes) node) (λ input. node_value input (λ k. val self.old k input) node)) }
+        ensures ok { IfOk result (λ id. Stands self.new id (simplified (tree_of self.old) node)
+            (node_width (widths_of self.old.nodes) node)
+            (λ input. node_value input (λ k. val self.old k input) node)) }
         ensures term { IsTerm self.old.inputs (node_tree (tree_of self.old) node) }
     {
         self.build(node)
@@ -40,7 +42,9 @@ impl Builder {
         requires bit { width_of self.old bit ≡ 1 }
         requires whole { width_of self.old a ≡ 32 }
         ensures continues { Continues self.old self.new }
-        ensures ok { IfOk result (λ id. Stands self.new id (signed_tree (tree_of self.old bit) (tree_of self.old a)) 32 (λ input. signed_word (val self.old bit input) (val self.old a input))) }
+        ensures ok { IfOk result (λ id. Stands self.new id
+            (signed_tree (tree_of self.old bit) (tree_of self.old a)) 32
+            (λ input. signed_word (val self.old bit input) (val self.old a input))) }
     {
         let opposite = self.step(Node::Neg(a))?;
         self.step(Node::Ite {
@@ -53,8 +57,11 @@ impl Builder {
     fn parts(&mut self, a: usize) -> Result<Parts, NoMemory>
         requires { width_of self.old a ≡ 32 }
         ensures continues { Continues self.old self.new }
-        ensures negative { IfOk result (λ parts. Stands self.new parts.negative (sign_tree (tree_of self.old a)) 1 (λ input. sign_word (val self.old a input))) }
-        ensures magnitude { IfOk result (λ parts. Stands self.new parts.magnitude (magnitude_tree (tree_of self.old a)) 32 (λ input. magnitude_word (val self.old a input))) }
+        ensures negative { IfOk result (λ parts. Stands self.new parts.negative
+            (sign_tree (tree_of self.old a)) 1 (λ input. sign_word (val self.old a input))) }
+        ensures magnitude { IfOk result (λ parts. Stands self.new parts.magnitude
+            (magnitude_tree (tree_of self.old a)) 32
+            (λ input. magnitude_word (val self.old a input))) }
         ensures term { IsTerm self.old.inputs (tree_of self.old a) }
     {
         let negative = self.step(Node::Extract {
@@ -76,7 +83,9 @@ impl Builder {
         ensures continues { Continues self.old self.new }
         ensures first { OnOk result (IsTerm self.old.inputs (tree_of self.old a)) }
         ensures second { OnOk result (IsTerm self.old.inputs (tree_of self.old b)) }
-        ensures ok { IfOk result (λ id. Stands self.new id (signed_quotient_tree (tree_of self.old a) (tree_of self.old b)) 32 (λ input. signed_quotient_word (val self.old a input) (val self.old b input))) }
+        ensures ok { IfOk result (λ id. Stands self.new id
+            (signed_quotient_tree (tree_of self.old a) (tree_of self.old b)) 32
+            (λ input. signed_quotient_word (val self.old a input) (val self.old b input))) }
     {
         let dividend = self.parts(a)?;
         let divisor = self.parts(b)?;
@@ -94,7 +103,9 @@ impl Builder {
         requires divisor { width_of self.old divisor ≡ 32 }
         requires quotient { width_of self.old quotient ≡ 32 }
         ensures continues { Continues self.old self.new }
-        ensures ok { IfOk result (λ id. Stands self.new id (or_ones_tree (tree_of self.old divisor) (tree_of self.old quotient)) 32 (λ input. or_ones_word (val self.old divisor input) (val self.old quotient input))) }
+        ensures ok { IfOk result (λ id. Stands self.new id
+            (or_ones_tree (tree_of self.old divisor) (tree_of self.old quotient)) 32
+            (λ input. or_ones_word (val self.old divisor input) (val self.old quotient input))) }
     {
         let zero = self.step(Node::Num {
             width: 32,
@@ -116,7 +127,8 @@ impl Builder {
         requires first { width_of self.old a ≡ 32 }
         requires second { width_of self.old b ≡ 32 }
         ensures continues { Continues self.old self.new }
-        ensures ok { IfOk result (StandsCombined self.old self.new RegisterOp.Div a b (quotient_tree (tree_of self.old a) (tree_of self.old b))) }
+        ensures ok { IfOk result (StandsCombined self.old self.new RegisterOp.Div a b
+            (quotient_tree (tree_of self.old a) (tree_of self.old b))) }
     {
         let signed = self.signed_quotient(a, b)?;
         self.or_ones(b, signed)
@@ -127,7 +139,8 @@ impl Builder {
         requires first { width_of self.old a ≡ 32 }
         requires second { width_of self.old b ≡ 32 }
         ensures continues { Continues self.old self.new }
-        ensures ok { IfOk result (StandsCombined self.old self.new RegisterOp.Rem a b (remainder_tree (tree_of self.old a) (tree_of self.old b))) }
+        ensures ok { IfOk result (StandsCombined self.old self.new RegisterOp.Rem a b
+            (remainder_tree (tree_of self.old a) (tree_of self.old b))) }
     {
         let dividend = self.parts(a)?;
         let divisor = self.parts(b)?;
@@ -142,7 +155,9 @@ impl Builder {
         ensures continues { Continues self.old self.new }
         ensures first { OnOk result (IsTerm self.old.inputs (tree_of self.old a)) }
         ensures second { OnOk result (IsTerm self.old.inputs (tree_of self.old b)) }
-        ensures ok { IfOk result (λ id. Stands self.new id (upper_tree first second (tree_of self.old a) (tree_of self.old b)) 32 (λ input. upper_word first second (val self.old a input) (val self.old b input))) }
+        ensures ok { IfOk result (λ id. Stands self.new id
+            (upper_tree first second (tree_of self.old a) (tree_of self.old b)) 32
+            (λ input. upper_word first second (val self.old a input) (val self.old b input))) }
     {
         let left = self.step(Node::Extend {
             by: 32,
@@ -170,7 +185,8 @@ impl Builder {
     ) -> Result<usize, NoMemory>
         ensures same { result ≡ answer }
         ensures ok { OnOk result (self.new ≡ self.old) }
-        ensures err { OnErr result (self.new ≡ record { inputs = self.old.inputs; nodes = take len self.old.nodes }) }
+        ensures err { OnErr result (self.new
+            ≡ record { inputs = self.old.inputs; nodes = take len self.old.nodes }) }
     {
         if answer.is_err() {
             self.truncate(len);
@@ -182,7 +198,8 @@ impl Builder {
     pub fn div(&mut self, a: usize, b: usize) -> Result<usize, NoMemory>
         requires first { width_of self.old a ≡ 32 }
         requires second { width_of self.old b ≡ 32 }
-        ensures ok { IfOk result (BuildsCombined self.old self.new RegisterOp.Div a b (quotient_tree (tree_of self.old a) (tree_of self.old b))) }
+        ensures ok { IfOk result (BuildsCombined self.old self.new RegisterOp.Div a b
+            (quotient_tree (tree_of self.old a) (tree_of self.old b))) }
         ensures err { OnErr result (self.new ≡ self.old) }
     {
         let len = self.len();
@@ -194,7 +211,8 @@ impl Builder {
     pub fn divu(&mut self, a: usize, b: usize) -> Result<usize, NoMemory>
         requires first { width_of self.old a ≡ 32 }
         requires second { width_of self.old b ≡ 32 }
-        ensures ok { IfOk result (BuildsCombined self.old self.new RegisterOp.Divu a b (binary_of BinaryOp.Udiv (tree_of self.old a) (tree_of self.old b))) }
+        ensures ok { IfOk result (BuildsCombined self.old self.new RegisterOp.Divu a b
+            (binary_of BinaryOp.Udiv (tree_of self.old a) (tree_of self.old b))) }
         ensures err { OnErr result (self.new ≡ self.old) }
     {
         self.udiv(a, b)
@@ -204,7 +222,8 @@ impl Builder {
     pub fn rem(&mut self, a: usize, b: usize) -> Result<usize, NoMemory>
         requires first { width_of self.old a ≡ 32 }
         requires second { width_of self.old b ≡ 32 }
-        ensures ok { IfOk result (BuildsCombined self.old self.new RegisterOp.Rem a b (remainder_tree (tree_of self.old a) (tree_of self.old b))) }
+        ensures ok { IfOk result (BuildsCombined self.old self.new RegisterOp.Rem a b
+            (remainder_tree (tree_of self.old a) (tree_of self.old b))) }
         ensures err { OnErr result (self.new ≡ self.old) }
     {
         let len = self.len();
@@ -216,7 +235,8 @@ impl Builder {
     pub fn remu(&mut self, a: usize, b: usize) -> Result<usize, NoMemory>
         requires first { width_of self.old a ≡ 32 }
         requires second { width_of self.old b ≡ 32 }
-        ensures ok { IfOk result (BuildsCombined self.old self.new RegisterOp.Remu a b (unsigned_remainder_tree (tree_of self.old a) (tree_of self.old b))) }
+        ensures ok { IfOk result (BuildsCombined self.old self.new RegisterOp.Remu a b
+            (unsigned_remainder_tree (tree_of self.old a) (tree_of self.old b))) }
         ensures err { OnErr result (self.new ≡ self.old) }
     {
         let len = self.len();
@@ -228,7 +248,8 @@ impl Builder {
     pub fn mulh(&mut self, a: usize, b: usize) -> Result<usize, NoMemory>
         requires first { width_of self.old a ≡ 32 }
         requires second { width_of self.old b ≡ 32 }
-        ensures ok { IfOk result (BuildsCombined self.old self.new RegisterOp.Mulh a b (upper_tree true true (tree_of self.old a) (tree_of self.old b))) }
+        ensures ok { IfOk result (BuildsCombined self.old self.new RegisterOp.Mulh a b
+            (upper_tree true true (tree_of self.old a) (tree_of self.old b))) }
         ensures err { OnErr result (self.new ≡ self.old) }
     {
         let len = self.len();
@@ -240,7 +261,8 @@ impl Builder {
     pub fn mulhsu(&mut self, a: usize, b: usize) -> Result<usize, NoMemory>
         requires first { width_of self.old a ≡ 32 }
         requires second { width_of self.old b ≡ 32 }
-        ensures ok { IfOk result (BuildsCombined self.old self.new RegisterOp.Mulhsu a b (upper_tree true false (tree_of self.old a) (tree_of self.old b))) }
+        ensures ok { IfOk result (BuildsCombined self.old self.new RegisterOp.Mulhsu a b
+            (upper_tree true false (tree_of self.old a) (tree_of self.old b))) }
         ensures err { OnErr result (self.new ≡ self.old) }
     {
         let len = self.len();
@@ -252,7 +274,8 @@ impl Builder {
     pub fn mulhu(&mut self, a: usize, b: usize) -> Result<usize, NoMemory>
         requires first { width_of self.old a ≡ 32 }
         requires second { width_of self.old b ≡ 32 }
-        ensures ok { IfOk result (BuildsCombined self.old self.new RegisterOp.Mulhu a b (upper_tree false false (tree_of self.old a) (tree_of self.old b))) }
+        ensures ok { IfOk result (BuildsCombined self.old self.new RegisterOp.Mulhu a b
+            (upper_tree false false (tree_of self.old a) (tree_of self.old b))) }
         ensures err { OnErr result (self.new ≡ self.old) }
     {
         let len = self.len();

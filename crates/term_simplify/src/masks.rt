@@ -28,7 +28,9 @@ fn keeps(terms: &Terms, mask: Word, id: usize) -> bool
 pub(crate) fn masked(terms: &Terms, op: BinaryOp, mask: usize, id: usize, otherwise: Plan) -> Plan
     requires mask { mask < length terms.now.nodes }
     requires term { id < length terms.now.nodes }
-    ensures { (tree : Tree) → Makes terms.now otherwise tree → Makes terms.now result (masked op (tree_number (tree_of terms.now mask)) (tree_of terms.now id) tree) }
+    ensures { (tree : Tree) → Makes terms.now otherwise tree
+        → Makes terms.now result
+        (masked op (tree_number (tree_of terms.now mask)) (tree_of terms.now id) tree) }
 {
     match (op, number_at(terms, mask)) {
         (BinaryOp::And, Some(number)) => term_if(keeps(terms, number, id), id, otherwise),

@@ -24,7 +24,9 @@ impl Builder {
         requires first { width_of self.old a ≡ 32 }
         requires second { width_of self.old b ≡ 32 }
         ensures continues { Continues self.old self.new }
-        ensures ok { IfOk result (λ id. Stands self.new id (operations.shift_tree op (tree_of self.old a) (tree_of self.old b)) 32 (λ input. shift_word op (val self.old a input) (val self.old b input))) }
+        ensures ok { IfOk result (λ id. Stands self.new id
+            (operations.shift_tree op (tree_of self.old a) (tree_of self.old b)) 32
+            (λ input. shift_word op (val self.old a input) (val self.old b input))) }
     {
         let mask = self.step(Node::Num {
             width: 32,
@@ -38,7 +40,9 @@ impl Builder {
     fn shift(&mut self, op: BinaryOp, a: usize, b: usize) -> Result<usize, NoMemory>
         requires first { width_of self.old a ≡ 32 }
         requires second { width_of self.old b ≡ 32 }
-        ensures ok { IfOk result (λ id. Builds self.old self.new id (operations.shift_tree op (tree_of self.old a) (tree_of self.old b)) 32 (λ input. shift_word op (val self.old a input) (val self.old b input))) }
+        ensures ok { IfOk result (λ id. Builds self.old self.new id
+            (operations.shift_tree op (tree_of self.old a) (tree_of self.old b)) 32
+            (λ input. shift_word op (val self.old a input) (val self.old b input))) }
         ensures err { OnErr result (self.new ≡ self.old) }
     {
         let len = self.len();
@@ -51,7 +55,10 @@ impl Builder {
         requires first { width_of self.old a ≡ 32 }
         requires second { width_of self.old b ≡ 32 }
         ensures continues { Continues self.old self.new }
-        ensures ok { IfOk result (λ id. Stands self.new id (comparison_of op (tree_of self.old a) (tree_of self.old b)) 1 (λ input. bit (compares op (number_of self.old a input) (number_of self.old b input)))) }
+        ensures ok { IfOk result (λ id. Stands self.new id
+            (comparison_of op (tree_of self.old a) (tree_of self.old b)) 1
+            (λ input. bit (compares op (number_of self.old a input)
+            (number_of self.old b input)))) }
     {
         self.step(Node::Compare(op, a, b))
     }
@@ -61,7 +68,10 @@ impl Builder {
         requires first { width_of self.old a ≡ 32 }
         requires second { width_of self.old b ≡ 32 }
         ensures continues { Continues self.old self.new }
-        ensures ok { IfOk result (λ id. Stands self.new id (complement_of (comparison_of op (tree_of self.old a) (tree_of self.old b))) 1 (λ input. bit (not (compares op (number_of self.old a input) (number_of self.old b input))))) }
+        ensures ok { IfOk result (λ id. Stands self.new id
+            (complement_of (comparison_of op (tree_of self.old a) (tree_of self.old b))) 1
+            (λ input. bit (not (compares op (number_of self.old a input)
+            (number_of self.old b input))))) }
     {
         let bit = self.compared(op, a, b)?;
         self.step(Node::Not(bit))
@@ -72,7 +82,13 @@ impl Builder {
         requires first { width_of self.old a ≡ 32 }
         requires second { width_of self.old b ≡ 32 }
         ensures continues { Continues self.old self.new }
-        ensures ok { IfOk result (λ id. Stands self.new id (operations.set_tree op (tree_of self.old a) (tree_of self.old b)) 32 (λ input. record { width = 32; number = arithmetic.one_where (compares op (number_of self.old a input) (number_of self.old b input)) })) }
+        ensures ok { IfOk result (λ id. Stands self.new id
+            (operations.set_tree op (tree_of self.old a) (tree_of self.old b)) 32
+            (λ input. record {
+              width = 32;
+              number = arithmetic.one_where
+                  (compares op (number_of self.old a input) (number_of self.old b input));
+            })) }
     {
         let bit = self.compared(op, a, b)?;
         self.step(Node::Extend {
@@ -86,7 +102,13 @@ impl Builder {
     fn set(&mut self, op: Comparison, a: usize, b: usize) -> Result<usize, NoMemory>
         requires first { width_of self.old a ≡ 32 }
         requires second { width_of self.old b ≡ 32 }
-        ensures ok { IfOk result (λ id. Builds self.old self.new id (operations.set_tree op (tree_of self.old a) (tree_of self.old b)) 32 (λ input. record { width = 32; number = arithmetic.one_where (compares op (number_of self.old a input) (number_of self.old b input)) })) }
+        ensures ok { IfOk result (λ id. Builds self.old self.new id
+            (operations.set_tree op (tree_of self.old a) (tree_of self.old b)) 32
+            (λ input. record {
+              width = 32;
+              number = arithmetic.one_where
+                  (compares op (number_of self.old a input) (number_of self.old b input));
+            })) }
         ensures err { OnErr result (self.new ≡ self.old) }
     {
         let len = self.len();
@@ -98,7 +120,8 @@ impl Builder {
     pub fn combined(&mut self, op: RegisterOp, a: usize, b: usize) -> Result<usize, NoMemory>
         requires first { width_of self.old a ≡ 32 }
         requires second { width_of self.old b ≡ 32 }
-        ensures ok { IfOk result (BuildsCombined self.old self.new op a b (operations.combined_tree op (tree_of self.old a) (tree_of self.old b))) }
+        ensures ok { IfOk result (BuildsCombined self.old self.new op a b
+            (operations.combined_tree op (tree_of self.old a) (tree_of self.old b))) }
         ensures err { OnErr result (self.new ≡ self.old) }
     {
         match op {
@@ -127,7 +150,13 @@ impl Builder {
         requires first { width_of self.old a ≡ 32 }
         requires second { width_of self.old b ≡ 32 }
         ensures continues { Continues self.old self.new }
-        ensures ok { IfOk result (λ id. Stands self.new id (operations.passes_tree test (tree_of self.old a) (tree_of self.old b)) 1 (λ input. record { width = 1; number = arithmetic.one_where (arithmetic.passes test (number_of self.old a input) (number_of self.old b input)) })) }
+        ensures ok { IfOk result (λ id. Stands self.new id
+            (operations.passes_tree test (tree_of self.old a) (tree_of self.old b)) 1
+            (λ input. record {
+              width = 1;
+              number = arithmetic.one_where
+                  (arithmetic.passes test (number_of self.old a input) (number_of self.old b input));
+            })) }
     {
         match test {
             Test::Beq => self.compared(Comparison::Eq, a, b),
@@ -143,7 +172,13 @@ impl Builder {
     pub fn passes(&mut self, test: Test, a: usize, b: usize) -> Result<usize, NoMemory>
         requires first { width_of self.old a ≡ 32 }
         requires second { width_of self.old b ≡ 32 }
-        ensures ok { IfOk result (λ id. Builds self.old self.new id (operations.passes_tree test (tree_of self.old a) (tree_of self.old b)) 1 (λ input. record { width = 1; number = arithmetic.one_where (arithmetic.passes test (number_of self.old a input) (number_of self.old b input)) })) }
+        ensures ok { IfOk result (λ id. Builds self.old self.new id
+            (operations.passes_tree test (tree_of self.old a) (tree_of self.old b)) 1
+            (λ input. record {
+              width = 1;
+              number = arithmetic.one_where
+                  (arithmetic.passes test (number_of self.old a input) (number_of self.old b input));
+            })) }
         ensures err { OnErr result (self.new ≡ self.old) }
     {
         let len = self.len();
@@ -156,7 +191,12 @@ impl Builder {
         requires some { 0 < bits }
         requires narrow { bits < 32 }
         requires width { width_of self.old a ≡ bits }
-        ensures ok { IfOk result (λ id. Builds self.old self.new id (extension_by (32 - bits) signed (tree_of self.old a)) 32 (λ input. record { width = 32; number = operations.widened signed bits (number_of self.old a input) })) }
+        ensures ok { IfOk result (λ id. Builds self.old self.new id
+            (extension_by (32 - bits) signed (tree_of self.old a)) 32
+            (λ input. record {
+              width = 32;
+              number = operations.widened signed bits (number_of self.old a input);
+            })) }
         ensures err { OnErr result (self.new ≡ self.old) }
     {
         self.extend(32 - bits, signed, a)
@@ -166,7 +206,12 @@ impl Builder {
     pub fn half(&mut self, low: usize, high: usize) -> Result<usize, NoMemory>
         requires low { width_of self.old low ≡ 8 }
         requires high { width_of self.old high ≡ 8 }
-        ensures ok { IfOk result (λ id. Builds self.old self.new id (operations.half_tree (tree_of self.old low) (tree_of self.old high)) 16 (λ input. record { width = 16; number = number_of self.old low input + 2 ^ 8 * number_of self.old high input })) }
+        ensures ok { IfOk result (λ id. Builds self.old self.new id
+            (operations.half_tree (tree_of self.old low) (tree_of self.old high)) 16
+            (λ input. record {
+              width = 16;
+              number = number_of self.old low input + 2 ^ 8 * number_of self.old high input;
+            })) }
         ensures err { OnErr result (self.new ≡ self.old) }
     {
         self.concat(high, low)
@@ -178,7 +223,14 @@ impl Builder {
         requires b2 { width_of self.old b2 ≡ 8 }
         requires b3 { width_of self.old b3 ≡ 8 }
         ensures continues { Continues self.old self.new }
-        ensures ok { IfOk result (λ id. Stands self.new id (operations.word_tree (tree_of self.old b0) (tree_of self.old b1) (tree_of self.old b2) (tree_of self.old b3)) 32 (λ input. record { width = 32; number = number_of self.old b0 input + 2 ^ 8 * number_of self.old b1 input + 2 ^ 16 * number_of self.old b2 input + 2 ^ 24 * number_of self.old b3 input })) }
+        ensures ok { IfOk result (λ id. Stands self.new id
+            (operations.word_tree (tree_of self.old b0) (tree_of self.old b1) (tree_of self.old b2)
+            (tree_of self.old b3)) 32
+            (λ input. record {
+              width = 32;
+              number = number_of self.old b0 input + 2 ^ 8 * number_of self.old b1 input
+                  + 2 ^ 16 * number_of self.old b2 input + 2 ^ 24 * number_of self.old b3 input;
+            })) }
     {
         let low = self.step(Node::Concat { high: b1, low: b0 })?;
         let high = self.step(Node::Concat { high: b3, low: b2 })?;
@@ -191,7 +243,14 @@ impl Builder {
         requires b1 { width_of self.old b1 ≡ 8 }
         requires b2 { width_of self.old b2 ≡ 8 }
         requires b3 { width_of self.old b3 ≡ 8 }
-        ensures ok { IfOk result (λ id. Builds self.old self.new id (operations.word_tree (tree_of self.old b0) (tree_of self.old b1) (tree_of self.old b2) (tree_of self.old b3)) 32 (λ input. record { width = 32; number = number_of self.old b0 input + 2 ^ 8 * number_of self.old b1 input + 2 ^ 16 * number_of self.old b2 input + 2 ^ 24 * number_of self.old b3 input })) }
+        ensures ok { IfOk result (λ id. Builds self.old self.new id
+            (operations.word_tree (tree_of self.old b0) (tree_of self.old b1) (tree_of self.old b2)
+            (tree_of self.old b3)) 32
+            (λ input. record {
+              width = 32;
+              number = number_of self.old b0 input + 2 ^ 8 * number_of self.old b1 input
+                  + 2 ^ 16 * number_of self.old b2 input + 2 ^ 24 * number_of self.old b3 input;
+            })) }
         ensures err { OnErr result (self.new ≡ self.old) }
     {
         let len = self.len();
@@ -203,7 +262,12 @@ impl Builder {
     pub fn byte(&mut self, a: usize, at: u32) -> Result<usize, NoMemory>
         requires whole { width_of self.old a ≡ 32 }
         requires at { at < 4 }
-        ensures ok { IfOk result (λ id. Builds self.old self.new id (operations.byte_tree at (tree_of self.old a)) 8 (λ input. record { width = 8; number = number_of self.old a input / 2 ^ (8 * at) % 2 ^ 8 })) }
+        ensures ok { IfOk result (λ id. Builds self.old self.new id
+            (operations.byte_tree at (tree_of self.old a)) 8
+            (λ input. record {
+              width = 8;
+              number = number_of self.old a input / 2 ^ (8 * at) % 2 ^ 8;
+            })) }
         ensures err { OnErr result (self.new ≡ self.old) }
     {
         self.extract(8 * at + 7, 8 * at, a)
@@ -212,7 +276,9 @@ impl Builder {
     fn cleared(&mut self, a: usize) -> Result<usize, NoMemory>
         requires { width_of self.old a ≡ 32 }
         ensures continues { Continues self.old self.new }
-        ensures ok { IfOk result (λ id. Stands self.new id (operations.even_tree (tree_of self.old a)) 32 (λ input. record { width = 32; number = machine.even (number_of self.old a input) })) }
+        ensures ok { IfOk result (λ id. Stands self.new id
+            (operations.even_tree (tree_of self.old a)) 32
+            (λ input. record { width = 32; number = machine.even (number_of self.old a input) })) }
     {
         let upper = self.step(Node::Extract {
             high: 31,
@@ -229,7 +295,9 @@ impl Builder {
     /// A word of 32 bits with its lowest bit cleared.
     pub fn even(&mut self, a: usize) -> Result<usize, NoMemory>
         requires { width_of self.old a ≡ 32 }
-        ensures ok { IfOk result (λ id. Builds self.old self.new id (operations.even_tree (tree_of self.old a)) 32 (λ input. record { width = 32; number = machine.even (number_of self.old a input) })) }
+        ensures ok { IfOk result (λ id. Builds self.old self.new id
+            (operations.even_tree (tree_of self.old a)) 32
+            (λ input. record { width = 32; number = machine.even (number_of self.old a input) })) }
         ensures err { OnErr result (self.new ≡ self.old) }
     {
         let len = self.len();

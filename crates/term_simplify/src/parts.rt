@@ -23,7 +23,9 @@ pub(crate) struct Span {
 fn within_operand(terms: &Terms, span: Span) -> Option<Span>
     requires { IsSpan terms.now span }
     ensures some { IfSome result (λ inner. IsInner terms.now span inner) }
-    ensures none { IfNone result (part_of span.high span.low (tree_of terms.now span.operand) ≡ rest_of span.high span.low (tree_of terms.now span.operand)) }
+    ensures none { IfNone result
+        (part_of span.high span.low (tree_of terms.now span.operand)
+        ≡ rest_of span.high span.low (tree_of terms.now span.operand)) }
 {
     let Span { high, low, operand } = span;
     match terms.node(operand) {
@@ -89,7 +91,8 @@ fn span_plan(terms: &Terms, span: Span) -> Plan
 /// Bits that are not those of an operand alone: zeros where they lie above one.
 fn rest(terms: &Terms, span: Span) -> Plan
     requires { IsSpan terms.now span }
-    ensures makes { Makes terms.now result (rest_of span.high span.low (tree_of terms.now span.operand)) }
+    ensures makes { Makes terms.now result
+        (rest_of span.high span.low (tree_of terms.now span.operand)) }
     ensures fit { IsDag terms.now }
 {
     match under_zeros(terms, span.operand) {

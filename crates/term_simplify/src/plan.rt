@@ -29,14 +29,16 @@ pub(crate) fn number(word: Word) -> Plan
 
 /// A term where the test holds, and else another plan.
 pub(crate) fn term_if(test: bool, id: usize, otherwise: Plan) -> Plan
-    ensures { (graph : Graph) (tree : Tree) → id < length graph.nodes → Makes graph otherwise tree → Makes graph result (if test then tree_of graph id else tree) }
+    ensures { (graph : Graph) (tree : Tree) → id < length graph.nodes → Makes graph otherwise tree
+        → Makes graph result (if test then tree_of graph id else tree) }
 {
     if test { Plan::Term(id) } else { otherwise }
 }
 
 /// A number where the test holds, and else another plan.
 pub(crate) fn number_if(test: bool, word: Word, otherwise: Plan) -> Plan
-    ensures { (graph : Graph) (tree : Tree) → Makes graph otherwise tree → Makes graph result (if test then number_tree word else tree) }
+    ensures { (graph : Graph) (tree : Tree) → Makes graph otherwise tree
+        → Makes graph result (if test then number_tree word else tree) }
 {
     if test { number(word) } else { otherwise }
 }

@@ -27,7 +27,9 @@ struct Narrow {
 fn narrow_operands(terms: &Terms, a: usize, b: usize) -> Option<Narrow>
     requires first { width_of terms.now a ≡ 32 }
     requires second { width_of terms.now b ≡ 32 }
-    ensures none { IfNone result (unsigned_remainder_tree (tree_of terms.now a) (tree_of terms.now b) ≡ binary_of BinaryOp.Urem (tree_of terms.now a) (tree_of terms.now b)) }
+    ensures none { IfNone result
+        (unsigned_remainder_tree (tree_of terms.now a) (tree_of terms.now b)
+        ≡ binary_of BinaryOp.Urem (tree_of terms.now a) (tree_of terms.now b)) }
     ensures some { IfSome result (AreUnder terms.now a b) }
 {
     match (under_zeros(terms, a), under_zeros(terms, b)) {
@@ -49,7 +51,11 @@ impl Builder {
         requires below_32 { width_of self.old a < 32 }
         requires alike { width_of self.old a ≡ width_of self.old b }
         ensures continues { Continues self.old self.new }
-        ensures ok { IfOk result (λ id. Stands self.new id (extension_by (32 - width_of self.old a) false (binary_of BinaryOp.Urem (tree_of self.old a) (tree_of self.old b))) 32 (λ input. zero_extend (32 - width_of self.old a) (bvurem (val self.old a input) (val self.old b input)))) }
+        ensures ok { IfOk result (λ id. Stands self.new id
+            (extension_by (32 - width_of self.old a) false
+            (binary_of BinaryOp.Urem (tree_of self.old a) (tree_of self.old b))) 32
+            (λ input. zero_extend (32 - width_of self.old a)
+            (bvurem (val self.old a input) (val self.old b input)))) }
     {
         let by = 32 - self.terms().width_of(a);
         let remainder = self.step(Node::Binary(BinaryOp::Urem, a, b))?;
@@ -65,7 +71,9 @@ impl Builder {
         requires first { width_of self.old a ≡ 32 }
         requires second { width_of self.old b ≡ 32 }
         ensures continues { Continues self.old self.new }
-        ensures ok { IfOk result (λ id. Stands self.new id (unsigned_remainder_tree (tree_of self.old a) (tree_of self.old b)) 32 (λ input. bvurem (val self.old a input) (val self.old b input))) }
+        ensures ok { IfOk result (λ id. Stands self.new id
+            (unsigned_remainder_tree (tree_of self.old a) (tree_of self.old b)) 32
+            (λ input. bvurem (val self.old a input) (val self.old b input))) }
     {
         match narrow_operands(self.terms(), a, b) {
             Some(narrow) => self.narrow_remainder(narrow.dividend, narrow.divisor),

@@ -19,7 +19,8 @@ pub(crate) fn words_of_first(
 ) -> Result<Vec<Word>, NoMemory>
     requires there { count ≤ length entries.now }
     requires all_fit { AllFit (length input.now) (nodes_of entries.now) }
-    ensures { IfOk result (λ words. words.items ≡ values input.now (take count (nodes_of entries.now))) }
+    ensures { IfOk result (λ words. words.items
+        ≡ values input.now (take count (nodes_of entries.now))) }
 {
     let mut words = Vec::with_capacity(alloc, count)?;
     for id in 0..count {

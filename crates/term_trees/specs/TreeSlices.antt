@@ -12,11 +12,13 @@ TreesShareByte s t = (i : ℕ) × Contains (tree_inputs s) i × Contains (tree_i
 -- reached.
 pub data IsReachedTree (asserted : List Tree) (new : Tree) : Tree → Type 0 where
   itself : IsReachedTree asserted new new
-  sharing : {s t : Tree} → IsReachedTree asserted new s → Contains asserted t → TreesShareByte s t → IsReachedTree asserted new t
+  sharing : {s t : Tree} → IsReachedTree asserted new s → Contains asserted t → TreesShareByte s t
+      → IsReachedTree asserted new t
 
 -- just those of the asserted trees that are reached from the new one
 abbrev pub IsSliceOfTrees : List Tree → (new : Tree) → List Tree → Type 0
-IsSliceOfTrees asserted new part = (t : Tree) → Contains part t ↔ (Contains asserted t × IsReachedTree asserted new t)
+IsSliceOfTrees asserted new part = (t : Tree) → Contains part t
+    ↔ (Contains asserted t × IsReachedTree asserted new t)
 
 -- what a condition asserts, unfolded
 abbrev pub asserted_trees : Condition → List Tree

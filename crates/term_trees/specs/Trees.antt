@@ -82,7 +82,8 @@ IsTerm inputs (Complement t) = IsTerm inputs t
 IsTerm inputs (Negated t) = IsTerm inputs t
 IsTerm inputs (Two op s t) = IsTerm inputs s × IsTerm inputs t × (tree_width s ≡ tree_width t)
 IsTerm inputs (Test op s t) = IsTerm inputs s × IsTerm inputs t × (tree_width s ≡ tree_width t)
-IsTerm inputs (Choice c s t) = IsTerm inputs c × IsTerm inputs s × IsTerm inputs t × (tree_width c ≡ 1) × (tree_width s ≡ tree_width t)
+IsTerm inputs (Choice c s t) = IsTerm inputs c × IsTerm inputs s × IsTerm inputs t
+    × (tree_width c ≡ 1) × (tree_width s ≡ tree_width t)
 IsTerm inputs (Part high low t) = IsTerm inputs t × (low ≤ high) × (high < tree_width t)
 IsTerm inputs (Widened by signed t) = IsTerm inputs t × (1 ≤ by) × (tree_width t + by ≤ 64)
 IsTerm inputs (Joined s t) = IsTerm inputs s × IsTerm inputs t × (tree_width s + tree_width t ≤ 64)

@@ -19,7 +19,8 @@ use Rattle.text_parts.specs.Digits.{has_leading_zero, hex_number}
 
 -- one to four decimal digits with no leading zero
 abbrev pub is_short : List ℕ → Bool
-is_short digits = nat_le 1 (length digits) && nat_le (length digits) 4 && not (has_leading_zero digits) && list_all (λ digit. is_digit digit 10) digits
+is_short digits = nat_le 1 (length digits) && nat_le (length digits) 4
+    && not (has_leading_zero digits) && list_all (λ digit. is_digit digit 10) digits
 
 -- the number of one to four decimal digits with no leading zero
 unfoldable pub short_number : List ℕ → Option ℕ
@@ -29,13 +30,15 @@ short_number digits = if is_short digits then Some (digits_value 10 digits) else
 
 -- an address in hexadecimal digits, a colon (58), and how many bytes
 unfoldable pub region_of : List ℕ → Option Region
-region_of text = if slice_index text 8 == 58 then region_with (hex_number (take 8 text)) (short_number (drop 9 text)) else None
+region_of text = if slice_index text 8 == 58
+    then region_with (hex_number (take 8 text)) (short_number (drop 9 text)) else None
 
 -- ---- ends
 
 -- all traps
 abbrev pub traps : List Trap
-traps = Illegal ∷ FetchMisaligned ∷ FetchAccess ∷ LoadMisaligned ∷ LoadAccess ∷ StoreMisaligned ∷ StoreAccess ∷ Break ∷ Call ∷ []
+traps = Illegal ∷ FetchMisaligned ∷ FetchAccess ∷ LoadMisaligned ∷ LoadAccess ∷ StoreMisaligned
+    ∷ StoreAccess ∷ Break ∷ Call ∷ []
 
 -- the trap of this name
 abbrev pub trap_named : List ℕ → Option Trap
@@ -54,8 +57,10 @@ begins_with front text = bytes_eq (take (length front) text) front
 unfoldable pub end_said : List ℕ → Option (Option End)
 end_said text =
     if bytes_eq text (codes "running") then Some None else
-    if begins_with (codes "exit ") text then option_map Some (exit_with (short_number (drop 5 text))) else
-    if begins_with (codes "trap ") text then option_map (λ trap. Some (Trapped trap)) (trap_named (drop 5 text)) else
+    if begins_with (codes "exit ") text
+    then option_map Some (exit_with (short_number (drop 5 text))) else
+    if begins_with (codes "trap ") text
+    then option_map (λ trap. Some (Trapped trap)) (trap_named (drop 5 text)) else
     None
 
 -- ---- paths
@@ -69,6 +74,7 @@ unfoldable pub path_of : List ℕ → Option (List PathStep)
 path_of [] = Some []
 path_of (letter ∷ a ∷ b ∷ c ∷ d ∷ e ∷ f ∷ g ∷ h ∷ rest) =
     if letter == 64
-    then put_first (option_map Target (hex_number (a ∷ b ∷ c ∷ d ∷ e ∷ f ∷ g ∷ h ∷ []))) (path_of rest)
+    then put_first (option_map Target (hex_number (a ∷ b ∷ c ∷ d ∷ e ∷ f ∷ g ∷ h ∷ [])))
+    (path_of rest)
     else put_first (branch_of letter) (path_of (a ∷ b ∷ c ∷ d ∷ e ∷ f ∷ g ∷ h ∷ rest))
 path_of (letter ∷ rest) = put_first (branch_of letter) (path_of rest)

@@ -30,7 +30,8 @@ number_at key value = option_and_then as_u64 (option_and_then as_number (get key
 
 -- the keys that a test has to have
 abbrev pub keys : List (List ℕ)
-keys = codes "end" ∷ codes "format" ∷ codes "input" ∷ codes "leaf" ∷ codes "output" ∷ codes "path" ∷ codes "regions" ∷ codes "steps" ∷ []
+keys = codes "end" ∷ codes "format" ∷ codes "input" ∷ codes "leaf" ∷ codes "output" ∷ codes "path"
+    ∷ codes "regions" ∷ codes "steps" ∷ []
 
 -- each key is there
 abbrev pub has_keys : Data → Bool
@@ -73,7 +74,8 @@ regions_of (item value values) = put_first (region_in value) (regions_of values)
 
 -- the regions of a list
 abbrev pub regions_in : Data → Option (List Region)
-regions_in value = option_and_then regions_of (option_and_then as_array (get (codes "regions") value))
+regions_in value = option_and_then regions_of
+    (option_and_then as_array (get (codes "regions") value))
 
 -- What the keys say. The input and the output are still in hexadecimal digits.
 pub record Said : Type 0 where
@@ -86,23 +88,43 @@ pub record Said : Type 0 where
   pub steps : ℕ
 
 -- where each is there
-abbrev pub said_with : Option ℕ → Option (Option End) → Option (List ℕ) → Option ℕ → Option (List ℕ) → Option (List PathStep) → Option (List Region) → Option ℕ → Option Said
-said_with (Some format) (Some end) (Some input) (Some leaf) (Some output) (Some path) (Some regions) (Some steps) =
-    Some (record { end = end; input = input; leaf = leaf; output = output; path = path; regions = regions; steps = steps })
+abbrev pub said_with : Option ℕ → Option (Option End) → Option (List ℕ) → Option ℕ → Option (List ℕ)
+    → Option (List PathStep) → Option (List Region) → Option ℕ → Option Said
+said_with (Some format) (Some end) (Some input) (Some leaf) (Some output) (Some path) (Some regions)
+    (Some steps) =
+    Some (record {
+      end = end;
+      input = input;
+      leaf = leaf;
+      output = output;
+      path = path;
+      regions = regions;
+      steps = steps;
+    })
 said_with _ _ _ _ _ _ _ _ = None
 
 -- what the keys say, where each has a value of its form
 unfoldable pub said_in : Data → Option Said
-said_in value = said_with (format_in value) (end_in value) (text_at (codes "input") value) (leaf_in value)
+said_in value = said_with (format_in value) (end_in value) (text_at (codes "input") value)
+    (leaf_in value)
     (text_at (codes "output") value) (path_in value) (regions_in value) (steps_in value)
 
 -- ---- all of it
 
 -- the test with these bytes: one byte of input for each place of the regions
-abbrev pub test_from : Said → Result (List ℕ) FromHexError → Result (List ℕ) FromHexError → Result Test TestRefused
+abbrev pub test_from : Said → Result (List ℕ) FromHexError → Result (List ℕ) FromHexError
+    → Result Test TestRefused
 test_from said (Ok input) (Ok output) =
     if length input == sum_by (λ region. region.count) said.regions
-    then Ok (record { leaf = said.leaf; regions = said.regions; input = input; steps = said.steps; path = said.path; end = said.end; output = output })
+    then Ok (record {
+      leaf = said.leaf;
+      regions = said.regions;
+      input = input;
+      steps = said.steps;
+      path = said.path;
+      end = said.end;
+      output = output;
+    })
     else Err Length
 test_from said _ _ = Err Hex
 
@@ -118,7 +140,8 @@ test_said None = Err Kind
 -- the test that a JSON value is
 unfoldable pub test_in : Data → Result Test TestRefused
 test_in value =
-    if is_some (as_object value) then (if has_keys value then test_said (said_in value) else Err Missing)
+    if is_some (as_object value)
+    then (if has_keys value then test_said (said_in value) else Err Missing)
     else Err Kind
 
 -- the JSON value of a text in UTF-8

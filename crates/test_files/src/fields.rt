@@ -41,7 +41,8 @@ pub(crate) fn read_text<'a>(value: &'a Value, key: &str) -> Option<&'a str>
 
 /// The integer at the key, where it is not below `least` and not above `most`.
 pub(crate) fn read_between(value: &Value, key: &str, least: u64, most: u64) -> Option<u64>
-    ensures { result ≡ option_and_then (if_between least most) (number_at key.now (view value.now)) }
+    ensures { result ≡ option_and_then (if_between least most)
+        (number_at key.now (view value.now)) }
 {
     let number = value.get(key).and_then(Value::as_u64)?;
     if number < least || most < number {
@@ -59,7 +60,8 @@ pub(crate) fn end_at(value: &Value) -> Option<Option<End>>
 
 /// The path of the run.
 pub(crate) fn path_at(alloc: Global, value: &Value) -> Result<Option<Vec<PathStep>>, NoMemory>
-    ensures { IfOk result (λ found. option_map (λ path. path.items) found ≡ path_in (view value.now)) }
+    ensures { IfOk result (λ found. option_map (λ path. path.items) found
+        ≡ path_in (view value.now)) }
 {
     match read_text(value, "path") {
         Some(text) => read_path(alloc, text.as_bytes()),
@@ -76,7 +78,8 @@ fn region_at(value: &Value) -> Option<Region>
 
 /// The regions that the values say.
 fn read_regions(alloc: Global, values: &[Value]) -> Result<Option<Vec<Region>>, NoMemory>
-    ensures { IfOk result (λ found. option_map (λ regions. regions.items) found ≡ regions_of (items_view values.now)) }
+    ensures { IfOk result (λ found. option_map (λ regions. regions.items) found
+        ≡ regions_of (items_view values.now)) }
 {
     let mut regions = Vec::with_capacity(alloc, values.len())?;
     for value in values {
@@ -90,7 +93,8 @@ fn read_regions(alloc: Global, values: &[Value]) -> Result<Option<Vec<Region>>, 
 
 /// The regions of input bytes.
 pub(crate) fn regions_at(alloc: Global, value: &Value) -> Result<Option<Vec<Region>>, NoMemory>
-    ensures { IfOk result (λ found. option_map (λ regions. regions.items) found ≡ regions_in (view value.now)) }
+    ensures { IfOk result (λ found. option_map (λ regions. regions.items) found
+        ≡ regions_in (view value.now)) }
 {
     match value.get("regions").and_then(Value::as_array) {
         Some(values) => read_regions(alloc, values),

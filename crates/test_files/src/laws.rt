@@ -19,7 +19,8 @@ pub fn a_written_test_is_read_back()
 
 /// The text of a test is that of no other.
 pub fn a_text_is_that_of_one_test()
-    ensures { (test other : Test) → IsLegible test → IsLegible other → test_text test ≡ test_text other → test ≡ other }
+    ensures { (test other : Test) → IsLegible test → IsLegible other
+        → test_text test ≡ test_text other → test ≡ other }
 {}
 
 /// A test that was read has its numbers within their bounds, and one byte of input for each place of

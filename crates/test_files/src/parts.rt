@@ -53,7 +53,8 @@ fn region_text(alloc: Global, region: Region) -> Result<String, NoMemory>
 
 /// The regions as strings.
 fn region_values(alloc: Global, regions: &[Region]) -> Result<Vec<Value>, NoMemory>
-    ensures { IfOk result (λ values. map view values.items ≡ map (λ region. string (text_of_region region)) regions.now) }
+    ensures { IfOk result (λ values. map view values.items
+        ≡ map (λ region. string (text_of_region region)) regions.now) }
 {
     let mut values = Vec::with_capacity(alloc, regions.len())?;
     for region in regions {

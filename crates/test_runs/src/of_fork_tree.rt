@@ -91,9 +91,14 @@ impl Work for Climber {
 // The side of those that end on this rung. On the second rung it is a leaf at once.
 fn first_side(alloc: Global, from: u32) -> Result<Kid<Content<Rung, End>>, NoMemory>
     ensures choice { IfOk result (λ kid. kid.choice ≡ No) }
-    ensures place { IfOk result (λ kid. place_in ⟦<Rung as Placed>⟧.place ⟦<End as Placed>⟧.place kid.content ≡ ⟦<Rung as Placed>⟧.place (record { from = from; just = true })) }
-    ensures cut { IfOk result (λ kid. IsTrue (is_one_cut_at_most (side_of_kid (cut_in (λ e. e.cut)) kid).cut None)) }
-    ensures part { IfOk result (λ kid. (top limit : ℕ) → from ≤ top → 0 < limit → IsPart (⟦<Climber as Work>⟧.rules (record { top = top })) limit (No ∷ Yes ∷ []) kid kid.content) }
+    ensures place { IfOk result (λ kid.
+        place_in ⟦<Rung as Placed>⟧.place ⟦<End as Placed>⟧.place kid.content
+        ≡ ⟦<Rung as Placed>⟧.place (record { from = from; just = true })) }
+    ensures cut { IfOk result (λ kid. IsTrue
+        (is_one_cut_at_most (side_of_kid (cut_in (λ e. e.cut)) kid).cut None)) }
+    ensures part { IfOk result (λ kid. (top limit : ℕ) → from ≤ top → 0 < limit
+        → IsPart (⟦<Climber as Work>⟧.rules (record { top = top })) limit
+        (No ∷ Yes ∷ []) kid kid.content) }
 {
     let rung = Rung { from, just: true };
     if from == 1 {
@@ -116,7 +121,8 @@ fn second_side(alloc: Global, from: u32) -> Result<Kid<Content<Rung, End>>, NoMe
     requires { from + 1 < 2 ^ 32 }
     ensures choice { IfOk result (λ kid. kid.choice ≡ Yes) }
     ensures open { IfOk result (λ kid. kid.is_leaf ≡ false) }
-    ensures state { IfOk result (λ kid. StateIs (Some kid.content) (record { from = from + 1; just = false })) }
+    ensures state { IfOk result (λ kid. StateIs (Some kid.content)
+        (record { from = from + 1; just = false })) }
 {
     let rung = Rung {
         from: from + 1,

@@ -32,7 +32,10 @@ fn note_once<R: Wait>(
     ensures lock { IsPassOf lock.now pass.new }
     ensures turn { (known pass.new).has_turn ≡ false }
     ensures same { IsSamePass (known pass.old) (known pass.new) }
-    ensures own { MatchBool result ((known pass.new).own ≡ (known pass.old).own ++ record { by = (known pass.old).number; value = value } ∷ []) ((known pass.new).own ≡ (known pass.old).own) }
+    ensures own { MatchBool result
+        ((known pass.new).own ≡ (known pass.old).own
+        ++ record { by = (known pass.old).number; value = value } ∷ [])
+        ((known pass.new).own ≡ (known pass.old).own) }
 {
     let by = pass.number();
     let mut tally = lock.take(rt, pass);
@@ -106,11 +109,15 @@ fn note_by_two<R: Threads + Wait + Sync>(
         rt,
         move || -> (Pass<Tally>, u32)
             requires { IsPassOf shared.now first × ((known first).has_turn ≡ false) }
-            ensures { IsPassOf shared.entry.now result.0 × ((known result.0).has_turn ≡ false) × IsSamePass (known first) (known result.0) × (length (known result.0).own ≡ length (known first).own + result.1) }
+            ensures { IsPassOf shared.entry.now result.0 × ((known result.0).has_turn ≡ false)
+                × IsSamePass (known first) (known result.0)
+                × (length (known result.0).own ≡ length (known first).own + result.1) }
         { note_all(rt, shared, first, times, held) },
         move || -> (Pass<Tally>, u32)
             requires { IsPassOf shared.now second × ((known second).has_turn ≡ false) }
-            ensures { IsPassOf shared.entry.now result.0 × ((known result.0).has_turn ≡ false) × IsSamePass (known second) (known result.0) × (length (known result.0).own ≡ length (known second).own + result.1) }
+            ensures { IsPassOf shared.entry.now result.0 × ((known result.0).has_turn ≡ false)
+                × IsSamePass (known second) (known result.0)
+                × (length (known result.0).own ≡ length (known second).own + result.1) }
         { note_all(rt, shared, second, times, held) },
     );
     Ok((end_two(lock, first, second), a, b))

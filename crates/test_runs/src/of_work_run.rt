@@ -76,7 +76,8 @@ impl Work for Dealer {
 fn side(alloc: Global, card: u32) -> Result<Kid<Content<Draw, Draw>>, NoMemory>
     ensures choice { IfOk result (λ kid. kid.choice ≡ Value card) }
     ensures open { IfOk result (λ kid. kid.is_leaf ≡ false) }
-    ensures state { IfOk result (λ kid. StateIs (Some kid.content) (record { drawn = true; card = card })) }
+    ensures state { IfOk result (λ kid. StateIs (Some kid.content)
+        (record { drawn = true; card = card })) }
 {
     let draw = Draw { drawn: true, card };
     Ok(Kid {

@@ -23,7 +23,8 @@ pub fn image_of(rt: &impl Abort, alloc: Global, words: &[u32]) -> Result<Image, 
 
 /// The program of these words.
 pub fn program_of(rt: &impl Abort, alloc: Global, words: &[u32]) -> Result<Program, Fail>
-    ensures one_byte { IfOk result (λ program. program.regions ≡ record { start = 0x11000; count = 1 } ∷ []) }
+    ensures one_byte { IfOk result (λ program. program.regions
+        ≡ record { start = 0x11000; count = 1 } ∷ []) }
 {
     let regions = Regions::from_vec(Vec::from_slice(alloc, &[INPUT])?);
     let image = image_of(rt, alloc, words)?;

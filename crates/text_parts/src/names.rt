@@ -42,7 +42,8 @@ pub fn end_name(end: LeafEnd) -> &'static str
 
 /// Appends an entry of a path. After an error the text is as it was.
 fn write_step(alloc: Global, text: &mut String, step: PathStep) -> Result<(), NoMemory>
-    ensures ok { OnOk result (string_bytes text.new ≡ string_bytes text.old ++ spec.step_text step) }
+    ensures ok { OnOk result (string_bytes text.new
+        ≡ string_bytes text.old ++ spec.step_text step) }
     ensures err { OnErr result (string_bytes text.new ≡ string_bytes text.old) }
 {
     match step {
@@ -58,7 +59,8 @@ fn write_step(alloc: Global, text: &mut String, step: PathStep) -> Result<(), No
 
 /// Appends a choice. After an error the text is as it was.
 pub fn write_choice(alloc: Global, text: &mut String, choice: Choice) -> Result<(), NoMemory>
-    ensures ok { OnOk result (string_bytes text.new ≡ string_bytes text.old ++ spec.choice_text choice) }
+    ensures ok { OnOk result (string_bytes text.new
+        ≡ string_bytes text.old ++ spec.choice_text choice) }
     ensures err { OnErr result (string_bytes text.new ≡ string_bytes text.old) }
 {
     match choice {
@@ -75,7 +77,8 @@ pub fn write_choice(alloc: Global, text: &mut String, choice: Choice) -> Result<
 
 /// Appends the entries of a path, with nothing between. After an error the text is as it was.
 pub fn write_path(alloc: Global, text: &mut String, path: &[PathStep]) -> Result<(), NoMemory>
-    ensures ok { OnOk result (string_bytes text.new ≡ string_bytes text.old ++ spec.path_text path.now) }
+    ensures ok { OnOk result (string_bytes text.new
+        ≡ string_bytes text.old ++ spec.path_text path.now) }
     ensures err { OnErr result (string_bytes text.new ≡ string_bytes text.old) }
 {
     let mut entries = String::new(alloc);
@@ -87,7 +90,8 @@ pub fn write_path(alloc: Global, text: &mut String, path: &[PathStep]) -> Result
 
 /// Appends the choices, with nothing between. After an error the text is as it was.
 pub fn write_choices(alloc: Global, text: &mut String, choices: &[Choice]) -> Result<(), NoMemory>
-    ensures ok { OnOk result (string_bytes text.new ≡ string_bytes text.old ++ spec.choices_text choices.now) }
+    ensures ok { OnOk result (string_bytes text.new
+        ≡ string_bytes text.old ++ spec.choices_text choices.now) }
     ensures err { OnErr result (string_bytes text.new ≡ string_bytes text.old) }
 {
     let mut entries = String::new(alloc);

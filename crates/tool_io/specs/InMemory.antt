@@ -6,7 +6,8 @@ use Rattle.tool_io.specs.declared.memory.MemFiles.{MemFiles}
 -- everything
 abbrev pub seen_of : MemFiles → Seen
 seen_of files = record {
-  told = all_told (λ name. get_by_text files.held name) files.names.items files.puts.items files.said.items;
+  told = all_told (λ name. get_by_text files.held name) files.names.items files.puts.items
+      files.said.items;
   reads = files.read_faults;
   writes = files.write_faults;
 }

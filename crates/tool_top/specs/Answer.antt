@@ -46,14 +46,16 @@ status_of WriteFault = 6
 status_of NoMemory = 8
 
 -- all was put and the text was said; unless it is done, only a beginning where the count of write faults rose
-pub record IsCarriedOut (old new : Seen) (verdict : Verdict) (puts : List Put) (text : List ℕ) (names : List (List ℕ)) : Type 0 where
+pub record IsCarriedOut (old new : Seen) (verdict : Verdict) (puts : List Put) (text : List ℕ)
+    (names : List (List ℕ)) : Type 0 where
   pub said : List ℕ
   pub begins : IsPrefix said text
   pub whole : (said ≡ text) ⊎ (Rose old.writes new.writes × (verdict ≢ Done))
   pub changes : new.told ≡ after old.told (record { names = names; puts = puts; said = said })
 
 -- the first files were put, the last maybe cut short; a beginning of the text was said where all were put, and else nothing
-pub record IsCutByFault (old new : Seen) (whole : List Put) (text : List ℕ) (names : List (List ℕ)) : Type 0 where
+pub record IsCutByFault (old new : Seen) (whole : List Put) (text : List ℕ)
+    (names : List (List ℕ)) : Type 0 where
   pub puts : List Put
   pub said : List ℕ
   pub files : IsCutShort puts whole
@@ -62,7 +64,8 @@ pub record IsCutByFault (old new : Seen) (whole : List Put) (text : List ℕ) (n
   pub changes : new.told ≡ after old.told (record { names = names; puts = puts; said = said })
 
 -- the first files were put, each whole, and a beginning of this text was said
-pub record IsBegun (old new : Seen) (whole : List Put) (text : List ℕ) (names : List (List ℕ)) : Type 0 where
+pub record IsBegun (old new : Seen) (whole : List Put) (text : List ℕ)
+    (names : List (List ℕ)) : Type 0 where
   pub puts : List Put
   pub said : List ℕ
   pub files : IsPrefix puts whole
@@ -90,7 +93,8 @@ pub record IsWanting (old new : Seen) (job : Option Job) : Type 0 where
   pub names : List (List ℕ)
   pub whole : List Put
   pub reading : IsPrefix names (names_of job)
-  pub writing : (whole ≡ []) ⊎ ((plan : Plan) × IsPlan old new job plan × (plan.puts ≡ whole) × (plan.names ≡ names))
+  pub writing : (whole ≡ [])
+      ⊎ ((plan : Plan) × IsPlan old new job plan × (plan.puts ≡ whole) × (plan.names ≡ names))
   pub out : IsBegun old new whole no_memory names
 
 -- why a run of this job ended so, and what stands then
@@ -107,7 +111,8 @@ pub record Ran : Type 0 where
 
 -- the run of these words over an object that is seen so before and after it
 abbrev pub ran : {X : Type 0} → (X → Seen) → X → X → List (String Global) → Ran
-ran seen old new words = record { old = seen old; new = seen new; job = job_of (map string_bytes words) }
+ran seen old new words =
+    record { old = seen old; new = seen new; job = job_of (map string_bytes words) }
 
 -- why the run ended so, and what stands then
 abbrev pub Ends : Ran → Ending → Type 0
@@ -150,19 +155,41 @@ pub record IsWritten (r : Ran) (asked : Asked) (Claim : Report → Type 0) : Typ
   pub given : IsFile r.old.told asked.source bytes
   pub loads : Loads bytes image
   pub fits : unfit image asked.regions ≡ None
-  pub files : IfSome (puts_since r.old.told r.new.told) (λ puts. puts ≡ files_of asked.out asked.budgets asked.workers asked.regions lines entries)
-  pub read_back : IfSome (puts_since r.old.told r.new.told) (λ puts. AreReadBack asked.out puts lines entries)
-  pub summary : IfSome (said_since r.old.told r.new.told) (λ said. said ≡ line_with asked.source (summary_of entries))
-  pub claim : Claim (record { image = image; regions = asked.regions; budgets = asked.budgets; workers = asked.workers; lines = lines; entries = entries })
+  pub files : IfSome (puts_since r.old.told r.new.told)
+      (λ puts. puts ≡ files_of asked.out asked.budgets asked.workers asked.regions lines entries)
+  pub read_back : IfSome (puts_since r.old.told r.new.told)
+      (λ puts. AreReadBack asked.out puts lines entries)
+  pub summary : IfSome (said_since r.old.told r.new.told)
+      (λ said. said ≡ line_with asked.source (summary_of entries))
+  pub claim : Claim (record {
+    image = image;
+    regions = asked.regions;
+    budgets = asked.budgets;
+    workers = asked.workers;
+    lines = lines;
+    entries = entries;
+  })
 
 -- what a job to explore asks for: a program that its name holds, or one that is generated
 abbrev pub WritesFor : Ran → Option Job → (Report → Type 0) → Type 0
 WritesFor r None Claim = ⊥
 WritesFor r (Some (Explore program out asked budgets workers)) Claim =
-    IsWritten r (record { source = named program; out = out; regions = asked; budgets = budgets; workers = workers }) Claim
+    IsWritten r (record {
+      source = named program;
+      out = out;
+      regions = asked;
+      budgets = budgets;
+      workers = workers;
+    }) Claim
 WritesFor r (Some (Replay program test)) Claim = Unit {0}
 WritesFor r (Some (Bench number workers out)) Claim =
-    IsWritten r (record { source = numbered number; out = out; regions = generated_regions number; budgets = default_budgets; workers = workers }) Claim
+    IsWritten r (record {
+      source = numbered number;
+      out = out;
+      regions = generated_regions number;
+      budgets = default_budgets;
+      workers = workers;
+    }) Claim
 
 -- there is a job, and where it is to explore, the claim holds of what was written for it
 abbrev pub Writes : Ran → (Report → Type 0) → Type 0
@@ -170,7 +197,8 @@ Writes r Claim = WritesFor r r.job Claim
 
 -- The names of a program and of a test give the file of a program and that of a test whose regions fit it,
 -- and the claim holds of the program's image and of the test.
-pub record IsRunTest (told : Told) (program test : List ℕ) (Claim : Image → Test → Type 0) : Type 0 where
+pub record IsRunTest (told : Told) (program test : List ℕ)
+    (Claim : Image → Test → Type 0) : Type 0 where
   pub bytes : List ℕ
   pub text : List ℕ
   pub image : Image
@@ -192,7 +220,8 @@ abbrev pub HoldsOther : Told → Option Job → Type 0
 HoldsOther told None = ⊥
 HoldsOther told (Some (Explore program out asked budgets workers)) = ⊥
 HoldsOther told (Some (Bench number workers out)) = ⊥
-HoldsOther told (Some (Replay program test)) = IsRunTest told program test (λ image read. ¬ IsAsSaid image read)
+HoldsOther told (Some (Replay program test)) =
+    IsRunTest told program test (λ image read. ¬ IsAsSaid image read)
 
 -- there is a job to replay a test, its program's name gives the file of a program, and the other name's bytes are no test
 abbrev pub HoldsNoTest : Told → Option Job → Type 0
@@ -201,33 +230,40 @@ HoldsNoTest told (Some (Explore program out asked budgets workers)) = ⊥
 HoldsNoTest told (Some (Bench number workers out)) = ⊥
 HoldsNoTest told (Some (Replay program test)) =
     (bytes : List ℕ) × (text : List ℕ) × (image : Image) × (why : WhyNoTest)
-    × Gives told program most_bytes bytes × Gives told test most_test_bytes text × Loads bytes image × (reading text ≡ Err why)
+    × Gives told program most_bytes bytes × Gives told test most_test_bytes text × Loads bytes image
+    × (reading text ≡ Err why)
 
 -- there is a job, and the bytes that its program's name gives are the file of no program
 abbrev pub HoldsNoProgram : Told → Option Job → Type 0
 HoldsNoProgram told None = ⊥
 HoldsNoProgram told (Some (Bench number workers out)) = ⊥
 HoldsNoProgram told (Some (Explore program out asked budgets workers)) =
-    (bytes : List ℕ) × (why : WhyRefused) × Gives told program most_bytes bytes × (refusal bytes ≡ Some why)
+    (bytes : List ℕ) × (why : WhyRefused) × Gives told program most_bytes bytes
+    × (refusal bytes ≡ Some why)
 HoldsNoProgram told (Some (Replay program test)) =
-    (bytes : List ℕ) × (why : WhyRefused) × Gives told program most_bytes bytes × (refusal bytes ≡ Some why)
+    (bytes : List ℕ) × (why : WhyRefused) × Gives told program most_bytes bytes
+    × (refusal bytes ≡ Some why)
 
 -- there is a job, and the bytes that its program's name gives are the file of a program, but the input that is asked, or that the test has, doesn't fit it
 abbrev pub HoldsMisfit : Told → Option Job → Type 0
 HoldsMisfit told None = ⊥
 HoldsMisfit told (Some (Bench number workers out)) = ⊥
 HoldsMisfit told (Some (Explore program out asked budgets workers)) =
-    (bytes : List ℕ) × (image : Image) × (why : WhyUnfit) × Gives told program most_bytes bytes × Loads bytes image × (unfit image asked ≡ Some why)
+    (bytes : List ℕ) × (image : Image) × (why : WhyUnfit) × Gives told program most_bytes bytes
+    × Loads bytes image × (unfit image asked ≡ Some why)
 HoldsMisfit told (Some (Replay program test)) =
     (bytes : List ℕ) × (text : List ℕ) × (image : Image) × (read : Test) × (why : WhyUnfit)
-    × Gives told program most_bytes bytes × Gives told test most_test_bytes text × Loads bytes image × (reading text ≡ Ok read) × (unfit image read.regions ≡ Some why)
+    × Gives told program most_bytes bytes × Gives told test most_test_bytes text × Loads bytes image
+    × (reading text ≡ Ok read) × (unfit image read.regions ≡ Some why)
 
 -- there is a job to explore; and it is told that its program's name holds the file of a program, and the input that is asked fits it, unless
 -- the program is one that is generated
 abbrev pub HoldsProgram : Told → Option Job → Type 0
 HoldsProgram told None = ⊥
 HoldsProgram told (Some (Explore program out asked budgets workers)) =
-    (bytes : List ℕ) × (image : Image) × (option_map (take most_bytes) (told_held told program) ≡ Some bytes) × Loads bytes image × (unfit image asked ≡ None)
+    (bytes : List ℕ) × (image : Image)
+    × (option_map (take most_bytes) (told_held told program) ≡ Some bytes) × Loads bytes image
+    × (unfit image asked ≡ None)
 HoldsProgram told (Some (Replay program test)) = ⊥
 HoldsProgram told (Some (Bench number workers out)) = Unit {0}
 
@@ -237,5 +273,7 @@ HoldsTest told None = ⊥
 HoldsTest told (Some (Explore program out asked budgets workers)) = ⊥
 HoldsTest told (Some (Bench number workers out)) = ⊥
 HoldsTest told (Some (Replay program test)) =
-    (bytes : List ℕ) × (text : List ℕ) × (image : Image) × (read : Test) × (option_map (take most_bytes) (told_held told program) ≡ Some bytes)
-    × (option_map (take most_test_bytes) (told_held told test) ≡ Some text) × IsReplayable bytes text image read
+    (bytes : List ℕ) × (text : List ℕ) × (image : Image) × (read : Test)
+    × (option_map (take most_bytes) (told_held told program) ≡ Some bytes)
+    × (option_map (take most_test_bytes) (told_held told test) ≡ Some text)
+    × IsReplayable bytes text image read

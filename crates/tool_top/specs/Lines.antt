@@ -13,10 +13,12 @@ usage =
     ++ codes "       rvklee bench NUMBER WORKERS OUT\n"
 
 abbrev pub program_refused : ℕ → List ℕ → List ℕ
-program_refused number name = codes "program refused " ++ decimal number ++ codes " " ++ name ++ codes "\n"
+program_refused number name =
+    codes "program refused " ++ decimal number ++ codes " " ++ name ++ codes "\n"
 
 abbrev pub inputs_refused : ℕ → List ℕ → List ℕ
-inputs_refused number name = codes "inputs refused " ++ decimal number ++ codes " " ++ name ++ codes "\n"
+inputs_refused number name =
+    codes "inputs refused " ++ decimal number ++ codes " " ++ name ++ codes "\n"
 
 -- why a file is that of no program
 abbrev pub refused_line : WhyRefused → List ℕ
@@ -34,7 +36,8 @@ no_memory = codes "no memory\n"
 
 -- why a text is no test
 abbrev pub test_refused : WhyNoTest → List ℕ
-test_refused why = codes "test refused " ++ decimal (test_number why) ++ codes " " ++ test_name why ++ codes "\n"
+test_refused why = codes "test refused " ++ decimal (test_number why) ++ codes " " ++ test_name why
+    ++ codes "\n"
 
 abbrev pub same : List ℕ
 same = codes "same\n"

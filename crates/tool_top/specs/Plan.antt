@@ -41,7 +41,8 @@ abbrev pub says_only : Verdict → List (List ℕ) → List ℕ → Plan
 says_only verdict names text = record { verdict = verdict; names = names; puts = []; text = text }
 
 -- the bytes are the file of a program, the input that is asked fits it, and the report is put into `out`
-pub record IsReported (out bytes : List ℕ) (asked : List Region) (budgets : Budgets) (workers : ℕ) (verdict : Verdict) (puts : List Put) (text : List ℕ) : Type 0 where
+pub record IsReported (out bytes : List ℕ) (asked : List Region) (budgets : Budgets) (workers : ℕ)
+    (verdict : Verdict) (puts : List Put) (text : List ℕ) : Type 0 where
   pub image : Image
   pub loads : Loads bytes image
   pub fits : unfit image asked ≡ None
@@ -49,7 +50,8 @@ pub record IsReported (out bytes : List ℕ) (asked : List Region) (budgets : Bu
   pub report : IsReportOf out image asked budgets workers puts text
 
 -- the bytes are the file of no program, and why is said
-pub record IsRefusal (bytes : List ℕ) (verdict : Verdict) (puts : List Put) (text : List ℕ) : Type 0 where
+pub record IsRefusal (bytes : List ℕ) (verdict : Verdict) (puts : List Put)
+    (text : List ℕ) : Type 0 where
   pub why : WhyRefused
   pub refuses : refusal bytes ≡ Some why
   pub is : verdict ≡ Refused
@@ -57,7 +59,8 @@ pub record IsRefusal (bytes : List ℕ) (verdict : Verdict) (puts : List Put) (t
   pub line : text ≡ refused_line why
 
 -- the bytes are the file of a program, but the input that is asked doesn't fit it, and why is said
-pub record IsMisfit (bytes : List ℕ) (asked : List Region) (verdict : Verdict) (puts : List Put) (text : List ℕ) : Type 0 where
+pub record IsMisfit (bytes : List ℕ) (asked : List Region) (verdict : Verdict) (puts : List Put)
+    (text : List ℕ) : Type 0 where
   pub image : Image
   pub loads : Loads bytes image
   pub why : WhyUnfit
@@ -67,7 +70,8 @@ pub record IsMisfit (bytes : List ℕ) (asked : List Region) (verdict : Verdict)
   pub line : text ≡ unfit_line why
 
 -- the report of the generated program of this number, with the default budgets, is put into `out`
-pub record IsBenched (number workers : ℕ) (out : List ℕ) (verdict : Verdict) (puts : List Put) (text : List ℕ) : Type 0 where
+pub record IsBenched (number workers : ℕ) (out : List ℕ) (verdict : Verdict) (puts : List Put)
+    (text : List ℕ) : Type 0 where
   pub image : Image
   pub loads : Loads (generated_file number) image
   pub fits : unfit image (generated_regions number) ≡ None
@@ -77,40 +81,50 @@ pub record IsBenched (number workers : ℕ) (out : List ℕ) (verdict : Verdict)
   pub line : text ≡ bench_line number summary
 
 -- what is put and said for the bytes of a program's file, the regions that are asked, the budgets and the number of workers
-abbrev pub Treats : (out bytes : List ℕ) → List Region → Budgets → (workers : ℕ) → Verdict → List Put → List ℕ → Type 0
+abbrev pub Treats : (out bytes : List ℕ) → List Region → Budgets → (workers : ℕ) → Verdict
+    → List Put → List ℕ → Type 0
 Treats out bytes asked budgets workers verdict puts text =
-    IsReported out bytes asked budgets workers verdict puts text ⊎ (IsRefusal bytes verdict puts text ⊎ IsMisfit bytes asked verdict puts text)
+    IsReported out bytes asked budgets workers verdict puts text
+    ⊎ (IsRefusal bytes verdict puts text ⊎ IsMisfit bytes asked verdict puts text)
 
 -- what is put and said for the bytes of a program's file and of a test's
 abbrev pub TreatsTest : (bytes text : List ℕ) → Verdict → List Put → List ℕ → Type 0
 TreatsTest bytes text verdict puts said =
-    IsRefusal bytes verdict puts said ⊎ (IsNoTest bytes text verdict puts said ⊎ (IsTestMisfit bytes text verdict puts said ⊎ IsReplayed bytes text verdict puts said))
+    IsRefusal bytes verdict puts said
+    ⊎ (IsNoTest bytes text verdict puts said
+    ⊎ (IsTestMisfit bytes text verdict puts said ⊎ IsReplayed bytes text verdict puts said))
 
 -- what is meant, where all that the job reads was read
 abbrev pub Means : Told → Option Job → Plan → Type 0
 Means told None plan = plan ≡ says_only NoJob [] usage
 Means told (Some (Explore program out asked budgets workers)) plan =
     (bytes : List ℕ) × Gives told program most_bytes bytes
-    × (plan.names ≡ program ∷ []) × Treats out bytes asked budgets workers plan.verdict plan.puts plan.text
+    × (plan.names ≡ program ∷ [])
+    × Treats out bytes asked budgets workers plan.verdict plan.puts plan.text
 Means told (Some (Replay program test)) plan =
-    (bytes : List ℕ) × (text : List ℕ) × Gives told program most_bytes bytes × Gives told test most_test_bytes text
+    (bytes : List ℕ) × (text : List ℕ) × Gives told program most_bytes bytes
+    × Gives told test most_test_bytes text
     × (plan.names ≡ program ∷ test ∷ []) × TreatsTest bytes text plan.verdict plan.puts plan.text
-Means told (Some (Bench number workers out)) plan = (plan.names ≡ []) × IsBenched number workers out plan.verdict plan.puts plan.text
+Means told (Some (Bench number workers out)) plan = (plan.names ≡ [])
+    × IsBenched number workers out plan.verdict plan.puts plan.text
 
 -- of these names some were read, from the first on, the last of them in vain
 abbrev pub IsFaultAmong : (names : List (List ℕ)) → Plan → Type 0
-IsFaultAmong names plan = IsPrefix plan.names names × (plan ≡ says_only ReadFault plan.names read_fault)
+IsFaultAmong names plan = IsPrefix plan.names names
+    × (plan ≡ says_only ReadFault plan.names read_fault)
 
 -- a read failed, where the job reads at all
 abbrev pub IsReadFault : Option Job → Plan → Type 0
 IsReadFault None plan = ⊥
-IsReadFault (Some (Explore program out asked budgets workers)) plan = IsFaultAmong (program ∷ []) plan
+IsReadFault (Some (Explore program out asked budgets workers)) plan =
+    IsFaultAmong (program ∷ []) plan
 IsReadFault (Some (Replay program test)) plan = IsFaultAmong (program ∷ test ∷ []) plan
 IsReadFault (Some (Bench number workers out)) plan = ⊥
 
 -- the plan of a job, for the bytes that its names give
 abbrev pub IsPlan : Seen → Seen → Option Job → Plan → Type 0
-IsPlan old new job plan = Means old.told job plan ⊎ (Rose old.reads new.reads × IsReadFault job plan)
+IsPlan old new job plan = Means old.told job plan
+    ⊎ (Rose old.reads new.reads × IsReadFault job plan)
 
 -- some names of the job were read, from the first on, and nothing else was done
 pub record OnlyReads (old new : Seen) (job : Option Job) : Type 0 where
@@ -119,7 +133,9 @@ pub record OnlyReads (old new : Seen) (job : Option Job) : Type 0 where
   pub changes : new.told ≡ after old.told (record { names = names; puts = []; said = [] })
 
 -- a plan was made, and nothing was done but to read its names
-pub record IsPlanned (old new : Seen) (job : Option Job) (verdict : Verdict) (puts : List Put) (text : List ℕ) : Type 0 where
+pub record IsPlanned (old new : Seen) (job : Option Job) (verdict : Verdict) (puts : List Put)
+    (text : List ℕ) : Type 0 where
   pub names : List (List ℕ)
-  pub plan : IsPlan old new job (record { verdict = verdict; names = names; puts = puts; text = text })
+  pub plan : IsPlan old new job
+      (record { verdict = verdict; names = names; puts = puts; text = text })
   pub changes : new.told ≡ after old.told (record { names = names; puts = []; said = [] })

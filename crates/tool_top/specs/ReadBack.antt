@@ -29,13 +29,17 @@ pub record IsReadFrom (out : List ℕ) (puts : List Put) (rank : ℕ) (leaf : Le
 
 -- the text of these events is that of no others
 abbrev pub HaveOwnText : List Line → Type 0
-HaveOwnText lines = (others : List Line) → AreLegible others → events_text others ≡ events_text lines → others ≡ lines
+HaveOwnText lines = (others : List Line) → AreLegible others
+    → events_text others ≡ events_text lines → others ≡ lines
 
 -- the text of what stands beside a leaf is that of no other test, of no other values, or of no other question and clauses
 abbrev pub HasOwnText : Beside → Type 0
-HasOwnText (Tested test) = (other : Test) → IsLegible other → test_text other ≡ test_text test → other ≡ test
-HasOwnText (Spending spent) = (other : Spent) → IsLegibleSpent other → targets_text other ≡ targets_text spent → other ≡ spent
-HasOwnText (Learning learnt) = (other : Learnt) → IsLegibleLearnt other → conflicts_text other ≡ conflicts_text learnt → other ≡ learnt
+HasOwnText (Tested test) = (other : Test) → IsLegible other → test_text other ≡ test_text test
+    → other ≡ test
+HasOwnText (Spending spent) = (other : Spent) → IsLegibleSpent other
+    → targets_text other ≡ targets_text spent → other ≡ spent
+HasOwnText (Learning learnt) = (other : Learnt) → IsLegibleLearnt other
+    → conflicts_text other ≡ conflicts_text learnt → other ≡ learnt
 
 -- the leaf is what the file of its rank reads as, and what stands beside it is what the other file of that rank has
 pub record IsEntryRead (out : List ℕ) (puts : List Put) (rank : ℕ) (e : Entry) : Type 0 where
@@ -44,7 +48,8 @@ pub record IsEntryRead (out : List ℕ) (puts : List Put) (rank : ℕ) (e : Entr
   pub alone : HasOwnText e.beside
 
 -- the events, each of the leaves, and what stands beside each, are what the files that were put have, and nothing else has these texts
-pub record AreReadBack (out : List ℕ) (puts : List Put) (lines : List Line) (entries : List Entry) : Type 0 where
+pub record AreReadBack (out : List ℕ) (puts : List Put) (lines : List Line)
+    (entries : List Entry) : Type 0 where
   pub events : Contains puts (events_put out lines)
   pub alone : HaveOwnText lines
   pub each : (rank : ℕ) (e : Entry) → slice_get entries rank ≡ Some e → IsEntryRead out puts rank e

@@ -36,7 +36,8 @@ pub record IsOther (image : Image) (test : Test) (verdict : Verdict) (said : Lis
   pub lines : said ≡ difference_text (run_of image test)
 
 -- the test was run on the program
-pub record IsReplayed (bytes text : List ℕ) (verdict : Verdict) (puts : List Put) (said : List ℕ) : Type 0 where
+pub record IsReplayed (bytes text : List ℕ) (verdict : Verdict) (puts : List Put)
+    (said : List ℕ) : Type 0 where
   pub image : Image
   pub test : Test
   pub replayable : IsReplayable bytes text image test
@@ -44,7 +45,8 @@ pub record IsReplayed (bytes text : List ℕ) (verdict : Verdict) (puts : List P
   pub answer : SaysSame image test verdict said ⊎ IsOther image test verdict said
 
 -- the text is no test, and why is said
-pub record IsNoTest (bytes text : List ℕ) (verdict : Verdict) (puts : List Put) (said : List ℕ) : Type 0 where
+pub record IsNoTest (bytes text : List ℕ) (verdict : Verdict) (puts : List Put)
+    (said : List ℕ) : Type 0 where
   pub image : Image
   pub loads : Loads bytes image
   pub why : WhyNoTest
@@ -54,7 +56,8 @@ pub record IsNoTest (bytes text : List ℕ) (verdict : Verdict) (puts : List Put
   pub line : said ≡ test_refused why
 
 -- there is a program, but the regions of this test don't fit it, and why is said
-pub record IsTestMisfit (bytes text : List ℕ) (verdict : Verdict) (puts : List Put) (said : List ℕ) : Type 0 where
+pub record IsTestMisfit (bytes text : List ℕ) (verdict : Verdict) (puts : List Put)
+    (said : List ℕ) : Type 0 where
   pub image : Image
   pub test : Test
   pub loads : Loads bytes image

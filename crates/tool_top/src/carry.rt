@@ -12,7 +12,8 @@ use tool_io::{Fault, Files, NamedFile};
 
 // Puts the files in their order.
 fn put_all<F: Files>(files: &mut F, report: &[NamedFile]) -> Result<(), Fault>
-    ensures ok { OnOk result ((F.seen files.new).told ≡ after (F.seen files.old).told (puts_all report.now)) }
+    ensures ok { OnOk result ((F.seen files.new).told
+        ≡ after (F.seen files.old).told (puts_all report.now)) }
     ensures failed { IsErrOf result Fault.Failed → (puts : List Put) × IsCutShort puts report.now
         × ((F.seen files.new).told ≡ after (F.seen files.old).told (puts_all puts)) }
     ensures no_memory { IsErrOf result Fault.NoMemory → (puts : List Put) × IsPrefix puts report.now
@@ -31,12 +32,15 @@ fn put_all<F: Files>(files: &mut F, report: &[NamedFile]) -> Result<(), Fault>
 pub fn carry_out<F: Files>(files: &mut F, plan: &Plan) -> Result<(), Fault>
     ensures ok { OnOk result (IsCarriedOut (F.seen files.old) (F.seen files.new)
         plan.now.verdict plan.now.files.items plan.now.text []) }
-    ensures failed { IsErrOf result Fault.Failed → IsCutByFault (F.seen files.old) (F.seen files.new)
+    ensures failed { IsErrOf result Fault.Failed
+        → IsCutByFault (F.seen files.old) (F.seen files.new)
         plan.now.files.items plan.now.text [] }
-    ensures no_memory { IsErrOf result Fault.NoMemory → (puts : List Put) × IsPrefix puts plan.now.files.items
+    ensures no_memory { IsErrOf result Fault.NoMemory → (puts : List Put)
+        × IsPrefix puts plan.now.files.items
         × ((F.seen files.new).told ≡ after (F.seen files.old).told (puts_all puts)) }
     // A plan that puts no file and isn't done stands even where its line failed.
-    ensures only_done { IsErrOf result Fault.Failed → (plan.now.verdict ≡ Verdict.Done) ⊎ (plan.now.files.items ≢ []) }
+    ensures only_done { IsErrOf result Fault.Failed → (plan.now.verdict ≡ Verdict.Done)
+        ⊎ (plan.now.files.items ≢ []) }
     ensures cause { HasCause (F.seen files.old).writes (F.seen files.new).writes result }
     ensures reads { (F.seen files.new).reads ≡ (F.seen files.old).reads }
 {

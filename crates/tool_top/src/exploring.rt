@@ -33,7 +33,9 @@ pub(crate) fn plan_report<R: Threads + Wait + Sync, G: Gate + Sync>(
     requires within { IsBudgets worker.now.budgets }
     requires some { 1 ≤ workers }
     ensures verdict { IfOk result (λ p. p.verdict ≡ Verdict.Done) }
-    ensures report { IfOk result (λ p. IsReportOf out.now worker.now.program.image worker.now.program.regions worker.now.budgets workers p.files.items p.text) }
+    ensures report { IfOk result (λ p.
+        IsReportOf out.now worker.now.program.image worker.now.program.regions worker.now.budgets
+        workers p.files.items p.text) }
 {
     let root = State::first(alloc, worker.program())?;
     let tree = explore(rt, alloc, worker, root, workers, gate)?;
@@ -64,7 +66,8 @@ fn plan_image<R: Threads + Wait + Sync, G: Gate + Sync>(
     requires loads { Loads bytes.now image }
     requires within { IsBudgets budgets }
     requires some { 1 ≤ workers }
-    ensures { IfOk result (λ p. Treats out.now bytes.now asked budgets workers p.verdict p.files.items p.text) }
+    ensures { IfOk result (λ p.
+        Treats out.now bytes.now asked budgets workers p.verdict p.files.items p.text) }
 {
     match fit(&image, &asked) {
         Err(why) => refuse_input(alloc, why),
@@ -88,7 +91,8 @@ fn plan_bytes<R: Threads + Wait + Sync, G: Gate + Sync>(
 ) -> Result<Plan, NoMemory>
     requires within { IsBudgets budgets }
     requires some { 1 ≤ workers }
-    ensures { IfOk result (λ p. Treats out.now bytes.now asked budgets workers p.verdict p.files.items p.text) }
+    ensures { IfOk result (λ p.
+        Treats out.now bytes.now asked budgets workers p.verdict p.files.items p.text) }
 {
     match load(alloc, bytes) {
         Ok(image) => plan_image(rt, alloc, out, asked, budgets, workers, bytes, image, gate),
@@ -113,7 +117,8 @@ pub(crate) fn plan_explore<R: Threads + Wait + Sync, F: Files, G: Gate + Sync>(
     requires some { 1 ≤ workers }
     ensures ok { IfOk result (λ p. IsPlanned (F.seen files.old) (F.seen files.new)
         (Some (Explore program.now out.now asked budgets workers)) p.verdict p.files.items p.text) }
-    ensures err { OnErr result (OnlyReads (F.seen files.old) (F.seen files.new) (Some (Explore program.now out.now asked budgets workers))) }
+    ensures err { OnErr result (OnlyReads (F.seen files.old) (F.seen files.new)
+        (Some (Explore program.now out.now asked budgets workers))) }
     ensures writes { (F.seen files.new).writes ≡ (F.seen files.old).writes }
 {
     match files.read(program, MOST_BYTES) {

@@ -86,7 +86,8 @@ pub fn make_plan<R: Threads + Wait + Sync, F: Files, G: Gate + Sync>(
 ) -> Result<Plan, NoMemory>
     ensures ok { IfOk result (λ p. IsPlanned (F.seen files.old) (F.seen files.new)
         (job_of (map string_bytes words.now)) p.verdict p.files.items p.text) }
-    ensures err { OnErr result (OnlyReads (F.seen files.old) (F.seen files.new) (job_of (map string_bytes words.now))) }
+    ensures err { OnErr result (OnlyReads (F.seen files.old) (F.seen files.new)
+        (job_of (map string_bytes words.now))) }
     ensures writes { (F.seen files.new).writes ≡ (F.seen files.old).writes }
 {
     match read_words(alloc, words) {

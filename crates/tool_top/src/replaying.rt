@@ -88,10 +88,15 @@ fn plan_both(alloc: Global, bytes: &[u8], text: &[u8]) -> Result<Plan, NoMemory>
 
 // The bytes of the program's file, and then of the test's.
 fn read_both<F: Files>(program: &str, test: &str, files: &mut F) -> Result<(Bytes, Bytes), Fault>
-    ensures told { OnOk result ((F.seen files.new).told ≡ after (F.seen files.old).told (record { names = program.now ∷ test.now ∷ []; puts = []; said = [] })) }
-    ensures program { IfOk result (λ both. Gives (F.seen files.old).told program.now most_bytes both.0) }
-    ensures test { IfOk result (λ both. Gives (F.seen files.old).told test.now most_test_bytes both.1) }
-    ensures err { OnErr result (OnlyReads (F.seen files.old) (F.seen files.new) (Some (Replay program.now test.now))) }
+    ensures told { OnOk result ((F.seen files.new).told
+        ≡ after (F.seen files.old).told
+        (record { names = program.now ∷ test.now ∷ []; puts = []; said = [] })) }
+    ensures program { IfOk result (λ both. Gives
+        (F.seen files.old).told program.now most_bytes both.0) }
+    ensures test { IfOk result (λ both. Gives
+        (F.seen files.old).told test.now most_test_bytes both.1) }
+    ensures err { OnErr result (OnlyReads (F.seen files.old) (F.seen files.new)
+        (Some (Replay program.now test.now))) }
     ensures cause { HasCause (F.seen files.old).reads (F.seen files.new).reads result }
     ensures writes { (F.seen files.new).writes ≡ (F.seen files.old).writes }
 {
@@ -109,7 +114,8 @@ pub fn plan_replay<F: Files>(
 ) -> Result<Plan, NoMemory>
     ensures ok { IfOk result (λ p. IsPlanned (F.seen files.old) (F.seen files.new)
         (Some (Replay program.now test.now)) p.verdict p.files.items p.text) }
-    ensures err { OnErr result (OnlyReads (F.seen files.old) (F.seen files.new) (Some (Replay program.now test.now))) }
+    ensures err { OnErr result (OnlyReads (F.seen files.old) (F.seen files.new)
+        (Some (Replay program.now test.now))) }
     ensures writes { (F.seen files.new).writes ≡ (F.seen files.old).writes }
 {
     match read_both(program, test, files) {

@@ -27,7 +27,8 @@ with_numbers app = with_rule (with_rule (with_rule (with_rule app
 -- explore [--steps N] [--targets N] [--conflicts N] [--workers N] PROGRAM OUT INPUT..
 unfoldable pub explore_command : App
 explore_command = with_rule (with_rule (with_rule (with_numbers (new_app (codes "explore")))
-    (required_word (codes "PROGRAM"))) (required_word (codes "OUT"))) (required_words (codes "INPUT"))
+    (required_word (codes "PROGRAM"))) (required_word (codes "OUT")))
+    (required_words (codes "INPUT"))
 
 -- replay PROGRAM TEST
 unfoldable pub replay_command : App
@@ -37,7 +38,8 @@ replay_command = with_rule (with_rule (new_app (codes "replay"))
 -- bench NUMBER WORKERS OUT
 unfoldable pub bench_command : App
 bench_command = with_rule (with_rule (with_rule (new_app (codes "bench"))
-    (required_word (codes "NUMBER"))) (required_word (codes "WORKERS"))) (required_word (codes "OUT"))
+    (required_word (codes "NUMBER"))) (required_word (codes "WORKERS")))
+    (required_word (codes "OUT"))
 
 -- rvklee COMMAND ..
 unfoldable pub rvklee_command : App

@@ -11,7 +11,8 @@ use Rattle.tree_core.specs.declared.budgets.Budgets.{Budgets}
 pub data Job : Type 0 where
   -- the leaves of a program's file, whose regions hold the input bytes, and their tests, are put into
   -- the folder `out`, within the budgets, by so many workers
-  Explore : (program out : List ℕ) → (regions : List Region) → (budgets : Budgets) → (workers : ℕ) → Job
+  Explore : (program out : List ℕ) → (regions : List Region) → (budgets : Budgets) → (workers : ℕ)
+      → Job
   -- the run of a test's file on a program's file is compared with what the test says
   Replay : (program test : List ℕ) → Job
   -- the leaves of the generated program of this number, and their tests, are put into the folder `out`,
@@ -19,7 +20,8 @@ pub data Job : Type 0 where
   Bench : (number workers : ℕ) → (out : List ℕ) → Job
 
 -- the job, where all is there
-abbrev pub explore_with : Option (List ℕ) → Option (List ℕ) → Option (List Region) → Option Budgets → Option ℕ → Option Job
+abbrev pub explore_with : Option (List ℕ) → Option (List ℕ) → Option (List Region) → Option Budgets
+    → Option ℕ → Option Job
 explore_with (Some program) (Some out) (Some regions) (Some budgets) (Some workers) =
     Some (Explore program out regions budgets workers)
 explore_with _ _ _ _ _ = None
@@ -27,7 +29,8 @@ explore_with _ _ _ _ _ = None
 -- the job of `explore`, from what `clap` finds for it
 unfoldable pub explore_job : List Row → Option Job
 explore_job rows = explore_with (first_of (codes "PROGRAM") rows) (first_of (codes "OUT") rows)
-    (option_and_then regions_said (all_of (codes "INPUT") rows)) (budgets_found rows) (workers_found rows)
+    (option_and_then regions_said (all_of (codes "INPUT") rows)) (budgets_found rows)
+    (workers_found rows)
 
 abbrev pub replay_with : Option (List ℕ) → Option (List ℕ) → Option Job
 replay_with (Some program) (Some test) = Some (Replay program test)

@@ -19,7 +19,8 @@ has_colon word = nat_le 10 (length word) && nat_le (length word) 13 && slice_ind
 -- `hhhhhhhh:n`: eight hexadecimal digits of either case, a colon, one to four decimal digits
 unfoldable pub region_said : List ℕ → Option Region
 region_said word =
-    if has_colon word then region_with (digits_number 16 (take 8 word)) (digits_number 10 (drop 9 word))
+    if has_colon word then region_with (digits_number 16 (take 8 word))
+    (digits_number 10 (drop 9 word))
     else None
 
 -- the region of each word, where each names one

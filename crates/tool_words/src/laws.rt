@@ -15,7 +15,8 @@ pub fn plain_words_name_their_job()
         → list_all has_no_hyphen (program ∷ out ∷ input ∷ inputs) ≡ true
         → length (input ∷ inputs) < 2 ^ 64
         → job_of (tool ∷ codes "explore" ∷ program ∷ out ∷ input ∷ inputs)
-        ≡ option_map (λ regions. Explore program out regions default_budgets workers_limit.default) (regions_said (input ∷ inputs)) }
+        ≡ option_map (λ regions. Explore program out regions default_budgets workers_limit.default)
+        (regions_said (input ∷ inputs)) }
 {}
 
 /// `replay` with a program and a test has the job that these words name, where none of them begins with a
@@ -32,21 +33,26 @@ pub fn jobs_are_within_their_limits()
 
 /// A number has one text that says it, which is what `{}` writes.
 pub fn a_number_is_written_in_one_way()
-    ensures { (text : List ℕ) (n : ℕ) → n < 2 ^ 64 → (plain_number text ≡ Some n ↔ text ≡ decimal n) }
+    ensures { (text : List ℕ) (n : ℕ) → n < 2 ^ 64
+        → (plain_number text ≡ Some n ↔ text ≡ decimal n) }
 {}
 
 /// Words whose second is neither `explore`, `replay`, `bench` nor an option have no job: there is no other
 /// command, and `help` asks for help.
 pub fn other_commands_have_no_job()
     ensures { (tool command : List ℕ) (rest : List (List ℕ)) → has_no_hyphen command ≡ true
-        → command ≢ codes "explore" → command ≢ codes "replay" → command ≢ codes "bench" → job_of (tool ∷ command ∷ rest) ≡ None }
+        → command ≢ codes "explore" → command ≢ codes "replay" → command ≢ codes "bench"
+        → job_of (tool ∷ command ∷ rest) ≡ None }
 {}
 
 /// Words that ask for help or for the version have no job.
 pub fn calls_for_help_have_no_job()
-    ensures long { (tool : List ℕ) (rest : List (List ℕ)) → job_of (tool ∷ codes "--help" ∷ rest) ≡ None }
-    ensures short { (tool : List ℕ) (rest : List (List ℕ)) → job_of (tool ∷ codes "-h" ∷ rest) ≡ None }
-    ensures version { (tool : List ℕ) (rest : List (List ℕ)) → job_of (tool ∷ codes "--version" ∷ rest) ≡ None }
+    ensures long { (tool : List ℕ) (rest : List (List ℕ))
+        → job_of (tool ∷ codes "--help" ∷ rest) ≡ None }
+    ensures short { (tool : List ℕ) (rest : List (List ℕ))
+        → job_of (tool ∷ codes "-h" ∷ rest) ≡ None }
+    ensures version { (tool : List ℕ) (rest : List (List ℕ))
+        → job_of (tool ∷ codes "--version" ∷ rest) ≡ None }
     ensures explore { (tool : List ℕ) (rest : List (List ℕ))
         → job_of (tool ∷ codes "explore" ∷ codes "--help" ∷ rest) ≡ None }
 {}

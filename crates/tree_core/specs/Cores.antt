@@ -31,7 +31,8 @@ held_count s = count_below (λ m. is_held (status s m)) (length s.nodes)
 -- this is the place of the last event that names the node
 abbrev pub IsLast : {R : Type 0} → Story R → ℕ → Option ℕ → Type 0
 IsLast s m None = last_on m s.events ≡ None
-IsLast {R} s m (Some k) = (e : Event R ℕ) × (slice_get s.events k ≡ Some e) × (last_on m s.events ≡ Some e)
+IsLast {R} s m (Some k) = (e : Event R ℕ) × (slice_get s.events k ≡ Some e)
+    × (last_on m s.events ≡ Some e)
 
 -- the content of a node that stands so, if work is to be done on it: the node is free or held
 abbrev pub if_unworked : {R : Type 0} → Status → Option R → Option R
@@ -61,11 +62,13 @@ let_go Release m contents = contents
 let_go _ m contents = slice_set contents m None
 
 -- a story that events made, with the place of each node's last event, what the free and held nodes hold, and how many are held
-pub record IsCore {R : Type 0} (covers : R → List ℕ → Bool) (s : Story R) (latest : List (Option ℕ)) (contents : List (Option R)) (held : ℕ) : Type 0 where
+pub record IsCore {R : Type 0} (covers : R → List ℕ → Bool) (s : Story R) (latest : List (Option ℕ))
+    (contents : List (Option R)) (held : ℕ) : Type 0 where
   pub replays : Replays covers s
   pub partition : Partition covers s
   pub named : All (λ (e : Event R ℕ). e.node < length s.nodes) s.events
-  pub older : (m : ℕ) (n : Node R) → slice_get s.nodes m ≡ Some n → IfSome n.origin (λ o. o.parent < m)
+  pub older : (m : ℕ) (n : Node R) → slice_get s.nodes m ≡ Some n
+      → IfSome n.origin (λ o. o.parent < m)
   pub long : length latest ≡ length s.nodes
   pub last : (m : ℕ) (o : Option ℕ) → slice_get latest m ≡ Some o → IsLast s m o
   pub wide : length contents ≡ length s.nodes
@@ -90,10 +93,14 @@ LacksRoom c _ = ⊥
 
 -- how many more nodes the lists that nodes stand in have room for
 abbrev pub spare_nodes : {R : Type 0} → Vec (Node R) → Vec (Option ℕ) → Vec (Option R) → ℕ
-spare_nodes nodes latest contents = min (min (vec_capacity nodes - length nodes.items) (vec_capacity latest - length latest.items)) (vec_capacity contents - length contents.items)
+spare_nodes nodes latest contents =
+    min (min (vec_capacity nodes - length nodes.items) (vec_capacity latest - length latest.items))
+    (vec_capacity contents - length contents.items)
 
 -- there is too little room for the deed, by the fields
-abbrev pub NoRoom : {R : Type 0} → Vec (Node R) → Vec (Option ℕ) → Vec (Option R) → Vec (Event R ℕ) → ℕ → Deed R (Vec (Kid R)) → Type 0
+abbrev pub NoRoom : {R : Type 0} → Vec (Node R) → Vec (Option ℕ) → Vec (Option R) → Vec (Event R ℕ)
+    → ℕ → Deed R (Vec (Kid R)) → Type 0
 NoRoom nodes latest contents events held Claim = vec_capacity events < vec_len events + held + 2
-NoRoom nodes latest contents events held (Split kids) = spare_nodes nodes latest contents < vec_len kids
+NoRoom nodes latest contents events held (Split kids) =
+    spare_nodes nodes latest contents < vec_len kids
 NoRoom nodes latest contents events held _ = ⊥

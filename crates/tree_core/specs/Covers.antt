@@ -25,7 +25,8 @@ SameCover covers old new = (input : List ℕ) → covers new input ≡ covered c
 
 -- each assignment that the content covers is covered by exactly one kid, and any other by none
 abbrev pub Parts : {R : Type 0} → (R → List ℕ → Bool) → Option R → List (Kid R) → Type 0
-Parts covers old kids = (input : List ℕ) → count_by (λ kid. covers kid.content input) kids ≡ one_if (covered covers old input)
+Parts covers old kids = (input : List ℕ) → count_by (λ kid. covers kid.content input) kids
+    ≡ one_if (covered covers old input)
 
 -- a node that stands for what it holds: it has no kids
 abbrev pub is_live : Status → Bool
@@ -46,4 +47,5 @@ standing_count covers s input = count_below (node_covers covers s input) (length
 
 -- each assignment that the root covered at its birth is covered by exactly one node that is free, held or a leaf, and any other by none
 abbrev pub Partition : {R : Type 0} → (R → List ℕ → Bool) → Story R → Type 0
-Partition covers s = (input : List ℕ) → standing_count covers s input ≡ one_if (covered covers (root_content s) input)
+Partition covers s = (input : List ℕ)
+    → standing_count covers s input ≡ one_if (covered covers (root_content s) input)

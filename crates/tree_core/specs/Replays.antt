@@ -43,7 +43,11 @@ is_allowed s e = allows (status s e.node) e.by e.deed
 
 -- the node that a kid becomes
 abbrev pub node_of : {R : Type 0} → ℕ → Kid R → Node R
-node_of parent kid = record { origin = Some (record { parent = parent; choice = kid.choice }); content = kid.content; is_leaf = kid.is_leaf }
+node_of parent kid = record {
+  origin = Some (record { parent = parent; choice = kid.choice });
+  content = kid.content;
+  is_leaf = kid.is_leaf;
+}
 
 -- the kids that a deed hands in
 abbrev pub kids_of : {R : Type 0} → Deed R (Vec (Kid R)) → List (Kid R)
@@ -68,16 +72,25 @@ kept e = record { by = e.by; node = e.node; deed = deed_kept e.deed }
 
 -- the story with one event more
 abbrev pub with_event : {R : Type 0} → Story R → Event R (Vec (Kid R)) → Story R
-with_event s e = record { nodes = s.nodes ++ births e.node e.deed; events = s.events ++ kept e ∷ [] }
+with_event s e = record {
+  nodes = s.nodes ++ births e.node e.deed;
+  events = s.events ++ kept e ∷ [];
+}
 
 -- one root and no event
 abbrev pub opening : {R : Type 0} → R → Bool → Story R
-opening root is_leaf = record { nodes = record { origin = None; content = root; is_leaf = is_leaf } ∷ []; events = [] }
+opening root is_leaf = record {
+  nodes = record { origin = None; content = root; is_leaf = is_leaf }
+      ∷ [];
+  events = [];
+}
 
 -- each of the events is fit, and its guard holds, when it comes
-abbrev pub AllMayCome : {R : Type 0} → (R → List ℕ → Bool) → Story R → List (Event R (Vec (Kid R))) → Type 0
+abbrev pub AllMayCome : {R : Type 0} → (R → List ℕ → Bool) → Story R → List (Event R (Vec (Kid R)))
+    → Type 0
 AllMayCome covers s [] = Unit {0}
-AllMayCome covers s (e ∷ es) = IsFit covers s e × IsTrue (is_allowed s e) × AllMayCome covers (with_event s e) es
+AllMayCome covers s (e ∷ es) = IsFit covers s e × IsTrue (is_allowed s e)
+    × AllMayCome covers (with_event s e) es
 
 -- the story with these events more
 abbrev pub noted_all : {R : Type 0} → Story R → List (Event R (Vec (Kid R))) → Story R
@@ -86,7 +99,8 @@ noted_all s (e ∷ es) = noted_all (with_event s e) es
 
 -- the story is what some events made of a root, each of which might come when it came
 abbrev pub Replays : {R : Type 0} → (R → List ℕ → Bool) → Story R → Type 0
-Replays {R} covers s = (root : R) × (is_leaf : Bool) × (es : List (Event R (Vec (Kid R)))) × AllMayCome covers (opening root is_leaf) es × (s ≡ noted_all (opening root is_leaf) es)
+Replays {R} covers s = (root : R) × (is_leaf : Bool) × (es : List (Event R (Vec (Kid R))))
+    × AllMayCome covers (opening root is_leaf) es × (s ≡ noted_all (opening root is_leaf) es)
 
 -- an event that comes to a core: it's noted where its guard holds, else nothing changes
 abbrev pub after_event : {R : Type 0} → Story R → Event R (Vec (Kid R)) → Story R
@@ -98,6 +112,7 @@ after_all s [] = s
 after_all s (e ∷ es) = after_all (after_event s e) es
 
 -- each event is fit when it comes
-abbrev pub AreFit : {R : Type 0} → (R → List ℕ → Bool) → Story R → List (Event R (Vec (Kid R))) → Type 0
+abbrev pub AreFit : {R : Type 0} → (R → List ℕ → Bool) → Story R → List (Event R (Vec (Kid R)))
+    → Type 0
 AreFit covers s [] = Unit {0}
 AreFit covers s (e ∷ es) = IsFit covers s e × AreFit covers (after_event s e) es

@@ -52,10 +52,14 @@ pub(crate) fn make_room<R: Drop>(
     ensures events { events.new.items ≡ events.old.items }
     ensures spare { vec_len events.new + held ≤ vec_capacity events.new }
 
-    ensures node_room { OnOk result (vec_len nodes.new + length (kids_of deed.now) ≤ vec_capacity nodes.new) }
-    ensures latest_room { OnOk result (vec_len latest.new + length (kids_of deed.now) ≤ vec_capacity latest.new) }
-    ensures content_room { OnOk result (vec_len contents.new + length (kids_of deed.now) ≤ vec_capacity contents.new) }
-    ensures event_room { OnOk result (vec_len events.new + 1 + held + takes deed.now ≤ vec_capacity events.new + ends deed.now) }
+    ensures node_room { OnOk result (vec_len nodes.new + length (kids_of deed.now)
+        ≤ vec_capacity nodes.new) }
+    ensures latest_room { OnOk result (vec_len latest.new + length (kids_of deed.now)
+        ≤ vec_capacity latest.new) }
+    ensures content_room { OnOk result (vec_len contents.new + length (kids_of deed.now)
+        ≤ vec_capacity contents.new) }
+    ensures event_room { OnOk result (vec_len events.new + 1 + held + takes deed.now
+        ≤ vec_capacity events.new + ends deed.now) }
     ensures err { OnErr result (NoRoom nodes.old latest.old contents.old events.old held deed.now) }
 {
     match deed {
@@ -82,7 +86,8 @@ fn add_kids<R: Drop>(
     requires content_room { vec_len contents.old + vec_len kids ≤ vec_capacity contents.old }
     ensures nodes { nodes.new.items ≡ nodes.old.items ++ map (node_of parent) kids.items }
     ensures latest { latest.new.items ≡ latest.old.items ++ map (λ _. None) kids.items }
-    ensures contents { contents.new.items ≡ contents.old.items ++ map (λ kid. unworked_of kid.is_leaf kid.content) kids.items }
+    ensures contents { contents.new.items
+        ≡ contents.old.items ++ map (λ kid. unworked_of kid.is_leaf kid.content) kids.items }
 {
     for kid in kids {
         let origin = Origin {
@@ -106,10 +111,12 @@ pub(crate) fn bear<R: Drop>(
 ) -> Deed<R, usize>
     requires node_room { vec_len nodes.old + length (kids_of deed) ≤ vec_capacity nodes.old }
     requires latest_room { vec_len latest.old + length (kids_of deed) ≤ vec_capacity latest.old }
-    requires content_room { vec_len contents.old + length (kids_of deed) ≤ vec_capacity contents.old }
+    requires content_room { vec_len contents.old + length (kids_of deed)
+        ≤ vec_capacity contents.old }
     ensures nodes { nodes.new.items ≡ nodes.old.items ++ births parent deed }
     ensures latest { latest.new.items ≡ latest.old.items ++ map (λ _. None) (kids_of deed) }
-    ensures contents { contents.new.items ≡ contents.old.items ++ map (λ kid. unworked_of kid.is_leaf kid.content) (kids_of deed) }
+    ensures contents { contents.new.items
+        ≡ contents.old.items ++ map (λ kid. unworked_of kid.is_leaf kid.content) (kids_of deed) }
     ensures deed { result ≡ deed_kept deed }
 {
     match deed {

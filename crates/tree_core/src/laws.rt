@@ -16,15 +16,27 @@ use crate::cover::Cover;
 /// covered by exactly one node that is free, held or a leaf; a node is held by a worker exactly where the last event noted of it
 /// is that worker's claim; and a refused event has changed nothing.
 pub fn every_list_of_events<R: Cover>()
-    ensures exactly_one { (root : R) (events : List (Event R (Vec (Kid R)))) (input : List ℕ) → AreFit R.covers (opening root false) events → IsTrue (R.covers root input) → standing_count R.covers (after_all (opening root false) events) input ≡ 1 }
-    ensures partition { (root : R) (events : List (Event R (Vec (Kid R)))) → AreFit R.covers (opening root false) events → Partition R.covers (after_all (opening root false) events) }
-    ensures replays { (root : R) (events : List (Event R (Vec (Kid R)))) → AreFit R.covers (opening root false) events → Replays R.covers (after_all (opening root false) events) }
-    ensures held { (root : R) (events : List (Event R (Vec (Kid R)))) (node by : ℕ) → (status (after_all (opening root false) events) node ≡ Held by) ↔ LastIsClaim (after_all (opening root false) events) node by }
-    ensures refused { (s : Story R) (event : Event R (Vec (Kid R))) → IsFalse (is_allowed s event) → after_event s event ≡ s }
+    ensures exactly_one { (root : R) (events : List (Event R (Vec (Kid R)))) (input : List ℕ)
+        → AreFit R.covers (opening root false) events → IsTrue (R.covers root input)
+        → standing_count R.covers (after_all (opening root false) events) input ≡ 1 }
+    ensures partition { (root : R) (events : List (Event R (Vec (Kid R))))
+        → AreFit R.covers (opening root false) events
+        → Partition R.covers (after_all (opening root false) events) }
+    ensures replays { (root : R) (events : List (Event R (Vec (Kid R))))
+        → AreFit R.covers (opening root false) events
+        → Replays R.covers (after_all (opening root false) events) }
+    ensures held { (root : R) (events : List (Event R (Vec (Kid R)))) (node by : ℕ)
+        → (status (after_all (opening root false) events) node ≡ Held by)
+        ↔ LastIsClaim (after_all (opening root false) events) node by }
+    ensures refused { (s : Story R) (event : Event R (Vec (Kid R))) → IsFalse (is_allowed s event)
+        → after_event s event ≡ s }
 {}
 
 /// A claim survives what others do: where a tree has grown by nodes and by events of other workers alone, a node that the worker
 /// held is held by it still, with the content that it had.
 pub fn a_claim_survives<R: Cover>()
-    ensures { (s t : Story R) (nodes : List (Node R)) (events : List (Event R ℕ)) (node by : ℕ) → Replays R.covers t → t.nodes ≡ s.nodes ++ nodes → t.events ≡ s.events ++ events → All (λ (e : Event R ℕ). e.by ≢ by) events → node < length s.nodes → status s node ≡ Held by → (status t node ≡ Held by) × (content t node ≡ content s node) }
+    ensures { (s t : Story R) (nodes : List (Node R)) (events : List (Event R ℕ)) (node by : ℕ)
+        → Replays R.covers t → t.nodes ≡ s.nodes ++ nodes → t.events ≡ s.events ++ events
+        → All (λ (e : Event R ℕ). e.by ≢ by) events → node < length s.nodes
+        → status s node ≡ Held by → (status t node ≡ Held by) × (content t node ≡ content s node) }
 {}

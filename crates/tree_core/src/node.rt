@@ -68,7 +68,8 @@ impl<R> Node<R> {
 
     /// The content that it was born with as a leaf: None where it was born free.
     pub fn leaf(&self) -> Option<&R>
-        ensures { option_copied result ≡ (if self.now.is_leaf then Some self.now.content else None) }
+        ensures { option_copied result
+            ≡ (if self.now.is_leaf then Some self.now.content else None) }
     {
         self.leaf.as_ref()
     }

@@ -83,10 +83,13 @@ impl<R: Cover> Core<R> {
         ensures ok { OnOk result (self.new.story ≡ with_event self.old.story event) }
         ensures allowed { OnOk result (IsTrue (is_allowed self.old.story event)) }
 
-        ensures not_now { (result ≡ Err (Refusal.NotNow event.node (status self.old.story event.node))) ↔ IsFalse (is_allowed self.old.story event) }
+        ensures not_now { (result
+            ≡ Err (Refusal.NotNow event.node (status self.old.story event.node)))
+            ↔ IsFalse (is_allowed self.old.story event) }
         ensures memory { result ≡ Err Refusal.NoMemory → LacksRoom self.old event.deed }
         ensures err { OnErr result (self.new.story ≡ self.old.story) }
-        ensures after { result ≢ Err Refusal.NoMemory → self.new.story ≡ after_event self.old.story event }
+        ensures after { result ≢ Err Refusal.NoMemory
+            → self.new.story ≡ after_event self.old.story event }
     {
         let Event { by, node, deed } = event;
         let status = status_at(&self.nodes, &self.events, self.latest[node], node);
@@ -244,7 +247,9 @@ fn status_at<R>(nodes: &[Node<R>], events: &[Noted<R>], last: Option<usize>, nod
 
 // The leaf that an event makes of its node.
 fn leaf_by<R>(event: &Noted<R>) -> Option<&R>
-    ensures { (birth : Option R) → option_copied result ≡ if_leaf (left_by event.now.by event.now.deed) (content_by birth event.now.deed) }
+    ensures { (birth : Option R)
+        → option_copied result ≡ if_leaf (left_by event.now.by event.now.deed)
+        (content_by birth event.now.deed) }
 {
     match &event.deed {
         Deed::Finish(leaf) | Deed::Cut(leaf) => Some(leaf),
@@ -261,7 +266,9 @@ fn leaf_at<'a, R>(
 ) -> Option<&'a R>
     requires there { node < length nodes.now }
     requires last { IsLast (record { nodes = nodes.now; events = events.now }) node last }
-    ensures { option_copied result ≡ if_leaf (status (record { nodes = nodes.now; events = events.now }) node) (content (record { nodes = nodes.now; events = events.now }) node) }
+    ensures { option_copied result
+        ≡ if_leaf (status (record { nodes = nodes.now; events = events.now }) node)
+        (content (record { nodes = nodes.now; events = events.now }) node) }
 {
     match last {
         Some(place) => leaf_by(&events[place]),

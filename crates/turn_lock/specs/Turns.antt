@@ -31,7 +31,8 @@ module _ {V F N E : Type 0} (fixed_of : V → F) (nodes_of : V → List N)
     (events_of : V → List E) where
   -- The two lists behind the lock are `nodes` and `events`. While word 0 is 0 the value is at home
   -- and stands for them; else one pass has the turn, and has seen them whole.
-  pub record IsTurnKept (worker : E → ℕ) (key : V) (s : State (Option V) (Known F N E)) : Type 0 where
+  pub record IsTurnKept (worker : E → ℕ) (key : V)
+      (s : State (Option V) (Known F N E)) : Type 0 where
     pub nodes : List N
     pub events : List E
     pub turn : ℕ

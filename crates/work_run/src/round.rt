@@ -37,11 +37,14 @@ pub(crate) fn work_once<W: Work, R: Wait, G: Gate>(
     requires lock { IsPassOf lock.now pass.old }
     requires rest { IsAtRest (known pass.old) }
     requires worker { (known pass.old).fixed ≡ worker.now }
-    requires last { (own : List (Event (Content W.State W.Leaf) ℕ)) × IsClaimed (W.rules (known pass.old).fixed) own (known pass.old) last }
+    requires last { (own : List (Event (Content W.State W.Leaf) ℕ))
+        × IsClaimed (W.rules (known pass.old).fixed) own (known pass.old) last }
     ensures lock { IsPassOf lock.now pass.new }
     ensures later { IsLater (known pass.old) (known pass.new) }
-    ensures next { IfOk result (CarriesOn (W.rules (known pass.old).fixed) (known pass.old) last (known pass.new)) }
-    ensures turns { OnErr result (StopsBehind (W.rules (known pass.old).fixed) (known pass.old) last (known pass.new)) }
+    ensures next { IfOk result (CarriesOn (W.rules (known pass.old).fixed) (known pass.old) last
+        (known pass.new)) }
+    ensures turns { OnErr result (StopsBehind (W.rules (known pass.old).fixed) (known pass.old) last
+        (known pass.new)) }
     ensures cause { IfErr result (IsCauseOf (G.may_leave gate.now) (known pass.new)) }
 {
     match last {
@@ -65,7 +68,8 @@ fn claim_later<W: Work, R: Wait, G: Gate>(
     requires rest { IsAtRest (known pass.old) }
     ensures lock { IsPassOf lock.now pass.new }
     ensures later { IsLater (known pass.old) (known pass.new) }
-    ensures claimed { IfOk result (IsClaimed (W.rules (known pass.old).fixed) (known pass.old).own (known pass.new)) }
+    ensures claimed { IfOk result (IsClaimed (W.rules (known pass.old).fixed) (known pass.old).own
+        (known pass.new)) }
     ensures none { OnErr result ((known pass.new).own ≡ (known pass.old).own) }
     ensures cause { IfErr result (IsCauseOf (G.may_leave gate.now) (known pass.new)) }
 {
@@ -93,7 +97,8 @@ fn work_claim<W: Work, R: Wait, G: Gate>(
     requires claim { HasClaim (W.rules (known pass.old).fixed) (known pass.old) node state.now }
     ensures lock { IsPassOf lock.now pass.new }
     ensures later { IsLater (known pass.old) (known pass.new) }
-    ensures next { IfOk result (EndsAndClaims (W.rules (known pass.old).fixed) node (known pass.old).own (known pass.new)) }
+    ensures next { IfOk result (EndsAndClaims (W.rules (known pass.old).fixed) node
+        (known pass.old).own (known pass.new)) }
     ensures ended { OnErr result (EndsByTurns node (known pass.old).own (known pass.new).own) }
     ensures cause { IfErr result (IsCauseOf (G.may_leave gate.now) (known pass.new)) }
 {
@@ -122,10 +127,12 @@ fn hand_in<W: Work, R: Wait, G: Gate>(
 ) -> Result<Claim<W::State>, Stopped>
     requires lock { IsPassOf lock.now pass.old }
     requires rest { IsAtRest (known pass.old) }
-    requires worked { HasResult (W.rules (known pass.old).fixed) W.State.place W.Leaf.place (known pass.old) node parts }
+    requires worked { HasResult (W.rules (known pass.old).fixed) W.State.place W.Leaf.place
+        (known pass.old) node parts }
     ensures lock { IsPassOf lock.now pass.new }
     ensures later { IsLater (known pass.old) (known pass.new) }
-    ensures next { IfOk result (EndsAndClaims (W.rules (known pass.old).fixed) node (known pass.old).own (known pass.new)) }
+    ensures next { IfOk result (EndsAndClaims (W.rules (known pass.old).fixed) node
+        (known pass.old).own (known pass.new)) }
     ensures ended { OnErr result (EndsByTurns node (known pass.old).own (known pass.new).own) }
     ensures cause { IfErr result (IsCauseOf (G.may_leave gate.now) (known pass.new)) }
 {
@@ -151,7 +158,8 @@ fn give_up<W: Work, R: Wait>(
 )
     requires lock { IsPassOf lock.now pass.old }
     requires rest { IsAtRest (known pass.old) }
-    requires last { (own : List (Event (Content W.State W.Leaf) ℕ)) × IsClaimed (W.rules (known pass.old).fixed) own (known pass.old) last.now }
+    requires last { (own : List (Event (Content W.State W.Leaf) ℕ))
+        × IsClaimed (W.rules (known pass.old).fixed) own (known pass.old) last.now }
     ensures lock { IsPassOf lock.now pass.new }
     ensures later { IsLater (known pass.old) (known pass.new) }
     ensures released { GivesUp last.now (known pass.old).own (known pass.new).own }

@@ -77,8 +77,10 @@ where
             ensures { IsPassOf lock.entry.now result × HasWorked (known pass) (known result) }
         { work_alone(rt, alloc, lock, pass, worker, gate) },
         move || -> Pass<TurnTree<W>>
-            requires { IsSync R.row × IsPassOf lock.now first × MayRun worker.now (next + 1) (known first) × (next + more < 2 ^ 32) × (0 < more) }
-            ensures { IsPassOf lock.entry.now result × HasRun (next + 1) ((next + 1) + (more - 1)) (known first) (known result) }
+            requires { IsSync R.row × IsPassOf lock.now first
+                × MayRun worker.now (next + 1) (known first) × (next + more < 2 ^ 32) × (0 < more) }
+            ensures { IsPassOf lock.entry.now result
+                × HasRun (next + 1) ((next + 1) + (more - 1)) (known first) (known result) }
         { run_workers(rt, alloc, lock, first, worker, gate, next + 1, more - 1) },
     );
     lock.join(&mut first, pass);
@@ -135,7 +137,8 @@ where
     requires worker { tree.worker ≡ worker.now }
     requires fresh { tree.story.events ≡ [] }
     ensures worker { IfOk result (λ t. t.worker ≡ tree.worker) }
-    ensures drained { IfOk result (λ t. IsDrained (W.rules tree.worker) W.State.place W.Leaf.place t.story) }
+    ensures drained { IfOk result (λ t. IsDrained
+        (W.rules tree.worker) W.State.place W.Leaf.place t.story) }
     ensures goes { IfOk result (λ t. GoesOn tree.story t.story) }
     ensures few { IfOk result (λ t. All (λ e. e.by < workers) t.story.events) }
     ensures releases { IfOk result (λ t. ReleaseOnce t.story.events) }
@@ -167,8 +170,10 @@ where
     requires first { (W.State.place root).choices ≡ [] }
     requires some { 1 ≤ workers }
     ensures worker { IfOk result (λ t. t.worker.worker.now ≡ worker.now) }
-    ensures drained { IfOk result (λ t. IsDrained (W.rules worker.now) W.State.place W.Leaf.place t.story) }
-    ensures opening { IfOk result (λ t. (old : Story (Content W.State W.Leaf)) × IsOpening root old × GoesOn old t.story) }
+    ensures drained { IfOk result (λ t. IsDrained
+        (W.rules worker.now) W.State.place W.Leaf.place t.story) }
+    ensures opening { IfOk result (λ t. (old : Story (Content W.State W.Leaf)) × IsOpening root old
+        × GoesOn old t.story) }
     ensures few { IfOk result (λ t. All (λ e. e.by < workers) t.story.events) }
     ensures releases { IfOk result (λ t. ReleaseOnce t.story.events) }
 {

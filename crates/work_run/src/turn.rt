@@ -43,7 +43,8 @@ pub(crate) fn claim<W: Work, R: Wait>(
     requires rest { IsAtRest (known pass.old) }
     ensures lock { IsPassOf lock.now pass.new }
     ensures later { IsLater (known pass.old) (known pass.new) }
-    ensures ok { IfOk result (IsClaimed (W.rules (known pass.old).fixed) (known pass.old).own (known pass.new)) }
+    ensures ok { IfOk result (IsClaimed (W.rules (known pass.old).fixed) (known pass.old).own
+        (known pass.new)) }
     ensures err { OnErr result ((known pass.new).own ≡ (known pass.old).own) }
 {
     let by = pass.number();
@@ -65,11 +66,14 @@ pub(crate) fn enter_and_claim<W: Work, R: Wait>(
 ) -> Result<Claim<W::State>, NoMemory>
     requires lock { IsPassOf lock.now pass.old }
     requires rest { IsAtRest (known pass.old) }
-    requires worked { HasResult (W.rules (known pass.old).fixed) W.State.place W.Leaf.place (known pass.old) node parts }
+    requires worked { HasResult (W.rules (known pass.old).fixed) W.State.place W.Leaf.place
+        (known pass.old) node parts }
     ensures lock { IsPassOf lock.now pass.new }
     ensures later { IsLater (known pass.old) (known pass.new) }
-    ensures ok { IfOk result (EndsAndClaims (W.rules (known pass.old).fixed) node (known pass.old).own (known pass.new)) }
-    ensures err { OnErr result ((released : Bool) × EndsClaim released node (known pass.old).own (known pass.new).own) }
+    ensures ok { IfOk result (EndsAndClaims (W.rules (known pass.old).fixed) node
+        (known pass.old).own (known pass.new)) }
+    ensures err { OnErr result ((released : Bool)
+        × EndsClaim released node (known pass.old).own (known pass.new).own) }
 {
     let by = pass.number();
     let freed = free_kids::<W>(&parts);
@@ -90,7 +94,8 @@ pub(crate) fn release<W: Work, R: Wait>(
 )
     requires lock { IsPassOf lock.now pass.old }
     requires rest { IsAtRest (known pass.old) }
-    requires holds { HoldsNode (story_of (known pass.old)) (known pass.old).own (known pass.old).number node }
+    requires holds { HoldsNode (story_of (known pass.old)) (known pass.old).own
+        (known pass.old).number node }
     ensures lock { IsPassOf lock.now pass.new }
     ensures later { IsLater (known pass.old) (known pass.new) }
     ensures own { EndsClaim true node (known pass.old).own (known pass.new).own }

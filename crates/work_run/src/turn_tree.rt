@@ -43,7 +43,9 @@ impl<W: Work> TurnTree<W> {
     /// Claims a free node, and hands out its state.
     pub(crate) fn claim(&mut self, by: u32) -> Result<Claim<W::State>, NoMemory>
         ensures worker { self.new.tree.worker ≡ self.old.tree.worker }
-        ensures ok { IfOk result (λ claim. IsClaim (W.rules self.old.tree.worker).IsWell self.old.tree.story by claim self.new.tree.story) }
+        ensures ok { IfOk result (λ claim. IsClaim
+            (W.rules self.old.tree.worker).IsWell self.old.tree.story by claim
+            self.new.tree.story) }
         ensures err { OnErr result (self.new.tree.story ≡ self.old.tree.story) }
         ensures grows { GrowsBy by self.old.tree.story self.new.tree.story }
     {
@@ -61,10 +63,14 @@ impl<W: Work> TurnTree<W> {
     ) -> Result<Claim<W::State>, NoMemory>
         requires there { node < length self.old.tree.story.nodes }
         requires held { status self.old.tree.story node ≡ Held by }
-        requires worked { IsResult (W.rules self.old.tree.worker) W.State.place W.Leaf.place self.old.tree.story node parts }
+        requires worked { IsResult
+            (W.rules self.old.tree.worker) W.State.place W.Leaf.place self.old.tree.story node
+            parts }
         ensures worker { self.new.tree.worker ≡ self.old.tree.worker }
-        ensures ok { IfOk result (IsNextClaim (W.rules self.old.tree.worker).IsWell by node self.old.tree.story self.new.tree.story) }
-        ensures err { OnErr result ((released : Bool) × IsClaimEnded released by node self.old.tree.story self.new.tree.story) }
+        ensures ok { IfOk result (IsNextClaim
+            (W.rules self.old.tree.worker).IsWell by node self.old.tree.story self.new.tree.story) }
+        ensures err { OnErr result ((released : Bool)
+            × IsClaimEnded released by node self.old.tree.story self.new.tree.story) }
         ensures grows { GrowsBy by self.old.tree.story self.new.tree.story }
     {
         self.enter(by, node, parts)?;
@@ -80,10 +86,14 @@ impl<W: Work> TurnTree<W> {
     ) -> Result<(), NoMemory>
         requires there { node < length self.old.tree.story.nodes }
         requires held { status self.old.tree.story node ≡ Held by }
-        requires worked { IsResult (W.rules self.old.tree.worker) W.State.place W.Leaf.place self.old.tree.story node parts }
+        requires worked { IsResult
+            (W.rules self.old.tree.worker) W.State.place W.Leaf.place self.old.tree.story node
+            parts }
         ensures worker { self.new.tree.worker ≡ self.old.tree.worker }
-        ensures ok { OnOk result (IsClaimEnded false by node self.old.tree.story self.new.tree.story) }
-        ensures err { OnErr result (self.new.tree.story ≡ with_event self.old.tree.story (release_event by node)) }
+        ensures ok { OnOk result
+            (IsClaimEnded false by node self.old.tree.story self.new.tree.story) }
+        ensures err { OnErr result (self.new.tree.story
+            ≡ with_event self.old.tree.story (release_event by node)) }
         ensures grows { GrowsBy by self.old.tree.story self.new.tree.story }
     {
         match parts {
@@ -105,7 +115,8 @@ impl<W: Work> TurnTree<W> {
         requires there { node < length self.old.tree.story.nodes }
         requires held { status self.old.tree.story node ≡ Held by }
         ensures worker { self.new.tree.worker ≡ self.old.tree.worker }
-        ensures story { self.new.tree.story ≡ with_event self.old.tree.story (release_event by node) }
+        ensures story { self.new.tree.story
+            ≡ with_event self.old.tree.story (release_event by node) }
         ensures grows { GrowsBy by self.old.tree.story self.new.tree.story }
     {
         self.tree.release(by, node);

@@ -10,8 +10,11 @@ ghost use Rattle.circuit_spec.specs.Formulas.{Formula};
 
 /// A valuation that satisfies the clauses with one more term, or with what is asserted, satisfies those before.
 pub fn terms_only_add_clauses()
-    ensures term { (v : ℕ → Bool) (c : Circuit) (n : Node) → satisfies v (circuit_with c n).formula.clauses ≡ true → satisfies v c.formula.clauses ≡ true }
-    ensures asserted { (v : ℕ → Bool) (rows : List (List Literal)) (ids : List ℕ) (f : Formula) → satisfies v (with_asserted rows ids f).clauses ≡ true → satisfies v f.clauses ≡ true }
+    ensures term { (v : ℕ → Bool) (c : Circuit) (n : Node)
+        → satisfies v (circuit_with c n).formula.clauses ≡ true
+        → satisfies v c.formula.clauses ≡ true }
+    ensures asserted { (v : ℕ → Bool) (rows : List (List Literal)) (ids : List ℕ) (f : Formula)
+        → satisfies v (with_asserted rows ids f).clauses ≡ true → satisfies v f.clauses ≡ true }
 {}
 
 /// Variable 1 is true wherever the clauses of a condition are satisfied.

@@ -10,5 +10,8 @@ ghost use Rattle.circuit_spec.specs.Circuits.{circuit_of};
 /// For a condition and input bytes, some valuation satisfies the clauses of the condition's terms, and under it
 /// variable 1 is true and the literals of each input byte that occurs are worth that byte.
 pub fn each_input_has_a_valuation()
-    ensures { (q : Condition) (bytes : List ℕ) → All (λ b. b < 256) bytes → (v : ℕ → Bool) × (v 1 ≡ true) × (satisfies v (circuit_of q).formula.clauses ≡ true) × ((i : ℕ) (row : List Literal) → slice_index_or (circuit_of q).inputs i None ≡ Some row → number_of_row v row ≡ slice_index_or bytes i 0) }
+    ensures { (q : Condition) (bytes : List ℕ) → All (λ b. b < 256) bytes → (v : ℕ → Bool)
+        × (v 1 ≡ true) × (satisfies v (circuit_of q).formula.clauses ≡ true)
+        × ((i : ℕ) (row : List Literal) → slice_index_or (circuit_of q).inputs i None ≡ Some row
+        → number_of_row v row ≡ slice_index_or bytes i 0) }
 {}

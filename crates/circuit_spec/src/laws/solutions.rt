@@ -11,11 +11,13 @@ ghost use Rattle.circuit_spec.specs.Circuits.{clauses};
 /// clauses, the condition holds on them.
 pub fn valuations_are_solutions()
     ensures count { (q : Condition) (v : ℕ → Bool) → length (bytes_of q v) ≡ q.graph.inputs }
-    ensures hold { (q : Condition) (v : ℕ → Bool) → IsDag q.graph → AreBits q.graph q.asserted → satisfies v (clauses q) ≡ true → holds q (bytes_of q v) ≡ true }
+    ensures hold { (q : Condition) (v : ℕ → Bool) → IsDag q.graph → AreBits q.graph q.asserted
+        → satisfies v (clauses q) ≡ true → holds q (bytes_of q v) ≡ true }
 {}
 
 /// Input bytes on which a condition holds extend to a valuation that satisfies its clauses: it means just these bytes.
 pub fn solutions_are_valuations()
-    ensures { (q : Condition) (input : List ℕ) → IsDag q.graph → AreBits q.graph q.asserted → All (λ b. b < 256) input → holds q input ≡ true →
+    ensures { (q : Condition) (input : List ℕ) → IsDag q.graph → AreBits q.graph q.asserted
+        → All (λ b. b < 256) input → holds q input ≡ true →
         (v : ℕ → Bool) × (satisfies v (clauses q) ≡ true) × MeansBytes q v input }
 {}

@@ -57,7 +57,8 @@ fn passes(state: &mut State, test: Test, number: u32) -> Result<usize, NoMemory>
 
 // Whether the sample of a run meets its condition.
 fn is_sampled(alloc: Global, state: &State) -> Result<bool, NoMemory>
-    ensures { IfOk result (λ yes. IsTrue yes → holds (condition_of state.now) state.now.sample ≡ true) }
+    ensures { IfOk result (λ yes. IsTrue yes → holds (condition_of state.now) state.now.sample
+        ≡ true) }
 {
     let condition = listed(alloc, state.condition())?;
     let query = pick(alloc, state.terms(), &condition)?;

@@ -29,7 +29,8 @@ impl<V: Growing> TurnLock<V> {
     /// A lock on the value, and its first pass, of number 0. Where memory is refused the value is dropped.
     pub fn new(alloc: Global, value: V) -> Result<(TurnLock<V>, Pass<V>), NoMemory>
         ensures lock { IfOk result (λ made. IsPassOf made.0 made.1) }
-        ensures pass { IfOk result (λ made. known made.1 ≡ opening_view V.fixed V.nodes V.events value) }
+        ensures pass { IfOk result (λ made. known made.1
+            ≡ opening_view V.fixed V.nodes V.events value) }
     {
         let key = Snapshot::of(&value);
         let count = value.event_count();
@@ -75,8 +76,10 @@ impl<V: Growing> TurnLock<V> {
         requires turn { (known pass.old).has_turn ≡ false }
 
         ensures lock { IsPassOf self.now pass.new }
-        ensures taken { IfSome result (λ value. known pass.new ≡ looked V.nodes V.events (known pass.old) value) }
-        ensures follows { IfSome result (λ value. Follows V.fixed V.nodes V.events V.worker (known pass.old) value) }
+        ensures taken { IfSome result (λ value. known pass.new
+            ≡ looked V.nodes V.events (known pass.old) value) }
+        ensures follows { IfSome result (λ value. Follows V.fixed V.nodes V.events V.worker
+            (known pass.old) value) }
         ensures none { IfNone result (known pass.new ≡ known pass.old) }
     {
         let shared = &self.table.shared;
@@ -122,7 +125,8 @@ impl<V: Growing> TurnLock<V> {
         requires turn { (known pass.old).has_turn ≡ true }
         requires fixed { V.fixed value ≡ (known pass.old).fixed }
         requires nodes { StartsWith (V.nodes value) (known pass.old).nodes }
-        requires events { GoesOnBy V.worker (known pass.old).number (known pass.old).events (V.events value) }
+        requires events { GoesOnBy V.worker (known pass.old).number (known pass.old).events
+            (V.events value) }
 
         ensures lock { IsPassOf self.now pass.new }
         ensures given { known pass.new ≡ given V.nodes V.events (known pass.old) value }
