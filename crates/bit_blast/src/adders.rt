@@ -11,7 +11,12 @@ use std::alloc::AllocError as NoMemory;
 
 impl Gates {
     /// The sums of two rows and a carry, and the last carry.
-    pub fn adder(&mut self, a: &[Lit], b: &[Lit], carry: Lit) -> Result<(Vec<Lit>, Lit), NoMemory>
+    pub(crate) fn adder(
+        &mut self,
+        a: &[Lit],
+        b: &[Lit],
+        carry: Lit,
+    ) -> Result<(Vec<Lit>, Lit), NoMemory>
         ensures { IfOk result (λ r. record { sums = r.0.items; carry = r.1; formula = self.new }
             ≡ adder a.now b.now carry self.old) }
     {

@@ -10,7 +10,7 @@ use std::alloc::{AllocError as NoMemory, Global};
 use std::marker::Model;
 
 /// The literal of variable 1, which the first clause makes true, or its negation.
-pub fn constant(value: bool) -> Lit
+pub(crate) fn constant(value: bool) -> Lit
     ensures { result ≡ constant value }
 {
     Lit::new(1, value)
@@ -62,7 +62,7 @@ impl Gates {
     }
 
     /// The clauses.
-    pub fn into_formula(self) -> Cnf
+    pub(crate) fn into_formula(self) -> Cnf
         ensures { result ≡ self.clauses }
     {
         let Self {
@@ -129,7 +129,7 @@ impl Gates {
 
     /// A literal that is as the second where the first is true, else as the third.
     #[tactic(auto, unfolding(circuit_spec::specs::Gates::mux_gate))]
-    pub fn mux(&mut self, c: Lit, a: Lit, b: Lit) -> Result<Lit, NoMemory>
+    pub(crate) fn mux(&mut self, c: Lit, a: Lit, b: Lit) -> Result<Lit, NoMemory>
         ensures { IfOk result (λ o. (o, self.new) ≡ mux_gate c a b self.old) }
     {
         let o = self.variable()?;
@@ -142,7 +142,7 @@ impl Gates {
 
     /// A literal that is true where an odd number of the three is.
     #[tactic(auto, unfolding(circuit_spec::specs::Gates::xor3_gate))]
-    pub fn xor3(&mut self, a: Lit, b: Lit, c: Lit) -> Result<Lit, NoMemory>
+    pub(crate) fn xor3(&mut self, a: Lit, b: Lit, c: Lit) -> Result<Lit, NoMemory>
         ensures { IfOk result (λ o. (o, self.new) ≡ xor3_gate a b c self.old) }
     {
         let o = self.variable()?;
@@ -159,7 +159,7 @@ impl Gates {
 
     /// A literal that is true where two or three of the three are.
     #[tactic(auto, unfolding(circuit_spec::specs::Gates::majority_gate))]
-    pub fn majority(&mut self, a: Lit, b: Lit, c: Lit) -> Result<Lit, NoMemory>
+    pub(crate) fn majority(&mut self, a: Lit, b: Lit, c: Lit) -> Result<Lit, NoMemory>
         ensures { IfOk result (λ o. (o, self.new) ≡ majority_gate a b c self.old) }
     {
         let o = self.variable()?;

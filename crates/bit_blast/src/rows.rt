@@ -18,7 +18,7 @@ pub fn negations(alloc: Global, row: &[Lit]) -> Result<Vec<Lit>, NoMemory>
 }
 
 /// The lowest `width` bits of a number.
-pub fn number_row(alloc: Global, width: usize, number: u64) -> Result<Vec<Lit>, NoMemory>
+pub(crate) fn number_row(alloc: Global, width: usize, number: u64) -> Result<Vec<Lit>, NoMemory>
     ensures { IfOk result (λ r. r.items ≡ number_row width number) }
 {
     let mut row = Vec::with_capacity(alloc, width)?;
@@ -31,14 +31,14 @@ pub fn number_row(alloc: Global, width: usize, number: u64) -> Result<Vec<Lit>, 
 }
 
 /// So many copies of a literal.
-pub fn copies(alloc: Global, width: usize, literal: Lit) -> Result<Vec<Lit>, NoMemory>
+pub(crate) fn copies(alloc: Global, width: usize, literal: Lit) -> Result<Vec<Lit>, NoMemory>
     ensures { IfOk result (λ r. r.items ≡ replicate width literal) }
 {
     vec![in alloc; literal; width]
 }
 
 /// The last literal, and false where there is none.
-pub fn top_of(row: &[Lit]) -> Lit
+pub(crate) fn top_of(row: &[Lit]) -> Lit
     ensures { result ≡ top_of row.now }
 {
     if row.is_empty() {
@@ -48,7 +48,7 @@ pub fn top_of(row: &[Lit]) -> Lit
 }
 
 /// The row with its last literal negated.
-pub fn with_top_negated(alloc: Global, row: &[Lit]) -> Result<Vec<Lit>, NoMemory>
+pub(crate) fn with_top_negated(alloc: Global, row: &[Lit]) -> Result<Vec<Lit>, NoMemory>
     ensures { IfOk result (λ r. r.items ≡ with_top_negated row.now) }
 {
     let mut negated = Vec::from_slice(alloc, row)?;
@@ -70,7 +70,7 @@ pub fn joined(alloc: Global, low: &[Lit], high: &[Lit]) -> Result<Vec<Lit>, NoMe
 
 impl Gates {
     /// So many new variables.
-    pub fn fresh_row(&mut self, width: usize) -> Result<Vec<Lit>, NoMemory>
+    pub(crate) fn fresh_row(&mut self, width: usize) -> Result<Vec<Lit>, NoMemory>
         ensures { IfOk result (λ r. (r.items, self.new) ≡ fresh_row width self.old) }
     {
         let mut row = Vec::with_capacity(self.alloc(), width)?;

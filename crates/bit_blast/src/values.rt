@@ -21,7 +21,7 @@ fn with_low_bit(number: u8, bit: bool) -> u8
 }
 
 /// The lowest eight of a row.
-pub fn low_eight(row: &[Lit]) -> &[Lit]
+pub(crate) fn low_eight(row: &[Lit]) -> &[Lit]
     ensures value { result.now ≡ take 8 row.now }
     ensures at_most_eight { length result.now ≤ 8 }
 {

@@ -39,7 +39,7 @@ fn number_on(words: &mut Vec<Word>, terms: &Dag, input: &[u8], id: usize) -> Res
 }
 
 /// Whether an assignment meets a condition.
-pub fn are_met(
+pub(crate) fn are_met(
     words: &mut Vec<Word>,
     terms: &Dag,
     condition: &[usize],

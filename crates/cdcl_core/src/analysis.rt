@@ -153,7 +153,7 @@ impl Analysis {
     }
 
     /// Analyses the conflict at the clause of this number, and answers whether a literal was decided.
-    pub fn analyse(
+    pub(crate) fn analyse(
         &mut self,
         trail: &Trail,
         clauses: &Clauses,

@@ -44,7 +44,7 @@ fn decision_from(trail: &Trail, start: usize) -> Option<usize>
 
 /// Goes back to where the clause that was learnt may go on, or at a restart to where nothing was decided, and answers how
 /// many of the other clauses, the first ones, are calm there. The variables that lose their values are put back in the order.
-pub fn go_back(
+pub(crate) fn go_back(
     trail: &mut Trail,
     order: &mut Order,
     clauses: &Clauses,

@@ -184,7 +184,7 @@ impl ClauseList {
     }
 
     /// Whether the literal's variable is seen in a clause: the first one in which the literal or its negation is noted.
-    pub fn mentions(&self, literal: Lit) -> bool
+    pub(crate) fn mentions(&self, literal: Lit) -> bool
         ensures { IsTrue result → occurs self.now literal.variable ≡ true }
     {
         self.shows(literal) || self.shows(literal.negated())

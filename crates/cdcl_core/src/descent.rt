@@ -121,7 +121,7 @@ fn descend_from(
 
 /// Where the first clauses are calm, makes literals true that the others force and that follow. Then it chooses literals and
 /// makes those true that follow, until a clause is false, whose number is the answer, or each clause is satisfied.
-pub fn descend(
+pub(crate) fn descend(
     trail: &mut Trail,
     clauses: &ClauseList,
     spots: &mut Spots,

@@ -172,7 +172,7 @@ fn look_from(
 
 /// Where the first clauses are calm, looks at the others, and makes literals true that follow, until a clause is false,
 /// whose number is the answer, or each is calm.
-pub fn settle(
+pub(crate) fn settle(
     trail: &mut Trail,
     clauses: &ClauseList,
     spots: &mut Spots,

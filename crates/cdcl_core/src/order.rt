@@ -113,7 +113,7 @@ impl Order {
     }
 
     /// Puts the variables of the entries from this place on back, each with the value that it has there.
-    pub fn put_back(&mut self, entries: &[Entry], start: usize) {
+    pub(crate) fn put_back(&mut self, entries: &[Entry], start: usize) {
         for place in start..entries.len() {
             self.put(entries[place].literal);
         }
@@ -138,7 +138,7 @@ impl Order {
     }
 
     /// Raises the activity of the variables of these literals.
-    pub fn raise(&mut self, met: &[Lit]) {
+    pub(crate) fn raise(&mut self, met: &[Lit]) {
         for literal in met {
             self.raise_one(*literal);
         }

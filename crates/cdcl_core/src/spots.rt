@@ -51,7 +51,7 @@ impl Spot {
     }
 
     /// Whether the literals at these places show that the clause is calm.
-    pub fn shows_calm(self, trail: &Trail, clause: &[Lit]) -> bool
+    pub(crate) fn shows_calm(self, trail: &Trail, clause: &[Lit]) -> bool
         ensures { IsTrue result → IsCalm (trail_values trail.now.entries) clause.now }
     {
         let Some(first) = get_literal(clause, self.first) else {

@@ -145,7 +145,7 @@ impl Trail {
     }
 
     /// Whether the literal's variable may have a value, and has none.
-    pub fn is_free(&self, literal: Lit) -> bool
+    pub(crate) fn is_free(&self, literal: Lit) -> bool
         ensures { IsTrue result
             ↔ IsFree (trail_values self.now.entries) (length self.now.marks) literal }
     {

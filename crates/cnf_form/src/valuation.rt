@@ -71,7 +71,7 @@ impl Val {
     }
 
     /// Whether one of the clause's literals is true.
-    pub fn satisfies_clause(&self, clause: &Clause) -> bool
+    pub(crate) fn satisfies_clause(&self, clause: &Clause) -> bool
         ensures { result ≡ satisfies_clause (valuation self.now) clause.now }
     {
         satisfies_clause(&self.values, clause.literals())

@@ -61,7 +61,7 @@ fn word(bytes: &[u8], at: usize) -> u32
 }
 
 /// The header of a file that is long enough for one.
-pub fn read_header(bytes: &[u8]) -> Header
+pub(crate) fn read_header(bytes: &[u8]) -> Header
     requires { 52 ≤ length bytes.now }
     ensures { result ≡ header_of bytes.now }
 {
@@ -79,7 +79,7 @@ pub fn read_header(bytes: &[u8]) -> Header
 }
 
 /// The program header at this place.
-pub fn read_program_header(bytes: &[u8], at: usize) -> ProgramHeader
+pub(crate) fn read_program_header(bytes: &[u8], at: usize) -> ProgramHeader
     requires { at + 32 ≤ length bytes.now }
     ensures { result ≡ program_header_at bytes.now at }
 {
@@ -99,35 +99,35 @@ impl ProgramHeader {
     ghost use Rattle.elf_load.specs.Areas.{end_of, first_page, last_page, touches_stack};
 
     /// It asks for linking when the program runs.
-    pub fn is_dynamic(&self) -> bool
+    pub(crate) fn is_dynamic(&self) -> bool
         ensures { result ≡ (self.now.kind == 2 || self.now.kind == 3) }
     {
         self.kind == 2 || self.kind == 3
     }
 
     /// It is for loading.
-    pub fn is_loaded(&self) -> bool
+    pub(crate) fn is_loaded(&self) -> bool
         ensures { result ≡ is_loaded self.now }
     {
         self.kind == 1
     }
 
     /// It is for loading, and takes memory.
-    pub fn is_segment(&self) -> bool
+    pub(crate) fn is_segment(&self) -> bool
         ensures { result ≡ is_segment self.now }
     {
         self.is_loaded() && self.memory_size > 0
     }
 
     /// It is for loading, and has more bytes in the file than in memory.
-    pub fn has_file_over_memory(&self) -> bool
+    pub(crate) fn has_file_over_memory(&self) -> bool
         ensures { result ≡ (is_loaded self.now && nat_lt self.now.memory_size self.now.file_size) }
     {
         self.is_loaded() && self.file_size > self.memory_size
     }
 
     /// It is for loading, and has bytes past the end of a file of this length.
-    pub fn has_bytes_past(&self, file_length: usize) -> bool
+    pub(crate) fn has_bytes_past(&self, file_length: usize) -> bool
         ensures { result ≡ (is_loaded self.now
             && (nat_lt 0 self.now.file_size
             && nat_lt file_length (self.now.offset + self.now.file_size))) }
@@ -145,14 +145,14 @@ impl ProgramHeader {
     }
 
     /// The page of its first address.
-    pub fn first_page(&self) -> u32
+    pub(crate) fn first_page(&self) -> u32
         ensures { result ≡ first_page self.now }
     {
         self.address / 256
     }
 
     /// The page of its last address.
-    pub fn last_page(&self) -> u32
+    pub(crate) fn last_page(&self) -> u32
         requires { 0 < self.now.memory_size }
         ensures { result ≡ last_page self.now }
     {
@@ -160,7 +160,7 @@ impl ProgramHeader {
     }
 
     /// It passes the end of memory, or touches the stack's pages.
-    pub fn is_out_of_range(&self) -> bool
+    pub(crate) fn is_out_of_range(&self) -> bool
         requires { 0 < self.now.memory_size }
         ensures { result ≡ (nat_lt 4294967296 (end_of self.now) || touches_stack self.now) }
     {

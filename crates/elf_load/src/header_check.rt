@@ -57,7 +57,7 @@ fn has_headers_past_end(bytes: &[u8], header: &Header) -> bool
 
 /// Reads the header, unless it has a fault, of which the first is answered.
 #[tactic(auto, unfolding(crate::specs::Refusals::header_refusal))]
-pub fn check_header(bytes: &[u8]) -> Result<Header, Refused>
+pub(crate) fn check_header(bytes: &[u8]) -> Result<Header, Refused>
     ensures header { IfOk result (λ header. header ≡ header_of bytes.now) }
     ensures whole { OnOk result (52 ≤ length bytes.now) }
     ensures table { IfOk result (λ header. header.table_offset + 32 * header.row_count

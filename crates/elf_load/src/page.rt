@@ -18,7 +18,7 @@ pub struct Page {
 }
 
 /// A page of zeros, on which nothing may be done.
-pub fn blank_page() -> Page
+pub(crate) fn blank_page() -> Page
     ensures flags { result.flags ≡ 0 }
     ensures bytes { (i : ℕ) → slice_index result.bytes i ≡ 0 }
 {
@@ -49,7 +49,7 @@ fn put_bytes(page: &mut [u8], start: usize, area: &ProgramHeader, bytes: &[u8])
 }
 
 /// Adds what an area puts onto the page of this number.
-pub fn add_area(page: &mut Page, number: u32, area: &ProgramHeader, bytes: &[u8])
+pub(crate) fn add_area(page: &mut Page, number: u32, area: &ProgramHeader, bytes: &[u8])
     requires in_memory { number < 2 ^ 24 }
     requires given { 0 < area.now.file_size
         → area.now.offset + area.now.file_size ≤ length bytes.now }

@@ -46,7 +46,7 @@ fn map_area(
 }
 
 /// The pages that these areas take.
-pub fn make_pages(
+pub(crate) fn make_pages(
     alloc: Global,
     areas: &[ProgramHeader],
     bytes: &[u8],

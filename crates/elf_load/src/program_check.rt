@@ -12,7 +12,7 @@ use std::alloc::{AllocError as NoMemory, Global};
 
 /// The program headers of a file that has this header.
 #[tactic(auto, unfolding(crate::specs::Fields::headers))]
-pub fn read_program_headers(
+pub(crate) fn read_program_headers(
     alloc: Global,
     bytes: &[u8],
     header: &Header,
@@ -49,7 +49,10 @@ fn any_bytes_past(rows: &[ProgramHeader], file_length: usize) -> bool
 
 /// Finds the first fault of the program headers of a file of this length, if they have one.
 #[tactic(auto, unfolding(crate::specs::Refusals::program_refusal))]
-pub fn check_program_headers(rows: &[ProgramHeader], file_length: usize) -> Result<(), Refused>
+pub(crate) fn check_program_headers(
+    rows: &[ProgramHeader],
+    file_length: usize,
+) -> Result<(), Refused>
     ensures fine { OnOk result (program_refusal file_length rows.now ≡ None) }
     ensures over_none { OnOk result (refused_file_over_memory rows.now ≡ false) }
     ensures past_none { OnOk result (refused_bytes_past_end file_length rows.now ≡ false) }
@@ -69,7 +72,7 @@ pub fn check_program_headers(rows: &[ProgramHeader], file_length: usize) -> Resu
 }
 
 /// Leaves of program headers those that are loaded and take memory.
-pub fn keep_segments(rows: &mut Vec<ProgramHeader>)
+pub(crate) fn keep_segments(rows: &mut Vec<ProgramHeader>)
     ensures { rows.new.items ≡ filter is_segment rows.old.items }
 {
     rows.retain(|row| row.is_segment());

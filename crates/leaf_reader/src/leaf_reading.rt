@@ -75,7 +75,7 @@ impl LeafReading {
     }
 
     /// What is to come behind the inputs so far.
-    pub fn behind_inputs(&self) -> Spot
+    pub(crate) fn behind_inputs(&self) -> Spot
         ensures { result ≡ spec.behind_inputs (reading_of self.now) }
     {
         if self.declared == self.dag.inputs() {
@@ -86,7 +86,7 @@ impl LeafReading {
     }
 
     /// What is to come behind the outputs so far.
-    pub fn behind_outputs(&self) -> Spot
+    pub(crate) fn behind_outputs(&self) -> Spot
         ensures { result ≡ spec.behind_outputs (reading_of self.now) }
     {
         if self.outputs.len() == self.output_count {
@@ -97,7 +97,7 @@ impl LeafReading {
     }
 
     /// What is to come behind the nodes so far.
-    pub fn behind_nodes(&self) -> Spot
+    pub(crate) fn behind_nodes(&self) -> Spot
         ensures { result ≡ spec.behind_nodes (reading_of self.now) }
     {
         if self.dag.len() != self.node_count {
@@ -118,7 +118,7 @@ impl LeafReading {
     }
 
     /// The leaf that was read.
-    pub fn into_leaf(self) -> LeafText
+    pub(crate) fn into_leaf(self) -> LeafText
         requires { IsSoundReading (reading_of self) }
         ensures { result ≡ spec.leaf_of (reading_of self) }
     {

@@ -73,7 +73,10 @@ fn take_step(text: &[u8]) -> Option<(PathStep, &[u8])>
 }
 
 /// All choices of a list.
-pub fn take_choices(alloc: Global, text: &[u8]) -> Result<Option<(Vec<Choice>, &[u8])>, NoMemory>
+pub(crate) fn take_choices(
+    alloc: Global,
+    text: &[u8],
+) -> Result<Option<(Vec<Choice>, &[u8])>, NoMemory>
     ensures { IfOk result (λ found. option_map (λ found. (found.0.items, found.1.now)) found
         ≡ spec.all_choices text.now) }
 {
@@ -92,7 +95,10 @@ pub fn take_choices(alloc: Global, text: &[u8]) -> Result<Option<(Vec<Choice>, &
 }
 
 /// All entries of a path.
-pub fn take_path(alloc: Global, text: &[u8]) -> Result<Option<(Vec<PathStep>, &[u8])>, NoMemory>
+pub(crate) fn take_path(
+    alloc: Global,
+    text: &[u8],
+) -> Result<Option<(Vec<PathStep>, &[u8])>, NoMemory>
     ensures { IfOk result (λ found. option_map (λ found. (found.0.items, found.1.now)) found
         ≡ spec.all_steps text.now) }
 {

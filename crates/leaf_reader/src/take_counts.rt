@@ -22,7 +22,7 @@ fn take_count(text: &[u8]) -> Option<(u32, &[u8])>
 impl LeafReading {
     /// How many inputs there are.
     #[tactic(auto, unfolding(smt_text::specs::LineReading::next_line, smt_text::specs::Grammar::next_state))]
-    pub fn take_inputs<'a>(&mut self, alloc: Global, text: &'a [u8]) -> Option<&'a [u8]>
+    pub(crate) fn take_inputs<'a>(&mut self, alloc: Global, text: &'a [u8]) -> Option<&'a [u8]>
         requires here { self.old.place ≡ spot.AtInputs }
         requires no_nodes { self.old.dag.nodes ≡ [] }
         ensures { IsNextLine (reading_of self.old) text.now (reading_of self.new)
@@ -36,7 +36,7 @@ impl LeafReading {
 
     /// How many nodes there are.
     #[tactic(auto, unfolding(smt_text::specs::LineReading::next_line, smt_text::specs::Grammar::next_state))]
-    pub fn take_nodes<'a>(&mut self, text: &'a [u8]) -> Option<&'a [u8]>
+    pub(crate) fn take_nodes<'a>(&mut self, text: &'a [u8]) -> Option<&'a [u8]>
         requires { self.old.place ≡ spot.AtNodes }
         ensures { IsNextLine (reading_of self.old) text.now (reading_of self.new)
             (option_map (λ rest. rest.now) result) }
@@ -49,7 +49,7 @@ impl LeafReading {
 
     /// How many bytes of output there are.
     #[tactic(auto, unfolding(smt_text::specs::LineReading::next_line, smt_text::specs::Grammar::next_state))]
-    pub fn take_outputs<'a>(&mut self, text: &'a [u8]) -> Option<&'a [u8]>
+    pub(crate) fn take_outputs<'a>(&mut self, text: &'a [u8]) -> Option<&'a [u8]>
         requires { self.old.place ≡ spot.AtOutputs }
         ensures { IsNextLine (reading_of self.old) text.now (reading_of self.new)
             (option_map (λ rest. rest.now) result) }
@@ -62,7 +62,7 @@ impl LeafReading {
 
     /// The logic.
     #[tactic(auto, unfolding(smt_text::specs::LineReading::next_line, smt_text::specs::Grammar::next_state))]
-    pub fn take_logic<'a>(&mut self, text: &'a [u8]) -> Option<&'a [u8]>
+    pub(crate) fn take_logic<'a>(&mut self, text: &'a [u8]) -> Option<&'a [u8]>
         requires { self.old.place ≡ spot.AtLogic }
         ensures { IsNextLine (reading_of self.old) text.now (reading_of self.new)
             (option_map (λ rest. rest.now) result) }
@@ -74,7 +74,7 @@ impl LeafReading {
 
     /// The function that the bytes are of.
     #[tactic(auto, unfolding(smt_text::specs::LineReading::next_line, smt_text::specs::Grammar::next_state))]
-    pub fn take_base<'a>(&mut self, text: &'a [u8]) -> Option<&'a [u8]>
+    pub(crate) fn take_base<'a>(&mut self, text: &'a [u8]) -> Option<&'a [u8]>
         requires { self.old.place ≡ spot.AtBase }
         ensures { IsNextLine (reading_of self.old) text.now (reading_of self.new)
             (option_map (λ rest. rest.now) result) }
@@ -89,7 +89,7 @@ impl LeafReading {
 
     /// The exit.
     #[tactic(auto, unfolding(smt_text::specs::LineReading::next_line, smt_text::specs::Grammar::next_state))]
-    pub fn take_exit<'a>(&mut self, text: &'a [u8]) -> Option<&'a [u8]>
+    pub(crate) fn take_exit<'a>(&mut self, text: &'a [u8]) -> Option<&'a [u8]>
         requires { self.old.place ≡ spot.AtExit }
         ensures { IsNextLine (reading_of self.old) text.now (reading_of self.new)
             (option_map (λ rest. rest.now) result) }

@@ -64,7 +64,7 @@ fn end_said(kind: Option<Cause>, said: Ending) -> Option<LeafEnd>
 impl LeafReading {
     /// The format.
     #[tactic(auto, unfolding(smt_text::specs::LineReading::next_line, smt_text::specs::Grammar::next_state))]
-    pub fn take_format<'a>(&mut self, text: &'a [u8]) -> Option<&'a [u8]>
+    pub(crate) fn take_format<'a>(&mut self, text: &'a [u8]) -> Option<&'a [u8]>
         requires { self.old.place ≡ spot.AtFormat }
         ensures { IsNextLine (reading_of self.old) text.now (reading_of self.new)
             (option_map (λ rest. rest.now) result) }
@@ -76,7 +76,7 @@ impl LeafReading {
 
     /// The kind of the leaf.
     #[tactic(auto, unfolding(smt_text::specs::LineReading::next_line, smt_text::specs::Grammar::next_state))]
-    pub fn take_kind<'a>(&mut self, text: &'a [u8]) -> Option<&'a [u8]>
+    pub(crate) fn take_kind<'a>(&mut self, text: &'a [u8]) -> Option<&'a [u8]>
         requires { self.old.place ≡ spot.AtKind }
         ensures { IsNextLine (reading_of self.old) text.now (reading_of self.new)
             (option_map (λ rest. rest.now) result) }
@@ -89,7 +89,7 @@ impl LeafReading {
 
     /// The sides taken at the forks.
     #[tactic(auto, unfolding(smt_text::specs::LineReading::next_line, smt_text::specs::Grammar::next_state))]
-    pub fn take_choices<'a>(
+    pub(crate) fn take_choices<'a>(
         &mut self,
         alloc: Global,
         text: &'a [u8],
@@ -111,7 +111,7 @@ impl LeafReading {
 
     /// What the branches and the JALRs of the runs do.
     #[tactic(auto, unfolding(smt_text::specs::LineReading::next_line, smt_text::specs::Grammar::next_state))]
-    pub fn take_path<'a>(
+    pub(crate) fn take_path<'a>(
         &mut self,
         alloc: Global,
         text: &'a [u8],
@@ -133,7 +133,7 @@ impl LeafReading {
 
     /// The steps of the runs.
     #[tactic(auto, unfolding(smt_text::specs::LineReading::next_line, smt_text::specs::Grammar::next_state))]
-    pub fn take_steps<'a>(&mut self, text: &'a [u8]) -> Option<&'a [u8]>
+    pub(crate) fn take_steps<'a>(&mut self, text: &'a [u8]) -> Option<&'a [u8]>
         requires { self.old.place ≡ spot.AtSteps }
         ensures { IsNextLine (reading_of self.old) text.now (reading_of self.new)
             (option_map (λ rest. rest.now) result) }
@@ -146,7 +146,7 @@ impl LeafReading {
 
     /// How the runs end.
     #[tactic(auto, unfolding(smt_text::specs::LineReading::next_line, smt_text::specs::Grammar::next_state))]
-    pub fn take_end<'a>(&mut self, text: &'a [u8]) -> Option<&'a [u8]>
+    pub(crate) fn take_end<'a>(&mut self, text: &'a [u8]) -> Option<&'a [u8]>
         requires { self.old.place ≡ spot.AtEnd }
         ensures { IsNextLine (reading_of self.old) text.now (reading_of self.new)
             (option_map (λ rest. rest.now) result) }

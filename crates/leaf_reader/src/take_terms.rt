@@ -55,7 +55,7 @@ fn assertion_said(text: &[u8]) -> Option<(u64, &[u8])>
 impl LeafReading {
     /// The next input.
     #[tactic(auto, unfolding(smt_text::specs::LineReading::next_line, smt_text::specs::Grammar::next_state))]
-    pub fn take_input<'a>(&mut self, text: &'a [u8]) -> Option<&'a [u8]>
+    pub(crate) fn take_input<'a>(&mut self, text: &'a [u8]) -> Option<&'a [u8]>
         requires here { self.old.place ≡ spot.AmongInputs }
         requires more { self.old.declared < self.old.dag.inputs }
         requires few { self.old.dag.inputs < 2 ^ 32 }
@@ -85,7 +85,7 @@ impl LeafReading {
     }
 
     /// The next node.
-    pub fn take_node<'a>(&mut self, text: &'a [u8]) -> Result<Option<&'a [u8]>, NoMemory>
+    pub(crate) fn take_node<'a>(&mut self, text: &'a [u8]) -> Result<Option<&'a [u8]>, NoMemory>
         requires { self.old.place ≡ spot.AmongNodes }
         ensures { IfOk result (λ found. IsNextLine (reading_of self.old) text.now
             (reading_of self.new) (option_map (λ rest. rest.now) found)) }
@@ -102,7 +102,7 @@ impl LeafReading {
 
     /// The status.
     #[tactic(auto, unfolding(smt_text::specs::LineReading::next_line, smt_text::specs::Grammar::next_state))]
-    pub fn take_status<'a>(&mut self, text: &'a [u8]) -> Option<&'a [u8]>
+    pub(crate) fn take_status<'a>(&mut self, text: &'a [u8]) -> Option<&'a [u8]>
         requires { self.old.place ≡ spot.AtStatus }
         ensures { IsNextLine (reading_of self.old) text.now (reading_of self.new)
             (option_map (λ rest. rest.now) result) }
@@ -119,7 +119,7 @@ impl LeafReading {
 
     /// The next byte of output.
     #[tactic(auto, unfolding(smt_text::specs::LineReading::next_line, smt_text::specs::Grammar::next_state))]
-    pub fn take_output<'a>(&mut self, text: &'a [u8]) -> Result<Option<&'a [u8]>, NoMemory>
+    pub(crate) fn take_output<'a>(&mut self, text: &'a [u8]) -> Result<Option<&'a [u8]>, NoMemory>
         requires { self.old.place ≡ spot.AmongOutputs }
         ensures { IfOk result (λ found. IsNextLine (reading_of self.old) text.now
             (reading_of self.new) (option_map (λ rest. rest.now) found)) }
@@ -150,7 +150,10 @@ impl LeafReading {
 
     /// An assertion, or the check.
     #[tactic(auto, unfolding(smt_text::specs::LineReading::next_line, smt_text::specs::Grammar::next_state))]
-    pub fn take_assertion<'a>(&mut self, text: &'a [u8]) -> Result<Option<&'a [u8]>, NoMemory>
+    pub(crate) fn take_assertion<'a>(
+        &mut self,
+        text: &'a [u8],
+    ) -> Result<Option<&'a [u8]>, NoMemory>
         requires { self.old.place ≡ spot.AmongAssertions }
         ensures { IfOk result (λ found. IsNextLine (reading_of self.old) text.now
             (reading_of self.new) (option_map (λ rest. rest.now) found)) }

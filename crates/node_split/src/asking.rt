@@ -12,7 +12,7 @@ use std::sync::Wait;
 use sym_state::{State, listed};
 
 /// Whether a run can go on where one more term is 1.
-pub fn ask_run(
+pub(crate) fn ask_run(
     rt: &impl Wait,
     alloc: Global,
     shared: &Shared,

@@ -191,7 +191,7 @@ fn in_order(
 }
 
 /// Goes on from a branch: along the side of the sample where the other has no assignment, and else along both.
-pub fn at_branch(
+pub(crate) fn at_branch(
     rt: &impl Wait,
     alloc: Global,
     shared: &Shared,

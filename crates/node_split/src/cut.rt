@@ -41,7 +41,7 @@ fn leaf_kid(choice: Choice, leaf: LeafPart) -> Kid<Content<State, LeafPart>>
 
 /// The side of a fork that is cut because the budget of conflicts was spent on its last assertion. The run is of no use
 /// after that.
-pub fn cut_conflicts(
+pub(crate) fn cut_conflicts(
     alloc: Global,
     run: &mut State,
     choice: Choice,
@@ -65,7 +65,7 @@ pub fn cut_conflicts(
 }
 
 /// The side of a fork that has all values of a term but these, as many as there may be. The run is of no use after that.
-pub fn cut_targets(
+pub(crate) fn cut_targets(
     alloc: Global,
     run: &mut State,
     term: usize,

@@ -26,7 +26,7 @@ use sym_state::State;
 use tree_core::Cause;
 
 /// The leaf of a run that has spent its steps. The run is of no use after that.
-pub fn cut_steps(alloc: Global, state: &mut State) -> Result<LeafPart, NoMemory>
+pub(crate) fn cut_steps(alloc: Global, state: &mut State) -> Result<LeafPart, NoMemory>
     requires writable { HasTextRoom state.old }
     ensures { IfOk result (λ part. (p : Program) (budgets : Budgets)
         → budgets.steps ≡ state.old.steps → IsOpen p state.old

@@ -36,14 +36,14 @@ pub fn sampled(alloc: Global, state: &State, term: usize) -> Result<Word, NoMemo
 }
 
 /// A copy of the sample of a run.
-pub fn sample_of(alloc: Global, state: &State) -> Result<Bytes, NoMemory>
+pub(crate) fn sample_of(alloc: Global, state: &State) -> Result<Bytes, NoMemory>
     ensures { IfOk result (λ sample. sample ≡ state.now.sample) }
 {
     Ok(Bytes::from_slice(alloc, state.sample().as_slice())?)
 }
 
 /// A list of bytes has no greater numbers.
-pub fn are_bytes(bytes: &[u8])
+pub(crate) fn are_bytes(bytes: &[u8])
     ensures { All (λ b. b < 256) bytes.now }
 {}
 
@@ -62,7 +62,7 @@ pub fn narrow(state: &mut State, choice: Choice, term: usize, sample: Bytes) -> 
 }
 
 /// The side of a fork that is this run.
-pub fn run_kid(
+pub(crate) fn run_kid(
     alloc: Global,
     choice: Choice,
     run: State,

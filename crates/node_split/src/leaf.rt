@@ -107,7 +107,11 @@ fn picked(
 }
 
 /// The terms that a leaf of the run has, with these besides.
-pub fn leaf_terms(alloc: Global, state: &mut State, more: &[usize]) -> Result<LeafTerms, NoMemory>
+pub(crate) fn leaf_terms(
+    alloc: Global,
+    state: &mut State,
+    more: &[usize],
+) -> Result<LeafTerms, NoMemory>
     requires { All (λ id. id < length state.old.terms.nodes) more.now }
     ensures grown { OnOk result (IsGrown state.old state.new) }
     ensures terms { IfOk result (HasTerms state.old) }
@@ -119,7 +123,7 @@ pub fn leaf_terms(alloc: Global, state: &mut State, more: &[usize]) -> Result<Le
 }
 
 /// The leaf of a run that is left where it is, with what shows it.
-pub fn leaf_of(
+pub(crate) fn leaf_of(
     alloc: Global,
     state: &State,
     terms: LeafTerms,

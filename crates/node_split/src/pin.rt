@@ -96,7 +96,7 @@ fn part(
 }
 
 /// Goes on from a term that has to be a number: with its value where it has one, and else along its values, so many at most.
-pub fn at_pin(
+pub(crate) fn at_pin(
     rt: &impl Wait,
     alloc: Global,
     shared: &Shared,

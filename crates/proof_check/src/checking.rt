@@ -29,7 +29,7 @@ fn is_false(marks: &Marks, literal: Lit) -> bool
 
 /// Whether each literal is false.
 #[tactic(auto, unfolding(cnf_form::specs::Propagation::is_falsified))]
-pub fn is_falsified(marks: &Marks, clause: &[Lit]) -> bool
+pub(crate) fn is_falsified(marks: &Marks, clause: &[Lit]) -> bool
     ensures { result ≡ is_falsified (marked marks.now) clause.now }
 {
     clause.iter().all(|l| is_false(marks, *l))
@@ -94,7 +94,7 @@ fn hint_is_falsified(marks: &Marks, formula: &Clauses, earlier: &[LogStep], hint
 }
 
 /// Makes each literal of a clause false, and gives no other variable a value.
-pub fn falsify(marks: &mut Marks, clause: &[Lit]) -> Result<(), NoMemory>
+pub(crate) fn falsify(marks: &mut Marks, clause: &[Lit]) -> Result<(), NoMemory>
     ensures { OnOk result (marked marks.new ≡ falsify clause.now) }
 {
     marks.clear();

@@ -99,7 +99,7 @@ impl FiledClauses {
     }
 
     /// Whether one of the clauses of this key is false.
-    pub fn has_falsified(&self, marks: &Marks, key: usize) -> bool
+    pub(crate) fn has_falsified(&self, marks: &Marks, key: usize) -> bool
         ensures { result ≡ has_falsified (marked marks.now) self.now key }
     {
         has_falsified(marks, &self.clauses, &self.index, key)
@@ -107,7 +107,7 @@ impl FiledClauses {
 }
 
 /// Whether a clause is false that ends in one of these literals.
-pub fn has_falsified_end(marks: &Marks, clauses: &FiledClauses, literals: &[Lit]) -> bool
+pub(crate) fn has_falsified_end(marks: &Marks, clauses: &FiledClauses, literals: &[Lit]) -> bool
     ensures { result ≡ has_falsified_end (marked marks.now) clauses.now literals.now }
 {
     literals

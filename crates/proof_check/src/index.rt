@@ -11,7 +11,7 @@ use std::marker::Model;
 pub const EMPTY: usize = 0;
 
 /// The key of a literal: that of the variable k is 2 k + 1, that of its negation 2 k.
-pub fn literal_key(literal: Lit) -> usize
+pub(crate) fn literal_key(literal: Lit) -> usize
     ensures key { result ≡ literal_key literal }
     ensures fits { result < 2 ^ 34 }
 {
@@ -24,7 +24,7 @@ pub fn literal_key(literal: Lit) -> usize
 }
 
 /// The key of a clause: its last literal's.
-pub fn clause_key(clause: &[Lit]) -> usize
+pub(crate) fn clause_key(clause: &[Lit]) -> usize
     ensures key { result ≡ clause_key clause.now }
     ensures fits { result < 2 ^ 34 }
 {

@@ -87,7 +87,7 @@ impl Marks {
     }
 
     /// Makes a literal true.
-    pub fn assign(&mut self, literal: Lit) -> Result<(), NoMemory>
+    pub(crate) fn assign(&mut self, literal: Lit) -> Result<(), NoMemory>
         ensures ok { OnOk result (marked self.new ≡ assign (marked self.old) literal) }
         ensures err { OnErr result (self.new ≡ self.old) }
     {

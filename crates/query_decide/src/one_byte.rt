@@ -37,7 +37,7 @@ fn last_part(alloc: Global, query: &Query) -> Result<Query, NoMemory>
 
 /// Input bytes that meet the condition, of those that are 0 but at this place. Its values are tried
 /// from this first one on, behind 255 from 0 on.
-pub fn try_byte(
+pub(crate) fn try_byte(
     alloc: Global,
     query: &Query,
     place: usize,

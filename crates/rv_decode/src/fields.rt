@@ -60,19 +60,19 @@ pub fn rs2(word: u32) -> Register
     register_at(word, 20)
 }
 
-pub fn opcode(word: u32) -> u32
+pub(crate) fn opcode(word: u32) -> u32
     ensures { result ≡ opcode word }
 {
     field(word, 0, 7)
 }
 
-pub fn funct3(word: u32) -> u32
+pub(crate) fn funct3(word: u32) -> u32
     ensures { result ≡ funct3 word }
 {
     field(word, 12, 3)
 }
 
-pub fn funct7(word: u32) -> u32
+pub(crate) fn funct7(word: u32) -> u32
     ensures { result ≡ funct7 word }
 {
     field(word, 25, 7)
@@ -88,7 +88,7 @@ pub fn amount(word: u32) -> u32
 
 /// The immediate of an I-type instruction.
 #[tactic(auto, unfolding(crate::specs::Fields::i_immediate))]
-pub fn i_immediate(word: u32) -> u32
+pub(crate) fn i_immediate(word: u32) -> u32
     ensures { result ≡ i_immediate word }
 {
     sign_extended(field(word, 20, 12), 12)
@@ -96,7 +96,7 @@ pub fn i_immediate(word: u32) -> u32
 
 /// The offset of a store.
 #[tactic(auto, unfolding(crate::specs::Fields::s_immediate))]
-pub fn s_immediate(word: u32) -> u32
+pub(crate) fn s_immediate(word: u32) -> u32
     ensures { result ≡ s_immediate word }
 {
     let number = field(word, 25, 7) * 32 + field(word, 7, 5);
@@ -105,7 +105,7 @@ pub fn s_immediate(word: u32) -> u32
 
 /// The offset of a branch.
 #[tactic(auto, unfolding(crate::specs::Fields::b_immediate))]
-pub fn b_immediate(word: u32) -> u32
+pub(crate) fn b_immediate(word: u32) -> u32
     ensures { result ≡ b_immediate word }
 {
     let number = field(word, 31, 1) * 4096
@@ -117,7 +117,7 @@ pub fn b_immediate(word: u32) -> u32
 
 /// The upper part of a U-type instruction.
 #[tactic(auto, unfolding(crate::specs::Fields::u_immediate))]
-pub fn u_immediate(word: u32) -> u32
+pub(crate) fn u_immediate(word: u32) -> u32
     ensures { result ≡ u_immediate word }
 {
     field(word, 12, 20) * 4096
@@ -125,7 +125,7 @@ pub fn u_immediate(word: u32) -> u32
 
 /// The offset of a JAL.
 #[tactic(auto, unfolding(crate::specs::Fields::j_immediate))]
-pub fn j_immediate(word: u32) -> u32
+pub(crate) fn j_immediate(word: u32) -> u32
     ensures { result ≡ j_immediate word }
 {
     let number = field(word, 31, 1) * 0x10_0000

@@ -103,7 +103,7 @@ pub enum RegisterOp {
 }
 
 /// What the branch of this funct3 tests.
-pub fn branch_test(funct3: u32) -> Option<Test>
+pub(crate) fn branch_test(funct3: u32) -> Option<Test>
     ensures { result ≡ branch_test funct3 }
 {
     match funct3 {
@@ -118,7 +118,7 @@ pub fn branch_test(funct3: u32) -> Option<Test>
 }
 
 /// What the load of this funct3 reads.
-pub fn load_width(funct3: u32) -> Option<LoadWidth>
+pub(crate) fn load_width(funct3: u32) -> Option<LoadWidth>
     ensures { result ≡ load_width funct3 }
 {
     match funct3 {
@@ -132,7 +132,7 @@ pub fn load_width(funct3: u32) -> Option<LoadWidth>
 }
 
 /// What the store of this funct3 writes.
-pub fn store_width(funct3: u32) -> Option<StoreWidth>
+pub(crate) fn store_width(funct3: u32) -> Option<StoreWidth>
     ensures { result ≡ store_width funct3 }
 {
     match funct3 {
@@ -144,7 +144,7 @@ pub fn store_width(funct3: u32) -> Option<StoreWidth>
 }
 
 /// The operation of this funct3 on a register and an immediate.
-pub fn immediate_op(funct3: u32) -> Option<ImmediateOp>
+pub(crate) fn immediate_op(funct3: u32) -> Option<ImmediateOp>
     ensures { result ≡ immediate_op funct3 }
 {
     match funct3 {
@@ -159,7 +159,7 @@ pub fn immediate_op(funct3: u32) -> Option<ImmediateOp>
 }
 
 /// The shift by a fixed amount of this funct3 and funct7.
-pub fn shift_op(funct3: u32, funct7: u32) -> Option<ShiftOp>
+pub(crate) fn shift_op(funct3: u32, funct7: u32) -> Option<ShiftOp>
     ensures { result ≡ shift_op funct3 funct7 }
 {
     match (funct3, funct7) {
@@ -216,7 +216,7 @@ fn multiply_op(funct3: u32) -> Option<RegisterOp>
 }
 
 /// The operation on two registers of this funct3 and funct7.
-pub fn register_op(funct3: u32, funct7: u32) -> Option<RegisterOp>
+pub(crate) fn register_op(funct3: u32, funct7: u32) -> Option<RegisterOp>
     ensures { result ≡ register_op funct3 funct7 }
 {
     match funct7 {

@@ -202,7 +202,7 @@ pub fn passes(test: Test, a: u32, b: u32) -> bool
 }
 
 /// What an operation makes of a number and an immediate.
-pub fn with_immediate(op: ImmediateOp, a: u32, immediate: u32) -> u32
+pub(crate) fn with_immediate(op: ImmediateOp, a: u32, immediate: u32) -> u32
     ensures { result ≡ arithmetic.with_immediate op a immediate }
 {
     match op {

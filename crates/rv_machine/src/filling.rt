@@ -22,7 +22,7 @@ fn fill(hart: &mut Hart, region: &Region, bytes: &[u8])
 }
 
 /// Puts the input bytes to their regions.
-pub fn place_input(hart: &mut Hart, regions: &[Region], input: &[u8])
+pub(crate) fn place_input(hart: &mut Hart, regions: &[Region], input: &[u8])
     requires mapped { AreMapped (flags_on hart.old.pages) regions.now }
     requires enough { length input.now ≡ count_of regions.now }
     ensures rest { hart.new ≡ record hart.old { pages = hart.new.pages } }

@@ -94,7 +94,7 @@ fn first_registers() -> [u32; 32]
 
 impl Hart {
     /// At the entry of an image, in its memory.
-    pub fn of_image(alloc: Global, image: &Image) -> Result<Hart, NoMemory>
+    pub(crate) fn of_image(alloc: Global, image: &Image) -> Result<Hart, NoMemory>
         ensures { IfOk result (λ hart. hart
             ≡ record {
               pc = image.now.entry;

@@ -121,7 +121,7 @@ fn pages_of(alloc: Global, image: &Image) -> Result<Vec<(u32, Page)>, NoMemory>
 
 impl Memory {
     /// The memory that an image begins with.
-    pub fn of_image(alloc: Global, image: &Image) -> Result<Memory, NoMemory>
+    pub(crate) fn of_image(alloc: Global, image: &Image) -> Result<Memory, NoMemory>
         ensures { IfOk result (λ memory. memory ≡ image.now.pages) }
     {
         Ok(Memory {

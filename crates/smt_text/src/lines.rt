@@ -23,7 +23,7 @@ fn write_input_line(text: &mut String, i: usize) -> Result<(), NoMemory>
 }
 
 /// Appends a line for each input.
-pub fn write_input_lines(text: &mut String, inputs: usize) -> Result<(), NoMemory>
+pub(crate) fn write_input_lines(text: &mut String, inputs: usize) -> Result<(), NoMemory>
     ensures ok { OnOk result (string_bytes text.new
         ≡ string_bytes text.old ++ lines_text (spec.input_lines 0 inputs)) }
 {
@@ -46,7 +46,7 @@ fn write_node_line(text: &mut String, id: usize, width: u32, node: Node) -> Resu
 }
 
 /// Appends a line for each term.
-pub fn write_node_lines(text: &mut String, dag: &Dag) -> Result<(), NoMemory>
+pub(crate) fn write_node_lines(text: &mut String, dag: &Dag) -> Result<(), NoMemory>
     ensures ok { OnOk result (string_bytes text.new
         ≡ string_bytes text.old ++ lines_text (spec.node_lines dag.now)) }
 {
@@ -58,7 +58,7 @@ pub fn write_node_lines(text: &mut String, dag: &Dag) -> Result<(), NoMemory>
 }
 
 /// Appends the line of the status, if the runs exit.
-pub fn write_status_lines(text: &mut String, end: LeafEnd) -> Result<(), NoMemory>
+pub(crate) fn write_status_lines(text: &mut String, end: LeafEnd) -> Result<(), NoMemory>
     ensures ok { OnOk result (string_bytes text.new
         ≡ string_bytes text.old ++ lines_text (spec.status_lines end)) }
 {
@@ -82,7 +82,7 @@ fn write_output_line(text: &mut String, i: usize, id: usize) -> Result<(), NoMem
 }
 
 /// Appends a line for each byte of the output.
-pub fn write_output_lines(text: &mut String, outputs: &[usize]) -> Result<(), NoMemory>
+pub(crate) fn write_output_lines(text: &mut String, outputs: &[usize]) -> Result<(), NoMemory>
     ensures ok { OnOk result (string_bytes text.new
         ≡ string_bytes text.old ++ lines_text (spec.output_lines outputs.now)) }
 {
@@ -102,7 +102,7 @@ fn write_assert_line(text: &mut String, id: usize) -> Result<(), NoMemory>
 }
 
 /// Appends a line for each asserted term.
-pub fn write_assert_lines(text: &mut String, asserted: &[usize]) -> Result<(), NoMemory>
+pub(crate) fn write_assert_lines(text: &mut String, asserted: &[usize]) -> Result<(), NoMemory>
     ensures ok { OnOk result (string_bytes text.new
         ≡ string_bytes text.old ++ lines_text (map AssertLine asserted.now)) }
 {

@@ -45,7 +45,7 @@ fn name_of_extension(signed: bool) -> &'static str
 }
 
 /// Appends the term of a node, whose operands are named by their places.
-pub fn write_node(text: &mut String, node: Node) -> Result<(), NoMemory>
+pub(crate) fn write_node(text: &mut String, node: Node) -> Result<(), NoMemory>
     ensures ok { OnOk result (string_bytes text.new ≡ string_bytes text.old ++ node_text node) }
 {
     match node {

@@ -195,7 +195,7 @@ impl Builder {
     }
 
     /// The quotient of two signed terms of 32 bits: all ones where the second is 0.
-    pub fn div(&mut self, a: usize, b: usize) -> Result<usize, NoMemory>
+    pub(crate) fn div(&mut self, a: usize, b: usize) -> Result<usize, NoMemory>
         requires first { width_of self.old a ≡ 32 }
         requires second { width_of self.old b ≡ 32 }
         ensures ok { IfOk result (BuildsCombined self.old self.new RegisterOp.Div a b
@@ -208,7 +208,7 @@ impl Builder {
     }
 
     /// The quotient of two terms of 32 bits without sign: all ones where the second is 0.
-    pub fn divu(&mut self, a: usize, b: usize) -> Result<usize, NoMemory>
+    pub(crate) fn divu(&mut self, a: usize, b: usize) -> Result<usize, NoMemory>
         requires first { width_of self.old a ≡ 32 }
         requires second { width_of self.old b ≡ 32 }
         ensures ok { IfOk result (BuildsCombined self.old self.new RegisterOp.Divu a b
@@ -245,7 +245,7 @@ impl Builder {
     }
 
     /// The upper 32 bits of the product of two signed terms of 32 bits.
-    pub fn mulh(&mut self, a: usize, b: usize) -> Result<usize, NoMemory>
+    pub(crate) fn mulh(&mut self, a: usize, b: usize) -> Result<usize, NoMemory>
         requires first { width_of self.old a ≡ 32 }
         requires second { width_of self.old b ≡ 32 }
         ensures ok { IfOk result (BuildsCombined self.old self.new RegisterOp.Mulh a b
@@ -258,7 +258,7 @@ impl Builder {
     }
 
     /// The upper 32 bits of the product of a signed term of 32 bits and one without sign.
-    pub fn mulhsu(&mut self, a: usize, b: usize) -> Result<usize, NoMemory>
+    pub(crate) fn mulhsu(&mut self, a: usize, b: usize) -> Result<usize, NoMemory>
         requires first { width_of self.old a ≡ 32 }
         requires second { width_of self.old b ≡ 32 }
         ensures ok { IfOk result (BuildsCombined self.old self.new RegisterOp.Mulhsu a b
@@ -271,7 +271,7 @@ impl Builder {
     }
 
     /// The upper 32 bits of the product of two terms of 32 bits without sign.
-    pub fn mulhu(&mut self, a: usize, b: usize) -> Result<usize, NoMemory>
+    pub(crate) fn mulhu(&mut self, a: usize, b: usize) -> Result<usize, NoMemory>
         requires first { width_of self.old a ≡ 32 }
         requires second { width_of self.old b ≡ 32 }
         ensures ok { IfOk result (BuildsCombined self.old self.new RegisterOp.Mulhu a b

@@ -44,7 +44,7 @@ impl CallCount {
     }
 
     /// Whether the next call is one that fails.
-    pub fn next_fails(&self) -> bool
+    pub(crate) fn next_fails(&self) -> bool
         ensures { result ≡ next_fails self.now }
     {
         self.to_fail.contains(&self.next_number())

@@ -59,7 +59,7 @@ pub fn carry_out<F: Files>(files: &mut F, plan: &Plan) -> Result<(), Fault>
 }
 
 /// Says that memory was refused.
-pub fn say_no_memory<F: Files>(files: &mut F)
+pub(crate) fn say_no_memory<F: Files>(files: &mut F)
     ensures said { (said : List ℕ) × IsPrefix said no_memory
         × ((F.seen files.new).told ≡ after (F.seen files.old).told (says said)) }
     ensures writes { (F.seen files.old).writes ≤ (F.seen files.new).writes }

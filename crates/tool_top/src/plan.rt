@@ -77,7 +77,7 @@ pub(crate) fn refuse_input(alloc: Global, why: Unfit) -> Result<Plan, NoMemory>
 }
 
 /// Reads what the words' job reads, and makes its plan in full.
-pub fn make_plan<R: Threads + Wait + Sync, F: Files, G: Gate + Sync>(
+pub(crate) fn make_plan<R: Threads + Wait + Sync, F: Files, G: Gate + Sync>(
     rt: &R,
     alloc: Global,
     words: &[String],

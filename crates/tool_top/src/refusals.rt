@@ -27,21 +27,21 @@ fn inputs_refused(alloc: Global, number: u8, name: &str) -> Result<Vec<u8>, NoMe
 }
 
 /// Why a file is that of no program.
-pub fn say_refused(alloc: Global, why: Refused) -> Result<Vec<u8>, NoMemory>
+pub(crate) fn say_refused(alloc: Global, why: Refused) -> Result<Vec<u8>, NoMemory>
     ensures { IfOk result (λ line. line.items ≡ refused_line why) }
 {
     program_refused(alloc, why.number(), why.name())
 }
 
 /// Why an input isn't taken.
-pub fn say_unfit(alloc: Global, why: Unfit) -> Result<Vec<u8>, NoMemory>
+pub(crate) fn say_unfit(alloc: Global, why: Unfit) -> Result<Vec<u8>, NoMemory>
     ensures { IfOk result (λ line. line.items ≡ unfit_line why) }
 {
     inputs_refused(alloc, why.number(), why.name())
 }
 
 /// Why a text is no test.
-pub fn say_test_refused(alloc: Global, why: TestRefused) -> Result<Vec<u8>, NoMemory>
+pub(crate) fn say_test_refused(alloc: Global, why: TestRefused) -> Result<Vec<u8>, NoMemory>
     ensures { IfOk result (λ line. line.items ≡ test_refused why) }
 {
     let mut buffer = Buffer::new();

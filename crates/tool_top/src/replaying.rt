@@ -106,7 +106,7 @@ fn read_both<F: Files>(program: &str, test: &str, files: &mut F) -> Result<(Byte
 }
 
 /// Reads the program and then the test, and makes the plan of their replay.
-pub fn plan_replay<F: Files>(
+pub(crate) fn plan_replay<F: Files>(
     alloc: Global,
     program: &str,
     test: &str,

@@ -10,7 +10,7 @@ use std::alloc::AllocError as NoMemory;
 
 impl<R, K> Deed<R, K> {
     /// Whether the worker may do this to a node that stands so.
-    pub fn is_allowed(&self, status: Status, by: u32) -> bool
+    pub(crate) fn is_allowed(&self, status: Status, by: u32) -> bool
         ensures { result ≡ allows status by self.now }
     {
         match (self, status) {
