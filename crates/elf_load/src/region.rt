@@ -1,7 +1,8 @@
 //! Where input bytes stand in memory.
 
-ghost use Rattle.std.specs.Prelude.{◌≡◌, length};
+ghost use Rattle.std.specs.Prelude.{◌≡◌, IfOk, length};
 
+use std::alloc::{AllocError as NoMemory, Global};
 use std::marker::Model;
 
 /// So many input bytes from an address on.
@@ -31,6 +32,15 @@ impl Regions {
         ensures { result ≡ items.items }
     {
         Regions { items }
+    }
+
+    /// Regions of their own with the same items.
+    pub fn try_clone(&self, alloc: Global) -> Result<Regions, NoMemory>
+        ensures { IfOk result (λ copy. copy ≡ self.now) }
+    {
+        Ok(Regions {
+            items: self.items.to_vec(alloc)?,
+        })
     }
 
     pub fn into_vec(self) -> Vec<Region>

@@ -15,7 +15,7 @@ use std::alloc::{AllocError as NoMemory, Global};
 use std::marker::Model;
 
 /// What the stack pointer, x2, is at the start.
-const STACK_POINTER: u32 = 0x7FFF_FFF0;
+pub const STACK_POINTER: u32 = 0x7FFF_FFF0;
 
 /// Registers, memory, what was written, and the path.
 #[derive(Debug)]

@@ -26,7 +26,9 @@ mod step;
 mod transfer;
 
 pub use call::{EXIT, MOST_WRITTEN, WRITE, is_file};
+pub use hart::STACK_POINTER;
 pub use machine::Machine;
-pub use memory::word;
+pub use memory::{EXECUTE, PAGE, word};
 pub use run::Ran;
 pub use step::Step;
+pub use transfer::{is_load_aligned, is_store_aligned};

@@ -18,10 +18,10 @@ use std::alloc::{AllocError as NoMemory, Global};
 use std::marker::Model;
 
 /// The bytes of a page.
-const PAGE: u32 = 256;
+pub const PAGE: u32 = 256;
 
 /// The flag of a page whose instructions can be executed.
-const EXECUTE: u8 = 1;
+pub const EXECUTE: u8 = 1;
 
 /// The pages of a machine's memory. It keeps where the pages stand that were used last, since these are mostly used again.
 #[derive(Debug)]

@@ -13,7 +13,8 @@ use crate::hart::Hart;
 use crate::step::{Step, trapped};
 use rv_decode::{LoadWidth, Register, StoreWidth, Trap};
 
-fn is_load_aligned(width: LoadWidth, address: u32) -> bool
+/// Whether such a load may be from the address.
+pub fn is_load_aligned(width: LoadWidth, address: u32) -> bool
     ensures { result ≡ machine.is_load_aligned width address }
 {
     match width {
@@ -23,7 +24,8 @@ fn is_load_aligned(width: LoadWidth, address: u32) -> bool
     }
 }
 
-fn is_store_aligned(width: StoreWidth, address: u32) -> bool
+/// Whether such a store may be to the address.
+pub fn is_store_aligned(width: StoreWidth, address: u32) -> bool
     ensures { result ≡ machine.is_store_aligned width address }
 {
     match width {

@@ -26,11 +26,9 @@ use crate::halt::Halt;
 use crate::needs::number_at;
 use crate::outcome::{Step, trapped};
 use rv_decode::{LoadWidth, Register, RegisterOp, StoreWidth, Trap};
+use rv_machine::{PAGE, is_load_aligned, is_store_aligned};
 use std::alloc::AllocError as NoMemory;
 use sym_state::{State, Value};
-
-/// The bytes of a page.
-const PAGE: u32 = 256;
 
 /// Whether a page is mapped at an address.
 pub(crate) fn is_mapped(state: &State, address: u32) -> bool
@@ -46,26 +44,6 @@ fn can_write(state: &State, address: u32) -> bool
     match state.flags(address / PAGE) {
         None => false,
         Some(flags) => flags / 2 % 2 == 1,
-    }
-}
-
-fn is_load_aligned(width: LoadWidth, address: u32) -> bool
-    ensures { result ≡ machine.is_load_aligned width address }
-{
-    match width {
-        LoadWidth::Lb | LoadWidth::Lbu => true,
-        LoadWidth::Lh | LoadWidth::Lhu => address % 2 == 0,
-        LoadWidth::Lw => address % 4 == 0,
-    }
-}
-
-fn is_store_aligned(width: StoreWidth, address: u32) -> bool
-    ensures { result ≡ machine.is_store_aligned width address }
-{
-    match width {
-        StoreWidth::Sb => true,
-        StoreWidth::Sh => address % 2 == 0,
-        StoreWidth::Sw => address % 4 == 0,
     }
 }
 

@@ -4,10 +4,8 @@ ghost use Rattle.std.specs.Prelude.{◌≡◌, ◌%◌};
 ghost use Rattle.sym_state.specs.Codes.{IsCode};
 ghost use Rattle.sym_state.specs.Symbolic.{IsFormed};
 
-use crate::state::{PAGE, State};
-
-/// The flag of a page whose instructions can be executed.
-const EXECUTE: u8 = 1;
+use crate::state::State;
+use rv_machine::{EXECUTE, PAGE};
 
 /// What stands at an address from which an instruction is fetched.
 #[derive(Clone, Copy, Debug, PartialEq, Eq)]

@@ -17,12 +17,10 @@ use byte_list::Bytes;
 use cow_pages::{Byte, Pages};
 use cow_vec::CowVec;
 use elf_load::{Image, Region};
+use rv_machine::STACK_POINTER;
 use std::alloc::{AllocError as NoMemory, Global};
 use term_simplify::Builder;
 use term_table::Terms;
-
-/// What the stack pointer, x2, is at the start.
-const STACK_POINTER: u32 = 0x7FFF_FFF0;
 
 /// The registers at the start.
 fn first_registers() -> [Value; 32]

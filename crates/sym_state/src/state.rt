@@ -14,14 +14,12 @@ use cow_pages::{Byte, Pages};
 use cow_vec::CowVec;
 use fork_spec::Placed;
 use rv_decode::{PathStep, Register};
+use rv_machine::PAGE;
 use std::alloc::{AllocError as NoMemory, Global};
 use std::marker::Model;
 use term_simplify::Builder;
 use term_table::Terms;
 use tree_core::Choice;
-
-/// The bytes of a page.
-pub(crate) const PAGE: u32 = 256;
 
 /// A symbolic run, somewhere before its end. Copies share what they hold until one of them changes.
 pub struct State {

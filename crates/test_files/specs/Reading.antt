@@ -13,12 +13,13 @@ use Rattle.rv_decode.specs.declared.ends.PathStep.{PathStep}
 use Rattle.elf_load.specs.Regions.{put_first}
 use Rattle.test_files.specs.Forms.{end_said, path_of, region_of}
 use Rattle.test_files.specs.Tests.{Test}
+use Rattle.test_files.specs.declared.reading.TheConstants.{MOST_BYTES}
 use Rattle.test_files.specs.declared.refused.TestRefused.{TestRefused}
 use Rattle.test_files.specs.declared.refused.TestRefused.TheVariants.{NotJson, Missing, Kind, Hex, Length, TooBig}
 
 -- the most bytes of a test
 abbrev pub most_bytes : ℕ
-most_bytes = 16777216
+most_bytes = MOST_BYTES
 
 -- the string at a key of an object
 abbrev pub text_at : List ℕ → Data → Option (List ℕ)

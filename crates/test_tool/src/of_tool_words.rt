@@ -313,20 +313,17 @@ fn are_regions(regions: &[Region], wanted: &[(u32, u32)]) -> bool {
 /// Whether this is the job that is wanted.
 fn is_wanted(job: &Job, wanted: &Wanted) -> bool {
     match (job, wanted) {
-        (
-            Job::Explore {
-                program,
-                out,
-                regions,
-                budgets,
-                workers,
-            },
-            Wanted::Explore(file, folder, places, numbers),
-        ) => {
-            program.as_str() == *file
-                && out.as_str() == *folder
-                && are_regions(regions.as_slice(), places)
-                && (budgets.steps, budgets.targets, budgets.conflicts, *workers) == *numbers
+        (Job::Explore(asked), Wanted::Explore(file, folder, places, numbers)) => {
+            let budgets = &asked.budgets;
+            asked.program.as_str() == *file
+                && asked.out.as_str() == *folder
+                && are_regions(asked.regions.as_slice(), places)
+                && (
+                    budgets.steps,
+                    budgets.targets,
+                    budgets.conflicts,
+                    asked.workers,
+                ) == *numbers
         }
         (Job::Replay { program, test }, Wanted::Replay(file, said)) => {
             program.as_str() == *file && test.as_str() == *said

@@ -15,6 +15,7 @@ use Rattle.tree_core.specs.declared.budgets.Budgets.{Budgets}
 use Rattle.tool_top.specs.Lines.{bench_line, read_fault, refused_line, unfit_line, usage}
 use Rattle.tool_top.specs.Replaying.{IsNoTest, IsReplayed, IsTestMisfit, most_test_bytes}
 use Rattle.tool_top.specs.Reports.{IsReportOf}
+use Rattle.tool_top.specs.declared.plan.TheConstants.{MOST_BYTES}
 use Rattle.tool_top.specs.declared.verdict.Verdict.{Verdict}
 use Rattle.tool_top.specs.declared.verdict.Verdict.TheVariants.{Done, NoJob, Refused, Unfit, ReadFault}
 
@@ -34,7 +35,7 @@ pub record Plan : Type 0 where
 
 -- the most bytes of a program's file that are read
 abbrev pub most_bytes : ℕ
-most_bytes = 1048577
+most_bytes = MOST_BYTES
 
 -- a text is said, and no file is put
 abbrev pub says_only : Verdict → List (List ℕ) → List ℕ → Plan

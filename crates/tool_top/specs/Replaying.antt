@@ -10,12 +10,13 @@ use Rattle.test_files.specs.Tests.{Test}
 use Rattle.test_files.specs.declared.refused.TestRefused.{TestRefused as WhyNoTest}
 use Rattle.tool_io.specs.Told.{Put}
 use Rattle.tool_top.specs.Lines.{same, test_refused, unfit_line}
+use Rattle.tool_top.specs.declared.replaying.TheConstants.{MOST_TEST_BYTES}
 use Rattle.tool_top.specs.declared.verdict.Verdict.{Verdict}
 use Rattle.tool_top.specs.declared.verdict.Verdict.TheVariants.{Done, Differs, TestRefused, Unfit}
 
 -- the most bytes of a test's file that are read: one more than a test may have
 abbrev pub most_test_bytes : ℕ
-most_test_bytes = 16777217
+most_test_bytes = MOST_TEST_BYTES
 
 -- the bytes are those of a program, and of this test, whose regions fit it
 pub record IsReplayable (bytes text : List ℕ) (image : Image) (test : Test) : Type 0 where

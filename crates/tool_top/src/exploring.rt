@@ -1,15 +1,15 @@
 //! What an exploration is to put and say.
 
-ghost use Rattle.std.specs.Prelude.{◌≡◌, ◌≤◌, Some, IfOk, OnErr};
-ghost use Rattle.elf_load.specs.Images.{Loads};
-ghost use Rattle.tool_words.specs.Job.{Explore};
+ghost use Rattle.std.specs.Prelude.{◌≡◌, ◌≤◌, None, Some, IfOk, OnErr, string_bytes};
+ghost use Rattle.elf_load.specs.Fits.{unfit};
 ghost use Rattle.tool_words.specs.Limits.{IsBudgets};
+ghost use Rattle.tool_words.specs.Seen.{exploration_seen};
 ghost use Rattle.tool_top.specs.Plan.{IsPlanned, OnlyReads, Treats};
 ghost use Rattle.tool_top.specs.Reports.{IsReportOf};
 
 use crate::plan::{MOST_BYTES, Plan, refuse, refuse_input, says_only};
 use crate::verdict::Verdict;
-use elf_load::{Image, LoadError, Regions, fit, load};
+use elf_load::{Image, LoadError, fit, load};
 use node_split::Worker;
 use report_text::make_report;
 use std::alloc::{AllocError as NoMemory, Global};
@@ -17,7 +17,7 @@ use std::sync::Wait;
 use std::thread::Threads;
 use sym_state::{Program, State};
 use tool_io::{Fault, Files};
-use tree_core::Budgets;
+use tool_words::Exploration;
 use work_gate::Gate;
 use work_run::explore;
 
@@ -51,51 +51,44 @@ pub(crate) fn plan_report<R: Threads + Wait + Sync, G: Gate + Sync>(
     })
 }
 
-// What is to be done for a program, from its image.
-fn plan_image<R: Threads + Wait + Sync, G: Gate + Sync>(
+// The report of a program whose input fits it.
+fn plan_fitting<R: Threads + Wait + Sync, G: Gate + Sync>(
     rt: &R,
     alloc: Global,
-    out: &str,
-    asked: Regions,
-    budgets: Budgets,
-    workers: u32,
-    bytes: &[u8],
+    asked: &Exploration,
     image: Image,
     gate: &G,
 ) -> Result<Plan, NoMemory>
-    requires loads { Loads bytes.now image }
-    requires within { IsBudgets budgets }
-    requires some { 1 ≤ workers }
-    ensures { IfOk result (λ p.
-        Treats out.now bytes.now asked budgets workers p.verdict p.files.items p.text) }
+    requires fits { unfit image asked.now.regions ≡ None }
+    requires within { IsBudgets asked.now.budgets }
+    requires some { 1 ≤ asked.now.workers }
+    ensures verdict { IfOk result (λ p. p.verdict ≡ Verdict.Done) }
+    ensures report { IfOk result (λ p. IsReportOf (string_bytes asked.now.out) image asked.now.regions
+        asked.now.budgets asked.now.workers p.files.items p.text) }
 {
-    match fit(&image, &asked) {
-        Err(why) => refuse_input(alloc, why),
-        Ok(()) => {
-            let worker = Worker::new(alloc, Program::new(image, asked), budgets)?;
-            plan_report(rt, alloc, out, &worker, workers, gate)
-        }
-    }
+    let program = Program::new(image, asked.regions.try_clone(alloc)?);
+    let worker = Worker::new(alloc, program, asked.budgets)?;
+    plan_report(rt, alloc, asked.out.as_str(), &worker, asked.workers, gate)
 }
 
-// What is to be done for a program's bytes, the regions that are asked, the budgets and the number of workers.
+// What is to be done for a program's bytes.
 fn plan_bytes<R: Threads + Wait + Sync, G: Gate + Sync>(
     rt: &R,
     alloc: Global,
-    out: &str,
-    asked: Regions,
-    budgets: Budgets,
-    workers: u32,
+    asked: &Exploration,
     bytes: &[u8],
     gate: &G,
 ) -> Result<Plan, NoMemory>
-    requires within { IsBudgets budgets }
-    requires some { 1 ≤ workers }
-    ensures { IfOk result (λ p.
-        Treats out.now bytes.now asked budgets workers p.verdict p.files.items p.text) }
+    requires within { IsBudgets asked.now.budgets }
+    requires some { 1 ≤ asked.now.workers }
+    ensures { IfOk result (λ p. Treats (string_bytes asked.now.out) bytes.now asked.now.regions
+        asked.now.budgets asked.now.workers p.verdict p.files.items p.text) }
 {
     match load(alloc, bytes) {
-        Ok(image) => plan_image(rt, alloc, out, asked, budgets, workers, bytes, image, gate),
+        Ok(image) => match fit(&image, &asked.regions) {
+            Ok(()) => plan_fitting(rt, alloc, asked, image, gate),
+            Err(why) => refuse_input(alloc, why),
+        },
         Err(LoadError::Refused(why)) => refuse(alloc, why),
         Err(LoadError::NoMemory) => Err(NoMemory),
     }
@@ -105,33 +98,20 @@ fn plan_bytes<R: Threads + Wait + Sync, G: Gate + Sync>(
 pub(crate) fn plan_explore<R: Threads + Wait + Sync, F: Files, G: Gate + Sync>(
     rt: &R,
     alloc: Global,
-    program: &str,
-    out: &str,
-    asked: Regions,
-    budgets: Budgets,
-    workers: u32,
+    asked: &Exploration,
     files: &mut F,
     gate: &G,
 ) -> Result<Plan, NoMemory>
-    requires within { IsBudgets budgets }
-    requires some { 1 ≤ workers }
+    requires within { IsBudgets asked.now.budgets }
+    requires some { 1 ≤ asked.now.workers }
     ensures ok { IfOk result (λ p. IsPlanned (F.seen files.old) (F.seen files.new)
-        (Some (Explore program.now out.now asked budgets workers)) p.verdict p.files.items p.text) }
+        (Some (exploration_seen asked.now)) p.verdict p.files.items p.text) }
     ensures err { OnErr result (OnlyReads (F.seen files.old) (F.seen files.new)
-        (Some (Explore program.now out.now asked budgets workers))) }
+        (Some (exploration_seen asked.now))) }
     ensures writes { (F.seen files.new).writes ≡ (F.seen files.old).writes }
 {
-    match files.read(program, MOST_BYTES) {
-        Ok(bytes) => plan_bytes(
-            rt,
-            alloc,
-            out,
-            asked,
-            budgets,
-            workers,
-            bytes.as_slice(),
-            gate,
-        ),
+    match files.read(asked.program.as_str(), MOST_BYTES) {
+        Ok(bytes) => plan_bytes(rt, alloc, asked, bytes.as_slice(), gate),
         Err(Fault::Failed) => says_only(alloc, Verdict::ReadFault, b"read fault\n"),
         Err(Fault::NoMemory) => Err(NoMemory),
     }

@@ -91,25 +91,7 @@ pub(crate) fn make_plan<R: Threads + Wait + Sync, F: Files, G: Gate + Sync>(
     ensures writes { (F.seen files.new).writes ≡ (F.seen files.old).writes }
 {
     match read_words(alloc, words) {
-        Ok(
-            Job::Explore {
-                program,
-                out,
-                regions,
-                budgets,
-                workers,
-            },
-        ) => plan_explore(
-            rt,
-            alloc,
-            program.as_str(),
-            out.as_str(),
-            regions,
-            budgets,
-            workers,
-            files,
-            gate,
-        ),
+        Ok(Job::Explore(asked)) => plan_explore(rt, alloc, &asked, files, gate),
         Ok(Job::Replay { program, test }) => {
             plan_replay(alloc, program.as_str(), test.as_str(), files)
         }

@@ -3,15 +3,19 @@ use Rattle.std.specs.Prelude.{◌≡◌, ⊤, Option, None, Some, Result, Ok, Er
 use Rattle.clap.specs.declared.error.kind.ErrorKind.{ErrorKind}
 use Rattle.clap.specs.declared.error.kind.ErrorKind.TheVariants.{OutOfMemory}
 use Rattle.tool_words.specs.Job as spec
+use Rattle.tool_words.specs.declared.job.Exploration.{Exploration}
 use Rattle.tool_words.specs.declared.job.Job.{Job}
 use Rattle.tool_words.specs.declared.job.Job.TheVariants.{Bench, Explore, Replay}
 use Rattle.tool_words.specs.declared.job.WordsError.{WordsError}
 use Rattle.tool_words.specs.declared.job.WordsError.TheVariants.{Usage, NoMemory}
 
 -- the job, with its texts as lists of bytes
+abbrev pub exploration_seen : Exploration → spec.Job
+exploration_seen e =
+    spec.Explore (string_bytes e.program) (string_bytes e.out) e.regions e.budgets e.workers
+
 abbrev pub job_seen : Job → spec.Job
-job_seen (Explore program out regions budgets workers) =
-    spec.Explore (string_bytes program) (string_bytes out) regions budgets workers
+job_seen (Explore e) = exploration_seen e
 job_seen (Replay program test) = spec.Replay (string_bytes program) (string_bytes test)
 job_seen (Bench number workers out) = spec.Bench number workers (string_bytes out)
 

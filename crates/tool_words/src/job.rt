@@ -10,18 +10,37 @@ use elf_load::Regions;
 use std::alloc::{AllocError, AllocFailed};
 use tree_core::Budgets;
 
+/// An exploration: of which program, for which input bytes, and within what.
+#[derive(Debug)]
+pub struct Exploration {
+    /// The program's file.
+    pub program: String,
+    /// The folder into which the leaves and their tests are put.
+    pub out: String,
+    /// Where the input bytes stand.
+    pub regions: Regions,
+    pub budgets: Budgets,
+    /// How many workers there are.
+    pub workers: u32,
+}
+
+impl Drop for Exploration {
+    fn drop(self) {
+        let Self {
+            program: _program,
+            out: _out,
+            regions: _regions,
+            budgets: _budgets,
+            workers: _workers,
+        } = self;
+    }
+}
+
 /// What the words ask for.
 #[derive(Debug, Drop)]
 pub enum Job {
-    /// The leaves of the program in this file, whose regions hold the input bytes, and their tests,
-    /// are to be put into the folder `out`, within the budgets, by so many workers.
-    Explore {
-        program: String,
-        out: String,
-        regions: Regions,
-        budgets: Budgets,
-        workers: u32,
-    },
+    /// The leaves of a program and their tests are to be put into a folder.
+    Explore(Exploration),
     /// The run of the test in one file, on the program in another, is to be compared with what the test says.
     Replay {
         program: String,

@@ -8,6 +8,6 @@ mod limit;
 mod region;
 mod words;
 
-pub use job::{Job, WordsError};
+pub use job::{Exploration, Job, WordsError};
 pub use limit::{CONFLICTS, Limit, NUMBERS, STEPS, TARGETS, WORKERS};
 pub use words::read_words;

@@ -9,7 +9,7 @@ ghost use Rattle.tool_words.specs.Region.{regions_said};
 ghost use Rattle.tool_words.specs.Seen.{IsRead, job_seen};
 
 use crate::command::rvklee;
-use crate::job::{Job, WordsError};
+use crate::job::{Exploration, Job, WordsError};
 use crate::limit::{NUMBERS, WORKERS, read_budgets, read_said, read_workers};
 use crate::region::read_region;
 use clap::ArgMatches;
@@ -68,13 +68,13 @@ fn read_explore(alloc: Global, found: &ArgMatches<'_>) -> Result<Job, WordsError
         return Err(WordsError::Usage);
     };
     let regions = read_regions(alloc, inputs)?;
-    Ok(Job::Explore {
+    Ok(Job::Explore(Exploration {
         program: String::from_str(alloc, program)?,
         out: String::from_str(alloc, out)?,
         regions,
         budgets,
         workers,
-    })
+    }))
 }
 
 /// The job of `replay`.
