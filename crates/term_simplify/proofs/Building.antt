@@ -11,12 +11,14 @@ use Rattle.bv_dag.specs.Nodes.{Fits, node_value, node_width, widths_of}
 use Rattle.bv_dag.specs.declared.nodes.Node.{Node}
 use Rattle.bv_dag.proofs.TermLaws.{IsDag-with_node, width_of-new, val-new, width-val}
 use Rattle.term_trees.specs.Growth.{Continues}
-use Rattle.term_trees.specs.Trees.{tree_of, node_tree, tree_value, IsTerm}
+use Rattle.term_trees.specs.Trees.{Tree, tree_of, node_tree, tree_value, IsTerm}
 use Rattle.term_trees.proofs.Terms.{is_term}
 use Rattle.term_trees.proofs.TreeLaws.{tree_by_cases, tree_of-new, value-tree_of}
 use Rattle.term_simplify.specs.Builds.{BuildsNode}
+use Rattle.term_simplify.specs.Moves.{move_tree, unmoved}
 use Rattle.term_simplify.specs.Plans.{Makes, plan_tree}
 use Rattle.term_simplify.specs.Simplified.{simplified}
+use Rattle.term_simplify.specs.declared.moves.Move.{Move}
 use Rattle.term_simplify.specs.declared.plan.Plan.{Plan}
 use Rattle.term_simplify.specs.declared.plan.Plan.TheVariants.{Term}
 use Rattle.term_simplify.proofs.NodeRules.{value-simplified}
@@ -65,12 +67,12 @@ width_built g more id n value =
     sym (width-val more id []) ∙ ap (λ (v : BitVector). v.width) (value ∙ sym (val-new g n [])) ∙
     width-val (with_node g n) (length g.nodes) [] ∙ width_of-new g n
 
-built_here : {E : Type 0} (g more : Graph) (r : Result ℕ E) (plan : Plan) (n : Node) →
-    IsTerm g.inputs (node_tree (tree_of g) n) → Makes g plan (simplified (tree_of g) n) →
-    IfOk r (λ id. id < length more.nodes) → IfOk r (λ id. tree_of more id ≡ plan_tree g plan) →
-    OnOk r (Continues g more) → IfOk r (BuildsNode g more n)
-built_here g more (Ok id) plan n term makes there tree ok =
-    let is : tree_of more id ≡ simplified (tree_of g) n = tree ∙ makes.is in
+-- an answer that is the simplified tree of a node
+pub built_as : {E : Type 0} (g more : Graph) (r : Result ℕ E) (n : Node) →
+    IsTerm g.inputs (node_tree (tree_of g) n) → IfOk r (λ id. id < length more.nodes) →
+    IfOk r (λ id. tree_of more id ≡ simplified (tree_of g) n) → OnOk r (Continues g more) →
+    IfOk r (BuildsNode g more n)
+built_as g more (Ok id) n term there is ok =
     let value : (input : List ℕ) → All (λ b. b < 256) input → val more id input ≡ node_value input (λ k. val g k input) n = value_built g more id n term is in
     record {
       continues = ok;
@@ -80,13 +82,39 @@ built_here g more (Ok id) plan n term makes there tree ok =
           (value [] (λ k d h. absurd (omega (arith, h))));
       value = value;
     }
-built_here g more (Err x) plan n term makes there tree ok = tt
+built_as g more (Err x) n term there is ok = tt
 
--- the same, where the plan was made of an equal graph
+-- the answer of a plan
+planned : {E : Type 0} (g more : Graph) (r : Result ℕ E) (plan : Plan) (tree : Tree) →
+    Makes g plan tree → IfOk r (λ id. tree_of more id ≡ plan_tree g plan) →
+    IfOk r (λ id. tree_of more id ≡ tree)
+planned g more (Ok id) plan tree makes is = is ∙ makes.is
+planned g more (Err x) plan tree makes is = tt
+
+-- the same, where the plan was made of an equal graph and for a node that moves no bits
 pub built : {E : Type 0} (h g more : Graph) (r : Result ℕ E) (plan : Plan) (n : Node) → h ≡ g →
-    IsTerm h.inputs (node_tree (tree_of h) n) → Makes h plan (simplified (tree_of h) n) →
+    IsTerm h.inputs (node_tree (tree_of h) n) → Makes h plan (unmoved (tree_of h) n) →
+    simplified (tree_of g) n ≡ unmoved (tree_of g) n →
     IfOk r (λ id. id < length more.nodes) → IfOk r (λ id. tree_of more id ≡ plan_tree g plan) →
     OnOk r (Continues g more) → IfOk r (BuildsNode g more n)
-built h g more r plan n e term makes there tree ok =
-    built_here g more r plan n (subst (λ (k : Graph). IsTerm k.inputs (node_tree (tree_of k) n)) e
-    term) (subst (λ (k : Graph). Makes k plan (simplified (tree_of k) n)) e makes) there tree ok
+built h g more r plan n e term makes still there tree ok =
+    let here : Makes g plan (simplified (tree_of g) n) =
+    subst (Makes g plan) (sym still) (subst (λ (k : Graph). Makes k plan (unmoved (tree_of k) n)) e makes) in
+    built_as g more r n (subst (λ (k : Graph). IsTerm k.inputs (node_tree (tree_of k) n)) e term) there
+    (planned g more r plan (simplified (tree_of g) n) here tree) ok
+
+other_tree : {E : Type 0} (more : Graph) (r : Result ℕ E) (s t : Tree) → s ≡ t →
+    IfOk r (λ id. tree_of more id ≡ s) → IfOk r (λ id. tree_of more id ≡ t)
+other_tree more (Ok id) s t same is = is ∙ same
+other_tree more (Err x) s t same is = tt
+
+-- an answer of moved bits, which were found in an equal graph
+pub moved_here : {E : Type 0} (h g more : Graph) (r : Result ℕ E) (m : Move) (n : Node) → h ≡ g →
+    IsDag h → Fits g.inputs (widths_of g.nodes) n → simplified (tree_of h) n ≡ move_tree h m →
+    IfOk r (λ id. id < length more.nodes) → IfOk r (λ id. tree_of more id ≡ move_tree g m) →
+    OnOk r (Continues g more) → IfOk r (BuildsNode g more n)
+moved_here h g more r m n e dag fits is there tree ok =
+    let here : simplified (tree_of g) n ≡ move_tree g m =
+    subst (λ (k : Graph). simplified (tree_of k) n ≡ move_tree k m) e is in
+    built_as g more r n (is_term_of g n (subst IsDag e dag) fits) there
+    (other_tree more r (move_tree g m) (simplified (tree_of g) n) (sym here) tree) ok

@@ -8,6 +8,10 @@ pub mod TestRules
 pub mod ChoiceRules
 pub mod PartRules
 pub mod ExtensionRules
+pub mod PartTerms
+pub mod Moving
+pub mod MovedRules
+pub mod Moved
 pub mod NodeRules
 pub mod Reading
 pub mod Masking

@@ -5,7 +5,7 @@ use Rattle.bv_dag.specs.declared.nodes.Node.{Node}
 use Rattle.bv_dag.specs.declared.nodes.Node.TheVariants.{Num, Input, Not, Neg, Binary, Compare, Ite, Extract, Extend, Concat}
 use Rattle.term_trees.specs.Trees.{Tree, node_tree, tree_value, IsTerm}
 use Rattle.term_simplify.specs.Simplified.{simplified}
-use Rattle.term_simplify.proofs.BinaryRules.{value-binary_of}
+use Rattle.term_simplify.proofs.MovedRules.{value-binary_of}
 use Rattle.term_simplify.proofs.TestRules.{value-complement_of, value-negative_of, value-comparison_of}
 use Rattle.term_simplify.proofs.ChoiceRules.{value-choice_of}
 use Rattle.term_simplify.proofs.PartRules.{value-part_of}

@@ -97,8 +97,9 @@ abbrev pub masked : BinaryOp → Option BitVector → (t otherwise : Tree) → T
 masked And (Some y) t otherwise = if keeps y t then t else otherwise
 masked op y t otherwise = otherwise
 
-unfoldable pub binary_of : BinaryOp → Tree → Tree → Tree
-binary_of op s t =
+-- an operation that moves no bits by a number
+unfoldable pub unmoved_of : BinaryOp → Tree → Tree → Tree
+unmoved_of op s t =
     masked op (tree_number s) t
     (masked op (tree_number t) s (binary_by op (tree_number s) (tree_number t) s t))
 
@@ -213,6 +214,30 @@ joined_by None y s t = Joined s t
 
 unfoldable pub joined_of : Tree → Tree → Tree
 joined_of s t = joined_by (tree_number s) (tree_number t) s t
+
+-- ---- A shift of a term by a number below its width moves its bits, which takes no circuit: the lower
+-- ones up, above zeros, or the upper ones down, below zeros or copies of the sign.
+abbrev pub moved_up : (width by : ℕ) → Tree → Tree
+moved_up width by t = joined_of (part_of (width - 1 - by) 0 t) (Constant by 0)
+
+abbrev pub moved_down : (width by : ℕ) → (signed : Bool) → Tree → Tree
+moved_down width by signed t = extension_by by signed (part_of (width - 1) by t)
+
+-- some bits are moved, but not all of them out
+abbrev pub moves : BitVector → Bool
+moves y = nat_lt 0 y.number && nat_lt y.number y.width
+
+abbrev pub moved : BinaryOp → Option BitVector → Option BitVector → (s otherwise : Tree) → Tree
+moved Shl None (Some y) s otherwise =
+    if moves y then moved_up y.width y.number s else otherwise
+moved Lshr None (Some y) s otherwise =
+    if moves y then moved_down y.width y.number false s else otherwise
+moved Ashr None (Some y) s otherwise =
+    if moves y then moved_down y.width y.number true s else otherwise
+moved op x y s otherwise = otherwise
+
+unfoldable pub binary_of : BinaryOp → Tree → Tree → Tree
+binary_of op s t = moved op (tree_number s) (tree_number t) s (unmoved_of op s t)
 
 -- the simplified tree of a node, from those of its operands
 abbrev pub simplified : (operand : ℕ → Tree) → Node → Tree

@@ -1,16 +1,19 @@
 //! Terms, each simplified before it is put behind the others.
 
 ghost use Rattle.std.specs.Prelude.{◌≡◌, ◌↔◌, ◌<◌, ℕ, IsTrue, IfOk, IfSome, OnOk, OnErr, length, take, slice_get};
-ghost use Rattle.bv_dag.specs.Graphs.{Graph};
-ghost use Rattle.bv_dag.specs.Nodes.{Fits, widths_of};
+ghost use Rattle.bv_dag.specs.Graphs.{Graph, val};
+ghost use Rattle.bv_dag.specs.Nodes.{Fits, node_value, node_width, widths_of};
 ghost use Rattle.term_trees.specs.Trees.{tree_of, node_tree, IsTerm};
+ghost use Rattle.term_simplify.specs.Moves.{unmoved};
 ghost use Rattle.term_simplify.specs.Plans.{Makes, PlanFits};
 ghost use Rattle.term_simplify.specs.Simplified.{simplified};
+ghost use Rattle.term_simplify.specs.Steps.{Stands};
 
 use crate::binaries::binary;
 use crate::choices::choice;
 use crate::comparisons::comparison;
 use crate::extensions::{extension, joined};
+use crate::moves::move_of;
 use crate::parts::part;
 use crate::plan::{Plan, complement, negative};
 use bv_dag::{BinaryOp, Comparison, Node};
@@ -42,10 +45,10 @@ fn recent(terms: &Terms, node: &Node) -> Option<usize>
     None
 }
 
-/// What the node is simplified to.
+/// What the node is simplified to, where it moves no bits.
 fn plan(terms: &Terms, node: Node) -> Plan
     requires { Fits terms.now.inputs (widths_of terms.now.nodes) node }
-    ensures makes { Makes terms.now result (simplified (tree_of terms.now) node) }
+    ensures makes { Makes terms.now result (unmoved (tree_of terms.now) node) }
     ensures term { IsTerm terms.now.inputs (node_tree (tree_of terms.now) node) }
 {
     match node {
@@ -156,6 +159,31 @@ impl Builder {
         }
     }
 
+    /// The term that a node is simplified to which moves no bits.
+    fn plain(&mut self, node: Node) -> Result<usize, NoMemory>
+        requires fits { Fits self.old.inputs (widths_of self.old.nodes) node }
+        requires moves_none { simplified (tree_of self.old) node ≡ unmoved (tree_of self.old) node }
+        ensures ok { IfOk result (BuildsNode self.old self.new node) }
+        ensures err { OnErr result (self.new ≡ self.old) }
+        ensures term { IsTerm self.old.inputs (node_tree (tree_of self.old) node) }
+    {
+        let plan = plan(&self.terms, node);
+        self.carry_out(plan)
+    }
+
+    /// Such a term on the way.
+    pub(crate) fn plain_step(&mut self, node: Node) -> Result<usize, NoMemory>
+        requires fits { Fits self.old.inputs (widths_of self.old.nodes) node }
+        requires moves_none { simplified (tree_of self.old) node ≡ unmoved (tree_of self.old) node }
+        ensures continues { Continues self.old self.new }
+        ensures ok { IfOk result (λ id. Stands self.new id (simplified (tree_of self.old) node)
+            (node_width (widths_of self.old.nodes) node)
+            (λ input. node_value input (λ k. val self.old k input) node)) }
+        ensures term { IsTerm self.old.inputs (node_tree (tree_of self.old) node) }
+    {
+        self.plain(node)
+    }
+
     /// The term that the node is simplified to, which is worth what the node is worth. The node's own tree is well formed.
     pub fn build(&mut self, node: Node) -> Result<usize, NoMemory>
         requires { Fits self.old.inputs (widths_of self.old.nodes) node }
@@ -163,7 +191,9 @@ impl Builder {
         ensures err { OnErr result (self.new ≡ self.old) }
         ensures term { IsTerm self.old.inputs (node_tree (tree_of self.old) node) }
     {
-        let plan = plan(&self.terms, node);
-        self.carry_out(plan)
+        match move_of(&self.terms, node) {
+            Some(bits) => self.move_bits(bits),
+            None => self.plain(node),
+        }
     }
 }

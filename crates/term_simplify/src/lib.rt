@@ -1,7 +1,7 @@
 //! Terms that are simplified as they are built.
 //!
-//! Each call finds its answer first, without a change: a term that stands already, or one node to be pushed. Only then is
-//! the table written.
+//! A call finds its answer first, without a change: a term that stands already, or one node to be pushed. Only then is the
+//! table written. A shift by a number is made of two or three such terms.
 #![tactic(auto)]
 
 mod binaries;
@@ -12,6 +12,7 @@ mod comparisons;
 mod extensions;
 mod machine;
 mod masks;
+mod moves;
 mod operations;
 mod parts;
 mod plan;

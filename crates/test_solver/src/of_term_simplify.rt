@@ -399,6 +399,60 @@ const REMAINDERS: &[Step] = &[
     Gives(Call::Rem(2, 3), 5),
 ];
 
+const THREE: Call = Call::Node(Node::Num { width: 8, value: 3 });
+
+/// A shift by 3 moves five bits of a byte, and one by 3 the other way brings them back.
+const MOVED: &[Step] = &[
+    Gives(X, 0),
+    Gives(THREE, 1),
+    Gives(Call::Node(Node::Binary(BinaryOp::Shl, 0, 1)), 4),
+    Stands(
+        2,
+        Node::Extract {
+            high: 4,
+            low: 0,
+            operand: 0,
+        },
+    ),
+    Stands(3, Node::Num { width: 3, value: 0 }),
+    Stands(4, Node::Concat { high: 2, low: 3 }),
+    Gives(Call::Node(Node::Binary(BinaryOp::Lshr, 0, 1)), 6),
+    Stands(
+        5,
+        Node::Extract {
+            high: 7,
+            low: 3,
+            operand: 0,
+        },
+    ),
+    Stands(
+        6,
+        Node::Extend {
+            by: 3,
+            signed: false,
+            operand: 5,
+        },
+    ),
+    Gives(Call::Node(Node::Binary(BinaryOp::Ashr, 0, 1)), 7),
+    Stands(
+        7,
+        Node::Extend {
+            by: 3,
+            signed: true,
+            operand: 5,
+        },
+    ),
+    Gives(Call::Node(Node::Binary(BinaryOp::Lshr, 4, 1)), 8),
+    Stands(
+        8,
+        Node::Extend {
+            by: 3,
+            signed: false,
+            operand: 2,
+        },
+    ),
+];
+
 fn holds(rt: &impl Abort, builder: &mut Builder, step: &Step) -> Result<bool, NoMemory> {
     match step {
         Make(call) => {
@@ -429,7 +483,7 @@ fn goes_on_alone(builder: &mut Builder) -> Result<bool, NoMemory> {
 
 #[test]
 fn terms_of_an_input_byte(rt: HostRuntime) -> Result<(), Fail> {
-    for steps in [SIMPLIFIED, MASKED, REMAINDERS] {
+    for steps in [SIMPLIFIED, MASKED, REMAINDERS, MOVED] {
         let mut builder = Builder::new(Terms::new(rt.alloc(), 2));
         check_steps(&rt, &mut builder, steps)?;
         assert!(rt; goes_on_alone(&mut builder)?);
