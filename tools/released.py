@@ -1,0 +1,86 @@
+"""The released program: what the gate proved and built, packed, with a text that names what it was made from.
+
+`release/rvklee.xz` is the program, and `release/rvklee.txt` has the kit, the sum of the sources and the sum of the program. Sums are
+SHA-256. The sources are crates.txt, HANDLES, and all code, definitions and proofs of the crates that the program stands on.
+"""
+import hashlib
+import lzma
+import os
+import pathlib
+import tempfile
+
+TOP = pathlib.Path(__file__).resolve().parent.parent
+PACKED, TEXT = TOP / "release/rvklee.xz", TOP / "release/rvklee.txt"
+NAMES = ("kit", "sources", "program")
+
+
+def crates_below(name):
+    """The crate and all crates of this repository that it stands on."""
+    lines = [line.split(":") for line in (TOP / "crates.txt").read_text().splitlines() if ":" in line and line[0] != "#"]
+    named, found, left = dict(lines), set(), [name]
+    while left:
+        crate = left.pop()
+        if crate in named and crate not in found:
+            found.add(crate)
+            left += named[crate].split()
+    return found
+
+
+def sources():
+    yield TOP / "crates.txt"
+    yield TOP / "HANDLES"
+    for crate in sorted(crates_below("rvklee")):
+        for folder in ("src", "specs", "proofs"):
+            yield from sorted((TOP / "crates" / crate / folder).glob("**/*.*t"))
+
+
+def sources_sum():
+    total = hashlib.sha256()
+    for path in sources():
+        total.update(f"{path.relative_to(TOP)}\n{hashlib.sha256(path.read_bytes()).hexdigest()}\n".encode())
+    return total.hexdigest()
+
+
+def sum_of(data):
+    return hashlib.sha256(data).hexdigest()
+
+
+def record():
+    """What the text says of the release, by name; empty where there is none."""
+    if not TEXT.exists():
+        return {}
+    lines = [line.split(": ", 1) for line in TEXT.read_text().splitlines()]
+    return {line[0]: line[1] for line in lines if len(line) == 2 and line[0] in NAMES}
+
+
+def cached(program):
+    """Where the unpacked program of this sum stands, in the user's cache folder."""
+    caches = os.environ.get("XDG_CACHE_HOME") or pathlib.Path.home() / ".cache"
+    return pathlib.Path(caches) / "rvklee" / program[:16] / "rvklee"
+
+
+def unpack(place, program):
+    """Puts the program of this sum to its place, whole or not at all."""
+    data = lzma.decompress(PACKED.read_bytes())
+    if sum_of(data) != program:
+        return False
+    place.parent.mkdir(parents=True, exist_ok=True)
+    with tempfile.NamedTemporaryFile(dir=place.parent, delete=False) as part:
+        part.write(data)
+    os.chmod(part.name, 0o755)
+    os.replace(part.name, place)
+    return True
+
+
+def released():
+    """The path of the released program, where it was made from these very sources; None where it wasn't, or can't be unpacked."""
+    made = record()
+    if made.get("sources") != sources_sum() or "program" not in made or not PACKED.exists():
+        return None
+    place = cached(made["program"])
+    try:
+        if place.exists() and sum_of(place.read_bytes()) == made["program"]:
+            return place
+        return place if unpack(place, made["program"]) else None
+    except (OSError, lzma.LZMAError):
+        return None
