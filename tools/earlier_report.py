@@ -1,0 +1,32 @@
+"""The files of a report in a folder, which are put aside before another run writes there (docs/FORMATS.md, Reports)."""
+import pathlib
+import re
+
+# `report.html` is the page of tools/report.
+NAME = re.compile(r"(leaf-\d{6,}\.smt2|test-\d{6,}\.json|spent-\d{6,}\.txt|events\.txt|report\.json|report\.html)")
+EARLIER = "earlier"
+
+
+def files(folder):
+    try:
+        return sorted(file for file in pathlib.Path(folder).iterdir() if NAME.fullmatch(file.name) and not file.is_dir())
+    except OSError:
+        return []
+
+
+def put_aside(folder, is_fresh):
+    """Moves the report to the folder `earlier` in this one, where it replaces the one before it, or removes it. Gives what is said."""
+    found, earlier = files(folder), pathlib.Path(folder, EARLIER)
+    if not found:
+        return None
+    try:
+        if not is_fresh:
+            earlier.mkdir(exist_ok=True)
+        for file in found if is_fresh else files(earlier):
+            file.unlink()
+        for file in [] if is_fresh else found:
+            file.rename(earlier / file.name)
+    except OSError as why:
+        return f"{folder} has a report of an earlier run, which stays: {why}"
+    count = f"{len(found)} file" + ("s" if len(found) > 1 else "")
+    return f"{count} of an earlier report removed from {folder}" if is_fresh else f"{count} of an earlier report moved from {folder} to {earlier}"

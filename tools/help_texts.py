@@ -1,0 +1,59 @@
+"""What `--help` says: what each command does, its options with their ranges, an example, and the statuses."""
+from command_line import OPTIONS
+
+ALL = """
+rvklee finds the paths of RV32IM firmware: for each a condition on the input bytes, and a test that takes it.
+
+  explore   runs a program with some bytes as input, and puts each path and its test into a folder
+  replay    runs a test again, and says whether the run is as the test says
+  bench     explores a program that it generates, with 2^NUMBER paths
+
+`rvklee COMMAND --help` says more of each; docs/GUIDE.md goes from a C routine to its tests, docs/FORMATS.md has all texts.
+"""
+EXPLORE = """
+rvklee explore runs PROGRAM with the INPUT bytes symbolic. For each path OUT gets its condition (leaf-NNNNNN.smt2) and a test
+(test-NNNNNN.json), and in all events.txt and report.json.
+
+  PROGRAM   a static RV32IM executable, an ELF32 file of at most 1 MiB
+  OUT       a folder that is there (--make-out makes it)
+  INPUT     ADDRESS:COUNT, eight hexadecimal digits and a number of bytes; or by a symbol of PROGRAM, NAME, NAME:COUNT or
+            NAME+OFFSET:COUNT, where without COUNT all of its bytes are meant. Up to eight INPUTs, 256 bytes in all
+
+  --steps N      the most instructions of a run{steps}
+  --targets N    the most values followed of a number that a run depends on, mostly an address{targets}
+  --conflicts N  the most clauses that the solver learns for one answer{conflicts}
+  --workers N    how many work at it side by side{workers}
+
+example: ./rvklee explore --make-out examples/ltv.elf out/ltv input
+"""
+REPLAY = """
+rvklee replay runs the test in the file TEST on PROGRAM. It prints `same` (status 0), or how the run went (status 1).
+
+example: ./rvklee replay examples/ltv.elf out/ltv/test-000018.json
+"""
+BENCH = """
+rvklee bench explores a generated program with 2^NUMBER paths (NUMBER from 1 to 12) by WORKERS workers (from 1 to 64), into the
+folder OUT as explore does.
+
+example: ./rvklee bench --make-out 8 2 out/bench
+"""
+LAUNCHER = """
+The launcher's own options, anywhere before a word `--`:
+  --make-out   makes the folder OUT where it isn't there
+  --fresh      removes the files of an earlier report from OUT; without it they are moved to OUT/earlier
+  --seconds N  ends the run after N seconds, with status 124
+  --version    says the commit and the kit
+  --build      proves all crates and builds the program, once
+"""
+STATUSES = """
+Statuses: 0 done, 1 the replay differs, 2 the words make no job (as calls for help), 3 the program is refused, 4 the inputs are
+refused, 5 a file couldn't be read, 6 a file couldn't be written, 7 the test is refused, 8 out of memory; 70 no Rattle kit,
+124 ended by --seconds, 130 ended by Ctrl-C.
+"""
+TEXTS = {"explore": EXPLORE, "replay": REPLAY, "bench": BENCH}
+
+
+def text(command):
+    """The help of a command, or where there is none of all."""
+    ranges = {name[2:]: f"; 1 to {limit.most:,}, default {limit.default:,}" for name, limit in OPTIONS.items()}
+    return TEXTS.get(command, ALL).format_map(ranges) + LAUNCHER + STATUSES
