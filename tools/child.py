@@ -54,20 +54,25 @@ class Child:
 
     def wait(self, seconds=None, shows=False):
         """Waits for the end, and gives what came through pipes."""
-        began, progress = time.monotonic(), Progress(self.process.pid) if shows else None
+        progress = Progress(self.process.pid) if shows else None
+        try:
+            return self.wait_within(seconds, progress)
+        finally:
+            if progress:
+                progress.hide()
+
+    def wait_within(self, seconds, progress):
+        ends = None if seconds is None else time.monotonic() + seconds
         while True:
-            left = None if seconds is None else seconds - (time.monotonic() - began)
-            turn = left if progress is None else TURN if left is None else min(TURN, left)
+            left = None if ends is None else max(0.0, ends - time.monotonic())
+            turns = [each for each in (left, progress and TURN) if each is not None]
             try:
-                return self.process.communicate(timeout=turn)
+                return self.process.communicate(timeout=min(turns, default=None))
             except subprocess.TimeoutExpired:
-                if left is not None and seconds <= time.monotonic() - began:
+                if ends is not None and ends <= time.monotonic():
                     return self.end()
                 if progress:
                     progress.show()
-            finally:
-                if progress:
-                    progress.hide()
 
     def end(self):
         self.ending = OUT_OF_TIME

@@ -68,7 +68,7 @@ def put(reading):
 
 def notes(reading):
     """What is odd about the regions of a job: the tool takes them all the same."""
-    program = ProgramFile(reading.word("PROGRAM"))
+    program = ProgramFile(reading.word("PROGRAM")) if reading.inputs() else None
     for place in reading.inputs():
         start, count = REGION.fullmatch(reading.words[place]).groups()
         note = odd(program, int(start, 16), int(count))
