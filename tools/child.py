@@ -10,6 +10,7 @@ import subprocess
 import sys
 import time
 
+from processes import below, table
 from progress import Progress
 
 FORWARDED = (signal.SIGINT, signal.SIGTERM, signal.SIGHUP, signal.SIGQUIT, signal.SIGUSR1, signal.SIGUSR2)
@@ -29,8 +30,8 @@ def die_with_parent():
 
 
 class Child:
-    """A run of a command. `ending` says where the launcher ended it. A command that starts
-    others has a session of its own, so that all of it can be ended."""
+    """A run of a command. `ending` says where the launcher ended it. A command that starts others has a session of its own: a
+    terminal's signal goes to the launcher alone then, which finds those others while the command is still there."""
 
     def __init__(self, command, has_others=False, **how):
         self.has_others, self.ending = has_others, None
@@ -46,11 +47,12 @@ class Child:
         self.send(number)
 
     def send(self, number):
-        with contextlib.suppress(OSError):
-            if self.has_others:
-                os.killpg(self.process.pid, number)
-            else:
-                self.process.send_signal(number)
+        """Sends a signal to the command, and where it starts others to them too."""
+        started = below(self.process.pid, table())[1:] if self.has_others else []
+        self.process.send_signal(number)
+        for pid in started:
+            with contextlib.suppress(OSError):
+                os.kill(pid, number)
 
     def wait(self, seconds=None, shows=False):
         """Waits for the end, and gives what came through pipes."""

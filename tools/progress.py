@@ -1,27 +1,11 @@
 """A line on a terminal that says how a run is: the time, the memory and the processors that it takes."""
 import os
-import pathlib
 import time
 
+from processes import taken
 from voice import put
 
-TICKS, PAGE = os.sysconf("SC_CLK_TCK"), os.sysconf("SC_PAGE_SIZE")
 TO_START, ERASE = "\r", "\x1b[K"
-
-
-def taken(pid):
-    """Seconds of processors and bytes of memory of a process, or, where it has a session of its own, of all in it."""
-    seconds, memory = 0.0, 0
-    for place in pathlib.Path("/proc").glob("[0-9]*/stat"):
-        try:
-            text = place.read_text()
-        except OSError:
-            continue
-        fields = text[text.rindex(")") + 2:].split()
-        if int(place.parent.name) == pid or int(fields[3]) == pid:
-            seconds += (int(fields[11]) + int(fields[12])) / TICKS
-            memory += int(fields[21]) * PAGE
-    return seconds, memory
 
 
 class Progress:
