@@ -16,16 +16,19 @@ NO_TOOL = 70
 
 
 def sources():
+    """The paths of all code, definitions and proofs."""
     yield TOP / "crates.txt"
-    for folder in ("src", "specs", "proofs"):
-        yield from TOP.glob(f"crates/*/{folder}/**/*.*t")
+    for crate in os.scandir(TOP / "crates"):
+        for part in ("src", "specs", "proofs"):
+            for folder, _, names in os.walk(f"{crate.path}/{part}"):
+                yield from (f"{folder}/{name}" for name in names if name.endswith("t"))
 
 
 def is_current():
     if not PROGRAM.exists():
         return False
     built = PROGRAM.stat().st_mtime
-    return all(source.stat().st_mtime <= built for source in sources())
+    return all(os.stat(source).st_mtime <= built for source in sources())
 
 
 def program():
