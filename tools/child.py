@@ -3,7 +3,6 @@
 Where somebody looks, a line says every two seconds how the run is; where it has a limit of seconds, it is ended there.
 """
 import contextlib
-import ctypes
 import os
 import signal
 import subprocess
@@ -21,12 +20,17 @@ GRACE = 5.0
 # How the launcher ended a run.
 INTERRUPTED, OUT_OF_TIME = "interrupted", "out of time"
 SET_DEATH_SIGNAL = 1
-LIBC = ctypes.CDLL(None)
+try:
+    import ctypes
+    LIBC = ctypes.CDLL(None)
+except (ImportError, OSError):
+    LIBC = None
 
 
 def die_with_parent():
     """A launcher that is killed takes the tool with it, as if it were the tool."""
-    LIBC.prctl(SET_DEATH_SIGNAL, signal.SIGKILL)
+    if LIBC:
+        LIBC.prctl(SET_DEATH_SIGNAL, signal.SIGKILL)
 
 
 class Child:
@@ -34,12 +38,12 @@ class Child:
     terminal's signal goes to the launcher alone then, which finds those others while the command is still there."""
 
     def __init__(self, command, has_others=False, **how):
-        self.has_others, self.ending = has_others, None
+        self.has_others, self.ending, self.before = has_others, None, {}
         self.process = subprocess.Popen(command, close_fds=False, preexec_fn=die_with_parent, start_new_session=has_others, **how)
         for number in FORWARDED:
             # What the caller has ignored stays so, for the tool too.
             if signal.getsignal(number) != signal.SIG_IGN:
-                signal.signal(number, self.forward)
+                self.before[number] = signal.signal(number, self.forward)
 
     def forward(self, number, _frame):
         if number == signal.SIGINT:
@@ -60,6 +64,8 @@ class Child:
         try:
             return self.wait_within(seconds, progress)
         finally:
+            for number, handler in self.before.items():
+                signal.signal(number, handler)
             if progress:
                 progress.hide()
 

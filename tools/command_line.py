@@ -6,6 +6,8 @@ import collections
 import difflib
 import re
 
+from own_options import NAMES
+
 Limit = collections.namedtuple("Limit", "most default")
 COMMANDS = {"explore": ("PROGRAM", "OUT", "INPUT"), "replay": ("PROGRAM", "TEST"), "bench": ("NUMBER", "WORKERS", "OUT")}
 OPTIONS = {"--steps": Limit(1_000_000, 10_000), "--targets": Limit(64, 16), "--conflicts": Limit(100_000, 2_000),
@@ -80,6 +82,7 @@ class Reading:
             self.command = first
             return True
         if first in ("help", "--help") or first.startswith("-h"):
+            self.command = self.words[1] if self.words[1:] and self.words[1] in COMMANDS else None
             return self.help()
         if first.startswith("-") and first != "-":
             return self.refuse(f"{first}: the first word is explore, replay or bench")
@@ -109,8 +112,9 @@ class Reading:
         return not pending or self.refuse(f"{pending}: its number is missing")
 
     def takes_option(self, name):
-        if self.command != "explore" or name not in OPTIONS:
-            return self.refuse(f"{name}: no such option" + (near(name, OPTIONS) if self.command == "explore" else f" of {self.command}"))
+        options = OPTIONS if self.command == "explore" else {}
+        if name not in options:
+            return self.refuse(f"{name}: no such option of {self.command}" + near(name, [*options, *NAMES]))
         return name not in self.options or self.refuse(f"{name}: it may be given once")
 
     def judge(self):
@@ -124,6 +128,9 @@ class Reading:
         faults = [(said, number_fault(value, most)) for said, value, most in numbers]
         faults += [(self.words[place], self.input_fault(place)) for place in self.inputs()]
         self.faults += [f"{said}: {fault}" for said, fault in faults if fault]
+        out = self.word("OUT")
+        if self.faults and out is not None and REGION.fullmatch(out):
+            self.faults.append(f"{out} is read as OUT, the folder, which stands before the INPUT words")
 
     def place(self, name):
         """Where the word of this name stands, or None."""

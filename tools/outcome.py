@@ -39,12 +39,12 @@ def traps(path, folder, leaves):
             place = place_of(program, json.loads((folder / f"test-{rank:06}.json").read_text()))
         found.setdefault((leaf["end"], place), []).append(rank)
     for (end, place), ranks in list(found.items())[:MOST_LINES]:
-        where = f" at {place}" if place else ", at places that weren't looked for"
+        where = f" at {place}" if place else ""
         yield f"trap {end}{where}: {len(ranks)} test{'s' if len(ranks) > 1 else ''}, as {folder}/test-{ranks[0]:06}.json"
     if len(found) > MOST_LINES:
         yield f"and traps at {len(found) - MOST_LINES} more places"
     if trapped:
-        yield f"`tools/report {path} {folder}` shows them on a page"
+        yield f"`tools/report {path} {folder}` shows all of them on a page, and where they are"
 
 
 def place_of(program, test):

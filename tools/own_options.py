@@ -2,6 +2,7 @@
 import re
 
 FLAGS = ("--make-out", "--fresh", "--version", "--build")
+NAMES = (*FLAGS, "--seconds")
 MOST_SECONDS = 10_000_000
 
 

@@ -30,9 +30,10 @@ def read(path):
 
 
 def why_unreadable(path):
-    """Why the system doesn't let the file be read, or None where it does. A pipe isn't opened."""
+    """Why the system doesn't let the file be read, or None where it does. What may keep a reader waiting, as a pipe, isn't opened."""
     try:
-        if not stat.S_ISFIFO(os.stat(path).st_mode):
+        mode = os.stat(path).st_mode
+        if stat.S_ISREG(mode) or stat.S_ISDIR(mode):
             with open(path, "rb") as file:
                 file.read(1)
     except OSError as why:
