@@ -5,7 +5,6 @@ import shutil
 import subprocess
 import sys
 
-from released import released
 from voice import put, say
 
 TOP = pathlib.Path(__file__).resolve().parent.parent
@@ -33,7 +32,10 @@ def is_current():
 
 def program():
     """The program to run, or None where there is none of these sources."""
-    return PROGRAM if is_current() else released()
+    if is_current():
+        return PROGRAM
+    from released import released
+    return released()
 
 
 def rt():
