@@ -1,4 +1,4 @@
-"""Where the tool's program comes from: built here from these sources, the release of these sources, or none yet; and how it is built."""
+"""Where the tool's program comes from (built here from these sources, or their release, or none yet), and how it is built."""
 import os
 import pathlib
 import shutil

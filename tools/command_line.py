@@ -29,7 +29,7 @@ def near(word, words):
 
 def number_fault(word, most):
     """Why a word is no number from 1 to the most, or None where it is one."""
-    if re.fullmatch("[1-9][0-9]*", word) and int(word) <= most:
+    if re.fullmatch("[1-9][0-9]{0,8}", word) and int(word) <= most:
         return None
     if re.fullmatch("0[0-9]+", word):
         return "a number has no leading zero"
@@ -124,7 +124,8 @@ class Reading:
         if names[-1] != "INPUT":
             self.faults += [f"{self.words[place]}: one word too many" for place in self.plain[len(names):]]
         numbers = [(f"{name} {value}", value, OPTIONS[name].most) for name, value in self.options.items()]
-        numbers += [(f"{name} {self.word(name)}", self.word(name), most) for name, most in NUMBERS.items() if self.word(name) is not None]
+        said = [(name, self.word(name), most) for name, most in NUMBERS.items()]
+        numbers += [(f"{name} {value}", value, most) for name, value, most in said if value is not None]
         faults = [(said, number_fault(value, most)) for said, value, most in numbers]
         faults += [(self.words[place], self.input_fault(place)) for place in self.inputs()]
         self.faults += [f"{said}: {fault}" for said, fault in faults if fault]

@@ -15,7 +15,8 @@ def files(folder):
 
 
 def put_aside(folder, is_fresh):
-    """Moves the report to the folder `earlier` in this one, where it replaces the one before it, or removes it. Gives what is said."""
+    """Moves the report to the folder `earlier` in this one, where it takes the place of the one there, or removes it; what is said
+    of that, or None where there is no report."""
     found, earlier = files(folder), pathlib.Path(folder, EARLIER)
     if not found:
         return None
@@ -28,5 +29,6 @@ def put_aside(folder, is_fresh):
             file.rename(earlier / file.name)
     except OSError as why:
         return f"{folder} has a report of an earlier run, which stays: {why}"
-    count = f"{len(found)} file" + ("s" if len(found) > 1 else "")
-    return f"{count} of an earlier report removed from {folder}" if is_fresh else f"{count} of an earlier report moved from {folder} to {earlier}"
+    count = "1 file" if len(found) == 1 else f"{len(found)} files"
+    done = f"removed from {folder}" if is_fresh else f"moved from {folder} to {earlier}"
+    return f"{count} of an earlier report {done}"

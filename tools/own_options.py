@@ -25,7 +25,7 @@ class OwnOptions:
         self.words += words[end:]
 
     def take_seconds(self, value):
-        if re.fullmatch("[1-9][0-9]*", value) and int(value) <= MOST_SECONDS:
+        if re.fullmatch("[1-9][0-9]{0,8}", value) and int(value) <= MOST_SECONDS:
             self.seconds = int(value)
         else:
             self.fault = f"--seconds {value}: a number of seconds from 1 to {MOST_SECONDS}"

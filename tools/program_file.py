@@ -1,5 +1,6 @@
 """A program's file as far as it can be read before a run: its segments and the names of its symbols. Of a file that isn't as it
 should be there are none: whether it is taken the tool says."""
+import bisect
 import collections
 import os
 import stat
@@ -30,7 +31,7 @@ def read(path):
 
 
 def why_unreadable(path):
-    """Why the system doesn't let the file be read, or None where it does. What may keep a reader waiting, as a pipe, isn't opened."""
+    """Why the system doesn't let the file be read, or None where it does. What may keep a reader waiting isn't opened: a pipe."""
     try:
         mode = os.stat(path).st_mode
         if stat.S_ISREG(mode) or stat.S_ISDIR(mode):
@@ -91,7 +92,8 @@ class ProgramFile:
 
 def reach(start, end, starts):
     """How far a symbol without a size reaches: to the next one, or to the end of its section."""
-    return max(0, min([other for other in starts if other > start] + [end]) - start)
+    behind = bisect.bisect_right(starts, start)
+    return max(0, min([end, *starts[behind:behind + 1]]) - start)
 
 
 def is_stack(address):

@@ -1,5 +1,5 @@
-"""What a person can do where the tool refuses a program, its inputs or a test, or where reading, writing or memory fails: a sentence
-for each reason of docs/FORMATS.md, with what the file at hand shows (refused_facts.py)."""
+"""What a person can do where the tool refuses a program, its inputs or a test, or where reading, writing or memory fails: a
+sentence for each reason of docs/FORMATS.md, with what the file at hand shows (refused_facts.py)."""
 import re
 
 from program_file import ProgramFile, why_unreadable
@@ -63,7 +63,7 @@ def sentences(run):
     if status == 5:
         yield unreadable([file for file in (path, test) if file is not None])
     if status == 6:
-        yield f"not all of the report was written to {reading.word('OUT')}, or the line not printed: is the disk full, or may you not write?"
+        yield f"{reading.word('OUT')} hasn't all of the report, or the line wasn't printed: is the disk full, or may you not write?"
     if status == 8:
         yield "memory ran out: give smaller budgets, fewer input bytes or fewer workers"
 

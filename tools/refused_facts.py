@@ -44,7 +44,8 @@ def shown(program, unit):
 
 
 def input_facts(words, program):
-    regions = [(word, int(match[1], 16), int(match[2])) for word, match in ((word, REGION.fullmatch(word)) for word in words) if match]
+    found = {word: REGION.fullmatch(word) for word in words}
+    regions = [(word, int(found[word][1], 16), int(found[word][2])) for word in words if found[word]]
     ranges = [(word, range(start, start + count)) for word, start, count in regions]
     shared = [f"{one} and {other}" for at, (one, here) in enumerate(ranges) for other, there in ranges[at + 1:]
               if max(here.start, there.start) < min(here.stop, there.stop)]
@@ -75,6 +76,10 @@ def is_count(value, least, most):
     return isinstance(value, int) and not isinstance(value, bool) and least <= value <= most
 
 
+def is_region(value):
+    return isinstance(value, str) and SMALL_REGION.fullmatch(value)
+
+
 # By the keys of a test, whether a value may stand there.
 KEYS = {
     "end": lambda value: isinstance(value, str) and END.fullmatch(value),
@@ -83,7 +88,7 @@ KEYS = {
     "leaf": lambda value: is_count(value, 0, 1 << 53),
     "output": lambda value: isinstance(value, str),
     "path": lambda value: isinstance(value, str) and ENTRIES.fullmatch(value),
-    "regions": lambda value: isinstance(value, list) and all(isinstance(word, str) and SMALL_REGION.fullmatch(word) for word in value),
+    "regions": lambda value: isinstance(value, list) and all(map(is_region, value)),
     "steps": lambda value: is_count(value, 1, 1_000_000),
 }
 
@@ -91,7 +96,7 @@ KEYS = {
 def test_facts(said):
     odd = [key for key, may_be in KEYS.items() if key in said and not may_be(said[key])]
     facts = Facts(missing=", no ".join(key for key in KEYS if key not in said))
-    facts["odd"] = f"its key `{odd[0]}` isn't as it should be" if odd else "a value isn't as it should be" if said else "it is no JSON object"
-    facts["given"] = f"{len(said['input']) // 2} bytes" if isinstance(said.get("input"), str) else "other bytes"
-    facts["asked"] = sum(int(word.partition(":")[2]) for word in filter(SMALL_REGION.fullmatch, test_regions(said)))
+    facts["odd"] = (f"its key `{odd[0]}`" if odd else "a key") + " isn't as it should be" if said else "it is no JSON object"
+    facts["given"] = f"{len(str(said.get('input'))) // 2} bytes"
+    facts["asked"] = sum(int(word.partition(":")[2]) for word in filter(is_region, test_regions(said)))
     return facts

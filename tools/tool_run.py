@@ -1,10 +1,11 @@
 """A run of the tool, as it was built or unproved: what it answered, and how the launcher ended it."""
 import os
 import re
+import signal
 import subprocess
 
 from building import CRATE, NO_TOOL, program, rt
-from child import Child
+from child import INTERRUPTED, Child
 from voice import pass_on, put, say
 
 UNPROVED = """not built on this machine, and the release is of other sources: this run is of the unproved program, which is
@@ -50,7 +51,9 @@ class ToolRun:
         if ended:
             pass_on(self.said)
             self.status = int(ended[1])
-        elif not self.ending:
+        elif self.ending:
+            self.status = -signal.SIGINT if self.ending == INTERRUPTED else -signal.SIGTERM
+        else:
             put(2, noise)
             self.status = NO_TOOL
 
