@@ -1,8 +1,10 @@
 """What a run of `explore` found, in a few lines: traps by their places, what was cut, and whether anything rests on the input."""
 import collections
 import json
+import os
 import pathlib
 import re
+import shlex
 
 from command_line import OPTIONS
 from coverage import TracedRun
@@ -12,6 +14,7 @@ from program_file import read
 # So many steps of tests are made again to find where they trap: about a second.
 MOST_STEPS = 200_000
 MOST_LINES = 12
+REPORT = pathlib.Path(__file__).resolve().parent / "report"
 # In a leaf's text.
 DEFINED = re.compile(r"^\(define-fun (\w+) \(\) \(_ BitVec \d+\) (.*)\)$", re.MULTILINE)
 ASSERTED = re.compile(r"^\(assert \(= (n\d+) ", re.MULTILINE)
@@ -45,7 +48,8 @@ def traps(path, folder, leaves):
     if len(found) > MOST_LINES:
         yield f"and traps at {len(found) - MOST_LINES} more places"
     if found:
-        yield f"`tools/report {path} {folder}` shows all of them on a page, and where they are"
+        page = shlex.join([os.path.relpath(REPORT), str(path), str(folder)])
+        yield f"`{page}` shows all of them on a page, and where they are"
 
 
 def place_of(program, test):
