@@ -49,7 +49,7 @@ def traps(path, folder, leaves):
         yield f"and traps at {len(found) - MOST_LINES} more places"
     if found:
         page = shlex.join([os.path.relpath(REPORT), str(path), str(folder)])
-        yield f"`{page}` shows all of them on a page, and where they are"
+        yield f"`{page}` shows them on a page"
 
 
 def place_of(program, test):
