@@ -53,7 +53,7 @@ class ToolRun:
             self.status = int(ended[1])
         elif self.ending:
             self.status = -signal.SIGINT if self.ending == INTERRUPTED else -signal.SIGTERM
-        else:
+        elif self.status >= 0:
             put(2, noise)
             self.status = NO_TOOL
 
