@@ -6,9 +6,10 @@ import sys
 
 sys.path.insert(0, str(pathlib.Path(__file__).resolve().parent.parent / "bench/routines"))
 
+import elf  # noqa: E402
 import interpreter  # noqa: E402
 
-LOAD, EXECUTABLE = 1, 1
+EXECUTABLE = 1
 SYMTAB, SECTION_EXECUTABLE = 2, 4
 # A symbol's types that name a place in code.
 NO_TYPE, FUNCTION = 0, 2
@@ -27,31 +28,23 @@ class Program:
         _, pages = self.image
         return sum(pages[place >> 8][1][place & 255] << 8 * (place - address) for place in range(address, address + 4))
 
-    def headers(self, at, size_at, form):
-        """The rows of a table of headers."""
-        start, = struct.unpack_from("<I", self.data, at)
-        size, count = struct.unpack_from("<HH", self.data, size_at)
-        return [struct.unpack_from(form, self.data, start + size * place) for place in range(count if start else 0)]
-
-    def sections(self):
-        return self.headers(32, 46, "<10I")
-
     def code(self):
         """Start and size of what has instructions: the sections that say so, or where there is none the segments."""
-        found = [(row[3], row[5]) for row in self.sections() if row[2] & SECTION_EXECUTABLE and row[5]]
+        found = [(it.address, it.size) for it in elf.sections(self.data) if it.flags & SECTION_EXECUTABLE and it.size]
         if not found:
-            found = [(row[2], row[5]) for row in self.headers(28, 42, "<8I") if row[0] == LOAD and row[6] & EXECUTABLE and row[5]]
+            loaded = [it for it in elf.segments(self.data) if it.kind == elf.LOAD and it.flags & EXECUTABLE]
+            found = [(it.address, it.in_memory) for it in loaded if it.in_memory]
         return sorted(found)
 
     def symbols(self):
         """The names of functions and labels by their addresses. A stripped file has none."""
-        found, sections = {}, self.sections()
+        found, sections = {}, elf.sections(self.data)
         inside = {address for address, _ in self.words}
-        for row in sections:
-            if row[1] != SYMTAB:
+        for table in sections:
+            if table.kind != SYMTAB:
                 continue
-            names = sections[row[6]][4]
-            for at in range(row[4], row[4] + row[5], 16):
+            names = sections[table.link].offset
+            for at in range(table.offset, table.offset + table.size, 16):
                 name, value, _, info, _, _ = struct.unpack_from("<IIIBBH", self.data, at)
                 text = self.data[names + name:self.data.index(0, names + name)].decode(errors="replace")
                 if info & 15 in (NO_TYPE, FUNCTION) and value in inside and text and not text.startswith("$"):

@@ -4,7 +4,7 @@ It shares nothing with the crates: it is written from the RISC-V manual and docs
 step, the fetched word, the side of a branch, the target of a JALR, the address of a load or store, and of an ECALL its
 number and, for a write, its file and where that is one its start and length.
 """
-import struct
+import elf
 
 INPUT = 0x11000
 MASK = 0xFFFFFFFF
@@ -25,18 +25,15 @@ class Exit(Exception):
 def load(path):
     """The entry, and the pages of 256 bytes: number to [flags, bytes]."""
     data = path.read_bytes()
-    entry, at = struct.unpack_from("<II", data, 24)
-    size, count = struct.unpack_from("<HH", data, 42)
     pages = {page: [6, bytearray(256)] for page in range(0x7FFF00, 0x800000)}
-    for index in range(count):
-        kind, offset, address, _, in_file, in_memory, flags, _ = struct.unpack_from("<8I", data, at + size * index)
-        if kind != 1 or in_memory == 0:
+    for kind, offset, address, _, in_file, in_memory, flags, _ in elf.segments(data):
+        if kind != elf.LOAD or in_memory == 0:
             continue
         for page in range(address >> 8, (address + in_memory - 1 >> 8) + 1):
             pages.setdefault(page, [0, bytearray(256)])[0] |= flags & 7
         for place in range(in_file):
             pages[address + place >> 8][1][address + place & 255] = data[offset + place]
-    return entry, pages
+    return elf.entry(data), pages
 
 
 def divided(a, b):

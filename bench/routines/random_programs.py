@@ -16,6 +16,7 @@ import subprocess
 import sys
 import tempfile
 
+import elf
 import interpreter
 from check import Report, ask_z3, compare_report
 
@@ -111,10 +112,9 @@ def program(r, path):
     code += [immediate_word(0, r.choice(REGISTERS), 0, 10), immediate_word(93, 0, 0, 17), 0x00000073]
     flags, size = (7 if kind in ("code", "all") else 5), r.choice([256, 512, 100])
     text, data = struct.pack(f"<{len(code)}I", *code), bytes(r.getrandbits(8) if r.random() < 0.7 else 0 for _ in range(size))
-    header = bytes.fromhex("7f454c46010101") + bytes(9) + struct.pack("<HHIIIIIHHHHHH", 2, 243, 1, CODE, 52, 0, 0, 52, 32, 2, 0, 0, 0)
-    header += struct.pack("<8I", 1, 256, CODE, CODE, len(text), len(text), flags, 256)
-    header += struct.pack("<8I", 1, 256 + len(text), DATA, DATA, size, size, r.choice([6, 7, 2]), 1)
-    path.write_bytes(header.ljust(256, b"\0") + text + data)
+    instructions = elf.Segment(elf.LOAD, 256, CODE, CODE, len(text), len(text), flags, 256)
+    beside = elf.Segment(elf.LOAD, 256 + len(text), DATA, DATA, size, size, r.choice([6, 7, 2]), 1)
+    path.write_bytes(elf.headers(CODE, instructions, beside).ljust(256, b"\0") + text + data)
     where = r.random()
     if where < 0.15 and flags == 7:
         return CODE + 4 * r.randrange(len(code) - 3) + r.choice([1, 2, 3, 3])

@@ -6,11 +6,11 @@
     runs.py --qemu     compares status, signal and output of all runs with qemu-riscv32
 """
 import pathlib
-import struct
 import subprocess
 import sys
 import tempfile
 
+import elf
 from interpreter import INPUT, Machine, load
 
 HERE = pathlib.Path(__file__).resolve().parent
@@ -112,9 +112,9 @@ def tables():
 def agrees_with_qemu(data, values, run, patched):
     """Whether qemu-riscv32 runs a file as it was run here, on input bytes that are put in the place of the file's."""
     kind, word = run.end.split()
-    place, address = struct.unpack_from("<II", data, 52 + 32 + 4)
-    assert address == INPUT
-    patched.write_bytes(data[:place] + bytes(values) + data[place + len(values):])
+    inputs = elf.segments(data)[1]
+    assert inputs.address == INPUT
+    patched.write_bytes(data[:inputs.offset] + bytes(values) + data[inputs.offset + len(values):])
     patched.chmod(0o755)
     done = subprocess.run([*QEMU, patched], stdout=subprocess.PIPE, stderr=subprocess.STDOUT, timeout=60)
     if word == "FetchMisaligned":
