@@ -17,7 +17,8 @@ import subprocess
 import sys
 import tempfile
 
-from runs import HERE, WIDE
+from runs import WIDE
+from tables import HERE
 
 REGION = "00011000:1"
 

@@ -30,8 +30,9 @@ import z3
 from check import Report, compare_report
 from interpreter import Machine, load
 from leaf_text import LeafText, NoLeaf
-from runs import HERE, STEPS
-from wide import beside, decisions, tables
+from runs import STEPS
+from tables import HERE
+from wide import beside, tables
 
 # Of more disagreements of one routine only the number is said.
 MOST_SAID = 20
@@ -145,7 +146,7 @@ def compare_run(routine, leaf, worth, values):
     here, there = (leaf["steps"], leaf["path"], end, output), (len(run.log), run.path, run.end, run.output)
     if here != there:
         routine.say(f"{leaf['name']}: on {bytes(values).hex()} {here}, by its run {there}")
-    decided = decisions(run)
+    decided = run.decisions()
     leaf["decided"] = leaf["decided"] or decided
     if leaf["decided"] != decided:
         routine.say(f"{leaf['name']}: the run of {bytes(values).hex()} decides otherwise than another of its runs")

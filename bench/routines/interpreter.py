@@ -95,6 +95,10 @@ class Machine:
                 self.end = f"exit {status}"
         return self
 
+    def decisions(self):
+        """All that the run decided, step by step."""
+        return tuple(word for decided, _, _ in self.log for word in decided)
+
     def jump(self, target):
         if target % 4:
             raise Trap("FetchMisaligned")

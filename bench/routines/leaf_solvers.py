@@ -20,7 +20,8 @@ import subprocess
 import sys
 import tempfile
 
-from runs import HERE, WIDE
+from runs import WIDE
+from tables import HERE
 
 SOLVERS = {
     "z3": lambda seconds, path: ["z3", "-smt2", f"-T:{seconds}", path],

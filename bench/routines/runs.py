@@ -12,8 +12,8 @@ import tempfile
 
 import elf
 from interpreter import INPUT, Machine, load
+from tables import HERE, put
 
-HERE = pathlib.Path(__file__).resolve().parent
 # The routines of more than one input byte, with their number. They are wide.py's.
 WIDE = {
     "base64": 4, "battery": 2, "bubble": 5, "crc16": 4, "crc32": 4, "crc8b": 4, "date": 4, "decimal": 4, "dns": 8, "gcd": 2,
@@ -64,8 +64,8 @@ def expected(name, steps, targets, spends):
     """The text of the table: a line for each leaf, and below it one for each end and output of its runs."""
     image = load(HERE / f"{name}.elf")
     runs = [Machine(image, [value]).run(steps) for value in range(256)]
-    decisions = [[number for decided, _, _ in run.log for number in decided] for run in runs]
-    groups = grouped(map(tuple, decisions))
+    decisions = [run.decisions() for run in runs]
+    groups = grouped(decisions)
     firsts = [runs[values[0]] for values in groups.values()]
     lines = [f"# {name}: what brute force says. `runs.py` wrote it.", f"options --steps {steps} --targets {targets}"]
     place = None
@@ -143,15 +143,9 @@ def compare_with_qemu(inputs):
 def main(words):
     if words == ["--qemu"]:
         return compare_with_qemu((name, [value]) for name in narrow() for value in range(256))
-    stale = 0
+    stale = False
     for name, text in tables():
-        path = HERE / name
-        if words == ["--check"]:
-            if not path.exists() or path.read_text() != text:
-                print(f"{path} isn't what brute force says")
-                stale = 1
-        else:
-            path.write_text(text)
+        stale |= put(HERE / name, text, words == ["--check"])
     return stale
 
 

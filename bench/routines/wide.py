@@ -16,7 +16,8 @@ import random
 import sys
 
 from interpreter import Machine, load
-from runs import FIRST_TWO, HERE, STEPS, TARGETS, WIDE, compare_with_qemu, summary
+from runs import FIRST_TWO, STEPS, TARGETS, WIDE, compare_with_qemu, summary
+from tables import HERE, WideTable, put, region
 
 # How many random inputs a search begins with.
 RANDOM = 500
@@ -49,10 +50,6 @@ def beside(values):
             yield values[:place] + bytes([value]) + values[place + 1:]
 
 
-def decisions(run, steps=STEPS):
-    return tuple(word for decided, _, _ in run.log[:steps] for word in decided)
-
-
 def searched(image, starts):
     """The leaves that are found from some inputs on, each with its first input and run, and the number of runs."""
     found, work, seen = {}, list(starts), set()
@@ -62,7 +59,7 @@ def searched(image, starts):
             continue
         seen.add(values)
         run = Machine(image, values).run(STEPS)
-        if found.setdefault(decisions(run), (values, run))[0] == values:
+        if found.setdefault(run.decisions(), (values, run))[0] == values:
             work += beside(values)
     return found, len(seen)
 
@@ -72,14 +69,23 @@ def counted(image):
     found, counts = {}, {}
     for pair in itertools.product(range(256), repeat=2):
         run = Machine(image, pair).run(STEPS)
-        decided = decisions(run)
+        decided = run.decisions()
         found.setdefault(decided, (bytes(pair), run))
         counts[decided] = counts.get(decided, 0) + 1
     return found, counts
 
 
+def found_lines(inputs, runs, found, counts):
+    """What stands in a table below its heading: a line for each leaf, in the order of their first inputs."""
+    lines = [f"input {inputs}", f"runs {runs} of {256 ** int(inputs.split(':')[1])}", summary([run for _, run in found.values()], 0)]
+    for decided, (values, run) in sorted(found.items(), key=lambda item: item[1][0]):
+        many = f" inputs {counts[decided]}" if counts else ""
+        lines += [f"leaf steps {len(run.log)} path {run.path}.{many} first {values.hex()} {run.end} output {run.output.hex()}."]
+    return lines
+
+
 def expected(word, name, count):
-    """The text of the table: a line for each leaf, in the order of their first inputs."""
+    """The text of the table."""
     image, counts = load(HERE / f"{name}.elf"), {}
     if count == 2:
         found, counts = counted(image)
@@ -87,25 +93,15 @@ def expected(word, name, count):
     else:
         found, runs = searched(image, seeds(name, count))
     lines = [f"# {word}: what brute force says. `wide.py` wrote it.", f"options --steps {STEPS} --targets {TARGETS}"]
-    lines += [f"input 00011000:{count}", f"runs {runs} of {256**count}", summary([run for _, run in found.values()], 0)]
-    for decided, (values, run) in sorted(found.items(), key=lambda item: item[1][0]):
-        many = f" inputs {counts[decided]}" if counts else ""
-        lines += [f"leaf steps {len(run.log)} path {run.path}.{many} first {values.hex()} {run.end} output {run.output.hex()}."]
-    return "\n".join(lines) + "\n"
-
-
-def firsts(word):
-    """The first inputs that the table has."""
-    lines = (HERE / f"{word}.expected").read_text().splitlines()
-    return [bytes.fromhex(line.split(" first ")[1].split()[0]) for line in lines if line.startswith("leaf ")]
+    return "\n".join(lines + found_lines(region(count), runs, found, counts)) + "\n"
 
 
 def some_inputs(word, count, near, far):
     """Of each leaf of the table its first input and some that differ from it in one byte; and some random ones."""
     r = random.Random(word)
-    for values in firsts(word):
-        yield values
-        yield from r.sample(list(beside(values)), near)
+    for leaf in WideTable(HERE / f"{word}.expected").leaves:
+        yield leaf.first
+        yield from r.sample(list(beside(leaf.first)), near)
     for _ in range(far):
         yield r.randbytes(count)
 
@@ -115,15 +111,11 @@ def main(words):
     asked = [table for table in tables() if not words or table[0] in words]
     if option == "--qemu":
         return compare_with_qemu((name, values) for word, name, count in asked for values in some_inputs(word, count, 2, 50))
-    stale = 0
+    stale = False
     for word, name, count in asked:
-        path, text = HERE / f"{word}.expected", expected(word, name, count)
+        text = expected(word, name, count)
         print(f"{word}: {text.splitlines()[4]}", flush=True)
-        if option is None:
-            path.write_text(text)
-        elif not path.exists() or path.read_text() != text:
-            print(f"{path} isn't what brute force says")
-            stale = 1
+        stale |= put(HERE / f"{word}.expected", text, option == "--check")
     return stale
 
 
