@@ -3,18 +3,22 @@
 Comparisons and quotients are unsigned; an operand of a signed one is written `signed(x)`, and so is a term widened by its
 sign. A term widened by zeros is written as the term. `x[7:0]` are bits of a term, `x:y` is one term above another.
 """
+import collections
 import re
+
+from leaf_text import OPERAND, LeafText
 
 # Longer terms that stand at more than one place get a name, `t12`, and are written once.
 LONGEST = 40
-INFIX = {"bvadd": "+", "bvsub": "-", "bvmul": "*", "bvudiv": "/", "bvurem": "%", "bvand": "&", "bvor": "|", "bvxor": "^",
-         "bvshl": "<<", "bvlshr": ">>", "bvashr": ">>"}
+# By the forms of terms, as leaf_text has them.
+INFIX = {"(bvadd n n)": "+", "(bvsub n n)": "-", "(bvmul n n)": "*", "(bvudiv n n)": "/", "(bvurem n n)": "%", "(bvand n n)": "&",
+         "(bvor n n)": "|", "(bvxor n n)": "^", "(bvshl n n)": "<<", "(bvlshr n n)": ">>", "(bvashr n n)": ">>"}
+PREFIX = {"(bvnot n)": "~", "(bvneg n)": "-"}
+COMPARED = {f"(ite ({name} n n) (_ bv1 1) (_ bv0 1))": sign for name, sign in (("=", "=="), ("bvult", "<"), ("bvslt", "<"))}
 # How tightly a text is bound, from a choice or a comparison to a name.
 LOOSE, SUM, PRODUCT, WHOLE = range(4)
 MIRRORED = {"==": "==", "!=": "!=", "<": ">", ">=": "<="}
 OPPOSITE = {"==": "!=", "!=": "==", "<": ">=", ">=": "<"}
-DEFINED = re.compile(r"\(define-fun (\w+) \(\) \(_ BitVec (\d+)\) (.*)\)")
-ASSERTED = re.compile(r"\(assert \(= n(\d+) \(_ bv1 1\)\)\)")
 
 
 class Term:
@@ -62,18 +66,13 @@ def inverse(term):
     return Term(1, f"not {term.inside()}", LOOSE)
 
 
-def joined(operation, left, right):
-    sign, width = INFIX[operation], left.width
+def joined(form, left, right):
+    sign, width = INFIX[form], left.width
     bound = SUM if sign in "+-" else PRODUCT if sign in "*/%" else LOOSE
-    if operation == "bvadd" and right.number is not None and right.number >> width - 1:
+    if form == "(bvadd n n)" and right.number is not None and right.number >> width - 1:
         return Term(width, f"{left.inside(SUM)} - {number_text((1 << width) - right.number)}", SUM)
-    first = left.signed() if operation == "bvashr" else left.inside(bound or WHOLE)
+    first = left.signed() if form == "(bvashr n n)" else left.inside(bound or WHOLE)
     return Term(width, f"{first} {sign} {right.inside(bound + 1 if bound else WHOLE)}", bound)
-
-
-def widened(kind, by, term):
-    width = term.width + by
-    return Term(width, term.signed(), WHOLE) if kind == "sign_extend" else Term(width, term.text, term.bound)
 
 
 def part(high, low, term):
@@ -81,56 +80,52 @@ def part(high, low, term):
     return term if width == term.width else Term(width, f"{term.inside()}[{high}:{low}]", WHOLE)
 
 
-def read(text, width, terms):
-    """The term of a definition's text, over earlier terms."""
-    operands = [terms[int(place)] for place in re.findall(r"\bn(\d+)", text)]
-    if found := re.fullmatch(r"\(_ bv(\d+) \d+\)", text):
-        return number(int(found[1]), width)
-    if re.fullmatch(r"b\d+", text):
-        return Term(width, text, WHOLE)
-    if found := re.fullmatch(r"\((\w+) n\d+ n\d+\)", text):
-        if found[1] == "concat":
-            return Term(width, f"{operands[0].inside()}:{operands[1].inside()}", LOOSE)
-        return joined(found[1], *operands)
-    if found := re.fullmatch(r"\((bvnot|bvneg) n\d+\)", text):
-        if found[1] == "bvnot" and width == 1:
-            return inverse(operands[0])
-        return Term(width, f"{'~' if found[1] == 'bvnot' else '-'}{operands[0].inside()}", PRODUCT)
-    if found := re.fullmatch(r"\(ite \((=|bvult|bvslt) n\d+ n\d+\) \(_ bv1 1\) \(_ bv0 1\)\)", text):
-        return compare(operands[0], "==" if found[1] == "=" else "<", operands[1], found[1] == "bvslt")
-    if re.fullmatch(r"\(ite \(= n\d+ \(_ bv1 1\)\) n\d+ n\d+\)", text):
+def read(term, terms):
+    """A leaf's term, over earlier ones."""
+    form, width, operands = term.form, term.width, [terms[place] for place in term.operands]
+    if form == "(_ bv# #)":
+        return number(term.numbers[0], width)
+    if form in INFIX:
+        return joined(form, *operands)
+    if form == "(bvnot n)" and width == 1:
+        return inverse(*operands)
+    if form in PREFIX:
+        return Term(width, PREFIX[form] + operands[0].inside(), PRODUCT)
+    if form in COMPARED:
+        return compare(operands[0], COMPARED[form], operands[1], "bvslt" in form)
+    if form == "(ite (= n (_ bv1 1)) n n)":
         return Term(width, f"{operands[0].inside()} ? {operands[1].inside()} : {operands[2].inside()}", LOOSE)
-    if found := re.fullmatch(r"\(\(_ extract (\d+) (\d+)\) n\d+\)", text):
-        return part(int(found[1]), int(found[2]), operands[0])
-    if found := re.fullmatch(r"\(\(_ (zero_extend|sign_extend) (\d+)\) n\d+\)", text):
-        return widened(found[1], int(found[2]), operands[0])
-    return Term(width, text, WHOLE)
+    if form == "(concat n n)":
+        return Term(width, f"{operands[0].inside()}:{operands[1].inside()}", LOOSE)
+    if form == "((_ extract # #) n)":
+        return part(*term.numbers, *operands)
+    if form == "((_ zero_extend #) n)":
+        return Term(operands[0].width + term.numbers[0], operands[0].text, operands[0].bound)
+    if form == "((_ sign_extend #) n)":
+        return Term(operands[0].width + term.numbers[0], operands[0].signed(), WHOLE)
+    return Term(width, term.text, WHOLE)
 
 
 class Condition:
-    """The assertions of a leaf's text, its status and its output, all as texts, and the named terms that they use."""
+    """The assertions of a leaf's text and its status, all as texts, and the named terms that they use."""
 
     def __init__(self, text):
-        lines = text.splitlines()
-        self.uses = [0] * len(lines)
-        for place in re.findall(r"\bn(\d+)", text):
-            self.uses[int(place)] += 1
-        self.terms, self.named, self.bytes = [], [], {}
-        for name, width, value in filter(None, (found and found.groups() for found in map(DEFINED.fullmatch, lines))):
-            if name.startswith("n") and name[1:].isdigit():
-                self.terms.append(self.short(int(name[1:]), read(value, int(width), self.terms)))
-            else:
-                self.bytes[name] = self.terms[int(value[1:])]
-        self.asserted = [self.terms[int(found[1])].text for found in map(ASSERTED.fullmatch, lines) if found]
+        leaf = LeafText(text)
+        self.uses = collections.Counter(OPERAND.findall(text))
+        self.terms, self.named = [], []
+        for term in leaf.terms:
+            self.terms.append(self.short(term.place, read(term, self.terms)))
+        self.status_term = None if leaf.status is None else self.terms[leaf.status]
+        self.asserted = [self.terms[place].text for place in leaf.asserted]
 
     def short(self, place, term):
         """The term itself, or its name where it is long and stands at several places. Its definition counts as one."""
-        if len(term.text) <= LONGEST or self.uses[place] <= 2 or term.parts:
+        if len(term.text) <= LONGEST or self.uses[str(place)] <= 2 or term.parts:
             return term
         self.named.append((f"t{place}", term.text))
         return Term(term.width, f"t{place}", WHOLE)
 
     def status(self):
         """The status as a text, or None where it is the same for all inputs of the leaf."""
-        term = self.bytes.get("status")
+        term = self.status_term
         return term.text if term and term.number is None else None

@@ -14,14 +14,13 @@ is a disagreement.
 """
 import argparse
 import collections
-import json
 import pathlib
 import subprocess
 import sys
 import tempfile
 
-from runs import WIDE
-from tables import HERE
+from exploring import END, LAUNCHER, Leaf, explore, leaf_files, scratch
+from tables import HERE, Table
 
 SOLVERS = {
     "z3": lambda seconds, path: ["z3", "-smt2", f"-T:{seconds}", path],
@@ -41,8 +40,7 @@ def answer(solver, seconds, path):
 
 def on_input(text, values):
     """The text with the input bytes asserted."""
-    head, check, rest = text.partition("(check-sat)\n")
-    return head + "".join(f"(assert (= b{place} #x{value:02x}))\n" for place, value in enumerate(values)) + check + rest
+    return text.removesuffix(END) + "".join(f"(assert (= b{place} #x{value:02x}))\n" for place, value in enumerate(values)) + END
 
 
 class Comparison:
@@ -67,52 +65,44 @@ class Comparison:
 
     def leaf(self, path):
         self.files += 1
-        answers = self.ask(path)
-        test = path.with_name(path.name.replace("leaf-", "test-")).with_suffix(".json")
+        answers, leaf = self.ask(path), Leaf(path)
         given = set(answers.values()) & {"sat", "unsat"}
-        if not test.exists():
+        if leaf.test is None:
             if len(given) > 1:
                 self.say(f"{path}: {answers}")
             return
         if "unsat" in given:
             self.say(f"{path}: has a test: {answers}")
-        values = bytes.fromhex(json.loads(test.read_text())["input"])
         with tempfile.NamedTemporaryFile("w", suffix=".smt2") as file:
-            file.write(on_input(path.read_text(), values))
+            file.write(on_input(leaf.text, leaf.input()))
             file.flush()
             if "unsat" in self.ask(file.name).values():
                 self.say(f"{path}: unsat on the input of its test")
 
     def report(self, folder):
-        for path in sorted(folder.glob("leaf-*.smt2")):
+        for path in leaf_files(folder):
             self.leaf(path)
 
 
-def explored(tool, folder):
+def explored(tool, room):
     """The reports on all routines, one after another."""
-    for table in sorted(HERE.glob("*.expected")):
-        name = table.name.split(".")[0]
-        words = table.read_text().splitlines()
-        options = next(line for line in words if line.startswith("options ")).split()[1:]
-        count = 2 if ".bytes2." in table.name else WIDE.get(name, 1)
-        out = pathlib.Path(folder, table.stem)
-        out.mkdir()
-        command = [tool, "explore", *options, HERE / f"{name}.elf", out, f"00011000:{count}"]
-        done = subprocess.run(command, stdout=subprocess.PIPE, stderr=subprocess.DEVNULL, text=True)
+    for path in sorted(HERE.glob("*.expected")):
+        table, out = Table(path), room / path.stem
+        done = explore(tool, table, out)
         if done.returncode != 0:
-            sys.exit(f"{table.stem}: status {done.returncode}: {done.stdout.strip()}")
+            sys.exit(f"{table.name}: status {done.returncode}: {done.stdout.strip()}")
         yield out
 
 
 def main():
     parser = argparse.ArgumentParser(description=__doc__, formatter_class=argparse.RawDescriptionHelpFormatter)
-    parser.add_argument("--tool", default=HERE.parent.parent / "rvklee")
+    parser.add_argument("--tool", default=LAUNCHER)
     parser.add_argument("--seconds", type=int, default=20)
     parser.add_argument("reports", nargs="*", type=pathlib.Path, metavar="REPORT")
     asked = parser.parse_args()
     comparison = Comparison(asked.seconds)
-    with tempfile.TemporaryDirectory() as folder:
-        for report in asked.reports or explored(asked.tool, folder):
+    with scratch() as room:
+        for report in asked.reports or explored(asked.tool, room):
             comparison.report(report)
     counts = ", ".join(f"{solver} {said} {count}" for (solver, said), count in sorted(comparison.counts.items()))
     print(f"{comparison.files} files: {counts}; {comparison.wrong} disagreements")

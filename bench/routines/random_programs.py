@@ -12,13 +12,12 @@ import pathlib
 import random
 import shutil
 import struct
-import subprocess
 import sys
-import tempfile
 
 import elf
 import interpreter
-from check import Report, ask_z3, compare_report
+from check import ask_z3
+from exploring import Leaf, compare_report, end_of, kind_of, leaf_files, run, scratch
 
 CODE, DATA = 0x10100, 0x11000
 REGISTERS = [5, 6, 7, 9, 12, 13, 14, 15, 16, 28, 29, 30, 31]
@@ -123,36 +122,33 @@ def program(r, path):
 
 def rest_runs(leaf, runs, decisions, targets, say):
     """The inputs that a leaf which was cut by targets should have, with end and output, by the values that it says were found."""
-    found = [tuple(int(word, 16) for word in line.split()[1:]) for line in leaf["spent"][2:]]
+    found = [(int(value, 16), int(witness, 16)) for value, witness in leaf.values()]
     values = [value for value, _ in found]
-    if leaf["test"] or leaf["spent"][0] != f"; spent targets {targets}" or len(values) != targets or values != sorted(set(values)):
-        say(f"{leaf['name']}: has a test, or says {leaf['spent']}")
+    if leaf.test or leaf.spent[0] != f"; spent targets {targets}" or len(values) != targets or values != sorted(set(values)):
+        say(f"{leaf.name}: has a test, or says {leaf.spent}")
         return {}
-    made, first = leaf["steps"], found[0][1]
+    made, first = leaf.steps, found[0][1]
     start = sum(len(decided) for decided, _, _ in runs[first].log[:made])
     for place in range(start, start + len(runs[first].log[made][0])):
         before = decisions[first][:place]
         along = [value for value in range(256) if decisions[value][:place] == before]
         if len({decisions[value][place] for value in along}) > targets and all(w in along and decisions[w][place] == v for v, w in found):
             rest = [value for value in along if decisions[value][place] not in values]
-            if any(runs[value].log[made][1] != leaf["path"] for value in rest) or leaf["end"] != "running":
-                say(f"{leaf['name']}: says end {leaf['end']}, path {leaf['path']}")
+            if any(runs[value].log[made][1] != leaf.path for value in rest) or leaf.end != "running":
+                say(f"{leaf.name}: says end {leaf.end}, path {leaf.path}")
             return {value: ("running", runs[value].log[made][2].hex()) for value in rest}
-    say(f"{leaf['name']}: no decision there has these values")
+    say(f"{leaf.name}: no decision there has these values")
     return {}
 
 
 def leaf_runs(leaf, runs, decisions, say):
     """The inputs that another leaf should have: those that decide as its test does."""
-    test = leaf["test"]
-    value = int(test["input"], 16)
+    test, value = leaf.test, int(leaf.test["input"], 16)
     run = runs[value]
-    end = run.end.removeprefix("trap ") if run.end.startswith("trap") else run.end.split()[0]
-    here = (test["end"], test["output"], test["path"], test["steps"], leaf["path"], leaf["steps"], leaf["end"], leaf["kind"])
-    kind = "steps" if run.end == "running" else "finished"
-    there = (run.end, run.output.hex(), run.path, len(run.log), run.path, len(run.log), end, kind)
+    here = (test["end"], test["output"], test["path"], test["steps"], leaf.path, leaf.steps, leaf.end, leaf.kind)
+    there = (run.end, run.output.hex(), run.path, len(run.log), run.path, len(run.log), end_of(run.end), kind_of(run.end))
     if here != there:
-        say(f"{leaf['name']}: on input {value:02x} {here}, by brute force {there}")
+        say(f"{leaf.name}: on input {value:02x} {here}, by brute force {there}")
     return {other: (runs[other].end, runs[other].output.hex()) for other in range(256) if decisions[other] == decisions[value]}
 
 
@@ -168,16 +164,16 @@ def try_seed(seed, tool, folder):
     steps, targets = r.choice([400, 300, 120, 40, 25]), r.choice([1, 2, 5, 16, 16, 64])
     image = interpreter.load(path)
     runs = [interpreter.Machine(image, [value]).run(steps) for value in range(256)]
-    decisions = [tuple(word for decided, _, _ in run.log for word in decided) for run in runs]
+    decisions = [run.decisions() for run in runs]
     if len(set(decisions)) < 3 and r.random() < 0.97:
         path.unlink()
         return None
     out.mkdir()
     options = ["--steps", str(steps), "--targets", str(targets)]
-    done = subprocess.run([tool, "explore", *options, path, out, f"{interpreter.INPUT:08x}:1"], stdout=subprocess.PIPE, text=True)
-    leaves, asked = Report(out).leaves, []
+    done = run(tool, "explore", *options, path, out, f"{interpreter.INPUT:08x}:1")
+    leaves, asked = [Leaf(file) for file in leaf_files(out)], []
     for leaf in leaves:
-        is_rest = leaf["kind"] == "targets"
+        is_rest = leaf.kind == "targets"
         asked.append((leaf, rest_runs(leaf, runs, decisions, targets, say) if is_rest else leaf_runs(leaf, runs, decisions, say)))
     if done.returncode != 0:
         say(f"status {done.returncode}: {done.stdout}")
@@ -194,9 +190,9 @@ def try_seed(seed, tool, folder):
 
 def main(tool, first, last, folder=None):
     tried = leaves = wrong = 0
-    with tempfile.TemporaryDirectory() as spare:
+    with scratch(folder and pathlib.Path(folder)) as room:
         for seed in range(int(first), int(last)):
-            found = try_seed(seed, tool, pathlib.Path(folder or spare))
+            found = try_seed(seed, tool, room)
             if found:
                 tried, leaves, wrong = tried + 1, leaves + found[0], wrong + found[1]
     print(f"{tried} programs, {leaves} leaves, {wrong} programs with disagreements")

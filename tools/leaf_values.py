@@ -1,8 +1,7 @@
-"""Reads a leaf's text as docs/FORMATS.md has it, and evaluates its terms as SMT-LIB's theory FixedSizeBitVectors has them.
-
-It shares nothing with the crates, and asks no solver.
+"""Reads a leaf's text line by line, as docs/FORMATS.md has it, and evaluates its terms as SMT-LIB's theory FixedSizeBitVectors has
+them. It shares nothing with the crates, and asks no solver.
 """
-import re
+from leaf_text import ASSERTED, BYTE, END, HEAD, TERM, term
 
 # Each form of a term, with n in place of its operands and, but for a choice, # in place of its numbers. Its value in Python is
 # taken modulo 2^width: of operands a b c, with A B as signed numbers and w the width of the last, and of the numbers by their
@@ -33,56 +32,43 @@ FORMS = {
     "((_ sign_extend #) n)": ("{A}", lambda w, k: w[0] + k[0]),
     "(concat n n)": ("({a} << {w} | {b})", lambda w, k: w[0] + w[1]),
 }
-HEAD = ["; rvklee leaf", "; kind", "; choices", "; path", "; steps", "; end", "; inputs", "; nodes", "; outputs"]
-BYTE = r"\(define-fun (status|out\d+) \(\) \(_ BitVec 8\) n(\d+)\)"
 
 
 class NoLeaf(Exception):
     """The text is none of a leaf."""
 
 
-def term(text, widths):
+def valued(found, widths):
     """A term's value in Python, and its width."""
-    form = re.sub(r"\bn\d+", "n", text)
-    form = form if form.startswith("(ite") else re.sub(r"\d+", "#", form)
-    if form not in FORMS:
-        raise NoLeaf(text)
-    operands = [int(word) for word in re.findall(r"\bn(\d+)", text)]
-    numbers = [int(word) for word in re.findall(r"\d+", re.sub(r"\bn\d+", "n", text))]
+    if found.form not in FORMS:
+        raise NoLeaf(found.text)
     names = {}
-    for letter, operand in zip("abc", operands):
+    for letter, operand in zip("abc", found.operands):
         name, sign = f"n{operand}", 1 << widths[operand] - 1
         names |= {letter: name, letter.upper(): f"({name} - (({name} & {sign}) << 1))", "w": widths[operand]}
-    value, width = FORMS[form]
-    return value.format(*numbers, **names), width([widths[operand] for operand in operands], numbers)
+    value, width = FORMS[found.form]
+    return value.format(*found.numbers, **names), width([widths[operand] for operand in found.operands], found.numbers)
 
 
-class LeafText:
+class LeafValues:
     """What stands in the text: of the asserted terms, the status (or None) and the output their numbers."""
 
     def __init__(self, text):
         self.lines = text.splitlines()
-        place = self.take_head()
-        widths, code = [], []
-        while found := re.fullmatch(r"\(define-fun n(\d+) \(\) \(_ BitVec (\d+)\) (.*)\)", self.lines[place]):
-            value, width = term(found[3], widths)
-            if (int(found[1]), int(found[2])) != (len(widths), width):
-                raise NoLeaf(self.lines[place])
-            code.append(f" n{len(widths)} = {value} & {(1 << width) - 1}\n")
-            widths.append(width)
-            place += 1
-        self.status, self.output, place = self.take_bytes(place)
-        self.asserted, place = self.take_assertions(place)
-        if len(widths) != self.nodes or self.lines[place:] != ["(check-sat)", "(exit)"] or not text.endswith(")\n"):
-            raise NoLeaf(f"its end: {self.lines[place:]}")
+        self.place = self.take_head()
+        code = self.take_terms()
+        self.status, self.output = self.take_bytes()
+        self.asserted = [int(match[1]) for match in self.take(ASSERTED)]
+        if len(code) != self.nodes or self.lines[self.place:] != END.splitlines() or not text.endswith(")\n"):
+            raise NoLeaf(f"its end: {self.lines[self.place:]}")
         made = {}
-        exec(f"def values(b):\n{''.join(code)} return [{', '.join(f'n{place}' for place in range(len(widths)))}]\n", made)
+        exec(f"def values(b):\n{''.join(code)} return [{', '.join(f'n{place}' for place in range(len(code)))}]\n", made)
         # The values of all terms on some input bytes.
         self.values = made["values"]
 
     def take_head(self):
-        for line, start in zip(self.lines, HEAD):
-            if not line.startswith(start + " "):
+        for line, word in zip(self.lines, HEAD):
+            if not line.startswith(f"; {word} "):
                 raise NoLeaf(line)
         self.inputs, self.nodes, self.outputs = (int(line.split()[2]) for line in self.lines[6:9])
         wanted = ["(set-logic QF_ABV)", *(f"(declare-fun b{place} () (_ BitVec 8))" for place in range(self.inputs))]
@@ -91,23 +77,31 @@ class LeafText:
             raise NoLeaf("its declarations")
         return 9 + len(wanted)
 
-    def take_bytes(self, place):
-        found = []
-        while match := re.fullmatch(BYTE, self.lines[place]):
-            found.append((match[1], int(match[2])))
-            place += 1
+    def take(self, pattern):
+        """The lines from here on that are so, one after another."""
+        while match := pattern.fullmatch(self.lines[self.place]):
+            yield match
+            self.place += 1
+
+    def take_terms(self):
+        """For each term a line of Python."""
+        widths, code = [], []
+        for match in self.take(TERM):
+            found = term(*match.groups())
+            value, width = valued(found, widths)
+            if (found.place, found.width) != (len(widths), width):
+                raise NoLeaf(match[0])
+            code.append(f" n{len(widths)} = {value} & {(1 << width) - 1}\n")
+            widths.append(width)
+        return code
+
+    def take_bytes(self):
+        found = [(match[1], int(match[2])) for match in self.take(BYTE)]
         names = ["status"] * (self.lines[5] == "; end exit") + [f"out{number}" for number in range(self.outputs)]
         if [name for name, _ in found] != names:
             raise NoLeaf("its status and output")
         numbers = [number for _, number in found]
-        return (numbers[0], numbers[1:], place) if names[:1] == ["status"] else (None, numbers, place)
-
-    def take_assertions(self, place):
-        found = []
-        while match := re.fullmatch(r"\(assert \(= n(\d+) \(_ bv1 1\)\)\)", self.lines[place]):
-            found.append(int(match[1]))
-            place += 1
-        return found, place
+        return (numbers[0], numbers[1:]) if names[:1] == ["status"] else (None, numbers)
 
     def holds(self, values, but=0):
         """Whether the condition holds on these values of its terms, but for some of the last assertions."""
