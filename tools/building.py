@@ -1,15 +1,13 @@
 """Where the tool's program comes from (built here from these sources, or their release, or none yet), and how it is built."""
 import os
-import pathlib
 import shutil
 import subprocess
 import sys
 
+from tool import PROGRAM, TOP
 from voice import put, say
 
-TOP = pathlib.Path(__file__).resolve().parent.parent
 CRATE = TOP / "crates/rvklee"
-PROGRAM = CRATE / "out/rvklee"
 # A status that the tool never answers: the toolchain failed.
 NO_TOOL = 70
 

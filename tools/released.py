@@ -9,7 +9,8 @@ import os
 import pathlib
 import tempfile
 
-TOP = pathlib.Path(__file__).resolve().parent.parent
+from tool import TOP
+
 PACKED, TEXT = TOP / "release/rvklee.xz", TOP / "release/rvklee.txt"
 NAMES = ("kit", "sources", "program")
 
@@ -38,6 +39,15 @@ def sources_sum():
     total = hashlib.sha256()
     for path in sources():
         total.update(f"{path.relative_to(TOP)}\n{hashlib.sha256(path.read_bytes()).hexdigest()}\n".encode())
+    return total.hexdigest()
+
+
+def stamp():
+    """What tells, by sizes and times alone, whether the sources are those of an earlier look."""
+    total = hashlib.sha256()
+    for path in sources():
+        about = path.stat()
+        total.update(f"{path}\n{about.st_size} {about.st_mtime_ns}\n".encode())
     return total.hexdigest()
 
 
@@ -72,13 +82,27 @@ def unpack(place, program):
     return True
 
 
+def are_sources(made, seen):
+    """Whether the sources are the release's. Where they are, `seen` keeps their stamp, so that they aren't read each time."""
+    here = stamp()
+    if seen.exists() and seen.read_text() == here:
+        return True
+    if made["sources"] != sources_sum():
+        return False
+    seen.parent.mkdir(parents=True, exist_ok=True)
+    seen.write_text(here)
+    return True
+
+
 def released():
     """The path of the released program, where it was made from these very sources; None where it wasn't, or can't be unpacked."""
     made = record()
-    if made.get("sources") != sources_sum() or "program" not in made or not PACKED.exists():
+    if set(made) != set(NAMES) or not PACKED.exists():
         return None
     place = cached(made["program"])
     try:
+        if not are_sources(made, place.with_name("sources")):
+            return None
         if place.exists() and sum_of(place.read_bytes()) == made["program"]:
             return place
         return place if unpack(place, made["program"]) else None
