@@ -15,6 +15,16 @@ SYMTAB, SECTION_EXECUTABLE = 2, 4
 NO_TYPE, FUNCTION = 0, 2
 
 
+def read_program(word):
+    """The program in a file. Where the file is no program, the script ends."""
+    path = pathlib.Path(word)
+    if not path.is_file():
+        raise SystemExit(f"{word}: no such file")
+    if path.read_bytes()[:6] != b"\x7fELF\x01\x01":
+        raise SystemExit(f"{word} is no ELF32 file: give the PROGRAM that was explored")
+    return Program(path)
+
+
 class Program:
     def __init__(self, path):
         self.path, self.data = path, path.read_bytes()

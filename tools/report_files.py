@@ -1,9 +1,18 @@
 """What `rvklee explore` put into a folder (docs/FORMATS.md)."""
 import functools
 import json
+import pathlib
 
 import leaf_text
 from conditions import Condition
+
+
+def report_folder(word):
+    """The folder of a report. Where it isn't one, the script ends."""
+    folder = pathlib.Path(word)
+    if not (folder / "report.json").is_file():
+        raise SystemExit(f"{word} has no report: give the folder OUT of an `explore` that ended with status 0")
+    return folder
 
 
 def read_report(folder):
