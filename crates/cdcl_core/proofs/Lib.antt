@@ -12,3 +12,4 @@ pub mod Pending
 pub mod Backjumping
 pub mod Noting
 pub mod Learning
+pub mod Seeing

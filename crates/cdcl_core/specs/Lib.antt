@@ -3,3 +3,4 @@ pub mod Places
 pub mod Passes
 pub mod Spots
 pub mod Searches
+pub mod Occurrences

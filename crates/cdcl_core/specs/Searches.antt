@@ -1,9 +1,11 @@
 -- What a search keeps, and what its answers carry.
-use Rattle.std.specs.Prelude.{◌≡◌, ℕ, Bool, true, false, List, ◌++◌, Option, Some, None, length}
+use Rattle.std.specs.Prelude.{◌≡◌, ℕ, ◌≤◌, Bool, true, false, List, All, ◌++◌, Option, Some, None, length}
 use Rattle.std.specs.List.{list_all}
 use Rattle.cnf_form.specs.Literals.{Literal}
 use Rattle.cnf_form.specs.Propagation.{numbered, hint_is_falsified, follows}
-use Rattle.cnf_form.specs.Refutations.{Step, clauses_of, follows_all, has_no_empty, is_new, is_fresh, is_empty_clause}
+use Rattle.cnf_form.specs.Clauses.{IsClause}
+use Rattle.cnf_form.specs.Refutations.{Step, clauses_of, follows_all, has_no_empty, is_new, is_fresh, is_empty_clause, refutes}
+use Rattle.cnf_form.specs.Valuations.{satisfies, valuation}
 use Rattle.cnf_form.specs.Variables.{is_below, is_over}
 use Rattle.cdcl_core.specs.declared.solver.Answer.{Answer}
 use Rattle.cdcl_core.specs.declared.solver.Answer.TheVariants.{Found, Refuted, Spent}
@@ -33,6 +35,28 @@ abbrev pub IfLog : Answer → (List Step → Type 0) → Type 0
 IfLog (Found values) P = Unit {0}
 IfLog (Refuted log) P = P log
 IfLog (Spent log) P = P log
+
+-- a log that refutes a formula, of no more clauses than the budget, each over the formula's variables
+pub record IsRefutation (formula : List (List Literal)) (budget : ℕ) (log : List Step) : Type 0 where
+  pub refuted : refutes formula log ≡ true
+  pub in_budget : length log ≤ budget
+  pub formed : All (λ s. IsClause s.clause) log
+  pub over : list_all (is_over formula) (clauses_of log) ≡ true
+
+-- a log of as many clauses as the budget, none empty, each of which follows, is new, and is over the formula's variables
+pub record IsExhaustion (formula : List (List Literal)) (budget : ℕ) (log : List Step) : Type 0 where
+  pub spent : length log ≡ budget
+  pub no_empty : has_no_empty log ≡ true
+  pub follows : follows_all formula log ≡ true
+  pub fresh : is_fresh formula log ≡ true
+  pub formed : All (λ s. IsClause s.clause) log
+  pub over : list_all (is_over formula) (clauses_of log) ≡ true
+
+-- an answer carries what shows it
+abbrev pub IsAnswer : (formula : List (List Literal)) → (budget : ℕ) → Answer → Type 0
+IsAnswer formula budget (Found values) = satisfies (valuation values) formula ≡ true
+IsAnswer formula budget (Refuted log) = IsRefutation formula budget log
+IsAnswer formula budget (Spent log) = IsExhaustion formula budget log
 
 -- what a search keeps: its clauses are the formula's and those learnt, each of which follows, was new and has no variable
 -- but the formula's, the trail is one over these clauses, and the first n of them are calm

@@ -1,12 +1,8 @@
-//! The order in which variables are chosen: by their activity, and with the value that each had last. Each conflict raises the
-//! activity of the variables that its analysis met by a gain, and the gain itself grows, so that what was gained of late
-//! counts most. Before the numbers grow too large, all are divided.
+//! The literals to choose: the most active variable first, with the value that it had last. Where entries leave the trail, their
+//! variables are put back, and the values that they had are kept as those to try next.
 //!
-//! Variables stand in a heap by their activity. To choose one, those on top are taken out until one has no value. Where
-//! entries leave the trail, their variables are put back, and the values that they had are kept as those to try next.
-//!
-//! What the order says is no more than a wish: whichever literal is chosen, the answers are as sure, and where the heap is
-//! empty the search looks for a literal itself. A variable that occurs in no clause is taken out and never chosen.
+//! What the order says is no more than a wish: whichever literal is chosen, the answers are as sure, and where no variable is
+//! left the search looks for a literal itself. A variable that occurs in no clause is taken out and never chosen.
 
 ghost use Rattle.std.specs.Prelude.{◌≡◌, true, Contains, IfSome, IsTrue, length};
 ghost use Rattle.cnf_form.specs.Variables.{occurs};
@@ -14,43 +10,29 @@ ghost use Rattle.cdcl_core.specs.Trails.{trail_values};
 ghost use Rattle.cdcl_core.specs.Passes.{IsFree};
 
 use crate::clause_list::ClauseList;
-use crate::heap::Heap;
 use crate::trail::{Entry, Trail};
 use cnf_form::Lit;
 use std::alloc::{AllocError as NoMemory, Global};
+use watched_search::Activity;
 
-/// Variables by their activity, that of the variable k at place k - 1 of each list.
+/// Variables by their activity.
 #[derive(Debug)]
 pub struct Order {
-    /// The literal to choose for each variable.
+    /// The literal to choose for each variable, that of the variable k at place k - 1.
     literals: Vec<Lit>,
-    activities: Vec<u64>,
-    heap: Heap,
-    /// What a variable gains that a conflict meets.
-    gain: u64,
+    activity: Activity,
 }
 
 impl Drop for Order {
     fn drop(self) {
         let Self {
             literals: _literals,
-            activities: _activities,
-            heap: _heap,
-            gain: _gain,
+            activity: _activity,
         } = self;
     }
 }
 
-// The gain at first, by which part of itself it grows, and up to where.
-const FIRST_GAIN: u64 = 64;
-
-const GROWTH: u64 = 16;
-
-const GREATEST_GAIN: u64 = 1 << 48;
-// By what all is divided where the gain is greater.
-const SCALE: u64 = 1 << 40;
-
-// The place of the literal's variable in each list.
+// The place of the literal's variable.
 fn place_of(literal: Lit) -> usize {
     literal.variable() as usize - 1
 }
@@ -80,9 +62,7 @@ impl Order {
     pub fn new(alloc: Global, last: u32) -> Result<Order, NoMemory> {
         Ok(Order {
             literals: negations(alloc, last)?,
-            activities: vec![in alloc; 0; last as usize]?,
-            heap: Heap::new(alloc, last as usize)?,
-            gain: FIRST_GAIN,
+            activity: Activity::new(alloc, last)?,
         })
     }
 
@@ -93,7 +73,7 @@ impl Order {
         ensures occurs { IfSome result (λ l. occurs clauses.now l.variable ≡ true) }
         ensures listed { IfSome result (Contains self.old.literals.items) }
     {
-        while let Some(place) = self.heap.pop(&self.activities) {
+        while let Some(place) = self.activity.pop() {
             if let Some(literal) = self.literals.get(place) {
                 if may_be_chosen(trail, clauses, *literal) {
                     return Some(*literal);
@@ -109,7 +89,7 @@ impl Order {
         if place < self.literals.len() {
             self.literals[place] = literal;
         }
-        self.heap.put(&self.activities, place);
+        self.activity.put(place);
     }
 
     /// Puts the variables of the entries from this place on back, each with the value that it has there.
@@ -119,32 +99,11 @@ impl Order {
         }
     }
 
-    // Divides every activity and the gain. Activities that differed may be equal then, which changes their order.
-    fn scale(&mut self) {
-        for activity in self.activities.iter_mut() {
-            *activity /= SCALE;
-        }
-        self.gain /= SCALE;
-        self.heap.rebuild(&self.activities);
-    }
-
-    // Raises the activity of the literal's variable.
-    fn raise_one(&mut self, literal: Lit) {
-        let place = place_of(literal);
-        if place < self.activities.len() {
-            self.activities[place] = self.activities[place].saturating_add(self.gain);
-        }
-        self.heap.raise(&self.activities, place);
-    }
-
     /// Raises the activity of the variables of these literals.
     pub(crate) fn raise(&mut self, met: &[Lit]) {
         for literal in met {
-            self.raise_one(*literal);
+            self.activity.raise(place_of(*literal));
         }
-        self.gain = self.gain.saturating_add(self.gain / GROWTH);
-        if self.gain > GREATEST_GAIN {
-            self.scale();
-        }
+        self.activity.grow();
     }
 }

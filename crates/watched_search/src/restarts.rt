@@ -30,7 +30,7 @@ impl Restarts {
     }
 
     /// Counts a conflict, and says whether to begin again.
-    pub(crate) fn is_due(&mut self) -> bool
+    pub fn is_due(&mut self) -> bool
         ensures due { IsTrue result ↔ self.old.limit ≤ self.old.since + 1 }
         ensures again { result ≡ true → self.new.since ≡ 0 }
         ensures counted { result ≡ false → self.new.since ≡ self.old.since + 1 }
