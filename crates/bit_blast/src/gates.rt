@@ -5,7 +5,7 @@ ghost use Rattle.circuit_spec.specs.Formulas.{constant, next_variable, with_vari
 ghost use Rattle.circuit_spec.specs.Gates.{and_gate, or_gate, xor_gate, mux_gate, xor3_gate, majority_gate, gate_of};
 
 use circuit_spec::Gate;
-use cnf_form::{Clause, Cnf, Lit};
+use cnf_form::{Cnf, Lit};
 use std::alloc::{AllocError as NoMemory, Global};
 use std::marker::Model;
 
@@ -87,10 +87,7 @@ impl Gates {
     pub fn clause(&mut self, literals: &[Lit]) -> Result<(), NoMemory>
         ensures { OnOk result (self.new ≡ with_clause literals.now self.old) }
     {
-        if let Some(clause) = Clause::from_literals(self.alloc, literals)? {
-            self.formula.push(&clause)?;
-        }
-        Ok(())
+        self.formula.push(literals)
     }
 
     /// A literal that is true where both are.

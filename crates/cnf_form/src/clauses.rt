@@ -3,7 +3,6 @@
 ghost use Rattle.std.specs.Prelude.{◌≡◌, ◌≤◌, ◌<◌, ◌++◌, ◌∷◌, [], true, length, take, slice_get, slice_index_or, slice_range, option_copied, Some, IfSome, IfOk, OnOk, OnErr};
 ghost use Rattle.cnf_form.specs.Clauses.{are_increasing};
 
-use crate::clause::Clause;
 use crate::literal::Lit;
 use std::alloc::{AllocError as NoMemory, Global};
 use std::marker::Model;
@@ -75,14 +74,6 @@ impl Clauses {
         self.literals.extend_from_slice(literals)?;
         self.ends.push(self.literals.len()).unwrap();
         Ok(())
-    }
-
-    /// Puts a clause behind the others.
-    pub fn push(&mut self, clause: &Clause) -> Result<(), NoMemory>
-        ensures ok { OnOk result (self.new ≡ self.old ++ clause.now ∷ []) }
-        ensures err { OnErr result (self.new ≡ self.old) }
-    {
-        self.push_literals(clause.literals())
     }
 
     /// Keeps the first `len` clauses.

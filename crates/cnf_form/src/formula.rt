@@ -2,10 +2,10 @@
 
 ghost use Rattle.std.specs.Prelude.{◌≡◌, ◌+◌, ◌++◌, ◌∷◌, [], true, OnOk, OnErr};
 ghost use Rattle.std.specs.List.{list_all};
-ghost use Rattle.cnf_form.specs.Clauses.{are_increasing};
+ghost use Rattle.cnf_form.specs.Clauses.{are_increasing, clause_of, with_made};
 ghost use Rattle.cnf_form.specs.Variables.{greatest_in, greatest_variable, is_below};
 
-use crate::clause::Clause;
+use crate::clause::sort_into;
 use crate::clauses::Clauses;
 use crate::literal::Lit;
 use std::alloc::{AllocError as NoMemory, Global};
@@ -17,6 +17,8 @@ pub struct Cnf {
     clauses: Clauses,
     /// The greatest variable, and 0 where there is none.
     variables: u32,
+    /// Room in which the literals of a clause are put in order.
+    scratch: Vec<Lit>,
 }
 
 impl Drop for Cnf {
@@ -24,6 +26,7 @@ impl Drop for Cnf {
         let Self {
             clauses: _clauses,
             variables: _variables,
+            scratch: _scratch,
         } = self;
     }
 }
@@ -59,16 +62,19 @@ impl Cnf {
         Cnf {
             clauses: Clauses::new(alloc),
             variables: 0,
+            scratch: Vec::new(alloc),
         }
     }
 
-    /// Puts a clause behind the others.
-    pub fn push(&mut self, clause: &Clause) -> Result<(), NoMemory>
-        ensures ok { OnOk result (self.new ≡ self.old ++ clause.now ∷ []) }
+    /// Puts the clause of these literals, each taken once, behind the others, unless it is always true.
+    pub fn push(&mut self, literals: &[Lit]) -> Result<(), NoMemory>
+        ensures ok { OnOk result (self.new ≡ with_made (clause_of literals.now) self.old) }
         ensures err { OnErr result (self.new ≡ self.old) }
     {
-        self.clauses.push(clause)?;
-        self.variables = self.variables.max(greatest_in(clause.literals()));
+        if sort_into(&mut self.scratch, literals)? {
+            self.clauses.push_literals(&self.scratch)?;
+            self.variables = self.variables.max(greatest_in(&self.scratch));
+        }
         Ok(())
     }
 

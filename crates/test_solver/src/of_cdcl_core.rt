@@ -40,7 +40,7 @@ fn push(
     numbers: &[i32],
 ) -> Result<(), NoMemory> {
     let clause = clause(rt, alloc, numbers)?;
-    formula.push(&clause)
+    formula.push(clause.literals())
 }
 
 // What an answer is, where it shows what it says.

@@ -47,7 +47,7 @@ fn push(
     numbers: &[i32],
 ) -> Result<(), NoMemory> {
     let clause = clause(alloc, numbers)?.expect(rt, "no tautology");
-    formula.push(&clause)
+    formula.push(clause.literals())
 }
 
 // (1 2)(-2)

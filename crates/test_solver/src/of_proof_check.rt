@@ -24,7 +24,7 @@ fn push(
     numbers: &[i32],
 ) -> Result<(), NoMemory> {
     let clause = clause(rt, alloc, numbers)?;
-    formula.push(&clause)
+    formula.push(clause.literals())
 }
 
 // (1)(-1 2)(-2)
