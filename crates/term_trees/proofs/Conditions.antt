@@ -7,10 +7,10 @@ use Rattle.term_trees.specs.Trees.{Tree, tree_of, tree_value}
 use Rattle.term_trees.proofs.TreeLaws.{value-tree_of}
 
 -- whether a tree is worth 1
-is_one : List ℕ → Tree → Bool
+pub is_one : List ℕ → Tree → Bool
 is_one input t = (tree_value input t).number == 1
 
-ones-by_trees : (g : Graph) (input ids : List ℕ) → list_all (λ id. number_of g id input == 1) ids ≡ list_all (is_one input) (map (tree_of g) ids)
+pub ones-by_trees : (g : Graph) (input ids : List ℕ) → list_all (λ id. number_of g id input == 1) ids ≡ list_all (is_one input) (map (tree_of g) ids)
 unfolding is_one
 ones-by_trees g input [] = refl
 ones-by_trees g input (id ∷ ids) =

@@ -1,4 +1,5 @@
 pub mod Trees
 pub mod TreeInputs
 pub mod TreeSlices
+pub mod Subsets
 pub mod Growth

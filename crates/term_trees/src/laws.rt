@@ -1,11 +1,12 @@
 //! What holds of every graph and its trees.
 
-ghost use Rattle.std.specs.Prelude.{◌≡◌, ◌<◌, ℕ, List, Some, All, length, map, slice_get};
+ghost use Rattle.std.specs.Prelude.{◌≡◌, ◌<◌, ℕ, List, Some, All, length, map, slice_get, true};
 ghost use Rattle.bv_dag.specs.Graphs.{Graph, IsDag, val, width_of, with_node};
 ghost use Rattle.bv_dag.specs.Inputs.{inputs_under};
-ghost use Rattle.bv_dag.specs.Queries.{Condition, holds};
+ghost use Rattle.bv_dag.specs.Queries.{Condition, holds, IsUnsatisfiable};
 ghost use Rattle.bv_dag.specs.declared.nodes.Node.{Node};
 ghost use Rattle.term_trees.specs.Growth.{Continues};
+ghost use Rattle.term_trees.specs.Subsets.{AsksNoMore};
 ghost use Rattle.term_trees.specs.TreeInputs.{tree_inputs};
 ghost use Rattle.term_trees.specs.Trees.{Tree, node_tree, tree_of, tree_width, tree_value, IsTerm, IsOfWidth};
 
@@ -63,6 +64,14 @@ pub fn conditions_of_the_same_trees_are_one()
     ensures { (c d : Condition) (input : List ℕ) → c.graph.inputs ≡ d.graph.inputs
         → map (tree_of c.graph) c.asserted ≡ map (tree_of d.graph) d.asserted
         → holds c input ≡ holds d input }
+{}
+
+/// What meets a condition meets one that asks no more; so where nothing meets this one, nothing meets the other.
+pub fn what_asks_no_more_is_met_sooner()
+    ensures met { (less more : Condition) (input : List ℕ) → AsksNoMore less more
+        → holds more input ≡ true → holds less input ≡ true }
+    ensures unmet { (less more : Condition) → AsksNoMore less more → IsUnsatisfiable less
+        → IsUnsatisfiable more }
 {}
 
 /// A tree names just the input bytes that stand under its term, so terms of one tree rest on the same.
