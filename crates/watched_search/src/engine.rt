@@ -204,7 +204,7 @@ impl Engine {
         level
     }
 
-    // Puts what was learnt behind the other clauses, and makes its first literal true.
+    // Puts what was learnt behind the other clauses, and watches its first two literals.
     fn keep(&mut self) -> Result<(), NoMemory> {
         for literal in self
             .analysis
@@ -226,10 +226,12 @@ impl Engine {
         }
     }
 
-    // Raises the activity of the variables that the analysis met.
+    // Raises the activity of the variables that the analysis met, but for those that keep their values.
     fn raise(&mut self) {
         for literal in &self.analysis.met {
-            self.activity.raise(literal.place().wrapping_sub(1));
+            if self.assignment.cause(*literal).level > 0 {
+                self.activity.raise(literal.place().wrapping_sub(1));
+            }
         }
         self.activity.grow();
     }
