@@ -8,6 +8,7 @@ use proof_check::{check, ends_empty, fresh};
 use std::alloc::{AllocError as NoMemory, Global};
 use std::process::Abort;
 use std::test::Fail;
+use watched_search::{Proposal, propose};
 
 /// What an answer is to be.
 #[derive(Clone, Copy, Debug, PartialEq, Eq)]
@@ -166,6 +167,28 @@ fn answered_to(
 fn small_formulas(rt: HostRuntime) -> Result<(), Fail> {
     for (at, (clauses, budget, kind)) in ROWS.iter().enumerate() {
         let answer = answered_to(&rt, rt.alloc(), clauses, *budget)?;
+        assert_eq!(rt; answer, Some(*kind), "row {at}");
+    }
+    Ok(())
+}
+
+// What the fast search proposes, where it shows what it says. No contract speaks of it: were it wrong, the proved search would
+// answer in its place, as truly and more slowly.
+fn proposed(alloc: Global, formula: &Cnf, budget: u32) -> Result<Option<Kind>, NoMemory> {
+    let answer = match propose(alloc, formula, budget)? {
+        Some(Proposal::Found(valuation)) => Answer::Found(valuation),
+        Some(Proposal::Refuted(log)) => Answer::Refuted(log),
+        Some(Proposal::Spent(log)) => Answer::Spent(log),
+        None => return Ok(None),
+    };
+    shown(alloc, formula, budget as usize, &answer)
+}
+
+#[test]
+fn proposals_stand_the_check(rt: HostRuntime) -> Result<(), Fail> {
+    for (at, (clauses, budget, kind)) in ROWS.iter().enumerate() {
+        let formula = formula(&rt, rt.alloc(), clauses)?;
+        let answer = proposed(rt.alloc(), &formula, *budget)?;
         assert_eq!(rt; answer, Some(*kind), "row {at}");
     }
     Ok(())
