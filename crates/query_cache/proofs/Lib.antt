@@ -1,1 +1,5 @@
-pub mod Keeping
+pub mod Prints
+pub mod Shaping
+pub mod OneShape
+pub mod Filtering
+pub mod Serving

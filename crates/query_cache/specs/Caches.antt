@@ -1,31 +1,45 @@
--- What a cache keeps.
-use Rattle.std.specs.Prelude.{◌≤◌, ◌||◌, nat_lt, Bool, if◌then◌else◌, List, length, All, Option, is_some}
-use Rattle.std.specs.BTreeMap.{insert_entry, is_at}
-use Rattle.std.specs.Map.{lookup}
-use Rattle.bv_dag.specs.Comparing.{condition_cmp}
+-- What a cache keeps, and what it answers.
+use Rattle.std.specs.Prelude.{◌≡◌, List, All, Contains, Option, None, Some, ◌⊎◌}
+use Rattle.bv_dag.specs.Comparing.{condition_eq}
 use Rattle.bv_dag.specs.Queries.{Condition}
+use Rattle.lru.specs.LruCache.{LruCache, lru_cache, put_entries}
+use Rattle.term_trees.specs.Subsets.{AsksNoMore}
 use Rattle.query_cache.specs.Answers.{IsAnswer, Answered}
 use Rattle.query_cache.specs.declared.satisfiability.Satisfiability.{Satisfiability}
-use Rattle.query_cache.specs.declared.cache.TheConstants.{MOST_KEPT}
+use Rattle.query_cache.specs.declared.satisfiability.Satisfiability.TheVariants.{Sat, Unsat}
+use Rattle.query_cache.specs.declared.shard.TheConstants.{MOST_KEPT}
 
--- questions with their answers, in the order of the questions
+-- entries: queries, each with its answer
 abbrev pub KeptAnswers : Type 0
 KeptAnswers = List (Condition × Satisfiability)
 
--- the answer that is kept for a question
-abbrev pub kept_for : KeptAnswers → Condition → Option Satisfiability
-kept_for kept q = lookup (is_at (condition_cmp q)) kept
+-- what a shard keeps: so many entries at most, the most recently used first, each of which is true
+pub record IsShard (kept : LruCache Condition Satisfiability) : Type 0 where
+  pub cap : kept.cap ≡ MOST_KEPT
+  pub right : All (λ e. IsAnswer e.0 e.1) kept.entries
 
--- there are no more answers than may be kept, and each is true of its question
-pub record IsCache (kept : KeptAnswers) : Type 0 where
-  pub few : length kept ≤ MOST_KEPT
-  pub right : All (λ e. IsAnswer e.0 e.1) kept
-
--- there is room for an answer where one to the same question is kept, or fewer than may be
-abbrev pub has_room : KeptAnswers → Condition → Bool
-has_room kept q = is_some (kept_for kept q) || nat_lt (length kept) MOST_KEPT
-
--- what is kept after a question is put with its answer: these too, where there is room
+-- what is kept once a query is put with its answer
 abbrev pub kept_after : KeptAnswers → Answered → KeptAnswers
-kept_after kept s = if has_room kept s.query then insert_entry condition_cmp kept s.query s.answer
-    else kept
+kept_after kept s = put_entries condition_eq (lru_cache kept MOST_KEPT) s.query s.answer
+
+-- A query is answered by the answer to another one: where no bytes meet one that asks no more, and where some meet one that
+-- asks no less.
+abbrev pub IsAnsweredBy : (asked kept : Condition) → Satisfiability → Type 0
+IsAnsweredBy asked kept (Sat input) = AsksNoMore asked kept
+IsAnsweredBy asked kept Unsat = AsksNoMore kept asked
+
+-- an entry answers a query: it is of that query, or of one whose answer serves
+abbrev pub Serves : (asked : Condition) → Condition × Satisfiability → Type 0
+Serves asked entry = (entry.0 ≡ asked) ⊎ IsAnsweredBy asked entry.0 entry.1
+
+-- an entry among these that answers a query, or none where none does
+abbrev pub IsServing : KeptAnswers → (asked : Condition) → Option (Condition × Satisfiability) → Type 0
+IsServing kept asked None = All (λ entry. Serves asked entry → ⊥) kept
+IsServing kept asked (Some entry) = Contains kept entry × Serves asked entry
+
+-- what is found among entries: none where none serves, and else the answer of one that does, which is true of the query
+abbrev pub IsFound : KeptAnswers → (asked : Condition) → Option Satisfiability → Type 0
+IsFound kept asked None = All (λ entry. Serves asked entry → ⊥) kept
+IsFound kept asked (Some answer) = IsAnswer asked answer
+    × ((entry : Condition × Satisfiability) × Contains kept entry × Serves asked entry
+    × (entry.1 ≡ answer))

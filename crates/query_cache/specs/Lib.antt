@@ -1,2 +1,4 @@
 pub mod Answers
 pub mod Caches
+pub mod Fingerprints
+pub mod Shapes

@@ -1,73 +1,69 @@
-//! A map from questions to answers.
+//! Answers that threads share.
 
-ghost use Rattle.std.specs.Prelude.{◌≡◌, [], IfSome, OnOk, OnErr};
-ghost use Rattle.std.specs.Option.{option_copied};
+ghost use Rattle.std.specs.Prelude.{IfOk, IfSome};
 
+use crate::fingerprinted::Fingerprinted;
 use crate::satisfiability::Satisfiability;
+use crate::shard::Shard;
 use crate::solved::Solved;
-use bv_dag::Query;
 use std::alloc::{AllocError as NoMemory, Global};
-use std::collections::BTreeMap;
-use std::marker::Model;
+use std::sync::{Mutex, Wait};
 
-/// A cache keeps at most so many answers.
-pub const MOST_KEPT: usize = 4096;
+/// A cache has so many shards.
+pub const SHARDS: usize = 8;
 
-/// Questions with their answers, each of which is true.
-#[derive(Debug, Drop)]
+/// KeptAnswers, each in the shard of its number of assertions, so that threads seldom wait for one another.
+#[derive(Drop)]
 pub struct Cache {
-    answers: BTreeMap<Query, Satisfiability>,
+    shards: [Mutex<Shard>; SHARDS],
 }
 
-impl Model for Cache {
-    ghost use Rattle.std.specs.Prelude.{List};
-    ghost use Rattle.bv_dag.specs.Queries.{Condition};
-    ghost use Rattle.query_cache.specs.Caches.{KeptAnswers, IsCache};
-
-    ghost Value = { KeptAnswers };
-
-    ghost view = { λ c. c.answers.entries };
-
-    ghost invariant = { λ c. IsCache c.answers.entries };
+// A shard behind its lock.
+fn locked(alloc: Global) -> Result<Mutex<Shard>, NoMemory> {
+    Ok(Mutex::new(Shard::new(alloc)?))
 }
 
 impl Cache {
     ghost use Rattle.query_cache.specs.Answers.{IsAnswer};
-    ghost use Rattle.query_cache.specs.Caches.{kept_for, has_room, kept_after, IsCache};
 
-    /// A cache that keeps no answer yet.
-    pub fn new(alloc: Global) -> Cache
-        ensures { result ≡ [] }
+    /// A cache that keeps no entry yet.
+    pub fn new(alloc: Global) -> Result<Cache, NoMemory> {
+        Ok(Cache {
+            shards: [
+                locked(alloc)?,
+                locked(alloc)?,
+                locked(alloc)?,
+                locked(alloc)?,
+                locked(alloc)?,
+                locked(alloc)?,
+                locked(alloc)?,
+                locked(alloc)?,
+            ],
+        })
+    }
+
+    /// The answer to a query, from the first shard that has one. None says nothing: a shard that was looked through may have
+    /// been given the answer since.
+    pub fn get(
+        &self,
+        rt: &impl Wait,
+        alloc: Global,
+        asked: &Fingerprinted,
+    ) -> Result<Option<Satisfiability>, NoMemory>
+        ensures { IfOk result (λ found. IfSome found (IsAnswer asked.now)) }
     {
-        Cache {
-            answers: BTreeMap::new(alloc),
+        for shard in &self.shards {
+            let found = shard.lock(rt).look(alloc, asked)?;
+            if found.is_some() {
+                return Ok(found);
+            }
         }
+        Ok(None)
     }
 
-    /// The answer that is kept for this question, if there is one.
-    pub fn get(&self, query: &Query) -> Option<&Satisfiability>
-        ensures value { option_copied result ≡ kept_for self.now query.now }
-        ensures right { IfSome result (λ answer. IsAnswer query.now answer.now) }
-    {
-        self.answers.get(query)
-    }
-
-    // Whether an answer to this question would be kept.
-    fn has_room_for(&self, query: &Query) -> bool
-        ensures { result ≡ has_room self.now query.now }
-    {
-        self.answers.contains_key(query) || self.answers.len() < MOST_KEPT
-    }
-
-    /// Keeps the answer to a question, in the place of one to the same; or changes nothing, where it would be one too many.
-    pub fn put(&mut self, solved: Solved) -> Result<(), NoMemory>
-        ensures ok { OnOk result (self.new ≡ kept_after self.old solved) }
-        ensures err { OnErr result (self.new ≡ self.old) }
-    {
-        if self.has_room_for(solved.query()) {
-            let (query, answer) = solved.into_parts();
-            drop(self.answers.insert(query, answer)?);
-        }
-        Ok(())
+    /// Keeps an entry. Others may take its place before the next call, so nothing is said of what is kept.
+    pub fn put(&self, rt: &impl Wait, solved: Solved) -> Result<(), NoMemory> {
+        let number = solved.query().query().asserted().len() % SHARDS;
+        self.shards[number].lock(rt).keep(solved)
     }
 }

@@ -1,14 +1,26 @@
-//! Answers to questions on input bytes, kept for when a question is asked again.
+//! Answers to questions on input bytes, kept for when a question is asked again, or one that they answer too.
 //!
 //! - `satisfiability`: the answers
-//! - `solved`: a question with its answer
-//! - `cache`: a map from questions to answers
+//! - `fingerprints`: the fingerprints of trees
+//! - `shapes`: terms of several graphs, numbered by their trees
+//! - `comparing`: whether one query asks no more than another
+//! - `fingerprinted`: a query with its fingerprints
+//! - `solved`: a query with its answer
+//! - `shard`: a part of the cache
+//! - `cache`: the shards, each behind a lock
 #![tactic(auto)]
 
 mod cache;
+mod comparing;
+mod fingerprinted;
+mod fingerprints;
 mod satisfiability;
+mod shapes;
+mod shard;
 mod solved;
 
-pub use cache::{Cache, MOST_KEPT};
+pub use cache::{Cache, SHARDS};
+pub use fingerprinted::Fingerprinted;
 pub use satisfiability::Satisfiability;
+pub use shard::{MOST_KEPT, Shard};
 pub use solved::Solved;

@@ -2,14 +2,14 @@
 
 ghost use Rattle.std.specs.Prelude.{◌≡◌};
 
+use crate::fingerprinted::Fingerprinted;
 use crate::satisfiability::Satisfiability;
-use bv_dag::Query;
 use std::marker::Model;
 
 /// A question with an answer that is true of it.
 #[derive(Debug)]
 pub struct Solved {
-    query: Query,
+    query: Fingerprinted,
     answer: Satisfiability,
 }
 
@@ -35,14 +35,14 @@ impl Model for Solved {
 impl Solved {
     ghost use Rattle.query_cache.specs.Answers.{IsAnswer};
 
-    pub fn new(query: Query, answer: Satisfiability) -> Solved
+    pub fn new(query: Fingerprinted, answer: Satisfiability) -> Solved
         requires { IsAnswer query answer }
         ensures { result ≡ record { query = query; answer = answer } }
     {
         Solved { query, answer }
     }
 
-    pub fn query(&self) -> &Query
+    pub fn query(&self) -> &Fingerprinted
         ensures { result.now ≡ self.now.query }
     {
         &self.query
@@ -56,7 +56,7 @@ impl Solved {
     }
 
     /// The question and its answer, each on its own.
-    pub fn into_parts(self) -> (Query, Satisfiability)
+    pub fn into_parts(self) -> (Fingerprinted, Satisfiability)
         ensures query { result.0 ≡ self.query }
         ensures answer { result.1 ≡ self.answer }
         ensures right { IsAnswer result.0 result.1 }

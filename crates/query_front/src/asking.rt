@@ -12,7 +12,7 @@ use crate::part::part_of;
 use crate::shared::Shared;
 use bv_dag::{Query, Table};
 use byte_list::Bytes;
-use query_cache::{Satisfiability, Solved};
+use query_cache::{Fingerprinted, Satisfiability, Solved};
 use query_decide::{Decision, Occurrence, decide, occurring};
 use query_slice::merge;
 use std::alloc::{AllocError as NoMemory, Global};
@@ -30,16 +30,16 @@ fn known(
     rt: &impl Wait,
     alloc: Global,
     shared: &Shared,
-    part: &Query,
+    part: &Fingerprinted,
     sample: &Bytes,
 ) -> Result<Option<Satisfiability>, NoMemory>
     ensures { IfOk result (λ found. IfSome found (IsAnswer part.now)) }
 {
     let found = shared.look(rt, alloc, part)?;
-    if found.is_some() || !is_worth_trying(alloc, part)? {
+    if found.is_some() || !is_worth_trying(alloc, part.query())? {
         return Ok(found);
     }
-    match shared.sample(alloc, part, sample)? {
+    match shared.sample(alloc, part.query(), sample)? {
         Some(input) => Ok(Some(Satisfiability::Sat(input))),
         None => Ok(None),
     }
@@ -50,7 +50,7 @@ fn decided(
     rt: &impl Wait,
     alloc: Global,
     shared: &Shared,
-    part: Query,
+    part: Fingerprinted,
     sample: &Bytes,
     budget: u32,
 ) -> Result<Asked, NoMemory>
@@ -59,9 +59,9 @@ fn decided(
         → holds q sample.now ≡ true → IsAsked q new budget asked) }
 {
     shared.count_decided();
-    match decide(alloc, &part, sample.as_slice(), budget)? {
+    match decide(alloc, part.query(), sample.as_slice(), budget)? {
         Decision::Sat(input) => {
-            let merged = merge(alloc, sample, &input, &part)?;
+            let merged = merge(alloc, sample, &input, part.query())?;
             shared.offer(rt, alloc, &merged);
             shared.keep(rt, Solved::new(part, Satisfiability::Sat(input)));
             Ok(Asked::Sat(merged))
@@ -73,6 +73,7 @@ fn decided(
         Decision::Spent(log) => {
             shared.count_spent();
             // That its graph fits and its assertions are bits is known of its parts.
+            let part = part.into_query();
             let _ = part.dag().nodes();
             let _ = part.asserted();
             Ok(Asked::Spent(part, log))
@@ -94,8 +95,11 @@ pub fn ask_part(
     ensures { IfOk result (λ asked. (q : Condition) (new : ℕ) → IsPartOfQuery q new part
         → holds q sample.now ≡ true → IsAsked q new budget asked) }
 {
+    let part = Fingerprinted::new(alloc, part)?;
     match known(rt, alloc, shared, &part, sample)? {
-        Some(Satisfiability::Sat(input)) => Ok(Asked::Sat(merge(alloc, sample, &input, &part)?)),
+        Some(Satisfiability::Sat(input)) => {
+            Ok(Asked::Sat(merge(alloc, sample, &input, part.query())?))
+        }
         Some(Satisfiability::Unsat) => Ok(Asked::Unsat),
         None => decided(rt, alloc, shared, part, sample, budget),
     }

@@ -7,15 +7,15 @@ ghost use Rattle.query_cache.specs.Answers.{IsAnswer};
 use bv_dag::Query;
 use byte_list::Bytes;
 use model_pool::Pool;
-use query_cache::{Cache, Satisfiability, Solved};
+use query_cache::{Cache, Fingerprinted, Satisfiability, Solved};
 use std::alloc::{AllocError as NoMemory, Global};
+use std::sync::Wait;
 use std::sync::atomic::{AtomicU64, Ordering};
-use std::sync::{Mutex, Wait};
 
 /// How many questions were answered by each means.
 #[derive(Clone, Copy, Debug, PartialEq, Eq)]
 pub struct Counts {
-    /// They had been answered before.
+    /// They had been answered before, or others had whose answers serve.
     pub cached: u64,
     /// A sample met them.
     pub sampled: u64,
@@ -27,7 +27,7 @@ pub struct Counts {
 
 /// Answers, each true of its question, and samples. Threads look through them and add to them behind a `&`.
 pub struct Shared {
-    answers: Mutex<Cache>,
+    answers: Cache,
     samples: Pool,
     cached: AtomicU64,
     sampled: AtomicU64,
@@ -57,7 +57,7 @@ impl Shared {
     /// No answers and no samples yet.
     pub fn new(alloc: Global) -> Result<Shared, NoMemory> {
         Ok(Shared {
-            answers: Mutex::new(Cache::new(alloc)),
+            answers: Cache::new(alloc)?,
             samples: Pool::new(alloc)?,
             cached: AtomicU64::new(0),
             sampled: AtomicU64::new(0),
@@ -76,23 +76,20 @@ impl Shared {
         }
     }
 
-    /// A copy of the answer to a question, where it was answered before.
+    /// A copy of the answer to a question, where it was answered before, or one whose answer serves.
     pub(crate) fn look(
         &self,
         rt: &impl Wait,
         alloc: Global,
-        query: &Query,
+        query: &Fingerprinted,
     ) -> Result<Option<Satisfiability>, NoMemory>
         ensures { IfOk result (λ found. IfSome found (IsAnswer query.now)) }
     {
-        let answers = self.answers.lock(rt);
-        match answers.get(query) {
-            Some(answer) => {
-                count(&self.cached);
-                Ok(Some(answer.copy(alloc)?))
-            }
-            None => Ok(None),
+        let found = self.answers.get(rt, alloc, query)?;
+        if found.is_some() {
+            count(&self.cached);
         }
+        Ok(found)
     }
 
     /// A copy of a sample that meets a question, this one or one of the pool.
@@ -125,10 +122,9 @@ impl Shared {
         count(&self.spent);
     }
 
-    /// Keeps an answer for when its question is asked again, unless there is no memory for it.
+    /// Keeps an answer for when its question is asked again, or one that it answers too, unless there is no memory for it.
     pub(crate) fn keep(&self, rt: &impl Wait, solved: Solved) {
-        let mut answers = self.answers.lock(rt);
-        let _ = answers.put(solved);
+        let _ = self.answers.put(rt, solved);
     }
 
     /// Offers a copy of a sample to the pool, unless there is no memory for it.
