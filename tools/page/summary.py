@@ -1,0 +1,66 @@
+"""What was explored, and what that says of all inputs."""
+from markup import element, join, table
+from regions import count
+from unreached import is_instruction
+
+from page.view import leaves_of
+
+LINKS = [("unreached", "What no test reaches"), ("traps", "Traps"), ("functions", "Functions"), ("cuts", "Cuts"), ("source", "Source"),
+         ("leaves", "Leaves"), ("forks", "Forks"), ("listing", "Instructions")]
+RESTS = ("That each input is in exactly one leaf, and that the runs of one finished leaf take the same branches and jumps, is "
+         "promised by the tool and proved. What a test executes isn't in its files: each was run again for this page by an "
+         "interpreter that isn't proved, and its run was found to have the end, path, output and steps that the test says.")
+
+
+def part(view):
+    report = view.explored.report
+    budgets = ", ".join(f"{key} {value}" for key, value in report["budgets"].items())
+    asked = f"Input {' '.join(report['regions'])}, all else as in the file. Budgets: {budgets}."
+    names = LINKS if view.lines else [link for link in LINKS if link[0] != "source"]
+    return join(element("h1", view.program.path.name), element("p", asked, class_="faint"),
+                element("nav", *(element("a", text, href=f"#{name}") for name, text in names)),
+                claim(view), figures(view), "" if view.explored.doubted else element("p", RESTS, class_="faint small"))
+
+
+def claim(view):
+    """What is known of the inputs that no test shows."""
+    doubted, cut = sorted(view.explored.doubted), view.unreached.cut
+    if doubted:
+        return box("unknown", "These files don't fit together.", doubts(doubted), id="doubts")
+    if not cut:
+        return box("none", "All paths are here.",
+                   f"No leaf was cut: each of the {inputs(view)} is in one of the {leaves_of(len(view.leaves))}, and its run executes "
+                   "what the leaf's test executes. So what no test reaches, no input reaches.")
+    kinds = [f"{cut_by} by {kind}" for kind in ("steps", "targets", "conflicts") if (cut_by := sum(leaf.kind == kind for leaf in view.leaves))]
+    return box("unknown", "Some paths may be missing.", join(
+        f"Of {leaves_of(len(view.leaves))} {cut} {'was' if cut == 1 else 'were'} cut ({', '.join(kinds)}). What inputs of ",
+        element("a", "cut leaves", href="#cuts"), " do from there on isn't known, so they may reach what no test reaches."))
+
+
+def box(sort, head, said, **attributes):
+    return element("p", element("b", head), " ", said, class_=f"claim {sort}", **attributes)
+
+
+def doubts(ranks):
+    some = ", ".join(map(str, ranks[:10])) + (" and others" if len(ranks) > 10 else "")
+    return (f"Of leaf {some} the test is missing, or its run on this program isn't as it says, or the report says otherwise than the "
+            "leaf: they may be of other runs, or of another program. So what no test reaches is unknown.")
+
+
+def inputs(view):
+    """How many inputs there are."""
+    total = sum(map(count, view.explored.report["regions"]))
+    return f"{256 ** total:,} inputs" if total <= 2 else f"2^{8 * total} inputs"
+
+
+def figures(view):
+    """The summary, and how much of the program the tests reach."""
+    summary, words, branches = view.explored.report["summary"], view.program.words, view.explored.branches()
+    instructions = [address for address, word in words if is_instruction(address, word, view.coverage)]
+    executed = sum(view.coverage.executed[address] > 0 for address in instructions)
+    sides = sum(view.coverage.sides[address, side] > 0 for address, _ in branches for side in "TN")
+    rows = [(name, f"{summary[name]:,}") for name in ("leaves", "finished", "cut", "tests", "steps")]
+    rows += [("traps", f"{sum(leaf.sort() == 'trap' for leaf in view.leaves):,}")]
+    rows += [("instructions executed", f"{executed:,} of {len(instructions):,}")]
+    rows += [("sides of branches taken", f"{sides:,} of {2 * len(branches):,}")]
+    return table([name for name, _ in rows], [[value for _, value in rows]], class_="sums")
