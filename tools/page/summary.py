@@ -1,5 +1,5 @@
 """What was explored, and what that says of all inputs."""
-from markup import element, join, table
+from markup import element, join
 from regions import count
 from unreached import is_instruction
 
@@ -59,8 +59,8 @@ def figures(view):
     instructions = [address for address, word in words if is_instruction(address, word, view.coverage)]
     executed = sum(view.coverage.executed[address] > 0 for address in instructions)
     sides = sum(view.coverage.sides[address, side] > 0 for address, _ in branches for side in "TN")
-    rows = [(name, f"{summary[name]:,}") for name in ("leaves", "finished", "cut", "tests", "steps")]
-    rows += [("traps", f"{sum(leaf.sort() == 'trap' for leaf in view.leaves):,}")]
-    rows += [("instructions executed", f"{executed:,} of {len(instructions):,}")]
-    rows += [("sides of branches taken", f"{sides:,} of {2 * len(branches):,}")]
-    return table([name for name, _ in rows], [[value for _, value in rows]], class_="sums")
+    rows = [(f"{summary[name]:,}", name) for name in ("leaves", "finished", "cut", "tests", "steps")]
+    rows += [(f"{sum(leaf.sort() == 'trap' for leaf in view.leaves):,}", "traps")]
+    rows += [(f"{executed:,} of {len(instructions):,}", "instructions executed")]
+    rows += [(f"{sides:,} of {2 * len(branches):,}", "sides of branches taken")]
+    return element("ul", *(element("li", element("b", value), " ", name) for value, name in rows), class_="sums")

@@ -31,11 +31,10 @@ def limited(heads, rows, sort):
 def inside_table(view, found):
     if not found:
         return ""
-    rows = [[join(place(view, stretch.first, stretch.last)), lines(view, stretch), f"{stretch.count:,}", said(view, view.unreached.here)]
+    rows = [[said(view, view.unreached.here), place(view, stretch.first, stretch.last), f"{stretch.count:,}", lines(view, stretch)]
             for stretch in found]
-    heads = ["Instructions", "Source", "Number", "Known"]
-    if not any(row[1] for row in rows):
-        heads, rows = [head for head in heads if head != "Source"], [[row[0], *row[2:]] for row in rows]
+    has_lines = any(row[-1] for row in rows)
+    heads, rows = ["Known", "Instructions", "Number", "Source"][:3 + has_lines], [row[:3 + has_lines] for row in rows]
     return join(element("h3", "Instructions"), limited(heads, rows, view.unreached.sort))
 
 
@@ -59,10 +58,14 @@ def lines(view, stretch):
 def side_table(view, sides):
     if not sides:
         return ""
-    rows = [[view.at(side.address, code(disassembly.text(side.address, side.word))),
-             join(code(view.program.where(side.address)), " ", view.line_of(side.address)), SIDES[side.side],
-             said(view, view.unreached.there)] for side in sides]
-    return join(element("h3", "Sides of branches"), limited(["Branch", "Where", "Side", "Known"], rows, view.unreached.sort))
+    rows = [side_row(view, side) for side in sides]
+    return join(element("h3", "Sides of branches"), limited(["Known", "Side", "Branch", "Where"], rows, view.unreached.sort))
+
+
+def side_row(view, side):
+    text = view.at(side.address, code(disassembly.text(side.address, side.word)))
+    where = join(code(view.program.where(side.address)), " ", element("span", view.line_of(side.address), class_="faint"))
+    return [said(view, view.unreached.there), SIDES[side.side], text, where]
 
 
 def whole_list(view, found):
