@@ -26,7 +26,7 @@ class Pages(dict):
 
 
 class TracedRun(interpreter.Machine):
-    """A run of a test. For each step it has where it is, and what it decided: the word that was fetched, then sides and numbers."""
+    """A run of a test. Of each step it has where it is, and what it decides: the word that is fetched, then sides and numbers."""
 
     def __init__(self, image, test):
         entry, pages = image
@@ -90,10 +90,9 @@ class Coverage:
         return reached
 
     def missing_side(self, address, word):
-        """The side, `T` or `N`, of a branch to which no test goes of those that execute it, or None."""
-        if not disassembly.is_branch(word) or not self.executed[address]:
-            return None
-        return next((side for side in "TN" if not self.sides[address, side]), None)
+        """The side, `T` or `N`, of a branch by which no test leaves it, where one leaves it by the other; else None."""
+        missing = [side for side in "TN" if not self.sides[address, side]]
+        return missing[0] if disassembly.is_branch(word) and len(missing) == 1 else None
 
     def state(self, address, word):
         """`covered`, `partly` where tests go to one side of a branch only, or `not`."""

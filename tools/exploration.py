@@ -35,9 +35,11 @@ class Exploration:
 
     def find_regions(self):
         """Ends the script where the report's input isn't in the program."""
+        _, pages = self.program.image
         for region in self.report["regions"]:
-            if not all(address >> 8 in self.program.image[1] for address in addresses(region)):
-                raise SystemExit(f"the report's input {region} is on no page of {self.program.path}: give the PROGRAM that was explored")
+            if not all(address >> 8 in pages for address in addresses(region)):
+                why = f"the report's input {region} is on no page of {self.program.path}"
+                raise SystemExit(f"{why}: give the PROGRAM that was explored")
 
     def add(self, leaf):
         run = self.run_of(leaf)

@@ -9,13 +9,12 @@ from child import INTERRUPTED, Child
 from compiled import Compilation, kept
 from voice import pass_on, put, say
 
-UNPROVED = """not built on this machine, and the release is of other sources: this run is of the unproved program"""
-COMPILED = """, which was compiled for an
-earlier run. `./rvklee --build`, or .ci/run, proves and builds it"""
-TO_COMPILE = """, which is
+WAS_COMPILED = """not built on this machine, and the release is of other sources: this run is of the unproved program,
+compiled earlier. `./rvklee --build`, or .ci/run, proves and builds it"""
+IS_COMPILED = """not built on this machine, and the release is of other sources: this run is of the unproved program, which is
 compiled first (about a minute) and kept for later runs. `./rvklee --build`, or .ci/run, proves and builds it"""
-NOT_KEPT = "the program that was compiled can't be run: the sources changed meanwhile, or the user's cache folder can't be written"
-WENT_WRONG = "the unproved program went wrong, which is no answer of the tool: `rt try` in crates/rvklee, with these words behind `--`, says where"
+NOT_KEPT = "what was compiled can't be run: the sources changed meanwhile, or the user's cache folder can't be written"
+WENT_WRONG = "the unproved program went wrong: `rt try` in crates/rvklee, with these words behind `--`, says where"
 
 
 class ToolRun:
@@ -45,7 +44,7 @@ class ToolRun:
     def compile(self):
         """Finds the unproved program, or compiles it. Where that fails there is none, and the status says so."""
         self.program = kept()
-        for line in (UNPROVED + (COMPILED if self.program else TO_COMPILE)).splitlines():
+        for line in (WAS_COMPILED if self.program else IS_COMPILED).splitlines():
             say(line)
         if self.program:
             return
@@ -56,6 +55,8 @@ class ToolRun:
             self.left = max(0.0, self.seconds - (time.monotonic() - began))
         if self.ending:
             self.status = -signal.SIGINT if self.ending == INTERRUPTED else -signal.SIGTERM
+        elif self.program is None and done.status < 0:
+            self.status = done.status
         elif self.program is None:
             put(2, done.noise)
             say(NOT_KEPT if done.was_compiled else "the program wasn't compiled")

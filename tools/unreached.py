@@ -8,8 +8,7 @@ import collections
 
 import disassembly
 
-# What stands one behind the other in one function and is executed by no test: the addresses of the first and the last instruction,
-# and how many there are.
+# Instructions one behind the other in a function that no test executes: the first, the last, and how many they are.
 Stretch = collections.namedtuple("Stretch", "function first last count")
 # A branch that tests reach and leave by one side only, and the other side, `T` or `N`.
 MissingSide = collections.namedtuple("MissingSide", "address word side")
@@ -21,7 +20,9 @@ class Unreached:
 
     def __init__(self, cut, is_doubted):
         self.cut, self.sort = cut, "unknown" if cut or is_doubted else "none"
-        why = "the files don't fit together" if is_doubted else f"{'1 cut leaf stops' if cut == 1 else f'{cut:,} cut leaves stop'} before it"
+        why = "1 cut leaf stops before it" if cut == 1 else f"{cut:,} cut leaves stop before it"
+        if is_doubted:
+            why = "the files don't fit together"
         self.here = f"unknown: {why}" if self.sort == "unknown" else "no input gets here"
         self.there = f"unknown, {why}" if self.sort == "unknown" else "no input goes there"
 

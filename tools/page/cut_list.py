@@ -6,9 +6,10 @@ from page.view import file_names, leaves_of
 # In the order in which they are told, what a spent budget means.
 BUDGETS = {
     "steps": ("The runs go on after so many steps. Raise ", code("--steps"), ", or shorten the routine's loops."),
-    "targets": ("A number on which the run depends, as an address, has more values than were followed. Raise ", code("--targets"),
-                " (64 at most)."),
-    "conflicts": ("The solver's budget was spent before it was known whether any input goes this way. Raise ", code("--conflicts"), "."),
+    "targets": ("A number on which the run depends, as an address, has more values than were followed. Raise ",
+                code("--targets"), " (64 at most)."),
+    "conflicts": ("The solver's budget was spent before it was known whether any input goes this way. Raise ",
+                  code("--conflicts"), "."),
 }
 # So many places are listed of a budget, and so many values of a leaf.
 MOST_PLACES, MOST_VALUES = 40, 16
@@ -30,7 +31,8 @@ def budget(view, kind, leaves):
     shown = sorted(places.items(), key=lambda place: -len(place[1]))
     more = [element("p", f"and at {len(shown) - MOST_PLACES} more places", class_="faint")] if len(shown) > MOST_PLACES else []
     head = f"Budget of {kind}, {view.explored.report['budgets'][kind]:,}: {leaves_of(len(leaves))}"
-    return join(element("h3", head), element("p", *BUDGETS[kind]), *(place(view, site, some) for site, some in shown[:MOST_PLACES]), *more)
+    parts = (place(view, site, some) for site, some in shown[:MOST_PLACES])
+    return join(element("h3", head), element("p", *BUDGETS[kind]), *parts, *more)
 
 
 def place(view, site, leaves):
@@ -39,7 +41,8 @@ def place(view, site, leaves):
     rest = f"; also {file_names([other.rank for other in leaves[1:]])}" if len(leaves) > 1 else ""
     head = element("p", element("b", leaves_of(len(leaves))), " before ", view.site(site))
     first = element("p", view.link(leaf.rank), f", {leaf.name}, after {leaf.steps:,} steps", rest)
-    return element("div", head, first, values(leaf), element("p", "Still stands for the inputs with"), view.assertions(leaf), class_="note")
+    stands = element("p", "Still stands for the inputs with")
+    return element("div", head, first, values(leaf), stands, view.assertions(leaf), class_="note")
 
 
 def values(leaf):

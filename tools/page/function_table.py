@@ -15,7 +15,7 @@ def part(view):
     rows = [row(view, function, traps) for function in passed[:MOST_ROWS]]
     more = f"{len(passed):,} of {len(view.explored.functions.rows):,} functions are passed by a test"
     more += "." if len(passed) <= MOST_ROWS else f"; these are the first {MOST_ROWS}."
-    return join(element("h2", "Functions", id="functions"), element("p", more, class_="faint"), table(HEADS, rows, class_="functions"))
+    return join(element("h2", "Functions", id="functions"), element("p", more, class_="faint"), table(HEADS, rows))
 
 
 def row(view, function, traps):

@@ -23,8 +23,8 @@ def row(view, leaf):
     data, output = leaf.input() or b"", leaf.output()
     return {
         "Leaf": named(view, leaf.rank), "Input": view.input_of(leaf),
-        "As text": code(as_text(data)) if as_text(data) else "", "Output": shown_bytes(output),
-        "Steps": f"{leaf.steps:,}", "Status" if leaf.sort() == "exit" else "Where": last(view, leaf), "Condition": view.condition(leaf),
+        "As text": code(as_text(data)) if as_text(data) else "", "Output": shown_bytes(output), "Steps": f"{leaf.steps:,}",
+        "Status" if leaf.sort() == "exit" else "Where": last(view, leaf), "Condition": view.condition(leaf),
     }
 
 

@@ -3,11 +3,12 @@ import disassembly
 from markup import element, join
 from unreached import SIDES, is_instruction
 
-from page.trap_table import by_address
-from page.view import MARKS, STATE_MARKS, counted, leaves_of
+from page.trap_table import by_address, trap_marks
+from page.view import STATE_MARKS, counted
 
 HEADS = ["Address", "Word", "Instruction", "Source", "Tests", "State"]
-SAID = "How many tests execute each instruction; of a branch also how many take it and how many don't, where one test may do both."
+SAID = ("How many tests execute each instruction; of a branch also how many take it and how many don't, where one test may do "
+        "both.")
 
 
 def part(view):
@@ -17,33 +18,40 @@ def part(view):
         rows += before(view, shown, len(heads)) + [row(view, address, word, traps) for address, word in shown.words]
     head = element("thead", element("tr", *(element("th", name, scope="col") for name in heads)))
     inside = element("table", head, element("tbody", *rows), class_="listing code")
-    left = sum(len(function.words) for function in view.explored.functions.rows[len({shown.function.start for shown in view.shown}):])
-    rest = element("p", f"The {left:,} words behind are left out.", class_="faint") if left else ""
-    return join(element("h2", "Instructions", id="listing"), element("p", SAID, class_="faint"), element("div", inside, class_="wide"), rest)
+    rest = f"The {view.left_out:,} words behind are left out." if view.left_out else ""
+    return join(element("h2", "Instructions", id="listing"), element("p", SAID, class_="faint"),
+                element("div", inside, class_="wide"), element("p", rest, class_="faint"))
 
 
 def before(view, shown, width):
     """The name before the first words of a function, and before others how many were left out."""
     rows = []
     if not shown.words or shown.words[0][0] == shown.function.start:
-        rows.append(element("tr", element("th", shown.function.name, scope="colgroup", colspan=width)))
+        more = f" and {counted(shown.functions - 1, 'function', 'functions')} behind it" if shown.functions > 1 else ""
+        rows.append(element("tr", element("th", shown.function.name + more, scope="colgroup", colspan=width)))
     if shown.left_out:
-        said = f"{STATE_MARKS[view.unreached.sort]} {counted(shown.left_out, 'word', 'words')} that no test executes: {view.unreached.here}"
+        left_out = f"{STATE_MARKS[view.unreached.sort]} {counted(shown.left_out, 'word', 'words')} that no test executes"
+        said = f"{left_out}: {view.unreached.here}"
         rows.append(element("tr", element("td", said, colspan=width), class_=view.unreached.sort))
     return rows
 
 
 def row(view, address, word, traps):
-    goal, found = disassembly.target(address, word), traps.get(address, ())
-    text = disassembly.text(address, word) + (f" <{view.program.place(goal)}>" if goal is not None and view.program.place(goal) else "")
+    found, kind, said = traps.get(address, ()), *state(view, address, word)
     tests = f"{view.coverage.executed[address]:,}"
     if disassembly.is_branch(word) and view.coverage.executed[address]:
         tests += f" (taken {view.coverage.sides[address, 'T']:,}, not {view.coverage.sides[address, 'N']:,})"
-    kind, said = state(view, address, word)
-    marks = [element("span", f" {MARKS['trap']} {end}: {leaves_of(count)}", class_="trap") for end, count in found]
     source = [view.line_of(address)] if view.lines else []
-    cells = [f"{address:08x}", f"{word:08x}", text, *source, tests, join(said, *marks)]
-    return element("tr", *(element("td", cell) for cell in cells), id=f"at-{address:x}", class_=f"{kind} trapped" if found else kind)
+    cells = [f"{address:08x}", f"{word:08x}", text(view, address, word), *source, tests, join(said, trap_marks(found))]
+    kind = f"{kind} trapped" if found else kind
+    return element("tr", *(element("td", cell) for cell in cells), id=f"at-{address:x}", class_=kind)
+
+
+def text(view, address, word):
+    """The instruction, with the name of where a branch or a jump goes."""
+    goal = disassembly.target(address, word)
+    name = view.program.place(goal) if goal is not None else ""
+    return disassembly.text(address, word) + (f" <{name}>" if name else "")
 
 
 def state(view, address, word):

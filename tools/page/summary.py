@@ -1,12 +1,14 @@
 """What was explored, and what that says of all inputs."""
+import collections
+
+import regions
 from markup import element, join
-from regions import count
 from unreached import is_instruction
 
 from page.view import leaves_of
 
-LINKS = [("unreached", "What no test reaches"), ("traps", "Traps"), ("functions", "Functions"), ("cuts", "Cuts"), ("source", "Source"),
-         ("leaves", "Leaves"), ("forks", "Forks"), ("listing", "Instructions")]
+LINKS = [("unreached", "What no test reaches"), ("traps", "Traps"), ("functions", "Functions"), ("cuts", "Cuts"),
+         ("source", "Source"), ("leaves", "Leaves"), ("forks", "Forks"), ("listing", "Instructions")]
 RESTS = ("That each input is in exactly one leaf, and that the runs of one finished leaf take the same branches and jumps, is "
          "promised by the tool and proved. What a test executes isn't in its files: each was run again for this page by an "
          "interpreter that isn't proved, and its run was found to have the end, path, output and steps that the test says.")
@@ -29,11 +31,12 @@ def claim(view):
         return box("unknown", "These files don't fit together.", doubts(doubted), id="doubts")
     if not cut:
         return box("none", "All paths are here.",
-                   f"No leaf was cut: each of the {inputs(view)} is in one of the {leaves_of(len(view.leaves))}, and its run executes "
-                   "what the leaf's test executes. So what no test reaches, no input reaches.")
-    kinds = [f"{cut_by} by {kind}" for kind in ("steps", "targets", "conflicts") if (cut_by := sum(leaf.kind == kind for leaf in view.leaves))]
+                   f"No leaf was cut: each of the {inputs(view)} is in one of the {leaves_of(len(view.leaves))}, and its run "
+                   "executes what the leaf's test executes. So what no test reaches, no input reaches.")
+    counts = collections.Counter(leaf.kind for leaf in view.leaves if leaf.sort() == "cut")
+    kinds = ", ".join(f"{count:,} by {kind}" for kind, count in counts.items())
     return box("unknown", "Some paths may be missing.", join(
-        f"Of {leaves_of(len(view.leaves))} {cut} {'was' if cut == 1 else 'were'} cut ({', '.join(kinds)}). What inputs of ",
+        f"Of {leaves_of(len(view.leaves))} {cut:,} {'was' if cut == 1 else 'were'} cut ({kinds}). What inputs of ",
         element("a", "cut leaves", href="#cuts"), " do from there on isn't known, so they may reach what no test reaches."))
 
 
@@ -43,13 +46,13 @@ def box(sort, head, said, **attributes):
 
 def doubts(ranks):
     some = ", ".join(map(str, ranks[:10])) + (" and others" if len(ranks) > 10 else "")
-    return (f"Of leaf {some} the test is missing, or its run on this program isn't as it says, or the report says otherwise than the "
-            "leaf: they may be of other runs, or of another program. So what no test reaches is unknown.")
+    return (f"Of leaf {some} the test is missing, or its run on this program isn't as it says, or the report says otherwise than "
+            "the leaf: they may be of other runs, or of another program. So what no test reaches is unknown.")
 
 
 def inputs(view):
     """How many inputs there are."""
-    total = sum(map(count, view.explored.report["regions"]))
+    total = sum(map(regions.count, view.explored.report["regions"]))
     return f"{256 ** total:,} inputs" if total <= 2 else f"2^{8 * total} inputs"
 
 

@@ -7,8 +7,8 @@ MOST_ROWS = 150
 
 
 def groups(explored):
-    """The ranks of the leaves that trap, by the trap and the address of the instruction that trapped; where none could be fetched,
-    by that of the one that went there."""
+    """The ranks of the leaves that trap, by the trap and the address of the instruction that trapped; where none could be
+    fetched, by that of the one that went there."""
     found = {}
     for rank, trap in explored.traps.items():
         place = trap.origin if trap.site.word is None and trap.origin else trap.site
@@ -22,6 +22,11 @@ def by_address(explored):
     for (end, address), ranks in groups(explored).items():
         found.setdefault(address, []).append((end, len(ranks)))
     return found
+
+
+def trap_marks(found):
+    """The traps of a place, as `by_address` has them."""
+    return join(*(element("span", f" {MARKS['trap']} {end}: {leaves_of(count)}", class_="trap") for end, count in found))
 
 
 def part(view):
@@ -44,9 +49,9 @@ def none(view):
 def row(view, end, ranks):
     trap, leaf = view.explored.traps[ranks[0]], view.leaves[ranks[0]]
     rest = element("div", f"and {file_names(ranks[1:])}", class_="faint small") if len(ranks) > 1 else ""
-    data = leaf.input()
-    return [join(element("span", MARKS["trap"], class_="mark trap", aria_hidden="true"), " ", end), where(view, trap),
-            join(leaves_of(len(ranks)), ", as ", view.link(leaf.rank), rest), view.input_of(leaf), code(as_text(data)) if as_text(data) else ""]
+    name = join(element("span", MARKS["trap"], class_="mark trap", aria_hidden="true"), " ", end)
+    leaves, text = join(leaves_of(len(ranks)), ", as ", view.link(leaf.rank), rest), as_text(leaf.input())
+    return [name, where(view, trap), leaves, view.input_of(leaf), code(text) if text else ""]
 
 
 def where(view, trap):

@@ -12,7 +12,7 @@ MOST_ROWS = 150
 def part(view):
     found, sides = stretches(view.explored.functions, view.coverage), missing_sides(view.program, view.coverage)
     whole = [stretch for stretch in found if not view.explored.passes[stretch.function.start]]
-    inside = [stretch for stretch in found if stretch not in whole]
+    inside = [stretch for stretch in found if view.explored.passes[stretch.function.start]]
     parts = [inside_table(view, inside), side_table(view, sides), whole_list(view, whole)]
     if not found and not sides:
         parts = [element("p", "Nothing: a test executes each instruction, and each branch is left by both its sides.")]
@@ -31,8 +31,8 @@ def limited(heads, rows, sort):
 def inside_table(view, found):
     if not found:
         return ""
-    rows = [[said(view, view.unreached.here), place(view, stretch.first, stretch.last), f"{stretch.count:,}", lines(view, stretch)]
-            for stretch in found]
+    known = said(view, view.unreached.here)
+    rows = [[known, place(view, each.first, each.last), f"{each.count:,}", lines(view, each)] for each in found]
     has_lines = any(row[-1] for row in rows)
     heads, rows = ["Known", "Instructions", "Number", "Source"][:3 + has_lines], [row[:3 + has_lines] for row in rows]
     return join(element("h3", "Instructions"), limited(heads, rows, view.unreached.sort))
@@ -47,7 +47,8 @@ def place(view, first, last):
 
 def lines(view, stretch):
     """The source lines of a stretch, from the least to the greatest of its first file."""
-    found = [view.lines[address] for address, _ in stretch.function.words if stretch.first <= address <= stretch.last and address in view.lines]
+    inside = (address for address, _ in stretch.function.words if stretch.first <= address <= stretch.last)
+    found = [view.lines[address] for address in inside if address in view.lines]
     numbers = [line for file, line in found if file == found[0][0]]
     if not numbers:
         return ""
@@ -76,5 +77,5 @@ def whole_list(view, found):
     head = f"{counted(len(names), 'function', 'functions')} as a whole"
     shown = ", ".join(names[:MOST_ROWS]) + (f" and {len(names) - MOST_ROWS:,} more" if len(names) > MOST_ROWS else "")
     listed = element("p", "With the numbers of their instructions: ", code(shown), class_="names")
-    return join(element("h3", head), element("p", said(view, view.unreached.here), class_=f"unreached {view.unreached.sort}"),
-                folded("their names", listed, is_open=len(names) <= 20))
+    known = element("p", said(view, view.unreached.here), class_=f"unreached {view.unreached.sort}")
+    return join(element("h3", head), known, folded("their names", listed, is_open=len(names) <= 20))

@@ -76,7 +76,7 @@ def leaf_name(rank):
 def file_names(ranks):
     """The files of leaves: `leaf-000002.smt2, leaf-000004.smt2 to leaf-000007.smt2`."""
     found = ranges(ranks)
-    names = [leaf_name(first) if first == last else f"{leaf_name(first)} to {leaf_name(last)}" for first, last in found[:MOST_RANGES]]
+    names = (leaf_name(first) + (f" to {leaf_name(last)}" if last > first else "") for first, last in found[:MOST_RANGES])
     return ", ".join(names) + (" and others" if len(found) > MOST_RANGES else "")
 
 
@@ -85,7 +85,7 @@ class View:
         self.explored, self.program, self.coverage = explored, explored.program, explored.coverage
         self.leaves, self.unreached = explored.leaves, explored.unreached
         self.lines = source_lines(explored.program)
-        self.shown = shown_words(explored)
+        self.shown, self.left_out = shown_words(explored)
         self.listed = {address for shown in self.shown for address, _ in shown.words}
         self.groups = self.leaf_groups()
         self.most = MOST_ROWS if len(self.leaves) <= MOST_ROWS else max(1, min(MOST_OF_GROUP, MOST_ROWS // len(self.groups)))
@@ -94,8 +94,8 @@ class View:
         self.fork_ranks = shown_leaves(self.forks)
 
     def leaf_groups(self):
-        """The leaves by how they end: traps first, and small groups before great ones. Leaves that are alone with their status are
-        one group."""
+        """The leaves by how they end: traps first, and small groups before great ones. Leaves that are alone with their status
+        are one group."""
         groups = {}
         for leaf in self.leaves:
             groups.setdefault((leaf.sort(), leaf.said), []).append(leaf)
