@@ -10,6 +10,7 @@ from leaf_text import OPERAND, LeafText
 
 # Longer terms that stand at more than one place get a name, `t12`, and are written once.
 LONGEST = 40
+NAMED = re.compile(r"\bt\d+\b")
 # By the forms of terms, as leaf_text has them.
 INFIX = {"(bvadd n n)": "+", "(bvsub n n)": "-", "(bvmul n n)": "*", "(bvudiv n n)": "/", "(bvurem n n)": "%", "(bvand n n)": "&",
          "(bvor n n)": "|", "(bvxor n n)": "^", "(bvshl n n)": "<<", "(bvlshr n n)": ">>", "(bvashr n n)": ">>"}
@@ -124,6 +125,13 @@ class Condition:
             return term
         self.named.append((f"t{place}", term.text))
         return Term(term.width, f"t{place}", WHOLE)
+
+    def named_in(self, texts):
+        """The named terms that these texts use, directly or through others."""
+        used = {name for text in texts for name in NAMED.findall(text)}
+        for name, text in reversed(self.named):
+            used.update(NAMED.findall(text) if name in used else ())
+        return [(name, text) for name, text in self.named if name in used]
 
     def status(self):
         """The status as a text, or None where it is the same for all inputs of the leaf."""

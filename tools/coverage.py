@@ -3,57 +3,99 @@ import collections
 
 import disassembly
 from program import interpreter
+from regions import addresses
+
+# Where a run is at a step, and the word there, or None where none can be fetched.
+Site = collections.namedtuple("Site", "address word")
+
+
+class Pages(dict):
+    """An image's pages in a run. Each is copied once it is used, since the run may write to it."""
+
+    def __init__(self, image):
+        super().__init__()
+        self.image = image
+
+    def __contains__(self, page):
+        return page in self.image
+
+    def __missing__(self, page):
+        flags, data = self.image[page]
+        self[page] = flags, bytearray(data)
+        return self[page]
 
 
 class TracedRun(interpreter.Machine):
-    """A run of a test's input that also notes where each step is."""
+    """A run of a test. Of each step it has where it is, and what it decides: the word that is fetched, then sides and numbers."""
 
     def __init__(self, image, test):
-        super().__init__(with_input(image, test), b"")
-        self.places = []
+        entry, pages = image
+        super().__init__((entry, {}), b"")
+        self.pages, self.places, self.decided = Pages(pages), [], []
+        self.put_input(test)
         self.run(test["steps"])
 
-    def step(self, decided):
-        self.places.append(self.pc)
-        super().step(decided)
+    def put_input(self, test):
+        places = (address for region in test["regions"] for address in addresses(region))
+        for address, value in zip(places, bytes.fromhex(test["input"])):
+            self.pages[address >> 8][1][address & 255] = value
+
+    def read(self, address, size):
+        """What is read is aligned, so it is on one page."""
+        at = address & 255
+        return int.from_bytes(self.pages[address >> 8][1][at:at + size], "little")
+
+    def run(self, steps):
+        """As the interpreter's, but that its log of paths isn't kept, which is as long as the square of a run."""
+        while self.end == "running" and len(self.places) < steps:
+            self.places.append(self.pc)
+            self.decided.append([])
+            try:
+                self.step(self.decided[-1])
+            except interpreter.Trap as trap:
+                self.end = f"trap {trap}"
+            except interpreter.Exit as status:
+                self.end = f"exit {status}"
 
     def is_as(self, test):
         """Whether the run is as the test says."""
-        here = self.end, self.path, self.output.hex(), len(self.log)
+        here = self.end, self.path, self.output.hex(), len(self.places)
         return here == (test["end"], test["path"], test["output"].lower(), test["steps"])
 
-    def decided(self, step):
-        """What a step decided: the fetched word, then sides and numbers."""
-        return self.log[step][0]
+    def site(self, step):
+        return Site(self.places[step], next(iter(self.decided[step]), None))
+
+    def executed(self):
+        """The addresses whose words it fetched: only the last step of a run may fetch none."""
+        return set(self.places if not self.decided or self.decided[-1] else self.places[:-1])
 
 
-def with_input(image, test):
-    """The image with the test's input bytes in their regions."""
-    entry, pages = image
-    pages = {page: [flags, bytearray(data)] for page, (flags, data) in pages.items()}
-    rest = iter(bytes.fromhex(test["input"]))
-    for region in test["regions"]:
-        start, count = region.split(":")
-        for address in range(int(start, 16), int(start, 16) + int(count)):
-            pages[address >> 8][1][address & 255] = next(rest)
-    return entry, pages
+def next_site(run, steps):
+    """Where a run is after so many steps, or None where it has ended before."""
+    return run.site(steps) if steps < len(run.places) else None
 
 
 class Coverage:
-    """Which tests execute an address, and go to either side of a branch there. A test is known by its rank."""
+    """How many tests execute an address, and how many go to either side of a branch there."""
 
-    def __init__(self, runs):
-        self.executed, self.sides = collections.defaultdict(set), collections.defaultdict(set)
-        for rank, run in runs.items():
-            for place, (decided, _, _) in zip(run.places, run.log):
-                self.executed[place].add(rank)
-                if decided and disassembly.is_branch(decided[0]):
-                    self.sides[place, decided[1]].add(rank)
+    def __init__(self):
+        self.executed, self.sides = collections.Counter(), collections.Counter()
+
+    def add(self, run):
+        """Counts a test's run. Gives the addresses that it executes."""
+        reached = run.executed()
+        self.executed.update(reached)
+        branches = (step for step in zip(run.places, run.decided) if len(step[1]) > 1 and disassembly.is_branch(step[1][0]))
+        self.sides.update({(place, decided[1]) for place, decided in branches})
+        return reached
+
+    def missing_side(self, address, word):
+        """The side, `T` or `N`, of a branch by which no test leaves it, where one leaves it by the other; else None."""
+        missing = [side for side in "TN" if not self.sides[address, side]]
+        return missing[0] if disassembly.is_branch(word) and len(missing) == 1 else None
 
     def state(self, address, word):
-        """`covered`, `partly` where a branch went to one side only, or `not`."""
+        """`covered`, `partly` where tests go to one side of a branch only, or `not`."""
         if not self.executed[address]:
             return "not"
-        if disassembly.is_branch(word) and not (self.sides[address, "T"] and self.sides[address, "N"]):
-            return "partly"
-        return "covered"
+        return "partly" if self.missing_side(address, word) else "covered"

@@ -1,33 +1,26 @@
 """The tree of forks that a report's leaves come from, and where in the program each fork is.
 
 No file says where. But the runs of two sides of a fork decide alike up to it and differ there (docs/FORKING.md), so the runs of
-a test of each show the place; of a side that was cut there, the leaf's number of steps does.
+a test of each show the place; of a side that was cut there, the leaf's number of steps does. Leaves come by rank, so each fork is
+where two neighbours part that have a test, or a cut leaf and its neighbour: one run is kept at a time.
 """
+from coverage import next_site
 
 
 class Fork:
     """A place of the tree: a leaf, or a fork with its sides by their choices. Of the leaves below it there are the number, that
-    of traps, the first, and a run of one that has a test; `step` is where in that run the fork is."""
+    of traps, the first and the last rank; `site` is where in the program the fork is, or None where that isn't known."""
+    __slots__ = ("sides", "leaf", "site", "count", "traps", "first", "last")
 
     def __init__(self):
-        self.sides, self.leaf, self.step = {}, None, None
-        self.count, self.traps, self.first, self.run = 0, 0, None, None
+        self.sides, self.leaf, self.site, self.first = {}, None, None, None
+        self.count, self.traps, self.last = 0, 0, 0
 
-    def add(self, leaf, run):
+    def add(self, leaf):
         self.count += 1
         self.traps += leaf.sort() == "trap"
         self.first = self.first or leaf
-        self.run = self.run or run
-
-    def find_step(self):
-        runs = [side.run for side in self.sides.values() if side.run]
-        cut = [side.leaf for side in self.sides.values() if side.leaf and side.leaf.kind in ("targets", "conflicts")]
-        if cut and runs:
-            self.step = cut[0].steps
-            for leaf in cut:
-                leaf.place = self.run.places[self.step]
-        elif len(runs) > 1:
-            self.step = first_difference(*runs[:2])
+        self.last = leaf.rank
 
     def widest(self):
         """The choice of the side that is a fork and has most leaves, or None where all are leaves."""
@@ -35,25 +28,58 @@ class Fork:
         return max(forks, key=lambda choice: self.sides[choice].count, default=None)
 
 
-def tree(leaves, runs):
-    """The root, with the step of each fork where it can be found. Runs are by the ranks of their leaves."""
-    root, forks = Fork(), []
-    for leaf in leaves:
-        place = root
-        place.add(leaf, runs.get(leaf.rank))
-        for choice in leaf.choices:
-            forks += [] if place.sides else [place]
-            place = place.sides.setdefault(choice, Fork())
-            place.add(leaf, runs.get(leaf.rank))
-        place.leaf = leaf
-    for fork in forks:
-        fork.find_step()
-    return root
+class Forks:
+    """The tree, to which leaves are added by rank. `cut_sites` are the places at which leaves were cut that have no test."""
+
+    def __init__(self):
+        self.root, self.cut_sites = Fork(), {}
+        self.before, self.waiting = None, []
+
+    def add(self, leaf, run):
+        """Adds a leaf with the run of its test, or None."""
+        choices, path = leaf.choices, [self.root]
+        for choice in choices:
+            path.append(path[-1].sides.setdefault(choice, Fork()))
+        for place in path:
+            place.add(leaf)
+        path[-1].leaf = leaf
+        if leaf.kind in ("targets", "conflicts"):
+            self.waiting.append((leaf, choices))
+        elif run:
+            self.part(choices, run, path)
+            self.before = choices, run
+        self.settle()
+
+    def part(self, choices, run, path):
+        """Finds where a run parts from that of the last test before it."""
+        if self.before is None:
+            return
+        other, other_run = self.before
+        fork, step = path[shared(choices, other)], first_difference(run, other_run)
+        if fork.site is None and step is not None:
+            fork.site = run.site(step)
+
+    def settle(self):
+        """Finds where leaves were cut that are on a side of a fork which the last run passes."""
+        choices, run = self.before or ([], None)
+        beside = [(leaf, cut) for leaf, cut in self.waiting if run and shared(cut, choices) == len(cut) - 1]
+        for leaf, cut in beside:
+            self.cut_sites[leaf.rank] = self.fork_of(cut).site = next_site(run, leaf.steps)
+        self.waiting = [waits for waits in self.waiting if waits not in beside]
+
+    def fork_of(self, choices):
+        """The fork of which these choices lead to a side."""
+        place = self.root
+        for choice in choices[:-1]:
+            place = place.sides[choice]
+        return place
+
+
+def shared(one, other):
+    """How many choices two lists begin with alike."""
+    return next((place for place, (here, there) in enumerate(zip(one, other)) if here != there), min(len(one), len(other)))
 
 
 def first_difference(one, other):
     """The first step at which two runs decide otherwise, or None."""
-    for step, (here, there) in enumerate(zip(one.log, other.log)):
-        if here[0] != there[0]:
-            return step
-    return None
+    return next((step for step, (here, there) in enumerate(zip(one.decided, other.decided)) if here != there), None)

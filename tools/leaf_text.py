@@ -9,6 +9,7 @@ TERM = re.compile(r"\(define-fun n(\d+) \(\) \(_ BitVec (\d+)\) (.*)\)")
 OPERAND = re.compile(r"\bn(\d+)")
 BYTE = re.compile(r"\(define-fun (status|out\d+) \(\) \(_ BitVec 8\) n(\d+)\)")
 ASSERTED = re.compile(r"\(assert \(= n(\d+) \(_ bv1 1\)\)\)")
+STATUS = re.compile(r"^\(define-fun status \(\) \(_ BitVec 8\) (n\d+)\)$", re.MULTILINE)
 # What stands behind the last assertion.
 END = "(check-sat)\n(exit)\n"
 # A term's form is its text with n in place of its operands and, but for a choice, # in place of its numbers.
@@ -18,6 +19,12 @@ Term = collections.namedtuple("Term", "place width text form operands numbers")
 def head(text):
     """What the comments at the top say, by their words."""
     return dict(HEAD_LINE.findall(text))
+
+
+def has_one_status(text):
+    """Whether the status of a leaf that exits is a number."""
+    status = STATUS.search(text)
+    return bool(status) and f"\n(define-fun {status[1]} () (_ BitVec 8) (_ bv" in text
 
 
 def term(place, width, text):

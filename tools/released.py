@@ -63,10 +63,14 @@ def record():
     return {line[0]: line[1] for line in lines if len(line) == 2 and line[0] in NAMES}
 
 
+def caches():
+    """Where programs are kept, in the user's cache folder."""
+    return pathlib.Path(os.environ.get("XDG_CACHE_HOME") or pathlib.Path.home() / ".cache") / "rvklee"
+
+
 def cached(program):
-    """Where the unpacked program of this sum stands, in the user's cache folder."""
-    caches = os.environ.get("XDG_CACHE_HOME") or pathlib.Path.home() / ".cache"
-    return pathlib.Path(caches) / "rvklee" / program[:16] / "rvklee"
+    """Where the unpacked program of this sum stands."""
+    return caches() / program[:16] / "rvklee"
 
 
 def unpack(place, program):
