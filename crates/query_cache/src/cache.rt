@@ -13,9 +13,14 @@ use std::sync::{Mutex, Wait};
 pub const SHARDS: usize = 8;
 
 /// KeptAnswers, each in the shard of its number of assertions, so that threads seldom wait for one another.
-#[derive(Drop)]
 pub struct Cache {
     shards: [Mutex<Shard>; SHARDS],
+}
+
+impl Drop for Cache {
+    fn drop(self) {
+        let Self { shards: _shards } = self;
+    }
 }
 
 // A shard behind its lock.
