@@ -1,5 +1,5 @@
 -- What a call makes of a graph.
-use Rattle.std.proofs.Common.{◌≡◌, ◌++◌, ◌∷◌, [], ℕ, ◌<◌, List, length, ap, sym, subst, ◌∙◌, arith, Some}
+use Rattle.std.proofs.Common.{◌≡◌, ◌++◌, ◌∷◌, [], ℕ, ◌+◌, ◌<◌, true, List, length, ap, sym, subst, ◌∙◌, arith, Some}
 use Rattle.std.proofs.lemmas.Grind.{common_steps}
 use Rattle.std.proofs.lemmas.Option.{slice_get_within}
 use Rattle.std.specs.Prelude.{Result, Ok, Err}
@@ -11,17 +11,18 @@ use Rattle.bv_dag.specs.Nodes.{Fits, node_value, node_width, widths_of}
 use Rattle.bv_dag.specs.declared.nodes.Node.{Node}
 use Rattle.bv_dag.proofs.TermLaws.{IsDag-with_node, width_of-new, val-new, width-val}
 use Rattle.term_trees.specs.Growth.{Continues}
-use Rattle.term_trees.specs.Trees.{Tree, tree_of, node_tree, tree_value, IsTerm}
+use Rattle.term_trees.specs.Trees.{Tree, tree_of, node_tree, tree_value, tree_width, IsTerm}
 use Rattle.term_trees.proofs.Terms.{is_term}
-use Rattle.term_trees.proofs.TreeLaws.{tree_by_cases, tree_of-new, value-tree_of}
+use Rattle.term_trees.proofs.TreeLaws.{tree_by_cases, tree_of-new, value-tree_of, width-tree_of}
 use Rattle.term_simplify.specs.Builds.{BuildsNode}
 use Rattle.term_simplify.specs.Moves.{move_tree, unmoved}
-use Rattle.term_simplify.specs.Plans.{Makes, plan_tree}
-use Rattle.term_simplify.specs.Simplified.{simplified}
+use Rattle.term_simplify.specs.Plans.{Follows, HasRoom, Makes, recipe_tree}
+use Rattle.term_simplify.specs.Simplified.{further, simplified}
 use Rattle.term_simplify.specs.declared.moves.Move.{Move}
-use Rattle.term_simplify.specs.declared.plan.Plan.{Plan}
 use Rattle.term_simplify.specs.declared.plan.Plan.TheVariants.{Term}
+use Rattle.term_simplify.specs.declared.recipe.Recipe.{Recipe}
 use Rattle.term_simplify.proofs.NodeRules.{value-simplified}
+use Rattle.term_simplify.proofs.PartTerms.{width-further}
 
 -- the place of an equal node
 pub Makes-standing : (g : Graph) (id : ℕ) (n m : Node) → IsDag g → slice_get g.nodes id ≡ Some n →
@@ -84,24 +85,24 @@ built_as g more (Ok id) n term there is ok =
     }
 built_as g more (Err x) n term there is ok = tt
 
--- the answer of a plan
-planned : {E : Type 0} (g more : Graph) (r : Result ℕ E) (plan : Plan) (tree : Tree) →
-    Makes g plan tree → IfOk r (λ id. tree_of more id ≡ plan_tree g plan) →
+-- the answer of a recipe
+planned : {E : Type 0} (g more : Graph) (r : Result ℕ E) (recipe : Recipe) (tree : Tree) →
+    Follows g recipe tree → IfOk r (λ id. tree_of more id ≡ recipe_tree g recipe) →
     IfOk r (λ id. tree_of more id ≡ tree)
-planned g more (Ok id) plan tree makes is = is ∙ makes.is
-planned g more (Err x) plan tree makes is = tt
+planned g more (Ok id) recipe tree makes is = is ∙ makes.is
+planned g more (Err x) recipe tree makes is = tt
 
 -- the same, where the plan was made of an equal graph and for a node that moves no bits
-pub built : {E : Type 0} (h g more : Graph) (r : Result ℕ E) (plan : Plan) (n : Node) → h ≡ g →
-    IsTerm h.inputs (node_tree (tree_of h) n) → Makes h plan (unmoved (tree_of h) n) →
+pub built : {E : Type 0} (h g more : Graph) (r : Result ℕ E) (recipe : Recipe) (n : Node) → h ≡ g →
+    IsTerm h.inputs (node_tree (tree_of h) n) → Follows h recipe (unmoved (tree_of h) n) →
     simplified (tree_of g) n ≡ unmoved (tree_of g) n →
-    IfOk r (λ id. id < length more.nodes) → IfOk r (λ id. tree_of more id ≡ plan_tree g plan) →
+    IfOk r (λ id. id < length more.nodes) → IfOk r (λ id. tree_of more id ≡ recipe_tree g recipe) →
     OnOk r (Continues g more) → IfOk r (BuildsNode g more n)
-built h g more r plan n e term makes still there tree ok =
-    let here : Makes g plan (simplified (tree_of g) n) =
-    subst (Makes g plan) (sym still) (subst (λ (k : Graph). Makes k plan (unmoved (tree_of k) n)) e makes) in
+built h g more r recipe n e term makes still there tree ok =
+    let here : Follows g recipe (simplified (tree_of g) n) =
+    subst (Follows g recipe) (sym still) (subst (λ (k : Graph). Follows k recipe (unmoved (tree_of k) n)) e makes) in
     built_as g more r n (subst (λ (k : Graph). IsTerm k.inputs (node_tree (tree_of k) n)) e term) there
-    (planned g more r plan (simplified (tree_of g) n) here tree) ok
+    (planned g more r recipe (simplified (tree_of g) n) here tree) ok
 
 other_tree : {E : Type 0} (more : Graph) (r : Result ℕ E) (s t : Tree) → s ≡ t →
     IfOk r (λ id. tree_of more id ≡ s) → IfOk r (λ id. tree_of more id ≡ t)
@@ -118,3 +119,18 @@ moved_here h g more r m n e dag fits is there tree ok =
     subst (λ (k : Graph). simplified (tree_of k) n ≡ move_tree k m) e is in
     built_as g more r n (is_term_of g n (subst IsDag e dag) fits) there
     (other_tree more r (move_tree g m) (simplified (tree_of g) n) (sym here) tree) ok
+
+-- ---- the bits above what a recipe's plan makes
+pub room_for_signs : (g : Graph) (id signs zeros : ℕ) (t : Tree) → tree_of g id ≡ t → HasRoom (signs + zeros) (tree_width t) →
+    HasRoom signs (width_of g id)
+room_for_signs g id signs zeros t is room =
+    λ some. let (bits, fits) = room (omega (arith, some)) in
+    let wide : width_of g id ≡ tree_width t = sym (width-tree_of g id) ∙ ap tree_width is in
+    (omega (arith, wide, bits), omega (arith, wide, fits))
+
+pub room_for_zeros : (g : Graph) (id signs zeros : ℕ) (t : Tree) → tree_of g id ≡ further signs true t → HasRoom (signs + zeros) (tree_width t) →
+    HasRoom zeros (width_of g id)
+room_for_zeros g id signs zeros t is room =
+    λ some. let (bits, fits) = room (omega (arith, some)) in
+    let wide : width_of g id ≡ tree_width t + signs = sym (width-tree_of g id) ∙ ap tree_width is ∙ width-further signs true t in
+    (omega (arith, wide, bits), omega (arith, wide, fits))

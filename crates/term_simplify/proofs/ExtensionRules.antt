@@ -1,14 +1,17 @@
 -- An extension is worth what it was before it was simplified, and so are two terms that are joined.
-use Rattle.std.proofs.Common.{◌≡◌, ◌==◌, ℕ, ◌+◌, ◌-◌, ◌*◌, ◌^◌, ◌<◌, ◌≤◌, Bool, true, false, cond, List, Some, None, refl, ap, sym, ◌∙◌, arith}
+use Rattle.std.proofs.Common.{◌≡◌, ◌==◌, ℕ, ◌+◌, ◌-◌, ◌*◌, ◌^◌, ◌<◌, ◌≤◌, Bool, true, false, cond, List, Some, None, refl, ap, sym, ◌∙◌, arith, inl, inr}
 use Rattle.std.specs.Prelude.{Option}
+use Rattle.std.proofs.lemmas.Bool.Decides.{eqb_tells}
 use Rattle.std.specs.List.{All}
 use Rattle.std.proofs.lemmas.Nat.{pow-add}
 use Rattle.bv_dag.specs.BitVectors.{BitVector, zero_extend, sign_extend, concat, is_negative}
+use Rattle.bv_dag.specs.Nodes.{extend}
 use Rattle.bv_dag.proofs.Numbers.{wider}
 use Rattle.term_trees.specs.Trees.{Tree, Constant, Widened, Joined, tree_width, tree_value, IsTerm, IsOfWidth}
 use Rattle.term_trees.proofs.Ranges.{in_range}
-use Rattle.term_simplify.specs.Simplified.{tree_number, extension_by, joined_by, joined_of}
-use Rattle.term_simplify.proofs.Words.{by_parts, value_by_test, number_value, number_width, is_number, is_at_most, not_at_most}
+use Rattle.term_simplify.specs.Simplified.{tree_number, extension_by, further, join_of, joined_by, joined_of}
+use Rattle.term_simplify.proofs.JoinTerms.{term-join_of, width-join_of}
+use Rattle.term_simplify.proofs.Words.{by_parts, value_by_test, number_value, number_width, is_number, is_at_most, le_tells, not_at_most}
 use Rattle.term_simplify.proofs.TestRules.{not_negative}
 
 -- the top bit is 1 from the half on
@@ -24,12 +27,12 @@ sum_further : (w i b : ℕ) → w + (i + b) ≡ w + i + b
 sum_further w i b = omega arith
 
 -- ---- by zeros, and then either way
-zeros_again : (w i b : ℕ) (v : BitVector) →
+pub zeros_again : (w i b : ℕ) (v : BitVector) →
     record { width = v.width + (i + b); number = v.number } ≡ zero_extend b (zero_extend i v)
 unfolding zero_extend
 zeros_again w i b v = by_parts (v.width + i + b) v.number _ (sum_further v.width i b) refl
 
-zeros_signed : (w i b : ℕ) (v : BitVector) → IsOfWidth w v → 1 ≤ i →
+pub zeros_signed : (w i b : ℕ) (v : BitVector) → IsOfWidth w v → 1 ≤ i →
     record { width = v.width + (i + b); number = v.number } ≡ sign_extend b (zero_extend i v)
 unfolding zero_extend sign_extend
 zeros_signed w i b v p some =
@@ -51,7 +54,7 @@ filled_twice w i b n =
     let e : 2 ^ (w + (i + b)) ≡ 2 ^ (w + i + b) = ap (λ k. 2 ^ k) (sum_further w i b) in
     omega (arith, e, wider w (w + i) (omega arith), wider (w + i) (w + i + b) (omega arith))
 
-signs_again : (w i b : ℕ) (v : BitVector) → IsOfWidth w v →
+pub signs_again : (w i b : ℕ) (v : BitVector) → IsOfWidth w v →
     sign_extend (i + b) v ≡ sign_extend b (sign_extend i v)
 unfolding sign_extend
 signs_again w i b v p =
@@ -95,6 +98,34 @@ value-extension_by inputs input by true (Widened inner true t) bytes term = sign
 value-extension_by inputs input by false (Widened inner true t) bytes term = refl
 value-extension_by inputs input by signed t bytes term = refl
 
+-- ---- by any number of bits
+pub extend_again : (signed : Bool) (w i b : ℕ) (v : BitVector) → IsOfWidth w v →
+    extend signed (i + b) v ≡ extend signed b (extend signed i v)
+unfolding zero_extend
+extend_again true w i b v p = signs_again w i b v p
+extend_again false w i b v p = zeros_again w i b v
+
+extend_none : (signed : Bool) (v : BitVector) → v ≡ extend signed 0 v
+unfolding zero_extend sign_extend
+extend_none false v = by_parts (v.width + 0) v.number v (omega arith) refl
+extend_none true v =
+    let e : 2 ^ (v.width + 0) ≡ 2 ^ v.width = ap (λ k. 2 ^ k) (omega arith) in
+    elim (is_negative v) as (λ b. v ≡ record { width = v.width + 0; number = cond b (v.number + (2 ^ (v.width + 0) - 2 ^ v.width)) v.number }) [
+      | true ↦ by_parts (v.width + 0) (v.number + (2 ^ (v.width + 0) - 2 ^ v.width)) v (omega arith) (omega (arith, e))
+      | false ↦ by_parts (v.width + 0) v.number v (omega arith) refl
+    ]
+
+pub value-further : (inputs : ℕ) (input : List ℕ) (by : ℕ) (signed : Bool) (t : Tree) →
+    All (λ b. b < 256) input → IsTerm inputs t → tree_width t + by ≤ 64 →
+    tree_value input (further by signed t) ≡ extend signed by (tree_value input t)
+value-further inputs input by signed t bytes term fits =
+    elim (eqb_tells by 0) [
+      | inl e ↦ rw e.0 (extend_none signed (tree_value input t) ∙ ap (λ k. extend signed k (tree_value input t)) (sym e.1))
+      | inr e ↦
+          let some : 1 ≤ by = elim (le_tells 1 by) [ inl p ↦ p.1 | inr p ↦ absurd (e.1 (omega (arith, p.1))) ] in
+          rw e.0 (value-extension_by inputs input by signed t bytes (term, some, fits))
+    ]
+
 -- ---- a number above a term
 nothing_above : (k m : ℕ) → 0 * k + m ≡ m
 nothing_above k m = omega arith
@@ -120,7 +151,22 @@ value-joined_by inputs input (Some x) None s t bytes term e f =
     (λ _. refl)
 value-joined_by inputs input None y s t bytes term e f = refl
 
+value-join_of : (inputs : ℕ) (input : List ℕ) (s t : Tree) → All (λ b. b < 256) input →
+    IsTerm inputs (Joined s t) → tree_value input (join_of s t) ≡ tree_value input (Joined s t)
+value-join_of inputs input s t bytes term = value-joined_by inputs input _ _ s t bytes term refl refl
+
+-- zeros above both are zeros above the first
+zeros_first : (by : ℕ) (x y : BitVector) → zero_extend by (concat x y) ≡ concat (zero_extend by x) y
+unfolding zero_extend concat
+zeros_first by x y = by_parts (x.width + by + y.width) (x.number * 2 ^ y.width + y.number) _ (omega arith) refl
+
 pub value-joined_of : (inputs : ℕ) (input : List ℕ) (s t : Tree) → All (λ b. b < 256) input →
     IsTerm inputs (Joined s t) → tree_value input (joined_of s t) ≡ tree_value input (Joined s t)
 unfolding joined_of
-value-joined_of inputs input s t bytes term = value-joined_by inputs input _ _ s t bytes term refl refl
+value-joined_of inputs input (Widened by false s) t bytes term =
+    let join : IsTerm inputs (Joined s t) = (term.0.0, term.1, omega (arith, term.2)) in
+    value-extension_by inputs input by false (join_of s t) bytes
+    (term-join_of inputs s t join, term.0.1, omega (arith, width-join_of s t, term.2))
+    ∙ ap (zero_extend by) (value-join_of inputs input s t bytes join) ∙ zeros_first by (tree_value input s) (tree_value input t)
+value-joined_of inputs input (Widened by true s) t bytes term = value-join_of inputs input (Widened by true s) t bytes term
+value-joined_of inputs input s t bytes term = value-join_of inputs input s t bytes term

@@ -6,9 +6,12 @@ pub mod Shifts
 pub mod BinaryRules
 pub mod TestRules
 pub mod ChoiceRules
-pub mod PartRules
-pub mod ExtensionRules
 pub mod PartTerms
+pub mod Uppers
+pub mod JoinTerms
+pub mod ExtensionRules
+pub mod PartRules
+pub mod Stacking
 pub mod Moving
 pub mod MovedRules
 pub mod Moved

@@ -9,24 +9,13 @@ use Rattle.bv_dag.specs.declared.nodes.BinaryOp.{BinaryOp}
 use Rattle.bv_dag.specs.declared.nodes.BinaryOp.TheVariants.{Add, Sub, Mul, Udiv, Urem, And, Or, Xor, Shl, Lshr, Ashr}
 use Rattle.term_trees.specs.Trees.{Tree, Constant, Two, Widened, tree_width, tree_value, IsTerm, IsOfWidth}
 use Rattle.term_trees.proofs.Ranges.{in_range}
-use Rattle.term_simplify.specs.Simplified.{binary_of, joined_by, joined_of, moved, moved_down, moved_up, moves, part_of, tree_number}
+use Rattle.term_simplify.specs.Simplified.{binary_of, moved, moved_down, moved_up, moves, part_of, tree_number}
 use Rattle.term_simplify.proofs.BinaryRules.{value-unmoved_of}
-use Rattle.term_simplify.proofs.ExtensionRules.{value-extension_by}
+use Rattle.term_simplify.proofs.ExtensionRules.{value-extension_by, value-joined_of}
 use Rattle.term_simplify.proofs.Moving.{ashr_moves, lshr_moves, shl_moves}
 use Rattle.term_simplify.proofs.PartRules.{value-part_of}
-use Rattle.term_simplify.proofs.PartTerms.{term-part_of, width-part_of}
+use Rattle.term_simplify.proofs.PartTerms.{term-part_of, width-part_of, zero_fits}
 use Rattle.term_simplify.proofs.Words.{number_value, value_by_test}
-
--- a term above zeros
-zeros_below : (input : List ℕ) (x : Option BitVector) (s : Tree) (by : ℕ) → tree_number s ≡ x →
-    tree_value input (joined_by x (Some (record { width = by; number = 0 })) s (Constant by 0)) ≡ concat (tree_value input s) (record { width = by; number = 0 })
-zeros_below input (Some x) s by e = sym (cc (number_value input s x e))
-zeros_below input None s by e = refl
-
-joined_zeros : (input : List ℕ) (s : Tree) (by : ℕ) →
-    tree_value input (joined_of s (Constant by 0)) ≡ concat (tree_value input s) (record { width = by; number = 0 })
-unfolding joined_of
-joined_zeros input s by = zeros_below input (tree_number s) s by refl
 
 module _ (inputs : ℕ) (input : List ℕ) (bytes : All (λ b. b < 256) input) (s t : Tree) (term : IsTerm inputs (Two Shl s t)) (y : BitVector) (is : tree_number t ≡ Some y) where
   value_is : tree_value input t ≡ y
@@ -42,7 +31,12 @@ module _ (inputs : ℕ) (input : List ℕ) (bytes : All (λ b. b < 256) input) (
   value-up h =
       let (some, within) = and_parts (nat_lt 0 y.number) (nat_lt y.number y.width) h in
       let low = ltb-true y.number y.width within in
-      joined_zeros input (part_of (y.width - 1 - y.number) 0 s) y.number
+      let top : y.width - 1 - y.number < tree_width s = omega (arith, right.width, right.not_empty) in
+      value-joined_of inputs input (part_of (y.width - 1 - y.number) 0 s) (Constant y.number 0) bytes (
+        term-part_of inputs s (y.width - 1 - y.number) 0 term.0 (omega arith) top,
+        zero_fits y.number (ltb-true 0 y.number some) (omega (arith, right.width, right.at_most_64, low)),
+        omega (arith, width-part_of inputs s (y.width - 1 - y.number) 0 term.0 (omega arith) top, right.width, right.at_most_64, low),
+      )
       ∙ ap (λ v. concat v (record { width = y.number; number = 0 })) (value-part_of inputs input bytes s (y.width - 1 - y.number) 0 term.0 (omega arith) (omega (arith, right.width, right.not_empty)))
       ∙ shl_moves (tree_width s) (tree_value input s) y left right low
       ∙ ap (binary Shl (tree_value input s)) (sym value_is)

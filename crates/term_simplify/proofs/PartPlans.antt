@@ -1,28 +1,34 @@
 -- Bits of a term, through what widens, joins and cuts, as the plans go down.
-use Rattle.std.proofs.Common.{◌≡◌, ℕ, ◌+◌, ◌-◌, ◌<◌, ◌≤◌, Bool, true, false, cond, refl, ap, sym, ◌∙◌, arith, Some, None, inl, inr}
-use Rattle.std.specs.Prelude.{Option, nat_lt, nat_le, option_map}
+use Rattle.std.proofs.Common.{◌≡◌, ◌==◌, ◌&&◌, ℕ, ◌+◌, ◌-◌, ◌<◌, ◌≤◌, Bool, true, false, cond, length, refl, ap, sym, subst, ◌∙◌, arith, Some, None, inl, inr}
+use Rattle.std.specs.Prelude.{Option, IfNone, IfSome, nat_lt, nat_le, option_map}
 use Rattle.std.specs.List.{slice_get}
+use Rattle.std.proofs.lemmas.Bool.{and_parts, true≢false}
 use Rattle.bv_dag.specs.BitVectors.{BitVector, extract}
 use Rattle.bv_dag.specs.Graphs.{Graph, IsDag, width_of}
 use Rattle.bv_dag.specs.declared.nodes.Node.{Node}
 use Rattle.bv_dag.specs.declared.nodes.Node.TheVariants.{Num, Input, Not, Neg, Binary, Compare, Ite, Extract, Extend, Concat}
-use Rattle.term_trees.specs.Trees.{Tree, Constant, Part, Widened, tree_of, node_tree, tree_width, IsTerm}
+use Rattle.term_trees.specs.Trees.{Tree, Constant, Joined, Part, Widened, tree_of, node_tree, tree_width, IsTerm}
+use Rattle.term_trees.proofs.Terms.{is_term}
 use Rattle.term_trees.proofs.TreeLaws.{tree_by_cases, width-tree_of}
-use Rattle.term_simplify.specs.Plans.{IsSpan, IsInner, rest_of, under_zeros}
-use Rattle.term_simplify.specs.Simplified.{tree_number, number_tree, span_of, part_of}
+use Rattle.term_simplify.specs.Plans.{Follows, IsSpan, IsInner, Makes, plan_tree, rest_of, same, stacked, under, under_zeros, within_widened}
+use Rattle.term_simplify.specs.Simplified.{extension_by, further, tree_number, number_tree, span_of, part_of}
+use Rattle.term_simplify.specs.declared.parts.Inner.{Inner}
 use Rattle.term_simplify.specs.declared.parts.Span.{Span}
+use Rattle.term_simplify.specs.declared.plan.Plan.{Plan}
+use Rattle.term_simplify.specs.declared.recipe.Above.{Above}
+use Rattle.term_simplify.proofs.PartTerms.{some_bits, term-part_of, width-part_of}
 use Rattle.term_simplify.proofs.Reading.{IsOperand, operand, has_bits, term_at, width_at}
-use Rattle.term_simplify.proofs.Words.{tests_below, tests_not_below, tests_equal, tests_unequal, le_tells}
-
-pub most_true : (a b : ℕ) → a ≤ b → nat_le a b ≡ true
-most_true a b h = elim (le_tells a b) [ inl p ↦ p.0 | inr p ↦ absurd (omega (arith, h, p.1)) ]
-
-pub most_false : (a b : ℕ) → b < a → nat_le a b ≡ false
-most_false a b h = elim (le_tells a b) [ inl p ↦ absurd (omega (arith, h, p.1)) | inr p ↦ p.0 ]
+use Rattle.term_simplify.proofs.Stacking.{under_stacked}
+use Rattle.term_simplify.proofs.Words.{is_number, lt_tells, most_false, most_true, tests_below, tests_not_below, tests_equal, tests_unequal}
 
 -- ---- what stands there
 module _ (g : Graph) (id : ℕ) (dag : IsDag g) (high low : ℕ)
-    (span : IsSpan g (record { high = high; low = low; operand = id })) where
+    (span : IsSpan g (record { high = high; low = low; operand = id }))
+    (some_not : (low == 0 && high + 1 == tree_width (tree_of g id)) ≡ false) where
+  -- the same of the tree that a node shows
+  not_all : (n : Node) → slice_get g.nodes id ≡ Some n → (low == 0 && high + 1 == tree_width (node_tree (tree_of g) n)) ≡ false
+  not_all n is = ap (λ t. low == 0 && high + 1 == tree_width t) (sym (tree_by_cases g id n dag is)) ∙ some_not
+
   module _ (h l a : ℕ) (is : slice_get g.nodes id ≡ Some (Extract h l a)) where
     cut_operand : IsOperand g id a
     cut_operand = operand g id a _ dag is (omega (arith, (dag.all_fit id (Extract h l a) is).1))
@@ -34,7 +40,7 @@ module _ (g : Graph) (id : ℕ) (dag : IsDag g) (high low : ℕ)
 
     through_cut : part_of high low (tree_of g id) ≡ part_of (high + l) (low + l) (tree_of g a)
     unfolding part_of
-    through_cut = ap (part_of high low) (tree_by_cases g id (Extract h l a) dag is)
+    through_cut = ap (part_of high low) (tree_by_cases g id (Extract h l a) dag is) ∙ rw (not_all (Extract h l a) is) refl
 
     pub cut_sums : (high + l < 64) × (low + l < 64)
     cut_sums = let w = cut_widths in (
@@ -43,7 +49,7 @@ module _ (g : Graph) (id : ℕ) (dag : IsDag g) (high low : ℕ)
           (arith, w.0, w.1, w.2, w.3, span.order, span.within),
     )
 
-    pub in_cut : IsInner g (record { high = high; low = low; operand = id }) (record { high = high + l; low = low + l; operand = a })
+    pub in_cut : IsInner g (record { high = high; low = low; operand = id }) (same (record { high = high + l; low = low + l; operand = a }))
     in_cut =
         let w = cut_widths in
         record {
@@ -55,38 +61,127 @@ module _ (g : Graph) (id : ℕ) (dag : IsDag g) (high low : ℕ)
           };
           earlier = cut_operand.earlier;
           same = through_cut;
+          wide = omega arith;
+          some = λ e. absurd (true≢false e);
         }
 
   module _ (by : ℕ) (signed : Bool) (a : ℕ) (is : slice_get g.nodes id ≡ Some (Extend by signed a)) where
     pub widened_operand : IsOperand g id a
     widened_operand = operand g id a _ dag is (dag.all_fit id (Extend by signed a) is).0
 
-    through_widened : nat_lt high (tree_width (tree_of g a)) ≡ true →
-        part_of high low (tree_of g id) ≡ part_of high low (tree_of g a)
-    unfolding part_of
-    through_widened e = ap (part_of high low) (tree_by_cases g id (Extend by signed a) dag is) ∙ rw e refl
+    -- what the term is that is widened
+    narrower : Tree
+    narrower = tree_of g a
 
-    pub in_widened : (w : ℕ) → w ≡ width_of g a → high < w →
-        IsInner g (record { high = high; low = low; operand = id }) (record { high = high; low = low; operand = a })
-    in_widened w e h = record {
-      is_span = record { there = widened_operand.there; order = span.order; within = omega (arith, h, e) };
+    as_widened : part_of high low (tree_of g id) ≡ part_of high low (Widened by signed (tree_of g a))
+    as_widened = ap (part_of high low) (tree_by_cases g id (Extend by signed a) dag is)
+
+    apart : (low == 0 && high + 1 == tree_width (tree_of g a) + by) ≡ false
+    apart = not_all (Extend by signed a) is
+
+    inside : nat_lt high (tree_width (tree_of g a)) ≡ true → part_of high low (Widened by signed (tree_of g a)) ≡ part_of high low (tree_of g a)
+    unfolding part_of
+    inside below = rw (apart, below) refl
+
+    across : nat_lt high (tree_width (tree_of g a)) ≡ false → nat_lt low (tree_width (tree_of g a)) ≡ true →
+        part_of high low (Widened by signed (tree_of g a)) ≡
+        extension_by (high + 1 - tree_width (tree_of g a)) signed (part_of (tree_width (tree_of g a) - 1) low (tree_of g a))
+    unfolding part_of
+    across above begins = rw (apart, above, begins) refl
+
+    over : nat_lt high (tree_width (tree_of g a)) ≡ false → nat_lt low (tree_width (tree_of g a)) ≡ false →
+        part_of high low (Widened by signed (tree_of g a)) ≡
+        cond signed (further (high - low) true (part_of (tree_width (tree_of g a) - 1) (tree_width (tree_of g a) - 1) (tree_of g a)))
+        (Constant (high - low + 1) 0)
+    unfolding part_of
+    over above past = rw (apart, above, past) refl
+
+    narrower_bits : 0 < tree_width (tree_of g a)
+    narrower_bits = some_bits g.inputs (tree_of g a) (term_at g id (Extend by signed a) dag is).0
+
+    within : high < tree_width (tree_of g a) + by
+    within = omega (arith, span.within, width_at g id (Extend by signed a) dag is)
+
+    in_over : (fill : Bool) → signed ≡ fill → nat_lt high (tree_width (tree_of g a)) ≡ false → nat_lt low (tree_width (tree_of g a)) ≡ false →
+        IfSome (cond fill (Some (record {
+          span = record { high = tree_width (tree_of g a) - 1; low = tree_width (tree_of g a) - 1; operand = a };
+          by = high - low;
+          signed = true;
+        })) None) (IsInner g (record { high = high; low = low; operand = id }))
+    in_over false e above past = tt
+    in_over true e above past = record {
+      is_span = record {
+        there = widened_operand.there;
+        order = omega arith;
+        within = omega (arith, width-tree_of g a, narrower_bits);
+      };
       earlier = widened_operand.earlier;
-      same = through_widened (tests_below _ _ (omega (arith, h, e, width-tree_of g a)));
+      same = as_widened ∙ over above past ∙ rw e refl;
+      wide = omega arith;
+      some = λ f. absurd (true≢false f);
     }
 
-  above_widened : (by : ℕ) (signed : Bool) (t : Tree) → nat_lt high (tree_width t) ≡ false →
-      part_of high low (Widened by signed t) ≡ rest_of high low (Widened by signed t)
-  unfolding part_of
-  above_widened by false t e = rw e refl
-  above_widened by true t e = rw e refl
+    in_widened : IfSome (within_widened high low signed (tree_width (tree_of g a)) a) (IsInner g (record { high = high; low = low; operand = id }))
+    in_widened =
+        elim (lt_tells high (tree_width (tree_of g a))) [
+          | inl below ↦ rw below.0 (record {
+            is_span = record { there = widened_operand.there; order = span.order; within = omega (arith, below.1, width-tree_of g a) };
+            earlier = widened_operand.earlier;
+            same = as_widened ∙ inside below.0;
+            wide = omega arith;
+            some = λ e. absurd (true≢false e);
+          })
+          | inr above ↦ rw above.0 (elim (lt_tells low (tree_width (tree_of g a))) [
+            | inl begins ↦ rw begins.0 (record {
+              is_span = record {
+                there = widened_operand.there;
+                order = omega (arith, begins.1);
+                within = omega (arith, width-tree_of g a, narrower_bits);
+              };
+              earlier = widened_operand.earlier;
+              same =
+                  as_widened ∙ across above.0 begins.0
+                  ∙ rw (tests_unequal (high + 1 - tree_width (tree_of g a)) 0 (λ e. omega (arith, e, above.1))) refl;
+              wide = omega (arith, above.1, begins.1);
+              some = λ e. omega (arith, above.1);
+            })
+            | inr past ↦ rw past.0 (in_over signed refl above.0 past.0)
+          ])
+        ]
 
-  pub past_widened : (by : ℕ) (signed : Bool) (a : ℕ) →
-      slice_get g.nodes id ≡ Some (Extend by signed a) → (w : ℕ) → w ≡ width_of g a → w ≤ high →
-      part_of high low (tree_of g id) ≡ rest_of high low (tree_of g id)
-  past_widened by signed a is w e h =
-      rw (tree_by_cases g id (Extend by signed a) dag is)
-      (above_widened by signed (tree_of g a) (tests_not_below _ _
-      (omega (arith, h, e, width-tree_of g a))))
+    pub some_widened : (r : Option Inner) (w : ℕ) → w ≡ width_of g a → r ≡ within_widened high low signed w a →
+        IfSome r (IsInner g (record { high = high; low = low; operand = id }))
+    some_widened r w e is =
+        subst (λ o. IfSome o (IsInner g (record { high = high; low = low; operand = id })))
+        (sym (is ∙ ap (λ k. within_widened high low signed k a) (e ∙ sym (width-tree_of g a)))) in_widened
+
+    -- zeros, where they are above it and it is widened by zeros
+    past_over : (fill : Bool) → signed ≡ fill → nat_lt high (tree_width (tree_of g a)) ≡ false → nat_lt low (tree_width (tree_of g a)) ≡ false →
+        tree_width (tree_of g a) ≤ low →
+        IfNone {T = Inner} (cond fill (Some (record {
+          span = record { high = tree_width (tree_of g a) - 1; low = tree_width (tree_of g a) - 1; operand = a };
+          by = high - low;
+          signed = true;
+        })) None) (part_of high low (tree_of g id) ≡ rest_of high low (tree_of g id))
+    past_over true e above past at_least = tt
+    past_over false e above past at_least =
+        as_widened ∙ over above past ∙ rw e (sym (ap (rest_of high low) (tree_by_cases g id (Extend by signed a) dag is) ∙ rw e (rw (most_true _ _ at_least) refl)))
+
+    past_widened : IfNone (within_widened high low signed (tree_width (tree_of g a)) a) (part_of high low (tree_of g id) ≡ rest_of high low (tree_of g id))
+    past_widened =
+        elim (lt_tells high (tree_width (tree_of g a))) [
+          | inl below ↦ rw below.0 tt
+          | inr above ↦ rw above.0 (elim (lt_tells low (tree_width (tree_of g a))) [
+            | inl begins ↦ rw begins.0 tt
+            | inr past ↦ rw past.0 (past_over signed refl above.0 past.0 past.1)
+          ])
+        ]
+
+    pub none_widened : (r : Option Inner) (w : ℕ) → w ≡ width_of g a → r ≡ within_widened high low signed w a →
+        IfNone r (part_of high low (tree_of g id) ≡ rest_of high low (tree_of g id))
+    none_widened r w e is =
+        subst (λ o. IfNone o (part_of high low (tree_of g id) ≡ rest_of high low (tree_of g id)))
+        (sym (is ∙ ap (λ k. within_widened high low signed k a) (e ∙ sym (width-tree_of g a)))) past_widened
 
   module _ (u l : ℕ) (is : slice_get g.nodes id ≡ Some (Concat u l)) where
     upper_operand : IsOperand g id u
@@ -101,30 +196,32 @@ module _ (g : Graph) (id : ℕ) (dag : IsDag g) (high low : ℕ)
     through_lower : nat_lt high (tree_width (tree_of g l)) ≡ true →
         part_of high low (tree_of g id) ≡ part_of high low (tree_of g l)
     unfolding part_of
-    through_lower e = ap (part_of high low) (tree_by_cases g id (Concat u l) dag is) ∙ rw e refl
+    through_lower e = ap (part_of high low) (tree_by_cases g id (Concat u l) dag is) ∙ rw (not_all (Concat u l) is, e) refl
 
     through_upper : nat_lt high (tree_width (tree_of g l)) ≡ false →
         nat_le (tree_width (tree_of g l)) low ≡ true →
         part_of high low (tree_of g id) ≡ part_of (high - tree_width (tree_of g l)) (low - tree_width (tree_of g l)) (tree_of g u)
     unfolding part_of
-    through_upper e f = ap (part_of high low) (tree_by_cases g id (Concat u l) dag is) ∙ rw (e, f) refl
+    through_upper e f = ap (part_of high low) (tree_by_cases g id (Concat u l) dag is) ∙ rw (not_all (Concat u l) is, e, f) refl
 
     across_both : nat_lt high (tree_width (tree_of g l)) ≡ false →
         nat_le (tree_width (tree_of g l)) low ≡ false →
         part_of high low (tree_of g id) ≡ rest_of high low (tree_of g id)
     unfolding part_of
-    across_both e f = rw (tree_by_cases g id (Concat u l) dag is) (rw (e, f) refl)
+    across_both e f = rw (tree_by_cases g id (Concat u l) dag is) (rw (not_all (Concat u l) is, e, f) refl)
 
     pub in_lower : (w : ℕ) → w ≡ width_of g l → high < w →
-        IsInner g (record { high = high; low = low; operand = id }) (record { high = high; low = low; operand = l })
+        IsInner g (record { high = high; low = low; operand = id }) (same (record { high = high; low = low; operand = l }))
     in_lower w e h = record {
       is_span = record { there = lower_operand.there; order = span.order; within = omega (arith, h, e) };
       earlier = lower_operand.earlier;
       same = through_lower (tests_below _ _ (omega (arith, h, e, width-tree_of g l)));
+      wide = omega arith;
+      some = λ f. absurd (true≢false f);
     }
 
     pub in_upper : (w : ℕ) → w ≡ width_of g l → w ≤ high → w ≤ low →
-        IsInner g (record { high = high; low = low; operand = id }) (record { high = high - w; low = low - w; operand = u })
+        IsInner g (record { high = high; low = low; operand = id }) (same (record { high = high - w; low = low - w; operand = u }))
     in_upper w e h k = record {
       is_span = record {
         there = upper_operand.there;
@@ -137,6 +234,8 @@ module _ (g : Graph) (id : ℕ) (dag : IsDag g) (high low : ℕ)
           through_upper (tests_not_below _ _ (omega (arith, h, e, width-tree_of g l)))
           (most_true _ _ (omega (arith, k, e, width-tree_of g l)))
           ∙ ap (λ j. part_of (high - j) (low - j) (tree_of g u)) (width-tree_of g l ∙ sym e);
+      wide = omega (arith, k, span.order);
+      some = λ f. absurd (true≢false f);
     }
 
     pub across_halves : (w : ℕ) → w ≡ width_of g l → w ≤ high → low < w →
@@ -144,6 +243,23 @@ module _ (g : Graph) (id : ℕ) (dag : IsDag g) (high low : ℕ)
     across_halves w e h k = across_both (tests_not_below _ _
         (omega (arith, h, e, width-tree_of g l))) (most_false _ _
         (omega (arith, k, e, width-tree_of g l)))
+
+-- ---- all bits
+whole_rest : (inputs : ℕ) (t : Tree) (high low : ℕ) → IsTerm inputs t → (low == 0 && high + 1 == tree_width t) ≡ true →
+    part_of high low t ≡ rest_of high low t
+unfolding part_of
+whole_rest inputs (Part h l t) high low term all = rw all refl
+whole_rest inputs (Joined s t) high low term all = rw all refl
+whole_rest inputs (Widened by true t) high low term all = rw all refl
+whole_rest inputs (Widened by false t) high low term all =
+    let (zero, top) = and_parts (low == 0) (high + 1 == tree_width t + by) all in
+    rw (all, most_false (tree_width t) low (omega (arith, is_number low 0 zero, some_bits inputs t term.0))) refl
+whole_rest inputs t high low term all = refl
+
+pub all_of_it : (g : Graph) (id high low : ℕ) (b : Bool) → IsDag g → id < length g.nodes →
+    b ≡ (low == 0 && high + 1 == tree_width (tree_of g id)) → b ≡ true →
+    part_of high low (tree_of g id) ≡ rest_of high low (tree_of g id)
+all_of_it g id high low b dag there is all = whole_rest g.inputs (tree_of g id) high low (is_term g id dag there) (sym is ∙ all)
 
 part_none : (f : ℕ → Tree) (n : Node) (high low : ℕ) → ((h l a : ℕ) → n ≡ Extract h l a → ⊥) →
     ((by : ℕ) (signed : Bool) (a : ℕ) → n ≡ Extend by signed a → ⊥) →
@@ -225,7 +341,53 @@ pub span_number : (g : Graph) (id high low : ℕ) (r : Option BitVector) (x y : 
     span_of high low (tree_of g id) ≡ number_tree y
 span_number g id high low r x y is e f = rw (← e, is, f) refl
 
--- how far the walk has come: the bits that are wanted are these
-pub record HasCome (g : Graph) (high low id : ℕ) (span : Span) : Type 0 where
+-- ---- how far the walk has come: the bits that are wanted are these, under further ones
+pub record HasCome (g : Graph) (high low id : ℕ) (span : Span) (above : Above) : Type 0 where
   pub is_span : IsSpan g span
-  pub same : part_of high low (tree_of g id) ≡ part_of span.high span.low (tree_of g span.operand)
+  pub same : part_of high low (tree_of g id) ≡ under above (part_of span.high span.low (tree_of g span.operand))
+  pub wide : high - low ≡ span.high - span.low + above.signs + above.zeros
+  pub start : IsSpan g (record { high = high; low = low; operand = id })
+
+module _ (g : Graph) (dag : IsDag g) (high low id : ℕ) (span : Span) (above : Above) (come : HasCome g high low id span above) where
+  few : high - low < 64
+  few = omega (arith, come.start.within, (has_bits g id dag come.start.there).1)
+
+  pub room_to_go : (inner : Inner) → IsInner g span inner → above.signs + inner.by + above.zeros ≤ 64
+  room_to_go inner is = omega (arith, come.wide, few, is.wide)
+
+  stacked_sum : (by : ℕ) (signed : Bool) → (stacked above by signed).signs + (stacked above by signed).zeros ≡ above.signs + by + above.zeros
+  stacked_sum by true = refl
+  stacked_sum by false = omega arith
+
+  pub come_on : (inner : Inner) → IsInner g span inner → (more : Above) → more ≡ stacked above inner.by inner.signed →
+      HasCome g high low id inner.span more
+  come_on inner is more e =
+      let at = is.is_span in
+      let t = tree_of g inner.span.operand in
+      let term : IsTerm g.inputs t = is_term g inner.span.operand dag at.there in
+      let top : inner.span.high < tree_width t = omega (arith, at.within, width-tree_of g inner.span.operand) in
+      rw e (record {
+        is_span = at;
+        same =
+            come.same ∙ ap (under above) is.same
+            ∙ under_stacked g.inputs above inner.by inner.signed (part_of inner.span.high inner.span.low t)
+            (term-part_of g.inputs t inner.span.high inner.span.low term at.order top) is.some
+            (omega (arith, width-part_of g.inputs t inner.span.high inner.span.low term at.order top, come.wide, few, is.wide));
+        wide = omega (arith, come.wide, is.wide, stacked_sum inner.by inner.signed);
+        start = come.start;
+      })
+
+  pub come_home : (plan : Plan) → Makes g plan (rest_of span.high span.low (tree_of g span.operand)) →
+      part_of span.high span.low (tree_of g span.operand) ≡ rest_of span.high span.low (tree_of g span.operand) →
+      Follows g (record { core = plan; above = above }) (part_of high low (tree_of g id))
+  come_home plan makes rest =
+      let t = tree_of g span.operand in
+      let at = come.is_span in
+      let term : IsTerm g.inputs t = is_term g span.operand dag at.there in
+      let top : span.high < tree_width t = omega (arith, at.within, width-tree_of g span.operand) in
+      let made : plan_tree g plan ≡ part_of span.high span.low t = makes.is ∙ sym rest in
+      let bits : tree_width (plan_tree g plan) ≡ span.high - span.low + 1 = ap tree_width made ∙ width-part_of g.inputs t span.high span.low term at.order top in
+      record {
+        is = ap (under above) made ∙ sym come.same;
+        fits = record { core = makes.fits; room = λ _. (omega (arith, bits), omega (arith, bits, come.wide, few)) };
+      }

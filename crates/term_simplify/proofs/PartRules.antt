@@ -1,20 +1,23 @@
 -- Bits of a term are worth those bits of its value.
-use Rattle.std.proofs.Common.{◌≡◌, ◌==◌, ◌&&◌, ℕ, ◌+◌, ◌-◌, ◌*◌, ◌/◌, ◌%◌, ◌^◌, ◌<◌, ◌≤◌, Bool, true, false, not, cond, List, Some, None, refl, ap, sym, ◌∙◌, arith, inl, inr}
-use Rattle.std.specs.Prelude.{Option, nat_le}
+use Rattle.std.proofs.Common.{◌≡◌, ◌==◌, ◌&&◌, ℕ, ◌+◌, ◌-◌, ◌*◌, ◌/◌, ◌%◌, ◌^◌, ◌<◌, ◌≤◌, Bool, true, false, cond, List, Some, None, refl, ap, sym, ◌∙◌, arith, inl, inr}
+use Rattle.std.specs.Prelude.{Option}
 use Rattle.std.specs.List.{All}
 use Rattle.std.proofs.lemmas.Bool.{true≢false}
 use Rattle.std.proofs.Math.Bool.{and-false}
 use Rattle.std.proofs.lemmas.Bool.Decides.{eqb_tells}
-use Rattle.std.proofs.lemmas.Nat.{field_of, shr-shr, shr_high, pow-add, pow_pos}
-use Rattle.std.proofs.Math.Nat.{mod-eq_of_lt, add-mul-mod_self_right, mul_assoc, mul_comm, div-one, div-eq_of_lt, zero-mod}
+use Rattle.std.proofs.lemmas.Nat.{field_of, shr-shr, shr_high, pow-add}
+use Rattle.std.proofs.Math.Nat.{mod-eq_of_lt, add-mul-mod_self_right, mul_assoc, div-one, div-eq_of_lt, zero-mod}
 use Rattle.std.proofs.Math.Pow.{mod-mod-pow}
 use Rattle.bv_dag.specs.BitVectors.{BitVector, extract, zero_extend, sign_extend, concat, is_negative}
 use Rattle.bv_dag.specs.Nodes.{extend}
 use Rattle.bv_dag.proofs.Numbers.{wider}
 use Rattle.term_trees.specs.Trees.{Tree, Constant, Part, Widened, Joined, tree_width, tree_value, IsTerm, IsOfWidth}
 use Rattle.term_trees.proofs.Ranges.{in_range}
-use Rattle.term_simplify.specs.Simplified.{tree_number, span_by, span_of, part_of}
-use Rattle.term_simplify.proofs.Words.{by_parts, value_by_test, number_value, lt_tells, le_tells, is_at_most}
+use Rattle.term_simplify.specs.Simplified.{tree_number, further, span_by, part_of}
+use Rattle.term_simplify.proofs.ExtensionRules.{extend_again, value-extension_by, value-further}
+use Rattle.term_simplify.proofs.PartTerms.{some_bits, term-part_of, width-part_of}
+use Rattle.term_simplify.proofs.Uppers.{above_signs, ones_over, upper_signs, upper_zeros}
+use Rattle.term_simplify.proofs.Words.{by_parts, value_by_test, number_value, lt_tells, le_tells}
 
 -- bits up to a place rest on the number cut behind that place
 field_same : (high low n m : ℕ) → low ≤ high → n % 2 ^ (high + 1) ≡ m % 2 ^ (high + 1) →
@@ -65,17 +68,6 @@ span_value input None high low t e order within p =
       | true ↦ λ whole. all_bits high low (tree_width t) (tree_value input t) whole p
       | false ↦ λ whole. refl
     ] refl
-
-take_one : (k m : ℕ) → (k + 1) * m - m ≡ k * m
-take_one k m = omega arith
-
-less_one : (a b : ℕ) → 0 < b → a * b - a ≡ (b - 1) * a
-less_one a b h =
-    let e : b ≡ (b - 1) + 1 = omega arith in
-    ap (λ k. k - a) (mul_comm a b) ∙ ap (λ k. k * a - a) e ∙ take_one (b - 1) a
-
-ones_over : (w by : ℕ) → 2 ^ (w + by) - 2 ^ w ≡ (2 ^ by - 1) * 2 ^ w
-ones_over w by = ap (λ k. k - 2 ^ w) (pow-add 2 w by) ∙ less_one (2 ^ w) (2 ^ by) (pow_pos by)
 
 sum_turned : (a b : ℕ) → a + b ≡ b + a
 sum_turned a b = omega arith
@@ -149,23 +141,44 @@ no_bits w high low n h l =
     let small : n < 2 ^ low = omega (arith, h, wider w low l) in
     sym (ap (λ k. k % 2 ^ (high - low + 1)) (div-eq_of_lt small) ∙ zero-mod (2 ^ (high - low + 1)))
 
--- bits above a term that is widened by zeros
-over_zeros : (inputs : ℕ) (input : List ℕ) → All (λ b. b < 256) input →
-    (by : ℕ) (signed : Bool) (t : Tree) (high low : ℕ) → IsTerm inputs (Widened by signed t) →
-    low ≤ high → high < tree_width t + by →
-    tree_value input (cond (not signed && nat_le (tree_width t) low) (Constant (high - low + 1) 0)
-    (span_of high low (Widened by signed t))) ≡ extract high low
-    (extend signed by (tree_value input t))
-unfolding extract zero_extend
-over_zeros inputs input bytes by true t high low term order within = span_value input _ high low
-    (Widened by true t) refl order within (in_range inputs input bytes (Widened by true t) term)
-over_zeros inputs input bytes by false t high low term order within =
-    value_by_test input (nat_le (tree_width t) low) (Constant (high - low + 1) 0) (span_of high low (Widened by false t)) _
-    (λ h. ap {B = BitVector} (λ n. record { width = high - low + 1; number = n })
-    (no_bits (tree_width t) high low (tree_value input t).number
-    (in_range inputs input bytes t term.0).in_range (is_at_most _ _ h)))
-    (λ _. span_value input _ high low (Widened by false t) refl order within
-    (in_range inputs input bytes (Widened by false t) term))
+module _ (inputs : ℕ) (input : List ℕ) (bytes : All (λ b. b < 256) input) (by : ℕ) (t : Tree) (high low : ℕ) where
+  -- bits above a term that is widened
+  over_widened : (signed : Bool) (top : Tree) → IsTerm inputs (Widened by signed t) → low ≤ high → tree_width t ≤ low →
+      high < tree_width t + by → IsTerm inputs top → tree_width top ≡ 1 →
+      tree_value input top ≡ extract (tree_width t - 1) (tree_width t - 1) (tree_value input t) →
+      tree_value input (cond signed (further (high - low) true top) (Constant (high - low + 1) 0)) ≡
+      extract high low (extend signed by (tree_value input t))
+  unfolding extract zero_extend
+  over_widened true top term order over within is one e =
+      value-further inputs input (high - low) true top bytes is (omega (arith, one, order, within, term.2))
+      ∙ ap (sign_extend (high - low)) e
+      ∙ above_signs (tree_width t) by high low (tree_value input t) (in_range inputs input bytes t term.0) order over within
+  over_widened false top term order over within is one e =
+      ap {B = BitVector} (λ n. record { width = high - low + 1; number = n })
+      (no_bits (tree_width t) high low (tree_value input t).number (in_range inputs input bytes t term.0).in_range over)
+
+  upper_widened : (signed : Bool) (k : ℕ) → IsTerm inputs t → low < tree_width t →
+      extend signed k (extract (tree_width t - 1) low (tree_value input t)) ≡ extract (tree_width t + k - 1) low (extend signed k (tree_value input t))
+  upper_widened true k term across = upper_signs (tree_width t) low (tree_value input t) (in_range inputs input bytes t term) across k
+  upper_widened false k term across = upper_zeros (tree_width t) low (tree_value input t) (in_range inputs input bytes t term) across k
+
+  -- those that begin in the narrower one
+  across_widened : (signed : Bool) → IsTerm inputs (Widened by signed t) → low < tree_width t → tree_width t ≤ high →
+      high < tree_width t + by →
+      extend signed (high + 1 - tree_width t) (extract (tree_width t - 1) low (tree_value input t)) ≡
+      extract high low (extend signed by (tree_value input t))
+  across_widened signed term across above within =
+      let v = tree_value input t in
+      let k = high + 1 - tree_width t in
+      let more = by - k in
+      let top : tree_width t + k - 1 ≡ high = omega (arith, above) in
+      let wide : IsTerm inputs (Widened k signed t) = (term.0, omega (arith, above), omega (arith, above, within, term.2)) in
+      upper_widened signed k term.0 across
+      ∙ ap (λ j. extract j low (extend signed k v)) top
+      ∙ of_widened signed more (tree_width t + k) high low (extend signed k v) (in_range inputs input bytes (Widened k signed t) wide)
+      (omega (arith, across, above)) (omega (arith, above))
+      ∙ ap (extract high low) (sym (extend_again signed (tree_width t) k more v (in_range inputs input bytes t term.0)))
+      ∙ ap (λ j. extract high low (extend signed j v)) (omega (arith, above, within))
 
 -- bits of a term are worth those bits of its value
 pub value-part_of : (inputs : ℕ) (input : List ℕ) → All (λ b. b < 256) input →
@@ -173,17 +186,41 @@ pub value-part_of : (inputs : ℕ) (input : List ℕ) → All (λ b. b < 256) in
     tree_value input (part_of high low t) ≡ extract high low (tree_value input t)
 unfolding part_of
 value-part_of inputs input bytes (Part h l t) high low term order within =
-    value-part_of inputs input bytes t (high + l) (low + l) term.0 (omega (arith, order)) (omega (arith, term.1, term.2, within))
-    ∙ of_part h l high low (tree_value input t) order within
+    value_by_test input (low == 0 && high + 1 == tree_width (Part h l t)) (Part h l t) (part_of (high + l) (low + l) t) _
+    (λ all. all_bits high low _ (tree_value input (Part h l t)) all (in_range inputs input bytes (Part h l t) term))
+    (λ _. value-part_of inputs input bytes t (high + l) (low + l) term.0 (omega (arith, order)) (omega (arith, term.1, term.2, within))
+    ∙ of_part h l high low (tree_value input t) order within)
 value-part_of inputs input bytes (Widened by signed t) high low term order within =
-    elim (lt_tells high (tree_width t)) [
+    let some = some_bits inputs t term.0 in
+    value_by_test input (low == 0 && high + 1 == tree_width (Widened by signed t)) (Widened by signed t) _ _
+    (λ h. all_bits high low _ (tree_value input (Widened by signed t)) h (in_range inputs input bytes (Widened by signed t) term))
+    (λ _. elim (lt_tells high (tree_width t)) [
       | inl below ↦
           rw below.0 (value-part_of inputs input bytes t high low term.0 order below.1
           ∙ of_widened signed by (tree_width t) high low (tree_value input t) (in_range inputs input bytes t term.0) order below.1)
-      | inr above ↦ rw above.0 (over_zeros inputs input bytes by signed t high low term order within)
-    ]
+      | inr above ↦
+          let under_it : tree_width t - 1 < tree_width t = omega (arith, some) in
+          rw above.0 (elim (lt_tells low (tree_width t)) [
+            | inl across ↦
+                let top : low ≤ tree_width t - 1 = omega (arith, across.1) in
+                rw across.0 (value-extension_by inputs input (high + 1 - tree_width t) signed (part_of (tree_width t - 1) low t) bytes (
+                  term-part_of inputs t (tree_width t - 1) low term.0 top under_it,
+                  omega (arith, above.1),
+                  omega (arith, width-part_of inputs t (tree_width t - 1) low term.0 top under_it, above.1, across.1, within, term.2),
+                )
+                ∙ ap (extend signed (high + 1 - tree_width t)) (value-part_of inputs input bytes t (tree_width t - 1) low term.0 top under_it)
+                ∙ across_widened inputs input bytes by t high low signed term across.1 above.1 within)
+            | inr over ↦
+                rw over.0 (over_widened inputs input bytes by t high low signed (part_of (tree_width t - 1) (tree_width t - 1) t) term order over.1 within
+                (term-part_of inputs t (tree_width t - 1) (tree_width t - 1) term.0 (omega arith) under_it)
+                (width-part_of inputs t (tree_width t - 1) (tree_width t - 1) term.0 (omega arith) under_it ∙ omega arith)
+                (value-part_of inputs input bytes t (tree_width t - 1) (tree_width t - 1) term.0 (omega arith) under_it))
+          ])
+    ])
 value-part_of inputs input bytes (Joined s t) high low term order within =
-    elim (lt_tells high (tree_width t)) [
+    value_by_test input (low == 0 && high + 1 == tree_width (Joined s t)) (Joined s t) _ _
+    (λ h. all_bits high low _ (tree_value input (Joined s t)) h (in_range inputs input bytes (Joined s t) term))
+    (λ _. elim (lt_tells high (tree_width t)) [
       | inl below ↦
           rw below.0 (value-part_of inputs input bytes t high low term.1 order below.1
           ∙ of_low (tree_width s) (tree_width t) high low (tree_value input s) (tree_value input t)
@@ -196,9 +233,8 @@ value-part_of inputs input bytes (Joined s t) high low term order within =
                 (omega (arith, within, above.1, over.1))
                 ∙ of_high (tree_width t) high low (tree_value input s) (tree_value input t)
                 (in_range inputs input bytes t term.1) order over.1)
-            | inr across ↦ rw across.0 (span_value input _ high low (Joined s t) refl order within
-                (in_range inputs input bytes (Joined s t) term))
+            | inr across ↦ rw across.0 refl
           ])
-    ]
+    ])
 value-part_of inputs input bytes t high low term order within = span_value input _ high low t refl
     order within (in_range inputs input bytes t term)

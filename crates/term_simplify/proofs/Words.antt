@@ -77,6 +77,12 @@ is_at_most a b h = elim (le_tells a b) [ inl p ↦ p.1 | inr p ↦ let both : tr
 pub not_at_most : (a b : ℕ) → nat_le a b ≡ false → b < a
 not_at_most a b h = elim (le_tells a b) [ inl p ↦ let both : false ≡ true = sym h ∙ p.0 in cc | inr p ↦ p.1 ]
 
+pub most_true : (a b : ℕ) → a ≤ b → nat_le a b ≡ true
+most_true a b h = elim (le_tells a b) [ inl p ↦ p.0 | inr p ↦ absurd (omega (arith, h, p.1)) ]
+
+pub most_false : (a b : ℕ) → b < a → nat_le a b ≡ false
+most_false a b h = elim (le_tells a b) [ inl p ↦ absurd (omega (arith, h, p.1)) | inr p ↦ p.0 ]
+
 -- a bit has two values
 pub two_values : (w : ℕ) → 0 < w → 1 < 2 ^ w
 two_values w h = omega (arith, wider 1 w h)

@@ -170,33 +170,6 @@ choice_on None c s t = choice_between (tree_number s) (tree_number t) c s t
 unfoldable pub choice_of : Tree → Tree → Tree → Tree
 choice_of c s t = choice_on (tree_number c) c s t
 
--- ---- Bits from one place down to another. Of a number they are a number, and all bits are the
--- term.
-abbrev pub span_by : Option BitVector → (high low : ℕ) → Tree → Tree
-span_by (Some x) high low t = number_tree (extract high low x)
-span_by None high low t = if low == 0 && high + 1 == tree_width t then t else Part high low t
-
-abbrev pub span_of : (high low : ℕ) → Tree → Tree
-span_of high low t = span_by (tree_number t) high low t
-
--- Where they are bits of a smaller term, they are taken of that, and zeros where they lie above one
--- widened by zeros.
-unfoldable pub part_of : (high low : ℕ) → Tree → Tree
-part_of high low (Part h l t) = part_of (high + l) (low + l) t
-part_of high low (Widened by signed t) =
-    if nat_lt high (tree_width t) then part_of high low t
-    else (
-    if not signed && nat_le (tree_width t) low then Constant (high - low + 1) 0
-    else span_of high low (Widened by signed t)
-    )
-part_of high low (Joined s t) =
-    if nat_lt high (tree_width t) then part_of high low t
-    else (
-    if nat_le (tree_width t) low then part_of (high - tree_width t) (low - tree_width t) s
-    else span_of high low (Joined s t)
-    )
-part_of high low t = span_of high low t
-
 -- ---- A term widened twice by zeros is widened once, and so is one widened twice by its sign. One
 -- widened by zeros and then by its sign, which is 0, is widened by zeros.
 unfoldable pub extension_by : (by : ℕ) → (signed : Bool) → Tree → Tree
@@ -206,14 +179,61 @@ extension_by by signed (Widened inner false t) = Widened (inner + by) false t
 extension_by by true (Widened inner true t) = Widened (inner + by) true t
 extension_by by signed t = Widened by signed t
 
+-- ---- Bits from one place down to another. Of a number they are a number, and all bits are the
+-- term.
+abbrev pub span_by : Option BitVector → (high low : ℕ) → Tree → Tree
+span_by (Some x) high low t = number_tree (extract high low x)
+span_by None high low t = if low == 0 && high + 1 == tree_width t then t else Part high low t
+
+abbrev pub span_of : (high low : ℕ) → Tree → Tree
+span_of high low t = span_by (tree_number t) high low t
+
+-- all bits of a term are the term
+abbrev pub whole : (high low : ℕ) → (t otherwise : Tree) → Tree
+whole high low t otherwise = if low == 0 && high + 1 == tree_width t then t else otherwise
+
+-- a term with so many further bits, where there are any
+abbrev pub further : (by : ℕ) → (signed : Bool) → Tree → Tree
+further by signed t = if by == 0 then t else extension_by by signed t
+
+-- Where they are bits of a smaller term, they are taken of that. Those of a widened term that begin
+-- in the narrower one and end above it are its upper bits, widened; those above it are zeros, or
+-- copies of its sign.
+unfoldable pub part_of : (high low : ℕ) → Tree → Tree
+part_of high low (Part h l t) = whole high low (Part h l t) (part_of (high + l) (low + l) t)
+part_of high low (Widened by signed t) =
+    whole high low (Widened by signed t) (
+    if nat_lt high (tree_width t) then part_of high low t
+    else (
+    if nat_lt low (tree_width t) then
+    extension_by (high + 1 - tree_width t) signed (part_of (tree_width t - 1) low t)
+    else (
+    if signed then further (high - low) true (part_of (tree_width t - 1) (tree_width t - 1) t)
+    else Constant (high - low + 1) 0
+    )))
+part_of high low (Joined s t) =
+    whole high low (Joined s t) (
+    if nat_lt high (tree_width t) then part_of high low t
+    else (
+    if nat_le (tree_width t) low then part_of (high - tree_width t) (low - tree_width t) s
+    else Part high low (Joined s t)
+    ))
+part_of high low t = span_of high low t
+
+-- ---- Two terms, one above the other.
 -- A term below the number 0 is widened by zeros.
 abbrev pub joined_by : Option BitVector → Option BitVector → (s t : Tree) → Tree
 joined_by (Some x) (Some y) s t = number_tree (concat x y)
 joined_by (Some x) None s t = if x.number == 0 then extension_by x.width false t else Joined s t
 joined_by None y s t = Joined s t
 
+abbrev pub join_of : Tree → Tree → Tree
+join_of s t = joined_by (tree_number s) (tree_number t) s t
+
+-- Zeros above a term go to the top.
 unfoldable pub joined_of : Tree → Tree → Tree
-joined_of s t = joined_by (tree_number s) (tree_number t) s t
+joined_of (Widened by false s) t = extension_by by false (join_of s t)
+joined_of s t = join_of s t
 
 -- ---- A shift of a term by a number below its width moves its bits, which takes no circuit: the lower
 -- ones up, above zeros, or the upper ones down, below zeros or copies of the sign.

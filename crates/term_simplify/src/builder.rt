@@ -1,21 +1,22 @@
 //! Terms, each simplified before it is put behind the others.
 
 ghost use Rattle.std.specs.Prelude.{◌≡◌, ◌↔◌, ◌<◌, ℕ, IsTrue, IfOk, IfSome, OnOk, OnErr, length, take, slice_get};
-ghost use Rattle.bv_dag.specs.Graphs.{Graph, val};
+ghost use Rattle.bv_dag.specs.Graphs.{Graph, val, width_of};
 ghost use Rattle.bv_dag.specs.Nodes.{Fits, node_value, node_width, widths_of};
 ghost use Rattle.term_trees.specs.Trees.{tree_of, node_tree, IsTerm};
 ghost use Rattle.term_simplify.specs.Moves.{unmoved};
-ghost use Rattle.term_simplify.specs.Plans.{Makes, PlanFits};
+ghost use Rattle.term_simplify.specs.Plans.{Follows, Makes, PlanFits};
 ghost use Rattle.term_simplify.specs.Simplified.{simplified};
 ghost use Rattle.term_simplify.specs.Steps.{Stands};
 
 use crate::binaries::binary;
 use crate::choices::choice;
 use crate::comparisons::comparison;
-use crate::extensions::{extension, joined};
+use crate::extensions::{extension, further, joined};
 use crate::moves::move_of;
 use crate::parts::part;
 use crate::plan::{Plan, complement, negative};
+use crate::recipe::{Recipe, alone};
 use bv_dag::{BinaryOp, Comparison, Node};
 use std::alloc::AllocError as NoMemory;
 use std::marker::Model;
@@ -46,24 +47,25 @@ fn recent(terms: &Terms, node: &Node) -> Option<usize>
 }
 
 /// What the node is simplified to, where it moves no bits.
-fn plan(terms: &Terms, node: Node) -> Plan
+fn plan(terms: &Terms, node: Node) -> Recipe
     requires { Fits terms.now.inputs (widths_of terms.now.nodes) node }
-    ensures makes { Makes terms.now result (unmoved (tree_of terms.now) node) }
+    ensures makes { Follows terms.now result (unmoved (tree_of terms.now) node) }
     ensures term { IsTerm terms.now.inputs (node_tree (tree_of terms.now) node) }
 {
     match node {
-        Node::Num { .. } | Node::Input(_) => Plan::Push(node),
-        Node::Not(a) => complement(terms, a),
-        Node::Neg(a) => negative(terms, a),
-        Node::Binary(op, a, b) => binary(terms, op, a, b),
-        Node::Compare(op, a, b) => comparison(terms, op, a, b),
-        Node::Ite { condition, yes, no } => choice(terms, condition, yes, no),
+        Node::Num { width, value } => alone(Plan::Push(Node::Num { width, value })),
+        Node::Input(index) => alone(Plan::Push(Node::Input(index))),
+        Node::Not(a) => alone(complement(terms, a)),
+        Node::Neg(a) => alone(negative(terms, a)),
+        Node::Binary(op, a, b) => alone(binary(terms, op, a, b)),
+        Node::Compare(op, a, b) => alone(comparison(terms, op, a, b)),
+        Node::Ite { condition, yes, no } => alone(choice(terms, condition, yes, no)),
         Node::Extract { high, low, operand } => part(terms, high, low, operand),
         Node::Extend {
             by,
             signed,
             operand,
-        } => extension(terms, by, signed, operand),
+        } => alone(extension(terms, by, signed, operand)),
         Node::Concat { high, low } => joined(terms, high, low),
     }
 }
@@ -85,7 +87,8 @@ impl Model for Builder {
 impl Builder {
     ghost use Rattle.bv_dag.specs.Graphs.{IsDag};
     ghost use Rattle.term_simplify.specs.Builds.{BuildsNode};
-    ghost use Rattle.term_simplify.specs.Plans.{plan_tree};
+    ghost use Rattle.term_simplify.specs.Plans.{plan_tree, recipe_tree, HasRoom, RecipeFits};
+    ghost use Rattle.term_simplify.specs.Simplified.{further};
     ghost use Rattle.term_trees.specs.Growth.{Continues};
 
     /// Builds on these terms, which stay as they are.
@@ -145,8 +148,8 @@ impl Builder {
         }
     }
 
-    /// The answer of a plan.
-    fn carry_out(&mut self, plan: Plan) -> Result<usize, NoMemory>
+    /// What a plan makes.
+    fn stand(&mut self, plan: Plan) -> Result<usize, NoMemory>
         requires { PlanFits self.old plan }
         ensures there { IfOk result (λ id. id < length self.new.nodes) }
         ensures tree { IfOk result (λ id. tree_of self.new id ≡ plan_tree self.old plan) }
@@ -159,6 +162,44 @@ impl Builder {
         }
     }
 
+    /// A term with so many further bits, where there are any.
+    fn further(&mut self, by: u32, signed: bool, id: usize) -> Result<usize, NoMemory>
+        requires there { id < length self.old.nodes }
+        requires room { HasRoom by (width_of self.old id) }
+        ensures there { IfOk result (λ more. more < length self.new.nodes) }
+        ensures tree { IfOk result (λ more. tree_of self.new more
+            ≡ further by signed (tree_of self.old id)) }
+        ensures continues { Continues self.old self.new }
+    {
+        let plan = further(&self.terms, by, signed, id);
+        self.stand(plan)
+    }
+
+    /// What a recipe makes, or only some of the terms on the way.
+    fn followed(&mut self, recipe: Recipe) -> Result<usize, NoMemory>
+        requires { RecipeFits self.old recipe }
+        ensures there { IfOk result (λ id. id < length self.new.nodes) }
+        ensures tree { IfOk result (λ id. tree_of self.new id ≡ recipe_tree self.old recipe) }
+        ensures continues { Continues self.old self.new }
+    {
+        let core = self.stand(recipe.core)?;
+        let signed = self.further(recipe.above.signs, true, core)?;
+        self.further(recipe.above.zeros, false, signed)
+    }
+
+    /// What a recipe makes.
+    fn carry_out(&mut self, recipe: Recipe) -> Result<usize, NoMemory>
+        requires { RecipeFits self.old recipe }
+        ensures there { IfOk result (λ id. id < length self.new.nodes) }
+        ensures tree { IfOk result (λ id. tree_of self.new id ≡ recipe_tree self.old recipe) }
+        ensures ok { OnOk result (Continues self.old self.new) }
+        ensures err { OnErr result (self.new ≡ self.old) }
+    {
+        let len = self.len();
+        let answer = self.followed(recipe);
+        self.settled(len, answer)
+    }
+
     /// The term that a node is simplified to which moves no bits.
     fn plain(&mut self, node: Node) -> Result<usize, NoMemory>
         requires fits { Fits self.old.inputs (widths_of self.old.nodes) node }
@@ -167,8 +208,8 @@ impl Builder {
         ensures err { OnErr result (self.new ≡ self.old) }
         ensures term { IsTerm self.old.inputs (node_tree (tree_of self.old) node) }
     {
-        let plan = plan(&self.terms, node);
-        self.carry_out(plan)
+        let recipe = plan(&self.terms, node);
+        self.carry_out(recipe)
     }
 
     /// Such a term on the way.

@@ -1,13 +1,14 @@
 //! Terms that are widened, and terms that are joined.
 
-ghost use Rattle.std.specs.Prelude.{◌≡◌, ◌+◌, ◌≤◌};
-ghost use Rattle.bv_dag.specs.Graphs.{IsDag};
+ghost use Rattle.std.specs.Prelude.{◌≡◌, ◌+◌, ◌<◌, ◌≤◌, length};
+ghost use Rattle.bv_dag.specs.Graphs.{IsDag, width_of};
 ghost use Rattle.bv_dag.specs.Nodes.{Fits, extend, widths_of};
 ghost use Rattle.term_trees.specs.Trees.{tree_of};
-ghost use Rattle.term_simplify.specs.Plans.{Makes};
-ghost use Rattle.term_simplify.specs.Simplified.{extension_by, joined_by, joined_of};
+ghost use Rattle.term_simplify.specs.Plans.{Follows, HasRoom, Makes};
+ghost use Rattle.term_simplify.specs.Simplified.{extension_by, further, join_of, joined_of};
 
-use crate::plan::{Plan, number, number_at};
+use crate::plan::{Plan, number, number_at, under_zeros};
+use crate::recipe::{Above, Recipe, alone};
 use bv_dag::{Node, Word};
 use term_table::Terms;
 
@@ -55,11 +56,23 @@ pub(crate) fn extension(terms: &Terms, by: u32, signed: bool, id: usize) -> Plan
     }
 }
 
-/// One term above another.
-pub(crate) fn joined(terms: &Terms, high: usize, low: usize) -> Plan
+/// A term with `by` further bits, where there are any.
+pub(crate) fn further(terms: &Terms, by: u32, signed: bool, id: usize) -> Plan
+    requires there { id < length terms.now.nodes }
+    requires room { HasRoom by (width_of terms.now id) }
+    ensures { Makes terms.now result (further by signed (tree_of terms.now id)) }
+{
+    if by == 0 {
+        return Plan::Term(id);
+    }
+    extension(terms, by, signed, id)
+}
+
+/// One term above another, which stays below zeros of that.
+fn join(terms: &Terms, high: usize, low: usize) -> Plan
     requires { Fits terms.now.inputs (widths_of terms.now.nodes) (Node.Concat high low) }
     ensures makes { Makes terms.now result
-        (joined_of (tree_of terms.now high) (tree_of terms.now low)) }
+        (join_of (tree_of terms.now high) (tree_of terms.now low)) }
     ensures fit { IsDag terms.now }
 {
     let plain = Plan::Push(Node::Concat { high, low });
@@ -73,5 +86,24 @@ pub(crate) fn joined(terms: &Terms, high: usize, low: usize) -> Plan
             }
         }
         (None, _) => plain,
+    }
+}
+
+/// One term above another.
+pub(crate) fn joined(terms: &Terms, high: usize, low: usize) -> Recipe
+    requires { Fits terms.now.inputs (widths_of terms.now.nodes) (Node.Concat high low) }
+    ensures makes { Follows terms.now result
+        (joined_of (tree_of terms.now high) (tree_of terms.now low)) }
+    ensures fit { IsDag terms.now }
+{
+    match under_zeros(terms, high) {
+        Some(narrow) => {
+            let zeros = terms.width_of(high) - terms.width_of(narrow);
+            Recipe {
+                core: join(terms, narrow, low),
+                above: Above { signs: 0, zeros },
+            }
+        }
+        None => alone(join(terms, high, low)),
     }
 }

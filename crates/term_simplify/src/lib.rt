@@ -16,6 +16,7 @@ mod moves;
 mod operations;
 mod parts;
 mod plan;
+mod recipe;
 mod remainders;
 
 pub use builder::Builder;

@@ -453,6 +453,101 @@ const MOVED: &[Step] = &[
     ),
 ];
 
+const SIGNED_0: Node = Node::Extend {
+    by: 24,
+    signed: true,
+    operand: 0,
+};
+
+/// Bits of a widened byte are the byte's bits, widened. Zeros in the middle of two joined terms go to the top.
+const PARTS: &[Step] = &[
+    Gives(X, 0),
+    Gives(Call::Node(WIDENED_0), 1),
+    Gives(
+        Call::Node(Node::Extract {
+            high: 11,
+            low: 4,
+            operand: 1,
+        }),
+        3,
+    ),
+    Stands(
+        2,
+        Node::Extract {
+            high: 7,
+            low: 4,
+            operand: 0,
+        },
+    ),
+    Stands(
+        3,
+        Node::Extend {
+            by: 4,
+            signed: false,
+            operand: 2,
+        },
+    ),
+    Gives(
+        Call::Node(Node::Extract {
+            high: 15,
+            low: 0,
+            operand: 1,
+        }),
+        4,
+    ),
+    Stands(
+        4,
+        Node::Extend {
+            by: 8,
+            signed: false,
+            operand: 0,
+        },
+    ),
+    Gives(Call::Node(SIGNED_0), 5),
+    Gives(
+        Call::Node(Node::Extract {
+            high: 31,
+            low: 8,
+            operand: 5,
+        }),
+        7,
+    ),
+    Stands(
+        6,
+        Node::Extract {
+            high: 7,
+            low: 7,
+            operand: 0,
+        },
+    ),
+    Stands(
+        7,
+        Node::Extend {
+            by: 23,
+            signed: true,
+            operand: 6,
+        },
+    ),
+    Gives(
+        Call::Node(Node::Extract {
+            high: 31,
+            low: 31,
+            operand: 5,
+        }),
+        6,
+    ),
+    Gives(Call::Node(Node::Concat { high: 1, low: 0 }), 9),
+    Stands(8, Node::Concat { high: 0, low: 0 }),
+    Stands(
+        9,
+        Node::Extend {
+            by: 24,
+            signed: false,
+            operand: 8,
+        },
+    ),
+];
+
 fn holds(rt: &impl Abort, builder: &mut Builder, step: &Step) -> Result<bool, NoMemory> {
     match step {
         Make(call) => {
@@ -483,7 +578,7 @@ fn goes_on_alone(builder: &mut Builder) -> Result<bool, NoMemory> {
 
 #[test]
 fn terms_of_an_input_byte(rt: HostRuntime) -> Result<(), Fail> {
-    for steps in [SIMPLIFIED, MASKED, REMAINDERS, MOVED] {
+    for steps in [SIMPLIFIED, MASKED, REMAINDERS, MOVED, PARTS] {
         let mut builder = Builder::new(Terms::new(rt.alloc(), 2));
         check_steps(&rt, &mut builder, steps)?;
         assert!(rt; goes_on_alone(&mut builder)?);

@@ -1,3 +1,4 @@
+use Rattle.std.proofs.Common.{refl}
 use Rattle.term_simplify.proofs.Building.{is_term_of}
 use Rattle.term_simplify.proofs.Reading.{has_term}
 use Rattle.term_simplify.proofs.builder.plan.Goals as goal
@@ -31,3 +32,27 @@ returns-in-Extend-clause-term c = is_term_of c.args.terms.now c.args.node c.exte
 
 pub returns-in-Concat-clause-term : goal.returns-in-Concat-clause-term
 returns-in-Concat-clause-term c = is_term_of c.args.terms.now c.args.node c.joined.ensures.fit c.requires
+
+pub returns-in-Not-clause-makes : goal.returns-in-Not-clause-makes
+returns-in-Not-clause-makes c = rw c.in-Not.is (c.alone-in-Not.ensures c.args.terms.now _ c.complement.ensures.makes)
+
+pub returns-in-Neg-clause-makes : goal.returns-in-Neg-clause-makes
+returns-in-Neg-clause-makes c = rw c.in-Neg.is (c.alone-in-Neg.ensures c.args.terms.now _ c.negative.ensures.makes)
+
+pub returns-in-Binary-clause-makes : goal.returns-in-Binary-clause-makes
+returns-in-Binary-clause-makes c = rw c.in-Binary.is (c.alone-in-Binary.ensures c.args.terms.now _ c.binary.ensures.makes)
+
+pub returns-in-Compare-clause-makes : goal.returns-in-Compare-clause-makes
+returns-in-Compare-clause-makes c = rw c.in-Compare.is (c.alone-in-Compare.ensures c.args.terms.now _ c.comparison.ensures.makes)
+
+pub returns-in-Ite-clause-makes : goal.returns-in-Ite-clause-makes
+returns-in-Ite-clause-makes c = rw c.in-Ite.is (c.alone-in-Ite.ensures c.args.terms.now _ c.choice.ensures.makes)
+
+pub returns-in-Extend-clause-makes : goal.returns-in-Extend-clause-makes
+returns-in-Extend-clause-makes c = rw c.in-Extend.is (c.alone-in-Extend.ensures c.args.terms.now _ c.extension.ensures.makes)
+
+pub returns-in-Num-clause-makes : goal.returns-in-Num-clause-makes
+returns-in-Num-clause-makes c = rw c.in-Num.is (c.alone.ensures c.args.terms.now _ (record { is = refl; fits = rw c.in-Num.is at c.requires }))
+
+pub returns-in-Input-clause-makes : goal.returns-in-Input-clause-makes
+returns-in-Input-clause-makes c = rw c.in-Input.is (c.alone-in-Input.ensures c.args.terms.now _ (record { is = refl; fits = rw c.in-Input.is at c.requires }))

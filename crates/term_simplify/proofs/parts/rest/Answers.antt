@@ -1,6 +1,7 @@
 use Rattle.std.proofs.Common.{arith, refl}
-use Rattle.term_simplify.proofs.PartPlans.{rest_by_width, most_true, most_false}
+use Rattle.term_simplify.proofs.PartPlans.{rest_by_width}
 use Rattle.term_simplify.proofs.Reading.{Makes-same, has_bits}
+use Rattle.term_simplify.proofs.Words.{most_false, most_true}
 use Rattle.term_simplify.proofs.parts.rest.Goals as goal
 
 pub zero-requires-clause-at_most_64 : goal.zero-requires-clause-at_most_64

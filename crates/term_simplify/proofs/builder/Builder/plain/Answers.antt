@@ -7,10 +7,10 @@ use Rattle.term_simplify.proofs.builder.Builder.plain.Goals as goal
 pub returns-clause-ok : goal.returns-clause-ok
 returns-clause-ok c =
     built c.self.inside.terms c.args.self.now c.carry_out.new.self c.carry_out.result
-    c.plan-plan.result c.args.node c.self.view_is c.plan-plan.ensures.term
-    c.plan-plan.ensures.makes c.requires.moves_none c.carry_out.ensures.there c.carry_out.ensures.tree
+    c.plan-recipe.result c.args.node c.self.view_is c.plan-recipe.ensures.term
+    c.plan-recipe.ensures.makes c.requires.moves_none c.carry_out.ensures.there c.carry_out.ensures.tree
     c.carry_out.ensures.ok
 
 pub returns-clause-term : goal.returns-clause-term
 returns-clause-term c = subst (λ (g : Graph). IsTerm g.inputs (node_tree (tree_of g) c.args.node))
-    c.self.view_is c.plan-plan.ensures.term
+    c.self.view_is c.plan-recipe.ensures.term
