@@ -1,7 +1,7 @@
 //! Terms that are simplified as they are built.
 //!
-//! A call finds its answer first, without a change: a term that stands already, or one node to be pushed. Only then is the
-//! table written. A shift by a number is made of two or three such terms.
+//! A call finds its answer first, without a change: a term that stands already or one node to be pushed, and how many bits
+//! stand above it. Only then is the table written. A shift by a number is made of two or three such terms.
 #![tactic(auto)]
 
 mod binaries;
