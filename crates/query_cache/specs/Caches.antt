@@ -22,8 +22,8 @@ pub record IsShard (kept : LruCache Condition Satisfiability) : Type 0 where
 abbrev pub kept_after : KeptAnswers → Answered → KeptAnswers
 kept_after kept s = put_entries condition_eq (lru_cache kept MOST_KEPT) s.query s.answer
 
--- A query is answered by the answer to another one: where no bytes meet one that asks no more, and where some meet one that
--- asks no less.
+-- A query is answered by the answer to another one: where no bytes meet one that asks no more, and
+-- where some meet one that asks no less.
 abbrev pub IsAnsweredBy : (asked kept : Condition) → Satisfiability → Type 0
 IsAnsweredBy asked kept (Sat input) = AsksNoMore asked kept
 IsAnsweredBy asked kept Unsat = AsksNoMore kept asked
@@ -33,11 +33,13 @@ abbrev pub Serves : (asked : Condition) → Condition × Satisfiability → Type
 Serves asked entry = (entry.0 ≡ asked) ⊎ IsAnsweredBy asked entry.0 entry.1
 
 -- an entry among these that answers a query, or none where none does
-abbrev pub IsServing : KeptAnswers → (asked : Condition) → Option (Condition × Satisfiability) → Type 0
+abbrev pub IsServing : KeptAnswers → (asked : Condition) → Option (Condition × Satisfiability)
+    → Type 0
 IsServing kept asked None = All (λ entry. Serves asked entry → ⊥) kept
 IsServing kept asked (Some entry) = Contains kept entry × Serves asked entry
 
--- what is found among entries: none where none serves, and else the answer of one that does, which is true of the query
+-- what is found among entries: none where none serves, and else the answer of one that does, which
+-- is true of the query
 abbrev pub IsFound : KeptAnswers → (asked : Condition) → Option Satisfiability → Type 0
 IsFound kept asked None = All (λ entry. Serves asked entry → ⊥) kept
 IsFound kept asked (Some answer) = IsAnswer asked answer

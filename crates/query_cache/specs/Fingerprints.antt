@@ -1,5 +1,6 @@
--- The fingerprint of a tree, a number of 64 bits. It is made of the tree alone, so that equal trees have equal fingerprints;
--- that unequal trees mostly have unequal ones is no claim, and only saves time.
+-- The fingerprint of a tree, a number of 64 bits. It is made of the tree alone, so that equal trees
+-- have equal fingerprints; that unequal trees mostly have unequal ones is no claim, and only saves
+-- time.
 use Rattle.std.specs.Prelude.{◌≡◌, ℕ, ◌+◌, ◌*◌, ◌/◌, ◌%◌, ◌^◌, Bool, true, false, List, fold, map, bit_or}
 use Rattle.std.specs.Hash.{HashWrites}
 use Rattle.std.specs.Hash as fed
@@ -25,7 +26,8 @@ stirred x = x * ((x * 2 % 2 ^ 64 + 1) % 2 ^ 64) % 2 ^ 64
 unfoldable pub stirred_in : ℕ → ℕ → ℕ
 stirred_in print x = stirred ((print + x) % 2 ^ 64)
 
--- the fingerprint of an operation of a kind on three numbers, each a label or the fingerprint of an operand
+-- the fingerprint of an operation of a kind on three numbers, each a label or the fingerprint of
+-- an operand
 unfoldable pub operation_print : (kind first second third : ℕ) → ℕ
 operation_print kind first second third =
     stirred_in (stirred_in (stirred_in (stirred (kind * SPREAD % 2 ^ 64)) first) second) third
@@ -72,7 +74,8 @@ node_print operand (Input i) = operation_print 2 i 0 0
 node_print operand (Not a) = operation_print 3 (operand a) 0 0
 node_print operand (Neg a) = operation_print 4 (operand a) 0 0
 node_print operand (Binary op a b) = operation_print 5 (binary_label op) (operand a) (operand b)
-node_print operand (Compare op a b) = operation_print 6 (comparison_label op) (operand a) (operand b)
+node_print operand (Compare op a b) =
+    operation_print 6 (comparison_label op) (operand a) (operand b)
 node_print operand (Ite c a b) = operation_print 7 (operand c) (operand a) (operand b)
 node_print operand (Extract high low a) = operation_print 8 high low (operand a)
 node_print operand (Extend by signed a) = operation_print 9 by (sign_label signed) (operand a)

@@ -60,7 +60,7 @@ impl Fingerprinted {
     }
 
     /// An equal copy.
-    pub fn copy(&self) -> Result<Fingerprinted, NoMemory>
+    pub(crate) fn copy(&self) -> Result<Fingerprinted, NoMemory>
         ensures { IfOk result (λ f. f ≡ self.now) }
     {
         let query = self.query.clone()?;
@@ -122,7 +122,11 @@ impl Fingerprinted {
     }
 
     /// Whether this query asks no more than the other one.
-    pub fn asks_no_more(&self, alloc: Global, other: &Fingerprinted) -> Result<bool, NoMemory>
+    pub(crate) fn asks_no_more(
+        &self,
+        alloc: Global,
+        other: &Fingerprinted,
+    ) -> Result<bool, NoMemory>
         ensures { IfOk result (λ yes. IsTrue yes ↔ AsksNoMore self.now other.now) }
     {
         if !self.may_have_last(other) || !self.may_ask_no_more(other) {

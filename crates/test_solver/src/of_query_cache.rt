@@ -177,7 +177,7 @@ fn refuted(rt: &impl Abort, alloc: Global, query: Fingerprinted) -> Result<Solve
 }
 
 // What is known of a query.
-fn known(
+fn found(
     rt: &(impl Abort + Wait),
     alloc: Global,
     cache: &Cache,
@@ -213,7 +213,7 @@ fn entries_answer_other_queries(rt: HostRuntime) -> Result<(), Fail> {
     takes_shared(&cache);
     for (at, ((nodes, asserted), want)) in ROWS.iter().enumerate() {
         let asked = made(&rt, rt.alloc(), nodes, asserted)?;
-        assert_eq!(rt; known(&rt, rt.alloc(), &cache, &asked)?, *want, "row {at}");
+        assert_eq!(rt; found(&rt, rt.alloc(), &cache, &asked)?, *want, "row {at}");
     }
     Ok(())
 }
@@ -257,7 +257,7 @@ fn the_entry_that_was_used_least_recently_goes(rt: HostRuntime) -> Result<(), Fa
     for (value, want) in KEPT {
         let asked = about(&rt, rt.alloc(), *value)?;
         assert_eq!(rt;
-            known(&rt, rt.alloc(), &cache, &asked)?,
+            found(&rt, rt.alloc(), &cache, &asked)?,
             *want,
             "number {value}"
         );
