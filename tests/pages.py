@@ -1,5 +1,5 @@
-"""What the page of tools/report says, on reports whose truth is known without the tool: by the source of a routine, read by hand, or
-by the bytes of a program that is written here. tests/launcher runs these checks, in a folder of their own."""
+"""What the page of tools/report says, on reports whose truth is known without the tool: by the source of a routine, read by hand,
+or by the bytes of a program that is written here. tests/launcher runs these checks, in a folder of their own."""
 import math
 import os
 import pathlib
@@ -98,8 +98,8 @@ class Pages:
         self.has("traps", page.section("functions"), "0x10100 24 46 of 49 19 of 20 18 no input gets there")
 
     def cut(self):
-        """Runs of twelve steps. The first branch is the tenth: behind it a load traps in three ways, or the run is cut at its second
-        next step; behind the next branch a store traps in two ways, or is the last step in two others; all else is cut too."""
+        """Runs of twelve steps. The first branch is the tenth: behind it a load traps in three ways, or the run is cut two steps
+        later; behind the next branch a store traps in two ways, or is the last step in two others; all else is cut too."""
         page = self.page(TRAPS, "cut", "--steps", "12", "00011000:1")
         self.has("cut", page.head(), "Of 9 leaves 4 were cut (4 by steps)", "15 of 49 instructions", "4 of 20 sides")
         unknown = [row for row in page.rows.values() if "unknown: 4 cut leaves stop before it" in row]
@@ -107,12 +107,12 @@ class Pages:
         self.check("unknown instructions", len(unknown) == 9 + 1 + 12 and "no input g" not in page.body(), len(unknown))
         self.has("cut", page.section("listing"), "12 words that no test executes: unknown: 4 cut leaves stop before it")
         self.has("cut", page.section("unreached"), "0x10130 to 0x10150 9", "0x1015c 1", "0x10164 to 0x101c0 24")
-        places = "2 leaves before lhu t3, 0(s2) 0x10164", "1 leaf before ecall 0x1015c", "1 leaf before bltu t0, t2, 0x10170 0x10130"
+        places = "2 leaves before lhu t3, 0(s2) 0x10164", "1 leaf before ecall 0x1015c", "1 leaf before bltu t0, t2, 0x10170"
         self.has("cut", page.section("cuts"), "Budget of steps, 12: 4 leaves", *places)
 
     def lines(self):
-        """The lines of source, by a tool that is found on the path. By ltv.c, counted by hand: of five bytes a LEVEL passes the end
-        in two ways and a LIMIT in three, and the first test of the loop never ends it, so the code behind that is dead."""
+        """The lines of source, by a tool that is found on the path. By ltv.c, counted by hand: of five bytes a LEVEL passes the
+        end in two ways and a LIMIT in three, and the first test of the loop never ends it, so what it would go to is dead."""
         tools = pathlib.Path("lines").resolve()
         tools.mkdir()
         (tools / "lined.c").write_text(LINED)
@@ -152,6 +152,11 @@ class Pages:
         report(TRAPS, "lost")
         page = Page(pathlib.Path("lost/report.html").read_text())
         self.has("a report without a test", page.head(), "Of leaf 3 the test is missing")
+        shutil.copy("lost/test-000002.json", "lost/test-000003.json")
+        shutil.copy("lost/test-000001.json", "lost/test-000002.json")
+        report(TRAPS, "lost")
+        page = Page(pathlib.Path("lost/report.html").read_text())
+        self.has("a report with other tests", page.head(), "Of leaf 2, 3 the test is missing")
         self.faults()
 
     def faults(self):

@@ -13,6 +13,8 @@ from regions import is_region
 REPORT = {"budgets": dict, "leaves": list, "regions": list, "summary": dict}
 SUMMARY = ("leaves", "finished", "cut", "tests", "steps")
 BUDGETS = ("steps", "targets", "conflicts", "workers")
+# How the runs of a leaf end that exit, but not all with one status.
+BY_INPUT = "exit, with a status by the input"
 TEST = {"end": str, "input": str, "output": str, "path": str, "regions": list, "steps": int}
 
 
@@ -141,8 +143,11 @@ class Leaf:
         """`trap`, `cut` or `exit`."""
         return "cut" if self.kind != "finished" else "exit" if self.end == "exit" else "trap"
 
-    def should_have_test(self):
-        return self.kind in ("finished", "steps")
+    def fits_test(self):
+        """Whether it has a test where it should, and that is one of its runs by steps and path."""
+        if self.test is None or self.kind not in ("finished", "steps"):
+            return self.test is None and self.kind not in ("finished", "steps")
+        return (self.test["steps"], self.test["path"]) == (self.steps, self.path)
 
     @functools.cached_property
     def said(self):
@@ -151,7 +156,7 @@ class Leaf:
             return f"cut by {self.kind}"
         if self.end != "exit":
             return f"trap {self.end}"
-        return self.test["end"] if self.test and leaf_text.has_one_status(self.text) else "exit, with a status by the input"
+        return self.test["end"] if self.test and leaf_text.has_one_status(self.text) else BY_INPUT
 
 
 class ReportFiles:
@@ -162,9 +167,9 @@ class ReportFiles:
         self.leaves = [Leaf(folder / f"leaf-{rank:06}.smt2") for rank in range(len(self.report["leaves"]))]
 
     def differing(self):
-        """The leaves of which the report says otherwise than their files, or that lack a test: they aren't of one run."""
+        """The leaves of which the report says otherwise than their files, or that have another test than they should."""
         keys = ("choices", "end", "kind", "steps")
         for leaf, said in zip(self.leaves, self.report["leaves"]):
             here = leaf.choice_text, leaf.end, leaf.kind, leaf.steps
-            if here != tuple(map(said.get, keys)) or (leaf.test is not None) != leaf.should_have_test():
+            if here != tuple(map(said.get, keys)) or not leaf.fits_test():
                 yield leaf

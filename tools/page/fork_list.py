@@ -4,7 +4,7 @@ import collections
 from markup import code, element, folded, join, table
 
 from page.shown_forks import all_forks
-from page.view import MARKS, counted, file_names, leaves_of
+from page.view import MARKS, counted, file_names, leaves_of, shortened
 
 # So many places with forks are listed.
 MOST_PLACES = 12
@@ -75,4 +75,4 @@ def added(leaf, depth):
     condition = leaf.condition
     if len(condition.asserted) < len(leaf.choices) or condition.named_in([condition.asserted[depth]]):
         return ""
-    return code(condition.asserted[depth])
+    return code(shortened(condition.asserted[depth]))

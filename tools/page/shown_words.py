@@ -2,7 +2,7 @@
 import collections
 
 # Of words in a row that no test executes so many are shown at each end; and so many of all words.
-AT_ENDS, MOST_WORDS = 6, 5_000
+AT_ENDS, MOST_WORDS = 6, 4_000
 # Words that are shown, of a function or a part of it, and how many were left out before them. Where `functions` isn't 0, these are
 # so many functions that no test passes, the first of which is named, and none of their words is shown.
 Shown = collections.namedtuple("Shown", "function left_out words functions")
@@ -11,8 +11,9 @@ Shown = collections.namedtuple("Shown", "function left_out words functions")
 def shown_words(explored):
     """What is shown, and how many words behind that are left out."""
     found, left, rows = [], MOST_WORDS, iter(explored.functions.rows)
+    least = 2 * AT_ENDS if len(explored.program.words) <= MOST_WORDS else 0
     for function in rows:
-        parts = shown_of(function, explored)
+        parts = shown_of(function, explored, least)
         if found and found[-1].functions and parts[0].functions:
             parts = [merged(found.pop(), parts[0])]
         found += parts
@@ -26,9 +27,9 @@ def merged(one, other):
     return one._replace(left_out=one.left_out + other.left_out, functions=one.functions + 1)
 
 
-def shown_of(function, explored):
-    """A function in parts; of one that no test passes the number of its words alone."""
-    if not explored.passes[function.start] and len(function.words) > 2 * AT_ENDS:
+def shown_of(function, explored, least):
+    """A function in parts; of one that no test passes, and that has more than the least number of words, their number alone."""
+    if not explored.passes[function.start] and len(function.words) > least:
         return [Shown(function, len(function.words), [], 1)]
     parts, row = [Shown(function, 0, [], 0)], []
     for word in function.words:

@@ -9,7 +9,7 @@ from page.trap_table import by_address, trap_marks
 from page.view import STATE_MARKS
 
 # So many lines are shown around those with instructions, and so many rows in all.
-AROUND, MOST_ROWS = 2, 3_000
+AROUND, MOST_ROWS = 2, 2_000
 SAID = ("Each line by the instructions that come from it. A line that has none, as a comment or what the compiler left out, has "
         "no mark.")
 NEWER = "The file is newer than the program: its lines may be others than those that were compiled."

@@ -46,8 +46,8 @@ def box(sort, head, said, **attributes):
 
 def doubts(ranks):
     some = ", ".join(map(str, ranks[:10])) + (" and others" if len(ranks) > 10 else "")
-    return (f"Of leaf {some} the test is missing, or its run on this program isn't as it says, or the report says otherwise than "
-            "the leaf: they may be of other runs, or of another program. So what no test reaches is unknown.")
+    return (f"Of leaf {some} the test is missing or another leaf's, or its run on this program isn't as it says, or the report says "
+            "otherwise than the leaf: the files may be of several runs, or of another program. So what no test reaches is unknown.")
 
 
 def inputs(view):

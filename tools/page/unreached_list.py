@@ -24,7 +24,7 @@ def said(view, text):
 
 
 def limited(heads, rows, sort):
-    more = f"and {len(rows) - MOST_ROWS:,} more, which the instructions below show" if len(rows) > MOST_ROWS else ""
+    more = f"and {len(rows) - MOST_ROWS:,} more" if len(rows) > MOST_ROWS else ""
     return join(table(heads, rows[:MOST_ROWS], class_=f"unreached {sort}"), element("p", more, class_="faint") if more else "")
 
 

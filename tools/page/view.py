@@ -2,6 +2,7 @@
 import disassembly
 from markup import code, element, folded, join
 from regions import count
+from report_files import BY_INPUT
 from source_lines import source_lines
 
 from page.shown_forks import shown_forks, shown_leaves
@@ -69,6 +70,10 @@ def ranges(ranks):
     return found
 
 
+def site_text(site):
+    return "nothing that can be executed" if site.word is None else disassembly.text(*site)
+
+
 def leaf_name(rank):
     return f"leaf-{rank:06}.smt2"
 
@@ -99,7 +104,8 @@ class View:
         groups = {}
         for leaf in self.leaves:
             groups.setdefault((leaf.sort(), leaf.said), []).append(leaf)
-        alone = [ending for ending, leaves in groups.items() if ending[0] == "exit" and len(leaves) == 1]
+        exits = [ending for ending in groups if ending[0] == "exit" and ending[1] != BY_INPUT]
+        alone = [ending for ending in exits if len(groups[ending]) == 1]
         if len(alone) > 1:
             groups["exit", ALONE] = [leaf for ending in alone for leaf in groups.pop(ending)]
         return sorted(groups.items(), key=lambda group: (ORDER[group[0][0]], len(group[1]), len(group[0][1]), group[0][1]))
@@ -131,14 +137,13 @@ class View:
         """An instruction with its place, and its line of source."""
         if site is None:
             return element("span", "some place", class_="faint")
-        text = disassembly.text(*site) if site.word is not None else "nothing that can be executed"
         line = self.line_of(site.address)
-        parts = [code(text), element("br"), code(self.program.where(site.address))]
+        parts = [code(site_text(site)), element("br"), code(self.program.where(site.address))]
         return join(*parts, *([" ", element("span", line, class_="faint")] if line else []))
 
     def instruction(self, site):
         """An instruction with its place, on one line."""
-        return code(f"{self.program.where(site.address)} {disassembly.text(*site)}") if site else "a fork"
+        return code(f"{self.program.where(site.address)} {site_text(site)}") if site else "a fork"
 
     def state(self, address, word):
         """`covered`, `partly`, or for an instruction that no test executes `none` or `unknown`."""
@@ -157,8 +162,9 @@ class View:
         return element("ul", *lines)
 
     def condition(self, leaf):
-        asserted = len(leaf.condition.asserted)
-        return folded(counted(asserted, "assertion", "assertions"), self.assertions(leaf)) if asserted else "all inputs"
+        condition, asserted = leaf.condition, len(leaf.condition.asserted)
+        head = counted(asserted, "assertion", "assertions") if asserted else "all inputs"
+        return folded(head, self.assertions(leaf)) if asserted or condition.named_in([condition.status() or ""]) else head
 
     def more(self, leaves):
         """That there are more leaves than have a row, and their files."""
