@@ -32,8 +32,11 @@ class TracedRun(interpreter.Machine):
         entry, pages = image
         super().__init__((entry, {}), b"")
         self.pages, self.places, self.decided = Pages(pages), [], []
+        # As a list, which grows by what is added; a text would be copied each time.
+        self.path = []
         self.put_input(test)
         self.run(test["steps"])
+        self.path = "".join(self.path)
 
     def put_input(self, test):
         places = (address for region in test["regions"] for address in addresses(region))
@@ -46,16 +49,19 @@ class TracedRun(interpreter.Machine):
         return int.from_bytes(self.pages[address >> 8][1][at:at + size], "little")
 
     def run(self, steps):
-        """As the interpreter's, but that its log of paths isn't kept, which is as long as the square of a run."""
+        """As the interpreter's, but that of each step only what it decides is kept, and the same is kept once."""
+        kept = {}
         while self.end == "running" and len(self.places) < steps:
             self.places.append(self.pc)
-            self.decided.append([])
+            decided = []
             try:
-                self.step(self.decided[-1])
+                self.step(decided)
             except interpreter.Trap as trap:
                 self.end = f"trap {trap}"
             except interpreter.Exit as status:
                 self.end = f"exit {status}"
+            decided = tuple(decided)
+            self.decided.append(kept.setdefault(decided, decided))
 
     def is_as(self, test):
         """Whether the run is as the test says."""
