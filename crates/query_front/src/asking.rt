@@ -81,6 +81,28 @@ fn decided(
     }
 }
 
+// The answer to a question that is the part of a condition which a sample meets: one that is known, or else decided.
+fn answered(
+    rt: &impl Wait,
+    alloc: Global,
+    shared: &Shared,
+    part: Fingerprinted,
+    sample: &Bytes,
+    budget: u32,
+) -> Result<Asked, NoMemory>
+    requires { length sample.now ≡ part.graph.inputs }
+    ensures { IfOk result (λ asked. (q : Condition) (new : ℕ) → IsPartOfQuery q new part
+        → holds q sample.now ≡ true → IsAsked q new budget asked) }
+{
+    match known(rt, alloc, shared, &part, sample)? {
+        Some(Satisfiability::Sat(input)) => {
+            Ok(Asked::Sat(merge(alloc, sample, &input, part.query())?))
+        }
+        Some(Satisfiability::Unsat) => Ok(Asked::Unsat),
+        None => decided(rt, alloc, shared, part, sample, budget),
+    }
+}
+
 /// Whether a condition and one more term can hold, from the part that matters for the term, and from a sample that meets
 /// the condition. A question that needs a search may cost `budget` learnt clauses.
 pub fn ask_part(
@@ -95,14 +117,8 @@ pub fn ask_part(
     ensures { IfOk result (λ asked. (q : Condition) (new : ℕ) → IsPartOfQuery q new part
         → holds q sample.now ≡ true → IsAsked q new budget asked) }
 {
-    let part = Fingerprinted::new(alloc, part)?;
-    match known(rt, alloc, shared, &part, sample)? {
-        Some(Satisfiability::Sat(input)) => {
-            Ok(Asked::Sat(merge(alloc, sample, &input, part.query())?))
-        }
-        Some(Satisfiability::Unsat) => Ok(Asked::Unsat),
-        None => decided(rt, alloc, shared, part, sample, budget),
-    }
+    let fingerprinted = Fingerprinted::new(alloc, part)?;
+    answered(rt, alloc, shared, fingerprinted, sample, budget)
 }
 
 /// Whether a condition on a table of terms and one more term can hold, from a sample that meets the condition. A question that needs
