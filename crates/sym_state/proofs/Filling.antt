@@ -12,7 +12,7 @@ use Rattle.elf_load.specs.declared.region.Region.{Region}
 use Rattle.rv_machine.specs.Pages.{AreMapped, filled}
 use Rattle.rv_spec.specs.Memory.{count_of, placed}
 use Rattle.term_simplify.specs.Builds.{BuildsNode}
-use Rattle.term_simplify.specs.Simplified.{tree_number}
+use Rattle.term_simplify.specs.Plain.{tree_number}
 use Rattle.term_trees.specs.Trees.{Byte}
 use Rattle.sym_state.specs.Expressions.{Expression, Unknown, byte_expression}
 use Rattle.sym_state.specs.Placing.{HasBytes, PutsBytes, bytes_expressed, bytes_worth, inputs_filled}

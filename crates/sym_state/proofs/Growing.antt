@@ -8,7 +8,7 @@ use Rattle.bv_dag.proofs.TermLaws.{there}
 use Rattle.cow_pages.specs.declared.byte.Byte.{Byte}
 use Rattle.cow_pages.specs.declared.byte.Byte.TheVariants.{Number as ByteNumber, Term as ByteTerm}
 use Rattle.term_simplify.specs.Builds.{Builds}
-use Rattle.term_simplify.specs.Simplified.{tree_number}
+use Rattle.term_simplify.specs.Plain.{tree_number}
 use Rattle.term_trees.specs.Growth.{Continues}
 use Rattle.term_trees.specs.Trees.{Tree}
 use Rattle.term_trees.proofs.TreeLaws.{tree-grown, value-grown, width-grown}

@@ -7,7 +7,7 @@ use Rattle.bv_dag.specs.declared.nodes.Node.{Node}
 use Rattle.bv_dag.specs.declared.nodes.Node.TheVariants.{Num, Input, Not, Neg, Binary, Compare, Ite, Extract, Extend, Concat}
 use Rattle.bv_dag.proofs.TermLaws.{there, width-val}
 use Rattle.term_simplify.specs.Builds.{BuildsNode}
-use Rattle.term_simplify.specs.Simplified.{tree_number}
+use Rattle.term_simplify.specs.Plain.{tree_number}
 use Rattle.term_trees.specs.Trees.{Tree, Constant, IsTerm, node_tree, tree_of, tree_value, tree_width}
 use Rattle.rv_spec.specs.Arithmetic.{one_where}
 use Rattle.term_trees.proofs.Numbers.{number_fits}

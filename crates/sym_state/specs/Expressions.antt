@@ -10,7 +10,7 @@ use Rattle.rv_decode.specs.declared.ops.RegisterOp.{RegisterOp}
 use Rattle.rv_spec.specs.Arithmetic.{combined}
 use Rattle.rv_spec.specs.Machine.{even}
 use Rattle.term_simplify.specs.Operations.{combined_tree, byte_tree, even_tree, half_tree, widened, word_tree}
-use Rattle.term_simplify.specs.Simplified.{extension_by, tree_number}
+use Rattle.term_simplify.specs.Plain.{extension_by, tree_number}
 use Rattle.term_trees.specs.Trees.{Tree, Constant, tree_of}
 use Rattle.sym_state.specs.declared.value.Value.{Value}
 use Rattle.sym_state.specs.declared.value.Value.TheVariants.{Number as ValueNumber, Term as ValueTerm}

@@ -4,7 +4,7 @@ use Rattle.std.specs.Prelude.{◌≡◌, ℕ, ◌==◌, ◌^◌, ◌<◌, Bool, 
 use Rattle.bv_dag.specs.Graphs.{Graph, number_of, width_of}
 use Rattle.cow_pages.specs.declared.byte.Byte.{Byte}
 use Rattle.cow_pages.specs.declared.byte.Byte.TheVariants.{Number as ByteNumber, Term as ByteTerm}
-use Rattle.term_simplify.specs.Simplified.{tree_number}
+use Rattle.term_simplify.specs.Plain.{tree_number}
 use Rattle.term_trees.specs.Growth.{Continues}
 use Rattle.term_trees.specs.Trees.{tree_of}
 use Rattle.sym_state.specs.declared.value.Bit.{Bit}

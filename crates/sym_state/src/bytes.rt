@@ -3,7 +3,7 @@
 ghost use Rattle.std.specs.Prelude.{◌≡◌, ◌+◌, ◌*◌, ◌/◌, ◌%◌, ◌^◌, ◌<◌, ℕ, List, IfOk, OnErr};
 ghost use Rattle.bv_dag.specs.Graphs.{number_of, width_of};
 ghost use Rattle.term_simplify.specs.Operations as operations;
-ghost use Rattle.term_simplify.specs.Simplified.{extension_by};
+ghost use Rattle.term_simplify.specs.Plain.{extension_by};
 ghost use Rattle.term_trees.specs.Growth.{Continues};
 ghost use Rattle.term_trees.specs.Trees.{tree_of};
 ghost use Rattle.sym_state.specs.Expressions.{byte_expression, register_byte, settled, tree_in, value_expression, widened_byte, widened_half, word_of};

@@ -9,7 +9,7 @@ use Rattle.bv_dag.specs.declared.nodes.BinaryOp.TheVariants.{Add, Sub, Mul, Udiv
 use Rattle.bv_dag.specs.declared.nodes.Node.TheVariants.{Binary}
 use Rattle.term_trees.specs.Trees.{Tree, Two, tree_of}
 use Rattle.term_simplify.specs.Plans.{Makes}
-use Rattle.term_simplify.specs.Simplified.{is_ones, number_tree, number_first, number_second}
+use Rattle.term_simplify.specs.Plain.{is_ones, number_tree, number_first, number_second}
 use Rattle.term_simplify.specs.declared.plan.Plan.TheVariants.{Push}
 
 -- an operation that stays as it is

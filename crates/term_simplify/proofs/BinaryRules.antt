@@ -8,7 +8,7 @@ use Rattle.bv_dag.specs.declared.nodes.BinaryOp.{BinaryOp}
 use Rattle.bv_dag.specs.declared.nodes.BinaryOp.TheVariants.{Add, Sub, Mul, Udiv, Urem, And, Or, Xor, Shl, Lshr, Ashr}
 use Rattle.term_trees.specs.Trees.{Tree, Constant, Two, tree_width, tree_value, IsTerm, IsOfWidth}
 use Rattle.term_trees.proofs.Ranges.{in_range}
-use Rattle.term_simplify.specs.Simplified.{tree_number, number_first, number_second, binary_by, unmoved_of}
+use Rattle.term_simplify.specs.Plain.{tree_number, number_first, number_second, binary_by, plain_binary}
 use Rattle.term_simplify.proofs.Masking.{value-masked_first, value-masked_second}
 use Rattle.term_simplify.proofs.Words.{number_value, value_by_test, is_number, is_at_most}
 use Rattle.term_simplify.proofs.Sums.{zero_plus, plus_zero, less_zero}
@@ -74,11 +74,11 @@ module _ (input : List ℕ) (w : ℕ) (s t : Tree) (p : IsOfWidth w (tree_value 
       ap (λ (v : BitVector). tree_value input (number_second op v s t)) (sym (number_value input t y f)) ∙ value-number_second op
   value-binary_by op None None e f = refl
 
-pub value-unmoved_of : (inputs : ℕ) (input : List ℕ) (op : BinaryOp) (s t : Tree) →
+pub value-plain_binary : (inputs : ℕ) (input : List ℕ) (op : BinaryOp) (s t : Tree) →
     All (λ b. b < 256) input → IsTerm inputs (Two op s t) →
-    tree_value input (unmoved_of op s t) ≡ tree_value input (Two op s t)
-unfolding unmoved_of
-value-unmoved_of inputs input op s t bytes term =
+    tree_value input (plain_binary op s t) ≡ tree_value input (Two op s t)
+unfolding plain_binary
+value-plain_binary inputs input op s t bytes term =
     value-masked_first inputs input op (tree_number s) s t _ bytes term refl
     (value-masked_second inputs input op (tree_number t) s t _ bytes term refl
     (value-binary_by input (tree_width s) s t (in_range inputs input bytes s term.0)

@@ -14,14 +14,15 @@ use Rattle.term_trees.specs.Growth.{Continues}
 use Rattle.term_trees.specs.Trees.{Tree, tree_of, node_tree, tree_value, tree_width, IsTerm}
 use Rattle.term_trees.proofs.Terms.{is_term}
 use Rattle.term_trees.proofs.TreeLaws.{tree_by_cases, tree_of-new, value-tree_of, width-tree_of}
-use Rattle.term_simplify.specs.Builds.{BuildsNode}
-use Rattle.term_simplify.specs.Moves.{move_tree, unmoved}
+use Rattle.term_simplify.specs.Builds.{BuildsAs, BuildsNode}
+use Rattle.term_simplify.specs.Moves.{move_tree}
 use Rattle.term_simplify.specs.Plans.{Follows, HasRoom, Makes, recipe_tree}
-use Rattle.term_simplify.specs.Simplified.{further, simplified}
+use Rattle.term_simplify.specs.Plain.{further, plain}
+use Rattle.term_simplify.specs.Simplified.{simplified}
 use Rattle.term_simplify.specs.declared.moves.Move.{Move}
 use Rattle.term_simplify.specs.declared.plan.Plan.TheVariants.{Term}
 use Rattle.term_simplify.specs.declared.recipe.Recipe.{Recipe}
-use Rattle.term_simplify.proofs.NodeRules.{value-simplified}
+use Rattle.term_simplify.proofs.NodeRules.{value-plain}
 use Rattle.term_simplify.proofs.PartTerms.{width-further}
 
 -- the place of an equal node
@@ -52,12 +53,17 @@ is_term_of g n dag fits =
     subst (IsTerm g.inputs) (tree_of-new g n) (is_term (with_node g n) (length g.nodes)
     (IsDag-with_node g n dag fits) (behind g.nodes n))
 
+-- a tree that is worth what a node's own is
+abbrev pub IsWorth : (own made : Tree) → Type 0
+IsWorth own made =
+    (input : List ℕ) → All (λ b. b < 256) input → tree_value input made ≡ tree_value input own
+
 -- what an answer is worth, from its tree
-value_built : (g more : Graph) (id : ℕ) (n : Node) → IsTerm g.inputs (node_tree (tree_of g) n) →
-    tree_of more id ≡ simplified (tree_of g) n → (input : List ℕ) → All (λ b. b < 256) input →
+value_built : (g more : Graph) (id : ℕ) (n : Node) (made : Tree) → IsWorth (node_tree (tree_of g) n) made →
+    tree_of more id ≡ made → (input : List ℕ) → All (λ b. b < 256) input →
     val more id input ≡ node_value input (λ k. val g k input) n
-value_built g more id n term is input bytes =
-    sym (value-tree_of more id input) ∙ ap (tree_value input) is ∙ value-simplified g.inputs input bytes (tree_of g) n term
+value_built g more id n made worth is input bytes =
+    sym (value-tree_of more id input) ∙ ap (tree_value input) is ∙ worth input bytes
     ∙ ap (tree_value input) (sym (tree_of-new g n)) ∙ value-tree_of (with_node g n) (length g.nodes) input ∙ val-new g n input
 
 -- how wide an answer is, from its value
@@ -68,13 +74,13 @@ width_built g more id n value =
     sym (width-val more id []) ∙ ap (λ (v : BitVector). v.width) (value ∙ sym (val-new g n [])) ∙
     width-val (with_node g n) (length g.nodes) [] ∙ width_of-new g n
 
--- an answer that is the simplified tree of a node
-pub built_as : {E : Type 0} (g more : Graph) (r : Result ℕ E) (n : Node) →
-    IsTerm g.inputs (node_tree (tree_of g) n) → IfOk r (λ id. id < length more.nodes) →
-    IfOk r (λ id. tree_of more id ≡ simplified (tree_of g) n) → OnOk r (Continues g more) →
-    IfOk r (BuildsNode g more n)
-built_as g more (Ok id) n term there is ok =
-    let value : (input : List ℕ) → All (λ b. b < 256) input → val more id input ≡ node_value input (λ k. val g k input) n = value_built g more id n term is in
+-- an answer that is such a tree
+built_as : {E : Type 0} (g more : Graph) (r : Result ℕ E) (n : Node) (made : Tree) →
+    IsWorth (node_tree (tree_of g) n) made → IfOk r (λ id. id < length more.nodes) →
+    IfOk r (λ id. tree_of more id ≡ made) → OnOk r (Continues g more) →
+    IfOk r (BuildsAs made g more n)
+built_as g more (Ok id) n made worth there is ok =
+    let value : (input : List ℕ) → All (λ b. b < 256) input → val more id input ≡ node_value input (λ k. val g k input) n = value_built g more id n made worth is in
     record {
       continues = ok;
       there = there;
@@ -83,7 +89,7 @@ built_as g more (Ok id) n term there is ok =
           (value [] (λ k d h. absurd (omega (arith, h))));
       value = value;
     }
-built_as g more (Err x) n term there is ok = tt
+built_as g more (Err x) n made worth there is ok = tt
 
 -- the answer of a recipe
 planned : {E : Type 0} (g more : Graph) (r : Result ℕ E) (recipe : Recipe) (tree : Tree) →
@@ -92,33 +98,31 @@ planned : {E : Type 0} (g more : Graph) (r : Result ℕ E) (recipe : Recipe) (tr
 planned g more (Ok id) recipe tree makes is = is ∙ makes.is
 planned g more (Err x) recipe tree makes is = tt
 
--- the same, where the plan was made of an equal graph and for a node that moves no bits
+-- the same, where the plan was made of an equal graph
 pub built : {E : Type 0} (h g more : Graph) (r : Result ℕ E) (recipe : Recipe) (n : Node) → h ≡ g →
-    IsTerm h.inputs (node_tree (tree_of h) n) → Follows h recipe (unmoved (tree_of h) n) →
-    simplified (tree_of g) n ≡ unmoved (tree_of g) n →
+    IsTerm h.inputs (node_tree (tree_of h) n) → Follows h recipe (plain (tree_of h) n) →
     IfOk r (λ id. id < length more.nodes) → IfOk r (λ id. tree_of more id ≡ recipe_tree g recipe) →
-    OnOk r (Continues g more) → IfOk r (BuildsNode g more n)
-built h g more r recipe n e term makes still there tree ok =
-    let here : Follows g recipe (simplified (tree_of g) n) =
-    subst (Follows g recipe) (sym still) (subst (λ (k : Graph). Follows k recipe (unmoved (tree_of k) n)) e makes) in
-    built_as g more r n (subst (λ (k : Graph). IsTerm k.inputs (node_tree (tree_of k) n)) e term) there
-    (planned g more r recipe (simplified (tree_of g) n) here tree) ok
+    OnOk r (Continues g more) → IfOk r (BuildsAs (plain (tree_of g) n) g more n)
+built h g more r recipe n e term makes there tree ok =
+    let here : Follows g recipe (plain (tree_of g) n) = subst (λ (k : Graph). Follows k recipe (plain (tree_of k) n)) e makes in
+    let own : IsTerm g.inputs (node_tree (tree_of g) n) = subst (λ (k : Graph). IsTerm k.inputs (node_tree (tree_of k) n)) e term in
+    built_as g more r n (plain (tree_of g) n) (λ input bytes. value-plain g.inputs input bytes (tree_of g) n own) there
+    (planned g more r recipe (plain (tree_of g) n) here tree) ok
 
-other_tree : {E : Type 0} (more : Graph) (r : Result ℕ E) (s t : Tree) → s ≡ t →
-    IfOk r (λ id. tree_of more id ≡ s) → IfOk r (λ id. tree_of more id ≡ t)
-other_tree more (Ok id) s t same is = is ∙ same
-other_tree more (Err x) s t same is = tt
+-- a tree by another name
+pub named : {E : Type 0} (g more : Graph) (r : Result ℕ E) (n : Node) (s t : Tree) → s ≡ t →
+    IfOk r (BuildsAs s g more n) → IfOk r (BuildsAs t g more n)
+named g more r n s t e built = subst (λ (k : Tree). IfOk r (BuildsAs k g more n)) e built
 
 -- an answer of moved bits, which were found in an equal graph
 pub moved_here : {E : Type 0} (h g more : Graph) (r : Result ℕ E) (m : Move) (n : Node) → h ≡ g →
-    IsDag h → Fits g.inputs (widths_of g.nodes) n → simplified (tree_of h) n ≡ move_tree h m →
+    simplified (tree_of h) n ≡ move_tree h m → IsWorth (node_tree (tree_of h) n) (move_tree h m) →
     IfOk r (λ id. id < length more.nodes) → IfOk r (λ id. tree_of more id ≡ move_tree g m) →
     OnOk r (Continues g more) → IfOk r (BuildsNode g more n)
-moved_here h g more r m n e dag fits is there tree ok =
-    let here : simplified (tree_of g) n ≡ move_tree g m =
-    subst (λ (k : Graph). simplified (tree_of k) n ≡ move_tree k m) e is in
-    built_as g more r n (is_term_of g n (subst IsDag e dag) fits) there
-    (other_tree more r (move_tree g m) (simplified (tree_of g) n) (sym here) tree) ok
+moved_here h g more r m n e is worth there tree ok =
+    let here : simplified (tree_of g) n ≡ move_tree g m = subst (λ (k : Graph). simplified (tree_of k) n ≡ move_tree k m) e is in
+    named g more r n (move_tree g m) (simplified (tree_of g) n) (sym here) (built_as g more r n (move_tree g m)
+    (subst (λ (k : Graph). IsWorth (node_tree (tree_of k) n) (move_tree k m)) e worth) there tree ok)
 
 -- ---- the bits above what a recipe's plan makes
 pub room_for_signs : (g : Graph) (id signs zeros : ℕ) (t : Tree) → tree_of g id ≡ t → HasRoom (signs + zeros) (tree_width t) →

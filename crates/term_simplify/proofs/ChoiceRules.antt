@@ -5,7 +5,7 @@ use Rattle.std.specs.List.{All}
 use Rattle.bv_dag.specs.BitVectors.{BitVector, bit, ite}
 use Rattle.term_trees.specs.Trees.{Tree, Choice, tree_width, tree_value, IsTerm, IsOfWidth}
 use Rattle.term_trees.proofs.Ranges.{in_range}
-use Rattle.term_simplify.specs.Simplified.{tree_number, complement_of, bit_choice, choice_between, choice_on, choice_of}
+use Rattle.term_simplify.specs.Plain.{tree_number, complement_of, bit_choice, choice_between, choice_on, plain_choice}
 use Rattle.term_simplify.proofs.Words.{by_parts, number_value, value_by_test, is_number, is_apart}
 use Rattle.term_simplify.proofs.TestRules.{value-complement_of, one_bit, bit_of_one, complement_of_bit}
 
@@ -77,8 +77,8 @@ module _ (inputs : ℕ) (input : List ℕ) (bytes : All (λ b. b < 256) input) (
       (λ h. rw h (by_parts _ _ (tree_value input t) (no_in.width ∙ sym yes_in.width) refl)))
   value-choice_on None e = value-choice_between _ _ refl refl
 
-pub value-choice_of : (inputs : ℕ) (input : List ℕ) (c s t : Tree) → All (λ b. b < 256) input →
+pub value-plain_choice : (inputs : ℕ) (input : List ℕ) (c s t : Tree) → All (λ b. b < 256) input →
     IsTerm inputs (Choice c s t) →
-    tree_value input (choice_of c s t) ≡ tree_value input (Choice c s t)
-unfolding choice_of
-value-choice_of inputs input c s t bytes term = value-choice_on inputs input bytes c s t term _ refl
+    tree_value input (plain_choice c s t) ≡ tree_value input (Choice c s t)
+unfolding plain_choice
+value-plain_choice inputs input c s t bytes term = value-choice_on inputs input bytes c s t term _ refl

@@ -11,7 +11,7 @@ use Rattle.bv_dag.specs.declared.nodes.Node.TheVariants.{Compare}
 use Rattle.term_trees.specs.Trees.{Tree, Widened, Test, tree_of, tree_width}
 use Rattle.term_trees.proofs.TreeLaws.{width-tree_of}
 use Rattle.term_simplify.specs.Plans.{Makes, under_zeros}
-use Rattle.term_simplify.specs.Simplified.{number_tree, complement_of, excludes, bit_under, equality_of, test_first, test_second}
+use Rattle.term_simplify.specs.Plain.{number_tree, complement_of, excludes, bit_under, equality_of, test_first, test_second}
 use Rattle.term_simplify.specs.declared.plan.Plan.TheVariants.{Push}
 
 -- a test that stays as it is

@@ -10,7 +10,7 @@ use Rattle.bv_dag.specs.declared.nodes.Node.TheVariants.{Num, Input, Not, Neg, B
 use Rattle.term_trees.specs.Trees.{Tree, Widened, Joined, tree_of, tree_width, node_tree}
 use Rattle.term_trees.proofs.TreeLaws.{tree_by_cases, width-tree_of}
 use Rattle.term_simplify.specs.Plans.{Follows, Makes, plan_tree, under_zeros}
-use Rattle.term_simplify.specs.Simplified.{tree_number, number_tree, extension_by, join_of, joined_of}
+use Rattle.term_simplify.specs.Plain.{tree_number, number_tree, extension_by, join_of, joined_of}
 use Rattle.term_simplify.specs.declared.plan.Plan.{Plan}
 use Rattle.term_simplify.proofs.JoinTerms.{width-join_of}
 use Rattle.term_simplify.proofs.Reading.{IsOperand, Makes-same, has_bits, operand, width_at}

@@ -9,7 +9,7 @@ use Rattle.bv_dag.specs.Nodes.{extend}
 use Rattle.bv_dag.proofs.Numbers.{wider}
 use Rattle.term_trees.specs.Trees.{Tree, Constant, Widened, Joined, tree_width, tree_value, IsTerm, IsOfWidth}
 use Rattle.term_trees.proofs.Ranges.{in_range}
-use Rattle.term_simplify.specs.Simplified.{tree_number, extension_by, further, join_of, joined_by, joined_of}
+use Rattle.term_simplify.specs.Plain.{tree_number, extension_by, further, join_of, joined_by, joined_of}
 use Rattle.term_simplify.proofs.JoinTerms.{term-join_of, width-join_of}
 use Rattle.term_simplify.proofs.Words.{by_parts, value_by_test, number_value, number_width, is_number, is_at_most, le_tells, not_at_most}
 use Rattle.term_simplify.proofs.TestRules.{not_negative}

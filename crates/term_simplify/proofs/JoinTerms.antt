@@ -5,7 +5,7 @@ use Rattle.std.proofs.lemmas.List.Elements.{All-nil}
 use Rattle.bv_dag.specs.BitVectors.{BitVector, concat}
 use Rattle.term_trees.specs.Trees.{Tree, Joined, tree_width, IsTerm}
 use Rattle.term_trees.proofs.Ranges.{in_range}
-use Rattle.term_simplify.specs.Simplified.{extension_by, join_of, joined_by, tree_number}
+use Rattle.term_simplify.specs.Plain.{extension_by, join_of, joined_by, tree_number}
 use Rattle.term_simplify.proofs.PartTerms.{as_number, chosen, chosen_width, some_bits, term-extension_by, width-extension_by}
 use Rattle.term_simplify.proofs.Words.{number_value, number_width}
 

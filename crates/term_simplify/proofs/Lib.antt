@@ -17,6 +17,7 @@ pub mod MovedRules
 pub mod Moved
 pub mod NodeRules
 pub mod Reading
+pub mod NarrowReading
 pub mod Masking
 pub mod BinaryPlans
 pub mod ComparisonPlans
@@ -28,4 +29,12 @@ pub mod Stepping
 pub mod MachineNumbers
 pub mod MachineBuilds
 pub mod OperationNumbers
-pub mod NarrowRemainders
+pub mod SignedRange
+pub mod SignedFits
+pub mod Truncations
+pub mod UnsignedNarrowing
+pub mod SignedTests
+pub mod NarrowRanges
+pub mod NarrowRules
+pub mod NarrowTerms
+pub mod NarrowSteps

@@ -12,7 +12,7 @@ use Rattle.term_trees.specs.Trees.{Tree, Two, Widened, tree_of, tree_width, tree
 use Rattle.term_trees.proofs.Ranges.{in_range}
 use Rattle.term_trees.proofs.TreeLaws.{width-tree_of}
 use Rattle.term_simplify.specs.Plans.{under_zeros}
-use Rattle.term_simplify.specs.Simplified.{tree_number, keeps, masked}
+use Rattle.term_simplify.specs.Plain.{tree_number, keeps, masked}
 use Rattle.term_simplify.proofs.Words.{by_parts, by_number, number_value, value_by_test, is_number}
 
 keeps_under : (y : BitVector) (t u : Tree) → Some u ≡ under_zeros t →

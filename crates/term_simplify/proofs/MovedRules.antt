@@ -1,4 +1,4 @@
--- An operation is worth what it was before it was simplified, also where it moves the bits of a term.
+-- An operation that moves the bits of a term is worth what it was before.
 use Rattle.std.proofs.Common.{◌≡◌, ◌∙◌, ℕ, ◌-◌, ◌<◌, ◌≤◌, Bool, true, false, List, Some, None, ap, sym, refl, arith}
 use Rattle.std.specs.Prelude.{Option, nat_lt}
 use Rattle.std.specs.List.{All}
@@ -9,9 +9,12 @@ use Rattle.bv_dag.specs.declared.nodes.BinaryOp.{BinaryOp}
 use Rattle.bv_dag.specs.declared.nodes.BinaryOp.TheVariants.{Add, Sub, Mul, Udiv, Urem, And, Or, Xor, Shl, Lshr, Ashr}
 use Rattle.term_trees.specs.Trees.{Tree, Constant, Two, Widened, tree_width, tree_value, IsTerm, IsOfWidth}
 use Rattle.term_trees.proofs.Ranges.{in_range}
-use Rattle.term_simplify.specs.Simplified.{binary_of, moved, moved_down, moved_up, moves, part_of, tree_number}
-use Rattle.term_simplify.proofs.BinaryRules.{value-unmoved_of}
+use Rattle.term_simplify.specs.Plain.{part_of, tree_number}
+use Rattle.term_simplify.specs.Moves.{way_of, way_tree}
+use Rattle.term_simplify.specs.Simplified.{moved, moved_down, moved_up, moves}
+use Rattle.term_simplify.specs.declared.moves.Way.{Way}
 use Rattle.term_simplify.proofs.ExtensionRules.{value-extension_by, value-joined_of}
+use Rattle.term_simplify.proofs.Moved.{moves_so}
 use Rattle.term_simplify.proofs.Moving.{ashr_moves, lshr_moves, shl_moves}
 use Rattle.term_simplify.proofs.PartRules.{value-part_of}
 use Rattle.term_simplify.proofs.PartTerms.{term-part_of, width-part_of, zero_fits}
@@ -99,8 +102,9 @@ value-moved inputs input bytes And x y s t otherwise term is plain = plain
 value-moved inputs input bytes Or x y s t otherwise term is plain = plain
 value-moved inputs input bytes Xor x y s t otherwise term is plain = plain
 
-pub value-binary_of : (inputs : ℕ) (input : List ℕ) (op : BinaryOp) (s t : Tree) → All (λ b. b < 256) input → IsTerm inputs (Two op s t) →
-    tree_value input (binary_of op s t) ≡ tree_value input (Two op s t)
-unfolding binary_of
-value-binary_of inputs input op s t bytes term =
-    value-moved inputs input bytes op (tree_number s) (tree_number t) s t _ term refl (value-unmoved_of inputs input op s t bytes term)
+pub value-way : (inputs : ℕ) (input : List ℕ) → All (λ b. b < 256) input → (op : BinaryOp) (way : Way) (y : BitVector) (s t : Tree) →
+    way_of op ≡ Some way → moves y ≡ true → IsTerm inputs (Two op s t) → tree_number t ≡ Some y →
+    tree_value input (way_tree way y.width y.number s) ≡ tree_value input (Two op s t)
+value-way inputs input bytes op way y s t is some term number =
+    ap (tree_value input) (sym (moves_so op way y s (Two op s t) is some))
+    ∙ value-moved inputs input bytes op None (Some y) s t (Two op s t) term number refl

@@ -11,7 +11,7 @@ use Rattle.term_trees.specs.Trees.{Tree, Constant, Joined, Part, Widened, tree_o
 use Rattle.term_trees.proofs.Terms.{is_term}
 use Rattle.term_trees.proofs.TreeLaws.{tree_by_cases, width-tree_of}
 use Rattle.term_simplify.specs.Plans.{Follows, IsSpan, IsInner, Makes, plan_tree, rest_of, same, stacked, under, under_zeros, within_widened}
-use Rattle.term_simplify.specs.Simplified.{extension_by, further, tree_number, number_tree, span_of, part_of}
+use Rattle.term_simplify.specs.Plain.{extension_by, further, tree_number, number_tree, span_of, part_of}
 use Rattle.term_simplify.specs.declared.parts.Inner.{Inner}
 use Rattle.term_simplify.specs.declared.parts.Span.{Span}
 use Rattle.term_simplify.specs.declared.plan.Plan.{Plan}

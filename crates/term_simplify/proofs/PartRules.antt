@@ -13,7 +13,7 @@ use Rattle.bv_dag.specs.Nodes.{extend}
 use Rattle.bv_dag.proofs.Numbers.{wider}
 use Rattle.term_trees.specs.Trees.{Tree, Constant, Part, Widened, Joined, tree_width, tree_value, IsTerm, IsOfWidth}
 use Rattle.term_trees.proofs.Ranges.{in_range}
-use Rattle.term_simplify.specs.Simplified.{tree_number, further, span_by, part_of}
+use Rattle.term_simplify.specs.Plain.{tree_number, further, span_by, part_of}
 use Rattle.term_simplify.proofs.ExtensionRules.{extend_again, value-extension_by, value-further}
 use Rattle.term_simplify.proofs.PartTerms.{some_bits, term-part_of, width-part_of}
 use Rattle.term_simplify.proofs.Uppers.{above_signs, ones_over, upper_signs, upper_zeros}

@@ -8,7 +8,7 @@ use Rattle.std.proofs.lemmas.Nat.{mod_below, pow_pos}
 use Rattle.bv_dag.specs.BitVectors.{BitVector, IsBitVector, extract, sign_extend, zero_extend}
 use Rattle.term_trees.specs.Trees.{Tree, Constant, Part, Widened, Joined, tree_width, IsTerm, IsOfWidth}
 use Rattle.term_trees.proofs.Ranges.{in_range}
-use Rattle.term_simplify.specs.Simplified.{extension_by, further, part_of, span_by, tree_number}
+use Rattle.term_simplify.specs.Plain.{extension_by, further, part_of, span_by, tree_number}
 use Rattle.term_simplify.proofs.Words.{is_number, le_tells, lt_tells}
 
 -- a number of no more bits than fit

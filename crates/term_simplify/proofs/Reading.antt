@@ -13,7 +13,7 @@ use Rattle.term_trees.specs.Trees.{Tree, Complement, Negated, tree_of, node_tree
 use Rattle.term_trees.proofs.Terms.{is_term, before}
 use Rattle.term_trees.proofs.TreeLaws.{tree_by_cases, width-tree_of}
 use Rattle.term_simplify.specs.Plans.{Makes, node_number, AreAsWide, under_zeros}
-use Rattle.term_simplify.specs.Simplified.{tree_number, number_tree, complement_of, negative_of}
+use Rattle.term_simplify.specs.Plain.{tree_number, number_tree, complement_of, plain_negative}
 use Rattle.term_simplify.specs.declared.plan.Plan.{Plan}
 use Rattle.term_simplify.proofs.Words.{number_width}
 
@@ -140,8 +140,8 @@ complement_read f (Extend by signed a) x y = refl
 complement_read f (Concat a b) x y = refl
 
 negative_read : (f : ℕ → Tree) (n : Node) → ((w v : ℕ) → n ≡ Num w v → ⊥) →
-    ((a : ℕ) → n ≡ Neg a → ⊥) → negative_of (node_tree f n) ≡ Negated (node_tree f n)
-unfolding negative_of
+    ((a : ℕ) → n ≡ Neg a → ⊥) → plain_negative (node_tree f n) ≡ Negated (node_tree f n)
+unfolding plain_negative
 negative_read f (Num w v) x y = absurd (x w v refl)
 negative_read f (Neg a) x y = absurd (y a refl)
 negative_read f (Input i) x y = refl
@@ -159,7 +159,7 @@ module _ (g : Graph) (id : ℕ) (dag : IsDag g) where
   complement_at n is x y = rw (tree_by_cases g id n dag is) (complement_read (tree_of g) n x y)
 
   pub negative_at : (n : Node) → slice_get g.nodes id ≡ Some n → ((w v : ℕ) → n ≡ Num w v → ⊥) →
-      ((a : ℕ) → n ≡ Neg a → ⊥) → negative_of (tree_of g id) ≡ Negated (tree_of g id)
+      ((a : ℕ) → n ≡ Neg a → ⊥) → plain_negative (tree_of g id) ≡ Negated (tree_of g id)
   negative_at n is x y = rw (tree_by_cases g id n dag is) (negative_read (tree_of g) n x y)
 
   pub complement_number : (w v : ℕ) (x y : BitVector) → slice_get g.nodes id ≡ Some (Num w v) →
@@ -170,9 +170,9 @@ module _ (g : Graph) (id : ℕ) (dag : IsDag g) where
 
   pub negative_number : (w v : ℕ) (x y : BitVector) → slice_get g.nodes id ≡ Some (Num w v) →
       x ≡ record { width = w; number = v } → y ≡ bvneg x →
-      negative_of (tree_of g id) ≡ number_tree y
-  unfolding negative_of
-  negative_number w v x y is e f = ap negative_of (tree_by_cases g id (Num w v) dag is) ∙ ap number_tree (sym (f ∙ ap bvneg e))
+      plain_negative (tree_of g id) ≡ number_tree y
+  unfolding plain_negative
+  negative_number w v x y is e f = ap plain_negative (tree_by_cases g id (Num w v) dag is) ∙ ap number_tree (sym (f ∙ ap bvneg e))
 
   pub complement_twice : (a : ℕ) → slice_get g.nodes id ≡ Some (Not a) →
       complement_of (tree_of g id) ≡ tree_of g a
@@ -180,8 +180,8 @@ module _ (g : Graph) (id : ℕ) (dag : IsDag g) where
   complement_twice a is = ap complement_of (tree_by_cases g id (Not a) dag is)
 
   pub negative_twice : (a : ℕ) → slice_get g.nodes id ≡ Some (Neg a) →
-      negative_of (tree_of g id) ≡ tree_of g a
-  unfolding negative_of
-  negative_twice a is = ap negative_of (tree_by_cases g id (Neg a) dag is)
+      plain_negative (tree_of g id) ≡ tree_of g a
+  unfolding plain_negative
+  negative_twice a is = ap plain_negative (tree_by_cases g id (Neg a) dag is)
 
 pub ruleset placing = (has_term, has_second_term)

@@ -6,7 +6,7 @@ use Rattle.bv_dag.specs.BitVectors.{zero_extend}
 use Rattle.term_trees.specs.Trees.{Tree, Constant, Widened, tree_width, IsTerm, IsOfWidth}
 use Rattle.term_trees.proofs.Ranges.{in_range}
 use Rattle.term_simplify.specs.Plans.{stacked, under}
-use Rattle.term_simplify.specs.Simplified.{extension_by, further, number_tree}
+use Rattle.term_simplify.specs.Plain.{extension_by, further, number_tree}
 use Rattle.term_simplify.specs.declared.recipe.Above.{Above}
 use Rattle.term_simplify.proofs.ExtensionRules.{signs_again, zeros_again, zeros_signed}
 use Rattle.term_simplify.proofs.Words.{tests_unequal}

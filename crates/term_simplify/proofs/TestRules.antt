@@ -10,7 +10,7 @@ use Rattle.bv_dag.specs.declared.nodes.Comparison.TheVariants.{Ult, Slt, Eq}
 use Rattle.bv_dag.proofs.Numbers.{wider}
 use Rattle.term_trees.specs.Trees.{Tree, Constant, Complement, Negated, Test, Widened, tree_width, tree_value, IsTerm, IsOfWidth}
 use Rattle.term_trees.proofs.Ranges.{in_range}
-use Rattle.term_simplify.specs.Simplified.{tree_number, complement_of, negative_of, excludes, bit_under, bit_is, equality_of, test_first, test_second, comparison_by, comparison_of}
+use Rattle.term_simplify.specs.Plain.{tree_number, complement_of, plain_negative, excludes, bit_under, bit_is, equality_of, test_first, test_second, comparison_by, plain_comparison}
 use Rattle.term_simplify.proofs.Words.{by_parts, number_value, value_by_test, is_number, is_apart, tests_unequal, tests_equal, tests_below, tests_not_below, is_at_most, not_at_most}
 use Rattle.term_simplify.proofs.Sums.{twice_not, twice_neg}
 
@@ -21,12 +21,12 @@ value-complement_of inputs input (Constant w v) bytes term = refl
 value-complement_of inputs input (Complement t) bytes term = twice_not (tree_width t) _ (in_range inputs input bytes t term)
 value-complement_of inputs input t bytes term = refl
 
-pub value-negative_of : (inputs : ℕ) (input : List ℕ) (t : Tree) → All (λ b. b < 256) input →
-    IsTerm inputs t → tree_value input (negative_of t) ≡ tree_value input (Negated t)
-unfolding negative_of
-value-negative_of inputs input (Constant w v) bytes term = refl
-value-negative_of inputs input (Negated t) bytes term = twice_neg (tree_width t) _ (in_range inputs input bytes t term)
-value-negative_of inputs input t bytes term = refl
+pub value-plain_negative : (inputs : ℕ) (input : List ℕ) (t : Tree) → All (λ b. b < 256) input →
+    IsTerm inputs t → tree_value input (plain_negative t) ≡ tree_value input (Negated t)
+unfolding plain_negative
+value-plain_negative inputs input (Constant w v) bytes term = refl
+value-plain_negative inputs input (Negated t) bytes term = twice_neg (tree_width t) _ (in_range inputs input bytes t term)
+value-plain_negative inputs input t bytes term = refl
 
 -- ---- a term that excludes a number
 -- it is below the number, and not negative; and a negative number of its width is beyond its range
@@ -217,9 +217,9 @@ module _ (inputs : ℕ) (input : List ℕ) (bytes : All (λ b. b < 256) input) (
       ap (λ (v : BitVector). tree_value input (test_second op v s t)) (sym (number_value input t y f)) ∙ value-test_second op
   value-comparison_by op None None e f = refl
 
-pub value-comparison_of : (inputs : ℕ) (input : List ℕ) (op : Comparison) (s t : Tree) →
+pub value-plain_comparison : (inputs : ℕ) (input : List ℕ) (op : Comparison) (s t : Tree) →
     All (λ b. b < 256) input → IsTerm inputs (Test op s t) →
-    tree_value input (comparison_of op s t) ≡ tree_value input (Test op s t)
-unfolding comparison_of
-value-comparison_of inputs input op s t bytes term = value-comparison_by inputs input bytes s t
+    tree_value input (plain_comparison op s t) ≡ tree_value input (Test op s t)
+unfolding plain_comparison
+value-plain_comparison inputs input op s t bytes term = value-comparison_by inputs input bytes s t
     term.0 term.1 term.2 op _ _ refl refl

@@ -7,7 +7,7 @@ use Rattle.std.proofs.lemmas.Grind.{common_steps}
 use Rattle.bv_dag.specs.BitVectors.{BitVector}
 use Rattle.bv_dag.proofs.Numbers.{wider}
 use Rattle.term_trees.specs.Trees.{Tree, Constant, tree_width, tree_value, IsOfWidth}
-use Rattle.term_simplify.specs.Simplified.{tree_number}
+use Rattle.term_simplify.specs.Plain.{tree_number}
 
 -- a bit-vector by its two parts
 pub by_parts : (w n : ℕ) (x : BitVector) → x.width ≡ w → x.number ≡ n →

@@ -18,8 +18,12 @@ pub record Builds (old new : Graph) (id : ℕ) (made : Tree) (bits : ℕ) (word 
   pub width : width_of new id ≡ bits
   pub value : (input : List ℕ) → All (λ b. b < 256) input → val new id input ≡ word input
 
+-- this tree for a node: as wide as the node, and worth what the node is worth
+abbrev pub BuildsAs : (made : Tree) → (old new : Graph) → Node → (id : ℕ) → Type 0
+BuildsAs made old new node id =
+    Builds old new id made (node_width (widths_of old.nodes) node)
+    (λ input. node_value input (λ k. val old k input) node)
+
 -- the answer for a node: its simplified tree, as wide as the node, and worth what the node is worth
 abbrev pub BuildsNode : (old new : Graph) → Node → (id : ℕ) → Type 0
-BuildsNode old new node id =
-    Builds old new id (simplified (tree_of old) node) (node_width (widths_of old.nodes) node)
-    (λ input. node_value input (λ k. val old k input) node)
+BuildsNode old new node id = BuildsAs (simplified (tree_of old) node) old new node id

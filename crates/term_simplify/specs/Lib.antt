@@ -1,4 +1,6 @@
 pub mod Simplified
+pub mod Plain
+pub mod Narrowing
 pub mod Builds
 pub mod Plans
 pub mod Machine

@@ -7,7 +7,8 @@ use Rattle.bv_dag.specs.declared.nodes.Comparison.TheVariants.{Eq}
 use Rattle.rv_decode.specs.declared.ops.RegisterOp.{RegisterOp}
 use Rattle.rv_spec.specs.Arithmetic.{combined}
 use Rattle.term_trees.specs.Trees.{Tree, Constant, tree_width}
-use Rattle.term_simplify.specs.Simplified.{negative_of, binary_of, comparison_of, choice_of, part_of, extension_by}
+use Rattle.term_simplify.specs.Plain.{part_of, extension_by}
+use Rattle.term_simplify.specs.Simplified.{negative_of, binary_of, comparison_of, choice_of}
 use Rattle.term_simplify.specs.Builds.{Builds}
 use Rattle.term_simplify.specs.Plans.{under_zeros}
 
@@ -38,23 +39,10 @@ or_ones_tree divisor quotient =
 unfoldable pub quotient_tree : Tree → Tree → Tree
 quotient_tree s t = or_ones_tree t (signed_quotient_tree s t)
 
--- The remainder without sign: of two terms widened by zeros alike it is that of the narrower terms,
--- widened, since a remainder is no larger than the dividend. By zero it is the dividend at either width.
-abbrev pub remainder_under : Option Tree → Option Tree → (s t : Tree) → Tree
-remainder_under (Some x) (Some y) s t =
-    if tree_width x == tree_width y then extension_by (32 - tree_width x) false (binary_of Urem x y)
-    else binary_of Urem s t
-remainder_under (Some x) None s t = binary_of Urem s t
-remainder_under None y s t = binary_of Urem s t
-
--- REMU
-unfoldable pub unsigned_remainder_tree : Tree → Tree → Tree
-unsigned_remainder_tree s t = remainder_under (under_zeros s) (under_zeros t) s t
-
 -- REM: the remainder of the magnitudes with the sign of the dividend, and so the dividend by zero
 unfoldable pub remainder_tree : Tree → Tree → Tree
 remainder_tree s t =
-    signed_tree (sign_tree s) (unsigned_remainder_tree (magnitude_tree s) (magnitude_tree t))
+    signed_tree (sign_tree s) (binary_of Urem (magnitude_tree s) (magnitude_tree t))
 
 -- MULH, MULHSU, MULHU: the upper 32 bits of the product of 64, by whether each operand is signed
 unfoldable pub upper_tree : (first second : Bool) → Tree → Tree → Tree

@@ -12,8 +12,9 @@ use Rattle.rv_decode.specs.declared.ops.RegisterOp.TheVariants as register
 use Rattle.rv_decode.specs.declared.ops.Test.{Test}
 use Rattle.rv_decode.specs.declared.ops.Test.TheVariants.{Beq, Bne, Blt, Bge, Bltu, Bgeu}
 use Rattle.term_trees.specs.Trees.{Tree, Constant}
-use Rattle.term_simplify.specs.Machine.{quotient_tree, unsigned_remainder_tree, remainder_tree, upper_tree}
-use Rattle.term_simplify.specs.Simplified.{complement_of, binary_of, comparison_of, part_of, extension_by, joined_of}
+use Rattle.term_simplify.specs.Machine.{quotient_tree, remainder_tree, upper_tree}
+use Rattle.term_simplify.specs.Plain.{complement_of, part_of, extension_by, joined_of}
+use Rattle.term_simplify.specs.Simplified.{binary_of, comparison_of}
 
 -- a shift by the low five bits of a register
 abbrev pub shift_tree : BinaryOp → Tree → Tree → Tree
@@ -42,7 +43,7 @@ combined_tree register.Mulhu s t = upper_tree false false s t
 combined_tree register.Div s t = quotient_tree s t
 combined_tree register.Divu s t = binary_of bv.Udiv s t
 combined_tree register.Rem s t = remainder_tree s t
-combined_tree register.Remu s t = unsigned_remainder_tree s t
+combined_tree register.Remu s t = binary_of bv.Urem s t
 
 -- one equation for each test of a conditional branch: one bit, 1 where it passes
 abbrev pub passes_tree : Test → Tree → Tree → Tree

@@ -6,14 +6,13 @@ use Rattle.bv_dag.specs.declared.nodes.Node.TheVariants.{Num}
 use Rattle.bv_dag.specs.Graphs.{Graph, width_of}
 use Rattle.bv_dag.specs.Nodes.{Fits, widths_of}
 use Rattle.term_trees.specs.Trees.{Tree, Constant, Widened, tree_of, node_tree, tree_width}
-use Rattle.term_simplify.specs.Simplified.{further, span_of, part_of}
+use Rattle.term_simplify.specs.Plain.{further, span_of, part_of}
 use Rattle.term_simplify.specs.declared.plan.Plan.{Plan}
 use Rattle.term_simplify.specs.declared.plan.Plan.TheVariants.{Term, Push}
 use Rattle.term_simplify.specs.declared.parts.Inner.{Inner}
 use Rattle.term_simplify.specs.declared.parts.Span.{Span}
 use Rattle.term_simplify.specs.declared.recipe.Above.{Above}
 use Rattle.term_simplify.specs.declared.recipe.Recipe.{Recipe}
-use Rattle.term_simplify.specs.declared.remainders.Narrow.{Narrow}
 
 -- the tree that a plan makes
 abbrev pub plan_tree : Graph → Plan → Tree
@@ -72,14 +71,6 @@ AreAsWide None y = Unit {0}
 abbrev pub under_zeros : Tree → Option Tree
 under_zeros (Widened by false t) = Some t
 under_zeros t = None
-
--- the narrower terms, of one width, that two terms of 32 bits widen by zeros
-pub record AreUnder (graph : Graph) (a b : ℕ) (narrow : Narrow) : Type 0 where
-  pub dividend : Some (tree_of graph narrow.dividend) ≡ under_zeros (tree_of graph a)
-  pub divisor : Some (tree_of graph narrow.divisor) ≡ under_zeros (tree_of graph b)
-  pub alike : width_of graph narrow.dividend ≡ width_of graph narrow.divisor
-  pub not_empty : 0 < width_of graph narrow.dividend
-  pub below_32 : width_of graph narrow.dividend < 32
 
 -- bits that a term has
 pub record IsSpan (graph : Graph) (span : Span) : Type 0 where

@@ -9,6 +9,7 @@ use Rattle.bv_dag.specs.declared.nodes.Comparison.TheVariants.{Ult, Slt, Eq}
 use Rattle.rv_decode.specs.declared.ops.RegisterOp.{RegisterOp}
 use Rattle.rv_spec.specs.Arithmetic.{combined, is_less_signed}
 use Rattle.term_trees.specs.Trees.{Tree, tree_of}
+use Rattle.term_simplify.specs.declared.narrowing.Narrow.{Narrow}
 
 -- the term is there, is this tree, has so many bits, and is worth this
 pub record Stands (graph : Graph) (id : ℕ) (made : Tree) (bits : ℕ) (word : List ℕ → BitVector) :
@@ -17,6 +18,13 @@ pub record Stands (graph : Graph) (id : ℕ) (made : Tree) (bits : ℕ) (word : 
   pub tree : tree_of graph id ≡ made
   pub width : width_of graph id ≡ bits
   pub value : (input : List ℕ) → All (λ b. b < 256) input → val graph id input ≡ word input
+
+-- low bits, and what is made of them widened
+abbrev pub low_word : Narrow → BitVector → BitVector
+low_word n s = extract (n.bits - 1) 0 s
+
+abbrev pub widened_word : (width : ℕ) → Narrow → BitVector → BitVector
+widened_word width n s = extend n.signed (width - n.bits) s
 
 -- what the trees of `Machine` are worth, from the values of their operands
 abbrev pub sign_word : BitVector → BitVector

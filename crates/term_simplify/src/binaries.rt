@@ -5,7 +5,7 @@ ghost use Rattle.bv_dag.specs.Graphs.{Graph, IsDag};
 ghost use Rattle.bv_dag.specs.Nodes.{Fits, widths_of};
 ghost use Rattle.term_trees.specs.Trees.{tree_of};
 ghost use Rattle.term_simplify.specs.Plans.{Makes, AreAsWide};
-ghost use Rattle.term_simplify.specs.Simplified.{is_ones, number_first, number_second, binary_by, unmoved_of};
+ghost use Rattle.term_simplify.specs.Plain.{is_ones, number_first, number_second, binary_by, plain_binary};
 
 use crate::masks::masked;
 use crate::plan::{Plan, number, number_at, number_if, term_if, zero};
@@ -95,7 +95,7 @@ fn binary_by(op: BinaryOp, left: Option<Word>, right: Option<Word>, a: usize, b:
 pub(crate) fn binary(terms: &Terms, op: BinaryOp, a: usize, b: usize) -> Plan
     requires { Fits terms.now.inputs (widths_of terms.now.nodes) (Node.Binary op a b) }
     ensures makes { Makes terms.now result
-        (unmoved_of op (tree_of terms.now a) (tree_of terms.now b)) }
+        (plain_binary op (tree_of terms.now a) (tree_of terms.now b)) }
     ensures fit { IsDag terms.now }
 {
     let plain = binary_by(op, number_at(terms, a), number_at(terms, b), a, b);

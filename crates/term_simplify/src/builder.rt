@@ -4,9 +4,8 @@ ghost use Rattle.std.specs.Prelude.{◌≡◌, ◌↔◌, ◌<◌, ℕ, IsTrue, 
 ghost use Rattle.bv_dag.specs.Graphs.{Graph, val, width_of};
 ghost use Rattle.bv_dag.specs.Nodes.{Fits, node_value, node_width, widths_of};
 ghost use Rattle.term_trees.specs.Trees.{tree_of, node_tree, IsTerm};
-ghost use Rattle.term_simplify.specs.Moves.{unmoved};
 ghost use Rattle.term_simplify.specs.Plans.{Follows, Makes, PlanFits};
-ghost use Rattle.term_simplify.specs.Simplified.{simplified};
+ghost use Rattle.term_simplify.specs.Plain.{plain};
 ghost use Rattle.term_simplify.specs.Steps.{Stands};
 
 use crate::binaries::binary;
@@ -14,6 +13,7 @@ use crate::choices::choice;
 use crate::comparisons::comparison;
 use crate::extensions::{extension, further, joined};
 use crate::moves::move_of;
+use crate::narrowing::narrowing_of;
 use crate::parts::part;
 use crate::plan::{Plan, complement, negative};
 use crate::recipe::{Recipe, alone};
@@ -46,10 +46,10 @@ fn recent(terms: &Terms, node: &Node) -> Option<usize>
     None
 }
 
-/// What the node is simplified to, where it moves no bits.
+/// What the node is simplified to at its own width.
 fn plan(terms: &Terms, node: Node) -> Recipe
     requires { Fits terms.now.inputs (widths_of terms.now.nodes) node }
-    ensures makes { Follows terms.now result (unmoved (tree_of terms.now) node) }
+    ensures makes { Follows terms.now result (plain (tree_of terms.now) node) }
     ensures term { IsTerm terms.now.inputs (node_tree (tree_of terms.now) node) }
 {
     match node {
@@ -86,9 +86,10 @@ impl Model for Builder {
 
 impl Builder {
     ghost use Rattle.bv_dag.specs.Graphs.{IsDag};
-    ghost use Rattle.term_simplify.specs.Builds.{BuildsNode};
+    ghost use Rattle.term_simplify.specs.Builds.{BuildsAs, BuildsNode};
+    ghost use Rattle.term_simplify.specs.Moves.{unmoved};
     ghost use Rattle.term_simplify.specs.Plans.{plan_tree, recipe_tree, HasRoom, RecipeFits};
-    ghost use Rattle.term_simplify.specs.Simplified.{further};
+    ghost use Rattle.term_simplify.specs.Plain.{further};
     ghost use Rattle.term_trees.specs.Growth.{Continues};
 
     /// Builds on these terms, which stay as they are.
@@ -200,11 +201,10 @@ impl Builder {
         self.settled(len, answer)
     }
 
-    /// The term that a node is simplified to which moves no bits.
+    /// The term that a node is at its own width.
     fn plain(&mut self, node: Node) -> Result<usize, NoMemory>
-        requires fits { Fits self.old.inputs (widths_of self.old.nodes) node }
-        requires moves_none { simplified (tree_of self.old) node ≡ unmoved (tree_of self.old) node }
-        ensures ok { IfOk result (BuildsNode self.old self.new node) }
+        requires { Fits self.old.inputs (widths_of self.old.nodes) node }
+        ensures ok { IfOk result (BuildsAs (plain (tree_of self.old) node) self.old self.new node) }
         ensures err { OnErr result (self.new ≡ self.old) }
         ensures term { IsTerm self.old.inputs (node_tree (tree_of self.old) node) }
     {
@@ -214,15 +214,28 @@ impl Builder {
 
     /// Such a term on the way.
     pub(crate) fn plain_step(&mut self, node: Node) -> Result<usize, NoMemory>
-        requires fits { Fits self.old.inputs (widths_of self.old.nodes) node }
-        requires moves_none { simplified (tree_of self.old) node ≡ unmoved (tree_of self.old) node }
+        requires { Fits self.old.inputs (widths_of self.old.nodes) node }
         ensures continues { Continues self.old self.new }
-        ensures ok { IfOk result (λ id. Stands self.new id (simplified (tree_of self.old) node)
+        ensures ok { IfOk result (λ id. Stands self.new id (plain (tree_of self.old) node)
             (node_width (widths_of self.old.nodes) node)
             (λ input. node_value input (λ k. val self.old k input) node)) }
         ensures term { IsTerm self.old.inputs (node_tree (tree_of self.old) node) }
     {
         self.plain(node)
+    }
+
+    /// The term that a node is simplified to which moves no bits.
+    fn unmoved(&mut self, node: Node) -> Result<usize, NoMemory>
+        requires { Fits self.old.inputs (widths_of self.old.nodes) node }
+        ensures ok { IfOk result
+            (BuildsAs (unmoved (tree_of self.old) node) self.old self.new node) }
+        ensures err { OnErr result (self.new ≡ self.old) }
+        ensures term { IsTerm self.old.inputs (node_tree (tree_of self.old) node) }
+    {
+        match narrowing_of(&self.terms, node) {
+            Some(narrow) => self.narrow(node, narrow),
+            None => self.plain(node),
+        }
     }
 
     /// The term that the node is simplified to, which is worth what the node is worth. The node's own tree is well formed.
@@ -234,7 +247,7 @@ impl Builder {
     {
         match move_of(&self.terms, node) {
             Some(bits) => self.move_bits(bits),
-            None => self.plain(node),
+            None => self.unmoved(node),
         }
     }
 }

@@ -5,7 +5,7 @@ ghost use Rattle.bv_dag.specs.Graphs.{IsDag};
 ghost use Rattle.bv_dag.specs.Nodes.{Fits, widths_of};
 ghost use Rattle.term_trees.specs.Trees.{tree_of};
 ghost use Rattle.term_simplify.specs.Plans.{Makes};
-ghost use Rattle.term_simplify.specs.Simplified.{bit_choice, choice_between, choice_on, choice_of, tree_number};
+ghost use Rattle.term_simplify.specs.Plain.{bit_choice, choice_between, choice_on, plain_choice, tree_number};
 
 use crate::plan::{Plan, complement, number_at};
 use bv_dag::{Node, Word};
@@ -61,7 +61,7 @@ fn choice_between(
 pub(crate) fn choice(terms: &Terms, c: usize, a: usize, b: usize) -> Plan
     requires { Fits terms.now.inputs (widths_of terms.now.nodes) (Node.Ite c a b) }
     ensures makes { Makes terms.now result
-        (choice_of (tree_of terms.now c) (tree_of terms.now a) (tree_of terms.now b)) }
+        (plain_choice (tree_of terms.now c) (tree_of terms.now a) (tree_of terms.now b)) }
     ensures fit { IsDag terms.now }
 {
     match number_at(terms, c) {

@@ -5,7 +5,7 @@ ghost use Rattle.bv_dag.specs.Graphs.{IsDag};
 ghost use Rattle.bv_dag.specs.Nodes.{Fits, widths_of};
 ghost use Rattle.term_trees.specs.Trees.{Tree, tree_of};
 ghost use Rattle.term_simplify.specs.Plans.{Makes, AreAsWide};
-ghost use Rattle.term_simplify.specs.Simplified.{excludes, bit_under, equality_of, test_first, test_second, comparison_by, comparison_of};
+ghost use Rattle.term_simplify.specs.Plain.{excludes, bit_under, equality_of, test_first, test_second, comparison_by, plain_comparison};
 
 use crate::plan::{Plan, complement, number, number_at, number_if, under_zeros, zero};
 use bv_dag::{Comparison, Node, Word};
@@ -126,7 +126,7 @@ fn comparison_by(
 pub(crate) fn comparison(terms: &Terms, op: Comparison, a: usize, b: usize) -> Plan
     requires { Fits terms.now.inputs (widths_of terms.now.nodes) (Node.Compare op a b) }
     ensures makes { Makes terms.now result
-        (comparison_of op (tree_of terms.now a) (tree_of terms.now b)) }
+        (plain_comparison op (tree_of terms.now a) (tree_of terms.now b)) }
     ensures fit { IsDag terms.now }
 {
     comparison_by(terms, op, number_at(terms, a), number_at(terms, b), a, b)

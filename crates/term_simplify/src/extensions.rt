@@ -5,7 +5,7 @@ ghost use Rattle.bv_dag.specs.Graphs.{IsDag, width_of};
 ghost use Rattle.bv_dag.specs.Nodes.{Fits, extend, widths_of};
 ghost use Rattle.term_trees.specs.Trees.{tree_of};
 ghost use Rattle.term_simplify.specs.Plans.{Follows, HasRoom, Makes};
-ghost use Rattle.term_simplify.specs.Simplified.{extension_by, further, join_of, joined_of};
+ghost use Rattle.term_simplify.specs.Plain.{extension_by, further, join_of, joined_of};
 
 use crate::plan::{Plan, number, number_at, under_zeros};
 use crate::recipe::{Above, Recipe, alone};

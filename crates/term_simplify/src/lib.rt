@@ -13,10 +13,11 @@ mod extensions;
 mod machine;
 mod masks;
 mod moves;
+mod narrowed;
+mod narrowing;
 mod operations;
 mod parts;
 mod plan;
 mod recipe;
-mod remainders;
 
 pub use builder::Builder;

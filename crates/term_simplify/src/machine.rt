@@ -8,7 +8,7 @@ ghost use Rattle.bv_dag.specs.Nodes.{Fits, node_value, node_width, widths_of};
 ghost use Rattle.rv_decode.specs.declared.ops.RegisterOp.{RegisterOp};
 ghost use Rattle.term_trees.specs.Growth.{Continues};
 ghost use Rattle.term_trees.specs.Trees.{tree_of, node_tree, IsTerm};
-ghost use Rattle.term_simplify.specs.Machine.{sign_tree, signed_tree, magnitude_tree, signed_quotient_tree, or_ones_tree, quotient_tree, unsigned_remainder_tree, remainder_tree, upper_tree, BuildsCombined};
+ghost use Rattle.term_simplify.specs.Machine.{sign_tree, signed_tree, magnitude_tree, signed_quotient_tree, or_ones_tree, quotient_tree, remainder_tree, upper_tree, BuildsCombined};
 ghost use Rattle.term_simplify.specs.Simplified.{simplified, binary_of};
 ghost use Rattle.term_simplify.specs.Steps.{Stands, sign_word, signed_word, magnitude_word, signed_quotient_word, or_ones_word, upper_word, StandsCombined};
 
@@ -144,7 +144,11 @@ impl Builder {
     {
         let dividend = self.parts(a)?;
         let divisor = self.parts(b)?;
-        let remainder = self.unsigned_remainder(dividend.magnitude, divisor.magnitude)?;
+        let remainder = self.step(Node::Binary(
+            BinaryOp::Urem,
+            dividend.magnitude,
+            divisor.magnitude,
+        ))?;
         self.with_sign(dividend.negative, remainder)
     }
 
@@ -236,12 +240,10 @@ impl Builder {
         requires first { width_of self.old a ≡ 32 }
         requires second { width_of self.old b ≡ 32 }
         ensures ok { IfOk result (BuildsCombined self.old self.new RegisterOp.Remu a b
-            (unsigned_remainder_tree (tree_of self.old a) (tree_of self.old b))) }
+            (binary_of BinaryOp.Urem (tree_of self.old a) (tree_of self.old b))) }
         ensures err { OnErr result (self.new ≡ self.old) }
     {
-        let len = self.len();
-        let answer = self.unsigned_remainder(a, b);
-        self.settled(len, answer)
+        self.urem(a, b)
     }
 
     /// The upper 32 bits of the product of two signed terms of 32 bits.

@@ -3,7 +3,7 @@
 ghost use Rattle.std.specs.Prelude.{◌≡◌, ◌<◌, length};
 ghost use Rattle.term_trees.specs.Trees.{Tree, tree_of};
 ghost use Rattle.term_simplify.specs.Plans.{Makes};
-ghost use Rattle.term_simplify.specs.Simplified.{tree_number, keeps, masked};
+ghost use Rattle.term_simplify.specs.Plain.{tree_number, keeps, masked, masks_nothing};
 
 use crate::binaries::ones;
 use crate::plan::{Plan, number_at, term_if, under_zeros};
@@ -21,6 +21,18 @@ fn keeps(terms: &Terms, mask: Word, id: usize) -> bool
             mask.number() & all == all
         }
         None => false,
+    }
+}
+
+/// Whether a term is joined by & with a number that masks nothing of it.
+pub(crate) fn masks_nothing(terms: &Terms, op: BinaryOp, mask: usize, id: usize) -> bool
+    requires mask { mask < length terms.now.nodes }
+    requires term { id < length terms.now.nodes }
+    ensures { result ≡ masks_nothing op (tree_number (tree_of terms.now mask)) (tree_of terms.now id) }
+{
+    match (op, number_at(terms, mask)) {
+        (BinaryOp::And, Some(number)) => keeps(terms, number, id),
+        _ => false,
     }
 }
 

@@ -1,10 +1,10 @@
 //! Shifts of a term by a number: they move its bits, which takes a term for those that stay and one for those that come in.
 
-ghost use Rattle.std.specs.Prelude.{◌≡◌, ◌<◌, IfOk, IfSome, None, OnErr, OnOk, length};
+ghost use Rattle.std.specs.Prelude.{◌≡◌, ◌<◌, ℕ, All, IfOk, IfSome, List, None, OnErr, OnOk, length};
 ghost use Rattle.bv_dag.specs.Graphs.{IsDag};
 ghost use Rattle.bv_dag.specs.Nodes.{Fits, widths_of};
 ghost use Rattle.term_trees.specs.Growth.{Continues};
-ghost use Rattle.term_trees.specs.Trees.{tree_of};
+ghost use Rattle.term_trees.specs.Trees.{tree_of, tree_value, node_tree, IsTerm};
 ghost use Rattle.term_simplify.specs.Moves.{IsMove, move_tree, unmoved, way_of};
 ghost use Rattle.term_simplify.specs.Simplified.{moves, simplified};
 
@@ -62,6 +62,10 @@ fn move_by(terms: &Terms, op: BinaryOp, a: usize, b: usize) -> Option<Move>
     ensures some { IfSome result (λ m. IsMove terms.now m) }
     ensures tree { IfSome result (λ m. simplified (tree_of terms.now) (Node.Binary op a b)
         ≡ move_tree terms.now m) }
+    ensures worth { IfSome result (λ m. (input : List ℕ) → All (λ b. b < 256) input
+        → IsTerm terms.now.inputs (node_tree (tree_of terms.now) (Node.Binary op a b))
+        → tree_value input (move_tree terms.now m)
+        ≡ tree_value input (node_tree (tree_of terms.now) (Node.Binary op a b))) }
     ensures none { result ≡ None → simplified (tree_of terms.now) (Node.Binary op a b)
         ≡ unmoved (tree_of terms.now) (Node.Binary op a b) }
     ensures fit { IfSome result (λ _. IsDag terms.now) }
@@ -86,6 +90,10 @@ pub(crate) fn move_of(terms: &Terms, node: Node) -> Option<Move>
     ensures some { IfSome result (λ m. IsMove terms.now m) }
     ensures tree { IfSome result (λ m. simplified (tree_of terms.now) node
         ≡ move_tree terms.now m) }
+    ensures worth { IfSome result (λ m. (input : List ℕ) → All (λ b. b < 256) input
+        → IsTerm terms.now.inputs (node_tree (tree_of terms.now) node)
+        → tree_value input (move_tree terms.now m)
+        ≡ tree_value input (node_tree (tree_of terms.now) node)) }
     ensures none { result ≡ None → simplified (tree_of terms.now) node
         ≡ unmoved (tree_of terms.now) node }
     ensures fit { IfSome result (λ _. IsDag terms.now) }

@@ -10,7 +10,8 @@ ghost use Rattle.term_trees.specs.Trees.{tree_of};
 ghost use Rattle.term_simplify.specs.Builds.{Builds};
 ghost use Rattle.term_simplify.specs.Machine.{BuildsCombined};
 ghost use Rattle.term_simplify.specs.Operations as operations;
-ghost use Rattle.term_simplify.specs.Simplified.{complement_of, comparison_of, extension_by};
+ghost use Rattle.term_simplify.specs.Plain.{complement_of, extension_by};
+ghost use Rattle.term_simplify.specs.Simplified.{comparison_of};
 ghost use Rattle.term_simplify.specs.Steps.{Stands, compares, shift_word};
 
 use crate::builder::Builder;

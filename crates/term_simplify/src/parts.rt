@@ -5,7 +5,7 @@ ghost use Rattle.bv_dag.specs.Graphs.{IsDag};
 ghost use Rattle.bv_dag.specs.Nodes.{Fits, widths_of};
 ghost use Rattle.term_trees.specs.Trees.{tree_of, tree_width};
 ghost use Rattle.term_simplify.specs.Plans.{Follows, Makes, IsSpan, IsInner, rest_of, within_widened};
-ghost use Rattle.term_simplify.specs.Simplified.{part_of, span_of};
+ghost use Rattle.term_simplify.specs.Plain.{part_of, span_of};
 
 use crate::plan::{Plan, number, number_at, under_zeros, zero};
 use crate::recipe::{Above, Recipe, stacked};

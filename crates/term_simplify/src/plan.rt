@@ -5,7 +5,7 @@ ghost use Rattle.bv_dag.specs.Graphs.{Graph, IsDag, width_of};
 ghost use Rattle.bv_dag.specs.Nodes.{Fits};
 ghost use Rattle.term_trees.specs.Trees.{Tree, tree_of};
 ghost use Rattle.term_simplify.specs.Plans.{Makes, node_number, under_zeros};
-ghost use Rattle.term_simplify.specs.Simplified.{number_tree, tree_number, complement_of, negative_of};
+ghost use Rattle.term_simplify.specs.Plain.{number_tree, tree_number, complement_of, plain_negative};
 
 use bv_dag::{Node, Word};
 use term_table::Terms;
@@ -107,7 +107,7 @@ pub(crate) fn complement(terms: &Terms, id: usize) -> Plan
 /// The negative of a term.
 pub(crate) fn negative(terms: &Terms, id: usize) -> Plan
     requires { id < length terms.now.nodes }
-    ensures makes { Makes terms.now result (negative_of (tree_of terms.now id)) }
+    ensures makes { Makes terms.now result (plain_negative (tree_of terms.now id)) }
     ensures fit { IsDag terms.now }
 {
     match terms.node(id) {

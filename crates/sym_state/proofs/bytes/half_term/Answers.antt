@@ -1,7 +1,7 @@
 use Rattle.std.proofs.Common.{◌∙◌, ap, arith}
 use Rattle.bv_dag.specs.BitVectors.{BitVector}
 use Rattle.term_simplify.specs.Operations as operations
-use Rattle.term_simplify.specs.Simplified.{extension_by}
+use Rattle.term_simplify.specs.Plain.{extension_by}
 use Rattle.sym_state.specs.Expressions.{tree_in}
 use Rattle.sym_state.proofs.Expressing.{builds_tree, byte_expression-grown, tree-kept}
 use Rattle.sym_state.proofs.Growing.{Continues-trans, IsByte-grown, builds_gives, given-grown, later-byte, width-kept}

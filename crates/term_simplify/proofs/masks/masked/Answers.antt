@@ -1,6 +1,6 @@
 use Rattle.std.proofs.Common.{sym, ◌∙◌}
 use Rattle.term_trees.specs.Trees.{tree_of}
-use Rattle.term_simplify.specs.Simplified.{tree_number}
+use Rattle.term_simplify.specs.Plain.{tree_number}
 use Rattle.term_simplify.proofs.Masking.{masked_and}
 use Rattle.term_simplify.proofs.Reading.{Makes-same}
 use Rattle.term_simplify.proofs.masks.masked.Goals as goal

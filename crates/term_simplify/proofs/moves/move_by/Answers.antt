@@ -4,8 +4,10 @@ use Rattle.std.specs.Prelude.{nat_lt}
 use Rattle.bv_dag.specs.Graphs.{width_of}
 use Rattle.term_trees.specs.Trees.{tree_of}
 use Rattle.term_trees.proofs.TreeLaws.{width-tree_of}
-use Rattle.term_simplify.specs.Simplified.{binary_of, tree_number}
+use Rattle.term_simplify.specs.Plain.{tree_number}
+use Rattle.term_simplify.specs.Simplified.{binary_of}
 use Rattle.term_simplify.proofs.Moved.{by_others, by_term, moves_so, no_way, of_number}
+use Rattle.term_simplify.proofs.MovedRules.{value-way}
 use Rattle.term_simplify.proofs.Reading.{has_second_term, has_term}
 use Rattle.term_simplify.proofs.Words.{number_width}
 use Rattle.term_simplify.proofs.moves.move_by.Goals as goal
@@ -55,3 +57,12 @@ returns-clause-tree c =
     let y = c.in-None-Some-Some.y in
     rw (← c.number_at.ensures.number, c.in-None-Some-Some.is-0, ← c.number_at-2.ensures.number, c.in-None-Some-Some.is-1, c.width.ensures.value, c.number.ensures.value)
     (moves_so c.args.op c.in-None-Some-Some.way y _ _ (sym c.way_of.ensures ∙ c.in-None-Some-Some.is-2) (sym c.moves.ensures ∙ c.if-not-moves.false))
+
+pub returns-clause-worth : goal.returns-clause-worth
+returns-clause-worth c = λ input bytes term.
+    let g = c.args.terms.now in
+    let y = c.in-None-Some-Some.y in
+    rw (c.width.ensures.value, c.number.ensures.value)
+    (value-way g.inputs input bytes c.args.op c.in-None-Some-Some.way y (tree_of g c.args.a) (tree_of g c.args.b)
+    (sym c.way_of.ensures ∙ c.in-None-Some-Some.is-2) (sym c.moves.ensures ∙ c.if-not-moves.false)
+    term (sym c.number_at-2.ensures.number ∙ c.in-None-Some-Some.is-1))

@@ -1,5 +1,5 @@
 use Rattle.std.proofs.Common.{true, ap, ◌∙◌}
-use Rattle.term_simplify.specs.Simplified.{further}
+use Rattle.term_simplify.specs.Plain.{further}
 use Rattle.term_simplify.proofs.Building.{room_for_signs, room_for_zeros}
 use Rattle.term_simplify.proofs.builder.Builder.followed.Goals as goal
 

@@ -7,8 +7,8 @@ use Rattle.term_simplify.proofs.PartTerms.{narrow}
 use Rattle.term_simplify.proofs.Stepping.{Stands-kept, if_ok, concat_step}
 use Rattle.term_simplify.proofs.builder.Builder.moved.Goals as goal
 
-pub plain_step-requires-in-Up-clause-fits : goal.plain_step-requires-in-Up-clause-fits
-plain_step-requires-in-Up-clause-fits c =
+pub plain_step-requires-in-Up : goal.plain_step-requires-in-Up
+plain_step-requires-in-Up c =
     let g = c.args.self.now in
     let fits : width_of g c.args.m.operand ≤ 64 = omega (arith, narrow g.inputs (tree_of g c.args.m.operand) c.plain_step.ensures.term.0, width-tree_of g c.args.m.operand) in
     record {
@@ -17,8 +17,8 @@ plain_step-requires-in-Up-clause-fits c =
       in_range = pow_pos c.args.m.by;
     }
 
-pub plain_step-requires-in-Up-2-clause-fits : goal.plain_step-requires-in-Up-2-clause-fits
-plain_step-requires-in-Up-2-clause-fits c =
+pub plain_step-requires-in-Up-2 : goal.plain_step-requires-in-Up-2
+plain_step-requires-in-Up-2 c =
     let g = c.args.self.now in
     let m = c.args.m in
     let fits : width_of g m.operand ≤ 64 = omega (arith, narrow g.inputs (tree_of g m.operand) c.plain_step.ensures.term.0, width-tree_of g m.operand) in
@@ -26,8 +26,8 @@ plain_step-requires-in-Up-2-clause-fits c =
     let zeros = c.in_ok-zeros-in-Up.ensures.ok in
     (omega (arith, lower.width), omega (arith, zeros.width, c.requires.some), omega (arith, lower.width, zeros.width, fits, c.requires.wide, c.requires.within))
 
-pub plain_step-requires-in-Down-2-clause-fits : goal.plain_step-requires-in-Down-2-clause-fits
-plain_step-requires-in-Down-2-clause-fits c =
+pub plain_step-requires-in-Down-2 : goal.plain_step-requires-in-Down-2
+plain_step-requires-in-Down-2 c =
     let g = c.args.self.now in
     let m = c.args.m in
     let fits : width_of g m.operand ≤ 64 = omega (arith, narrow g.inputs (tree_of g m.operand) c.plain_step-in-Down.ensures.term.0, width-tree_of g m.operand) in

@@ -8,7 +8,7 @@ pub returns-clause-ok : goal.returns-clause-ok
 returns-clause-ok c =
     built c.self.inside.terms c.args.self.now c.carry_out.new.self c.carry_out.result
     c.plan-recipe.result c.args.node c.self.view_is c.plan-recipe.ensures.term
-    c.plan-recipe.ensures.makes c.requires.moves_none c.carry_out.ensures.there c.carry_out.ensures.tree
+    c.plan-recipe.ensures.makes c.carry_out.ensures.there c.carry_out.ensures.tree
     c.carry_out.ensures.ok
 
 pub returns-clause-term : goal.returns-clause-term

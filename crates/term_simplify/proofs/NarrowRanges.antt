@@ -1,0 +1,72 @@
+-- How many low bits tell a term is true of its value.
+use Rattle.std.proofs.Common.{◌≡◌, ℕ, ◌+◌, ◌-◌, ◌^◌, ◌<◌, ◌≤◌, Bool, true, false, cond, List, sym, arith}
+use Rattle.std.specs.Int.{leading_zeros, w64}
+use Rattle.std.specs.List.{All}
+use Rattle.std.proofs.Math.Nat.{le-max_left, le-max_right}
+use Rattle.std.proofs.lemmas.Nat.{leading_length}
+use Rattle.bv_dag.specs.BitVectors.{BitVector, IsBitVector, bvnot, is_negative, zero_extend}
+use Rattle.bv_dag.proofs.Numbers.{wider}
+use Rattle.term_trees.specs.Trees.{Tree, Constant, Widened, tree_width, tree_value, IsTerm, IsOfWidth}
+use Rattle.term_trees.proofs.Ranges.{in_range}
+use Rattle.term_simplify.specs.Narrowing.{length_of, number_reach, reach_of}
+use Rattle.term_simplify.specs.declared.narrowing.Reach.{Reach}
+use Rattle.term_simplify.proofs.SignedRange.{IsWithin, within_all, within_large, within_sign_extend, within_small}
+
+-- so many low bits tell a bit-vector of w bits
+pub record IsReach (w : ℕ) (r : Reach) (x : BitVector) : Type 0 where
+  pub some : 0 < r.unsigned
+  pub few : x.number < 2 ^ r.unsigned
+  pub some_signed : 0 < r.signed
+  pub within : r.signed ≤ w → IsWithin w r.signed x
+
+-- ---- a number has as many bits as write it
+length_some : (n : ℕ) → 0 < length_of n
+unfolding length_of
+length_some n = omega (arith, le-max_right (64 - leading_zeros w64 n) 1)
+
+length_holds : (n : ℕ) → n < 2 ^ 64 → n < 2 ^ length_of n
+unfolding length_of
+length_holds n h =
+    let parts = leading_length 64 n h in
+    omega (arith, parts.2, wider parts.0 (length_of n) (omega (arith, parts.1, le-max_left (64 - leading_zeros w64 n) 1)))
+
+number_told : (w v : ℕ) → IsBitVector w v → IsReach w (number_reach (record { width = w; number = v })) (record { width = w; number = v })
+unfolding bvnot
+number_told w v is =
+    let below : v < 2 ^ 64 = omega (arith, is.in_range, wider w 64 is.at_most_64) in
+    record {
+      some = length_some v;
+      few = length_holds v below;
+      some_signed = omega arith;
+      within = elim (is_negative (record { width = w; number = v })) as
+          (λ b. length_of (cond b (2 ^ w - 1 - v) v) + 1 ≤ w → IsWithin w (length_of (cond b (2 ^ w - 1 - v) v) + 1) (record { width = w; number = v })) [
+        | true ↦ within_large w (length_of (2 ^ w - 1 - v)) (record { width = w; number = v }) is.in_range (length_holds (2 ^ w - 1 - v) (omega (arith, is.in_range, wider w 64 is.at_most_64)))
+        | false ↦ within_small w (length_of v) (record { width = w; number = v }) (length_holds v below)
+      ];
+    }
+
+-- ---- any term
+pub told : (inputs : ℕ) (input : List ℕ) → All (λ b. b < 256) input → (t : Tree) → IsTerm inputs t →
+    IsReach (tree_width t) (reach_of t) (tree_value input t)
+unfolding zero_extend
+told inputs input bytes (Constant w v) term = number_told w v term
+told inputs input bytes (Widened by false t) term =
+    let p = in_range inputs input bytes t term.0 in
+    record {
+      some = p.not_empty;
+      few = p.in_range;
+      some_signed = omega arith;
+      within = within_small (tree_width t + by) (tree_width t) (tree_value input (Widened by false t)) p.in_range;
+    }
+told inputs input bytes (Widened by true t) term =
+    let p = in_range inputs input bytes t term.0 in
+    let q = in_range inputs input bytes (Widened by true t) term in
+    record {
+      some = q.not_empty;
+      few = q.in_range;
+      some_signed = p.not_empty;
+      within = λ _. within_sign_extend (tree_width t) by _ p;
+    }
+told inputs input bytes t term =
+    let p = in_range inputs input bytes t term in
+    record { some = p.not_empty; few = p.in_range; some_signed = p.not_empty; within = λ _. within_all (tree_width t) _ p }
