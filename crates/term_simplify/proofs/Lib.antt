@@ -38,3 +38,4 @@ pub mod NarrowRanges
 pub mod NarrowRules
 pub mod NarrowTerms
 pub mod NarrowSteps
+pub mod Magnitudes

@@ -12,7 +12,7 @@ use Rattle.bv_dag.proofs.Fitting.{has_place, width_in_bounds}
 use Rattle.term_trees.specs.Trees.{Tree, Complement, Negated, tree_of, node_tree, tree_width, IsTerm}
 use Rattle.term_trees.proofs.Terms.{is_term, before}
 use Rattle.term_trees.proofs.TreeLaws.{tree_by_cases, width-tree_of}
-use Rattle.term_simplify.specs.Plans.{Makes, node_number, AreAsWide, under_zeros}
+use Rattle.term_simplify.specs.Plans.{Makes, node_number, AreAsWide, under_signs, under_zeros}
 use Rattle.term_simplify.specs.Plain.{tree_number, number_tree, complement_of, plain_negative}
 use Rattle.term_simplify.specs.declared.plan.Plan.{Plan}
 use Rattle.term_simplify.proofs.Words.{number_width}
@@ -123,6 +123,38 @@ pub extended_zeros : (g : Graph) (id by : ℕ) (signed : Bool) (a : ℕ) → IsD
     Some (tree_of g a) ≡ under_zeros (tree_of g id)
 extended_zeros g id by false a dag is e = ap under_zeros (sym (tree_by_cases g id _ dag is))
 extended_zeros g id by true a dag is e = cc
+
+-- ---- the same of signs
+signs_read : (f : ℕ → Tree) (n : Node) →
+    ((by : ℕ) (signed : Bool) (a : ℕ) → n ≡ Extend by signed a → ⊥) →
+    None ≡ under_signs (node_tree f n)
+signs_read f (Extend by signed a) other = absurd (other by signed a refl)
+signs_read f (Num w v) other = refl
+signs_read f (Input i) other = refl
+signs_read f (Not a) other = refl
+signs_read f (Neg a) other = refl
+signs_read f (Binary op a b) other = refl
+signs_read f (Compare op a b) other = refl
+signs_read f (Ite c a b) other = refl
+signs_read f (Extract high low a) other = refl
+signs_read f (Concat a b) other = refl
+
+pub unextended_signs : (g : Graph) (id : ℕ) (n : Node) → IsDag g → slice_get g.nodes id ≡ Some n →
+    ((by : ℕ) (signed : Bool) (a : ℕ) → n ≡ Extend by signed a → ⊥) →
+    None ≡ under_signs (tree_of g id)
+unextended_signs g id n dag is other = signs_read (tree_of g) n other ∙ ap under_signs (sym (tree_by_cases g id n dag is))
+
+pub extended_by_signs : (g : Graph) (id by : ℕ) (signed : Bool) (a : ℕ) → IsDag g →
+    slice_get g.nodes id ≡ Some (Extend by signed a) → signed ≡ true →
+    Some (tree_of g a) ≡ under_signs (tree_of g id)
+extended_by_signs g id by true a dag is e = ap under_signs (sym (tree_by_cases g id _ dag is))
+extended_by_signs g id by false a dag is e = cc
+
+pub extended_by_zeros : (g : Graph) (id by : ℕ) (signed : Bool) (a : ℕ) → IsDag g →
+    slice_get g.nodes id ≡ Some (Extend by signed a) → signed ≡ false →
+    None ≡ under_signs (tree_of g id)
+extended_by_zeros g id by false a dag is e = ap under_signs (sym (tree_by_cases g id _ dag is))
+extended_by_zeros g id by true a dag is e = cc
 
 -- ---- complements and negatives
 complement_read : (f : ℕ → Tree) (n : Node) → ((w v : ℕ) → n ≡ Num w v → ⊥) →

@@ -1,6 +1,6 @@
 -- What the machine's products, quotients and remainders are made of: RISC-V unprivileged manual, "M
 -- Extension for Integer Multiplication and Division". The operands are terms of 32 bits.
-use Rattle.std.specs.Prelude.{◌==◌, ℕ, ◌-◌, ◌^◌, Bool, false, Option, Some, None, if◌then◌else◌}
+use Rattle.std.specs.Prelude.{ℕ, ◌-◌, ◌^◌, Bool, false, Option, Some, None, if◌then◌else◌}
 use Rattle.bv_dag.specs.Graphs.{Graph, number_of}
 use Rattle.bv_dag.specs.declared.nodes.BinaryOp.TheVariants.{Mul, Udiv, Urem, Xor}
 use Rattle.bv_dag.specs.declared.nodes.Comparison.TheVariants.{Eq}
@@ -10,7 +10,7 @@ use Rattle.term_trees.specs.Trees.{Tree, Constant, tree_width}
 use Rattle.term_simplify.specs.Plain.{part_of, extension_by}
 use Rattle.term_simplify.specs.Simplified.{negative_of, binary_of, comparison_of, choice_of}
 use Rattle.term_simplify.specs.Builds.{Builds}
-use Rattle.term_simplify.specs.Plans.{under_zeros}
+use Rattle.term_simplify.specs.Plans.{under_signs}
 
 -- the top bit
 abbrev pub sign_tree : Tree → Tree
@@ -20,9 +20,14 @@ sign_tree t = part_of 31 31 t
 abbrev pub signed_tree : (bit t : Tree) → Tree
 signed_tree bit t = choice_of bit (negative_of t) t
 
--- how far a term is from 0
+-- how far a term is from 0: of a narrower one widened by its sign that has no more bits than it
+abbrev pub magnitude_by : Option Tree → Tree → Tree
+magnitude_by (Some u) t =
+    extension_by (32 - tree_width u) false (choice_of (sign_tree t) (negative_of u) u)
+magnitude_by None t = signed_tree (sign_tree t) t
+
 abbrev pub magnitude_tree : Tree → Tree
-magnitude_tree t = signed_tree (sign_tree t) t
+magnitude_tree t = magnitude_by (under_signs t) t
 
 -- the quotient of the magnitudes, negative where the signs differ
 abbrev pub signed_quotient_tree : Tree → Tree → Tree

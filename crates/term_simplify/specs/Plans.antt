@@ -72,6 +72,11 @@ abbrev pub under_zeros : Tree → Option Tree
 under_zeros (Widened by false t) = Some t
 under_zeros t = None
 
+-- the term that a term widens by its sign
+abbrev pub under_signs : Tree → Option Tree
+under_signs (Widened by true t) = Some t
+under_signs t = None
+
 -- bits that a term has
 pub record IsSpan (graph : Graph) (span : Span) : Type 0 where
   pub there : span.operand < length graph.nodes

@@ -1,18 +1,20 @@
 //! The machine's products, quotients and remainders, each made of several terms. After want of memory the terms on the way
 //! are taken away again.
 
-ghost use Rattle.std.specs.Prelude.{◌≡◌, ◌<◌, ℕ, Bool, List, true, false, IfOk, OnOk, OnErr, take};
-ghost use Rattle.bv_dag.specs.BitVectors.{bvneg, ite};
+ghost use Rattle.std.specs.Prelude.{◌≡◌, ◌<◌, ◌-◌, ℕ, Bool, List, true, false, IfOk, OnOk, OnErr, take};
+ghost use Rattle.bv_dag.specs.BitVectors.{bvneg, ite, zero_extend};
 ghost use Rattle.bv_dag.specs.Graphs.{val, width_of};
 ghost use Rattle.bv_dag.specs.Nodes.{Fits, node_value, node_width, widths_of};
 ghost use Rattle.rv_decode.specs.declared.ops.RegisterOp.{RegisterOp};
 ghost use Rattle.term_trees.specs.Growth.{Continues};
 ghost use Rattle.term_trees.specs.Trees.{tree_of, node_tree, IsTerm};
 ghost use Rattle.term_simplify.specs.Machine.{sign_tree, signed_tree, magnitude_tree, signed_quotient_tree, or_ones_tree, quotient_tree, remainder_tree, upper_tree, BuildsCombined};
-ghost use Rattle.term_simplify.specs.Simplified.{simplified, binary_of};
+ghost use Rattle.term_simplify.specs.Plain.{extension_by};
+ghost use Rattle.term_simplify.specs.Simplified.{simplified, negative_of, binary_of, choice_of};
 ghost use Rattle.term_simplify.specs.Steps.{Stands, sign_word, signed_word, magnitude_word, signed_quotient_word, or_ones_word, upper_word, StandsCombined};
 
 use crate::builder::Builder;
+use crate::plan::under_signs;
 use bv_dag::{BinaryOp, Comparison, Node};
 use std::alloc::AllocError as NoMemory;
 
@@ -54,6 +56,50 @@ impl Builder {
         })
     }
 
+    /// The magnitude of a narrower term of 32 bits, by its sign, widened to 32 bits.
+    fn narrow_magnitude(&mut self, negative: usize, a: usize) -> Result<usize, NoMemory>
+        requires bit { width_of self.old negative ≡ 1 }
+        requires not_empty { 0 < width_of self.old a }
+        requires below_32 { width_of self.old a < 32 }
+        ensures continues { Continues self.old self.new }
+        ensures ok { IfOk result (λ id. Stands self.new id
+            (extension_by (32 - width_of self.old a) false
+            (choice_of (tree_of self.old negative) (negative_of (tree_of self.old a))
+            (tree_of self.old a))) 32
+            (λ input. zero_extend (32 - width_of self.old a)
+            (ite (val self.old negative input) (bvneg (val self.old a input))
+            (val self.old a input)))) }
+        ensures term { IsTerm self.old.inputs (tree_of self.old a) }
+    {
+        let by = 32 - self.terms().width_of(a);
+        let opposite = self.step(Node::Neg(a))?;
+        let magnitude = self.step(Node::Ite {
+            condition: negative,
+            yes: opposite,
+            no: a,
+        })?;
+        self.step(Node::Extend {
+            by,
+            signed: false,
+            operand: magnitude,
+        })
+    }
+
+    /// How far a term is from 0, by its sign.
+    fn magnitude(&mut self, negative: usize, a: usize) -> Result<usize, NoMemory>
+        requires whole { width_of self.old a ≡ 32 }
+        requires sign { Stands self.old negative (sign_tree (tree_of self.old a)) 1
+            (λ input. sign_word (val self.old a input)) }
+        ensures continues { Continues self.old self.new }
+        ensures ok { IfOk result (λ id. Stands self.new id (magnitude_tree (tree_of self.old a)) 32
+            (λ input. magnitude_word (val self.old a input))) }
+    {
+        match under_signs(self.terms(), a) {
+            Some(narrow) => self.narrow_magnitude(negative, narrow),
+            None => self.with_sign(negative, a),
+        }
+    }
+
     fn parts(&mut self, a: usize) -> Result<Parts, NoMemory>
         requires { width_of self.old a ≡ 32 }
         ensures continues { Continues self.old self.new }
@@ -69,7 +115,7 @@ impl Builder {
             low: 31,
             operand: a,
         })?;
-        let magnitude = self.with_sign(negative, a)?;
+        let magnitude = self.magnitude(negative, a)?;
         Ok(Parts {
             negative,
             magnitude,

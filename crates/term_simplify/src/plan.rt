@@ -4,7 +4,7 @@ ghost use Rattle.std.specs.Prelude.{◌≡◌, ◌<◌, ◌≤◌, ℕ, List, le
 ghost use Rattle.bv_dag.specs.Graphs.{Graph, IsDag, width_of};
 ghost use Rattle.bv_dag.specs.Nodes.{Fits};
 ghost use Rattle.term_trees.specs.Trees.{Tree, tree_of};
-ghost use Rattle.term_simplify.specs.Plans.{Makes, node_number, under_zeros};
+ghost use Rattle.term_simplify.specs.Plans.{Makes, node_number, under_signs, under_zeros};
 ghost use Rattle.term_simplify.specs.Plain.{number_tree, tree_number, complement_of, plain_negative};
 
 use bv_dag::{Node, Word};
@@ -87,6 +87,24 @@ pub(crate) fn under_zeros(terms: &Terms, id: usize) -> Option<usize>
             operand,
             ..
         } => { if signed { None } else { Some(operand) } }
+        _ => None,
+    }
+}
+
+/// The term that a term widens by its sign.
+pub(crate) fn under_signs(terms: &Terms, id: usize) -> Option<usize>
+    requires { id < length terms.now.nodes }
+    ensures tree { option_map (tree_of terms.now) result ≡ under_signs (tree_of terms.now id) }
+    ensures fit { IsDag terms.now }
+    ensures there { IfSome result (λ k. k < length terms.now.nodes) }
+    ensures narrower { IfSome result (λ k. width_of terms.now k < width_of terms.now id) }
+{
+    match terms.node(id) {
+        Node::Extend {
+            signed,
+            operand,
+            ..
+        } => { if signed { Some(operand) } else { None } }
         _ => None,
     }
 }
