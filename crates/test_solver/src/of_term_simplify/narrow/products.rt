@@ -1,0 +1,146 @@
+//! Products, which have as many bits as both operands, and quotients and remainders, which have no more than the longer one.
+
+use crate::of_term_simplify::narrow::New::{Is, Number, Signs, Zeros};
+use crate::of_term_simplify::narrow::Row;
+use bv_dag::BinaryOp::{Lshr, Mul, Udiv, Urem};
+use bv_dag::Node::{Binary, Extend, Extract};
+
+pub(crate) const PRODUCTS: &[Row] = &[
+    // Two bytes, without sign, with signs, and one of each, where the first takes 9 bits with a sign.
+    (
+        &[],
+        &[Binary(Mul, 2, 3)],
+        &[
+            Zeros(8, 0),
+            Zeros(8, 1),
+            Is(Binary(Mul, 9, 10)),
+            Zeros(16, 11),
+        ],
+        12,
+    ),
+    (
+        &[],
+        &[Binary(Mul, 4, 5)],
+        &[
+            Signs(8, 0),
+            Signs(8, 1),
+            Is(Binary(Mul, 9, 10)),
+            Signs(16, 11),
+        ],
+        12,
+    ),
+    (
+        &[],
+        &[Binary(Mul, 2, 5)],
+        &[
+            Zeros(9, 0),
+            Signs(9, 1),
+            Is(Binary(Mul, 9, 10)),
+            Signs(15, 11),
+        ],
+        12,
+    ),
+    // 10 has 4 bits.
+    (
+        &[10],
+        &[Binary(Mul, 2, 9)],
+        &[
+            Zeros(4, 0),
+            Number(12, 10),
+            Is(Binary(Mul, 10, 11)),
+            Zeros(20, 12),
+        ],
+        13,
+    ),
+    // A product by 1 is the operand: the same tree, at a place of its own.
+    (
+        &[1],
+        &[Binary(Mul, 2, 9)],
+        &[Zeros(1, 0), Number(9, 1), Zeros(24, 0)],
+        12,
+    ),
+    // The upper word of the product of two bytes is 0.
+    (
+        &[],
+        &[
+            Extend {
+                by: 32,
+                signed: false,
+                operand: 2,
+            },
+            Extend {
+                by: 32,
+                signed: false,
+                operand: 3,
+            },
+            Binary(Mul, 9, 10),
+            Extract {
+                high: 63,
+                low: 32,
+                operand: 14,
+            },
+        ],
+        &[
+            Zeros(56, 0),
+            Zeros(56, 1),
+            Zeros(8, 0),
+            Zeros(8, 1),
+            Is(Binary(Mul, 11, 12)),
+            Zeros(48, 13),
+            Number(32, 0),
+        ],
+        15,
+    ),
+];
+
+pub(crate) const QUOTIENTS: &[Row] = &[
+    // By 3, and by 1000, which has 10 bits.
+    (
+        &[3],
+        &[Binary(Udiv, 2, 9)],
+        &[Number(8, 3), Is(Binary(Udiv, 0, 10)), Zeros(24, 11)],
+        12,
+    ),
+    (
+        &[1000],
+        &[Binary(Udiv, 2, 9)],
+        &[
+            Zeros(2, 0),
+            Number(10, 1000),
+            Is(Binary(Udiv, 10, 11)),
+            Zeros(22, 12),
+        ],
+        13,
+    ),
+    // By a term, which may be 0: a quotient of 32 ones.
+    (&[], &[Binary(Udiv, 2, 3)], &[Is(Binary(Udiv, 2, 3))], 9),
+    // By 0.
+    (&[0], &[Binary(Udiv, 2, 9)], &[Number(32, 0xFFFF_FFFF)], 10),
+    // A byte with its sign, which may be a large number.
+    (&[3], &[Binary(Udiv, 4, 9)], &[Is(Binary(Udiv, 4, 9))], 10),
+];
+
+pub(crate) const REMAINDERS: &[Row] = &[
+    // By 10, and by a term, which may be 0: the byte.
+    (
+        &[10],
+        &[Binary(Urem, 2, 9)],
+        &[Number(8, 10), Is(Binary(Urem, 0, 10)), Zeros(24, 11)],
+        12,
+    ),
+    (
+        &[],
+        &[Binary(Urem, 2, 3)],
+        &[Is(Binary(Urem, 0, 1)), Zeros(24, 9)],
+        10,
+    ),
+    // By a term of 32 bits.
+    (&[], &[Binary(Urem, 2, 6)], &[Is(Binary(Urem, 2, 6))], 9),
+    // A shift to the right by a term.
+    (
+        &[],
+        &[Binary(Lshr, 2, 3)],
+        &[Is(Binary(Lshr, 0, 1)), Zeros(24, 9)],
+        10,
+    ),
+];
