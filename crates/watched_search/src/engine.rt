@@ -7,13 +7,15 @@ use crate::analysis::Analysis;
 use crate::assignment::Assignment;
 use crate::clause_store::ClauseStore;
 use crate::code::Code;
-use crate::lesson::step;
+use crate::history::History;
+use crate::log_making::log_of;
 use crate::minimising::Minimiser;
+use crate::needed::{all, needed_by_last};
 use crate::propagation::propagate;
 use crate::proposal::Proposal;
 use crate::restarts::Restarts;
 use crate::watches::Watches;
-use cnf_form::{Cnf, Lit, Log, LogStep};
+use cnf_form::{Cnf, Lit, Log};
 use std::alloc::{AllocError as NoMemory, Global};
 
 // Formulas with more variables, clauses or literals aren't searched: their numbers have to fit into 32 bits, a watch's too.
@@ -30,7 +32,7 @@ struct Engine {
     analysis: Analysis,
     minimiser: Minimiser,
     restarts: Restarts,
-    log: Log,
+    history: History,
     /// A clause that was false from the start.
     falsified: Option<u32>,
     /// The greatest variable.
@@ -48,7 +50,7 @@ impl Drop for Engine {
             analysis: _analysis,
             minimiser: _minimiser,
             restarts: _restarts,
-            log: _log,
+            history: _history,
             falsified: _falsified,
             last: _last,
         } = self;
@@ -90,7 +92,7 @@ impl Engine {
             analysis: Analysis::new(alloc, last)?,
             minimiser: Minimiser::new(alloc),
             restarts: Restarts::new(),
-            log: Log::new(alloc),
+            history: History::new(alloc, u32::try_from(clauses).unwrap_or(u32::MAX)),
             falsified: None,
             last,
         })
@@ -237,21 +239,18 @@ impl Engine {
     }
 
     // What the conflict at the clause of this number shows, after a decision.
-    fn analyse(&mut self, alloc: Global, conflict: u32) -> Result<Option<LogStep>, NoMemory> {
+    fn analyse(&mut self, conflict: u32) -> Result<(), NoMemory> {
         self.analysis
             .analyse(&self.assignment, &self.clauses, conflict)?;
         self.raise();
         self.minimiser
             .minimise(&mut self.analysis, &self.assignment, &self.clauses)?;
-        step(alloc, &mut self.analysis, conflict)
+        self.history.note(&mut self.analysis.used, conflict)
     }
 
     // Learns from the conflict, and goes back to where what was learnt forces a literal.
-    fn learn(&mut self, alloc: Global, conflict: u32) -> Result<bool, NoMemory> {
-        let Some(step) = self.analyse(alloc, conflict)? else {
-            return Ok(false);
-        };
-        self.log.push(step)?;
+    fn learn(&mut self, conflict: u32) -> Result<(), NoMemory> {
+        self.analyse(conflict)?;
         let level = self.level_to_keep();
         self.keep()?;
         self.backjump(level);
@@ -261,17 +260,23 @@ impl Engine {
         if self.restarts.is_due() {
             self.backjump(0);
         }
-        Ok(true)
+        Ok(())
     }
 
-    // Ends the log by the empty clause, since the clause of this number is false before any decision.
-    fn refute(&mut self, alloc: Global, conflict: u32) -> Result<(), NoMemory> {
+    // Learns the empty clause, since the clause of this number is false before any decision. The log has what that needs.
+    fn refute(&mut self, alloc: Global, conflict: u32) -> Result<Option<Log>, NoMemory> {
         self.analysis
             .refute(&self.assignment, &self.clauses, conflict)?;
-        if let Some(step) = step(alloc, &mut self.analysis, conflict)? {
-            self.log.push(step)?;
-        }
-        Ok(())
+        self.history.note(&mut self.analysis.used, conflict)?;
+        self.clauses.close(0, 0)?;
+        let needed = needed_by_last(alloc, &self.history)?;
+        log_of(alloc, &self.clauses, &self.history, &needed)
+    }
+
+    // The log of all that was learnt.
+    fn spend(&self, alloc: Global) -> Result<Option<Log>, NoMemory> {
+        let wanted = all(alloc, &self.history)?;
+        log_of(alloc, &self.clauses, &self.history, &wanted)
     }
 
     // Learns a clause for each that the budget allows, until one is empty or all variables have values.
@@ -281,15 +286,15 @@ impl Engine {
                 return Ok(Some(Proposal::Found(self.assignment.valuation(alloc)?)));
             };
             if self.assignment.level() == 0 {
-                self.refute(alloc, conflict)?;
-                return Ok(Some(Proposal::Refuted(self.log.take(alloc))));
+                return Ok(
+                    self.refute(alloc, conflict)?
+                        .map(|log| Proposal::Refuted(log)),
+                );
             }
-            if !self.learn(alloc, conflict)? {
-                return Ok(None);
-            }
+            self.learn(conflict)?;
         }
         match self.run()? {
-            Some(_) => Ok(Some(Proposal::Spent(self.log.take(alloc)))),
+            Some(_) => Ok(self.spend(alloc)?.map(|log| Proposal::Spent(log))),
             None => Ok(Some(Proposal::Found(self.assignment.valuation(alloc)?))),
         }
     }

@@ -1,6 +1,6 @@
 //! A fast search for a valuation of a formula: conflict-driven clause learning with two watched literals a clause, as in
 //! MiniSat. Nothing is promised of what it proposes but that it comes to an end: whoever uses a proposal checks it, which costs
-//! little beside finding it. So a place that isn't there, which never happens, is read as some other, and no proof is owed.
+//! little beside finding it. So no proof is owed that a place is there that is read: one that isn't is read as some other.
 //!
 //! - `engine`: the search: it propagates until a clause is false, learns from that, goes back, and goes on
 //! - `proposal`: what a search proposes
@@ -11,7 +11,9 @@
 //! - `propagation`: what follows from the literals that have become true
 //! - `analysis`: the first point through which all led to a conflict
 //! - `minimising`: literals of a learnt clause that follow from the others
-//! - `lesson`: what is learnt: a clause, and the hints by which it follows
+//! - `history`: by what each learnt clause follows, kept until the search ends
+//! - `needed`: which of them the empty clause rests on
+//! - `log_making`: the log of the clauses that are wanted, made at the end
 //! - `heap`, `activity`, `restarts`: what to choose, when to begin again
 #![tactic(auto)]
 
@@ -22,8 +24,10 @@ mod clause_store;
 mod code;
 mod engine;
 mod heap;
-mod lesson;
+mod history;
+mod log_making;
 mod minimising;
+mod needed;
 mod propagation;
 mod proposal;
 mod restarts;
