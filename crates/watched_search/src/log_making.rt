@@ -27,7 +27,8 @@ impl<'a> Drop for Making<'a> {
     }
 }
 
-// The literals of a clause, those of greater variables first, so that a clause finds the place of each at its front.
+// The literals of a clause, those of greater variables first, so that a clause finds the place of each at its front. In the other
+// order it would look through all that it has for each, which costs more than to move them.
 fn literals(alloc: Global, codes: &[Code]) -> Result<Vec<Lit>, NoMemory> {
     let mut literals: Vec<Lit> = codes
         .iter()
