@@ -7,6 +7,7 @@ use crate::analysis::Analysis;
 use crate::assignment::Assignment;
 use crate::clause_store::ClauseStore;
 use crate::code::Code;
+use crate::fixed_literals::leave_out;
 use crate::history::History;
 use crate::log_making::log_of;
 use crate::minimising::Minimiser;
@@ -245,6 +246,7 @@ impl Engine {
         self.raise();
         self.minimiser
             .minimise(&mut self.analysis, &self.assignment, &self.clauses)?;
+        leave_out(&mut self.analysis, &self.assignment, &self.clauses)?;
         self.history.note(&mut self.analysis.used, conflict)
     }
 

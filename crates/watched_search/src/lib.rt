@@ -11,6 +11,7 @@
 //! - `propagation`: what follows from the literals that have become true
 //! - `analysis`: the first point through which all led to a conflict
 //! - `minimising`: literals of a learnt clause that follow from the others
+//! - `fixed_literals`: literals that were false before any decision and follow from others that were
 //! - `history`: by what each learnt clause follows, kept until the search ends
 //! - `needed`: which of them the empty clause rests on
 //! - `log_making`: the log of the clauses that are wanted, made at the end
@@ -23,6 +24,7 @@ mod assignment;
 mod clause_store;
 mod code;
 mod engine;
+mod fixed_literals;
 mod heap;
 mod history;
 mod log_making;
