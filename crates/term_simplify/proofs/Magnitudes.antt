@@ -1,5 +1,5 @@
 -- The magnitude of a term widened by its sign is that of the narrower term, widened by zeros.
-use Rattle.std.proofs.Common.{◌≡◌, ◌∙◌, ◌<◌, ℕ, ◌+◌, ◌-◌, true, false, List, Some, None, refl, ap, sym, arith}
+use Rattle.std.proofs.Common.{◌≡◌, ◌∙◌, ◌<◌, ℕ, ◌+◌, ◌-◌, true, false, List, Some, None, ap, sym, arith}
 use Rattle.std.specs.List.{All}
 use Rattle.std.specs.Prelude.{Option}
 use Rattle.bv_dag.specs.BitVectors.{BitVector, bvneg, extract, ite, sign_extend, zero_extend}

@@ -1,12 +1,12 @@
 -- How many low bits tell a term is true of its value.
-use Rattle.std.proofs.Common.{◌≡◌, ℕ, ◌+◌, ◌-◌, ◌^◌, ◌<◌, ◌≤◌, Bool, true, false, cond, List, sym, arith}
+use Rattle.std.proofs.Common.{ℕ, ◌+◌, ◌-◌, ◌^◌, ◌<◌, ◌≤◌, true, false, cond, List, arith}
 use Rattle.std.specs.Int.{leading_zeros, w64}
 use Rattle.std.specs.List.{All}
 use Rattle.std.proofs.Math.Nat.{le-max_left, le-max_right}
 use Rattle.std.proofs.lemmas.Nat.{leading_length}
 use Rattle.bv_dag.specs.BitVectors.{BitVector, IsBitVector, bvnot, is_negative, zero_extend}
 use Rattle.bv_dag.proofs.Numbers.{wider}
-use Rattle.term_trees.specs.Trees.{Tree, Constant, Widened, tree_width, tree_value, IsTerm, IsOfWidth}
+use Rattle.term_trees.specs.Trees.{Tree, Constant, Widened, tree_width, tree_value, IsTerm}
 use Rattle.term_trees.proofs.Ranges.{in_range}
 use Rattle.term_simplify.specs.Narrowing.{length_of, number_reach, reach_of}
 use Rattle.term_simplify.specs.declared.narrowing.Reach.{Reach}
@@ -40,9 +40,9 @@ number_told w v is =
       some_signed = omega arith;
       within = elim (is_negative (record { width = w; number = v })) as
           (λ b. length_of (cond b (2 ^ w - 1 - v) v) + 1 ≤ w → IsWithin w (length_of (cond b (2 ^ w - 1 - v) v) + 1) (record { width = w; number = v })) [
-        | true ↦ within_large w (length_of (2 ^ w - 1 - v)) (record { width = w; number = v }) is.in_range (length_holds (2 ^ w - 1 - v) (omega (arith, is.in_range, wider w 64 is.at_most_64)))
-        | false ↦ within_small w (length_of v) (record { width = w; number = v }) (length_holds v below)
-      ];
+            | true ↦ within_large w (length_of (2 ^ w - 1 - v)) (record { width = w; number = v }) is.in_range (length_holds (2 ^ w - 1 - v) (omega (arith, is.in_range, wider w 64 is.at_most_64)))
+            | false ↦ within_small w (length_of v) (record { width = w; number = v }) (length_holds v below)
+          ];
     }
 
 -- ---- any term

@@ -1,7 +1,7 @@
 -- What is made of low bits, and widened, is worth what the operation is.
 use Rattle.std.proofs.Common.{◌≡◌, ◌⊎◌, ◌∙◌, ℕ, ◌+◌, ◌-◌, ◌<◌, ◌≤◌, Bool, true, false, Some, None, ap, sym, refl, arith, inl, inr, max, min}
 use Rattle.std.specs.Prelude.{if◌then◌else◌, nat_lt}
-use Rattle.std.proofs.Math.Nat.{le-max_left, le-max_right, min-eq_left, min-eq_right, min-le_left, min-le_right}
+use Rattle.std.proofs.Math.Nat.{le-max_left, le-max_right, min-eq_left, min-eq_right}
 use Rattle.bv_dag.specs.BitVectors.{BitVector, bvneg, extract, ite, sign_extend, zero_extend}
 use Rattle.bv_dag.specs.Nodes.{binary, compare}
 use Rattle.bv_dag.proofs.Numbers.{wider}
@@ -40,9 +40,9 @@ pub narrowest_is : (unsigned signed width : ℕ) (n : Narrow) → narrowest unsi
 narrowest_is unsigned signed width n e =
     elim (le_tells unsigned signed) [
       | inl le ↦ elim (lt_tells unsigned width) [
-            | inl lt ↦ inl (sym (some_is _ n (rw (le.0, lt.0) at e)), lt.1)
-            | inr more ↦ inr (with_sign signed width n (rw (le.0, more.0) at e))
-          ]
+        | inl lt ↦ inl (sym (some_is _ n (rw (le.0, lt.0) at e)), lt.1)
+        | inr more ↦ inr (with_sign signed width n (rw (le.0, more.0) at e))
+      ]
       | inr more ↦ inr (with_sign signed width n (rw more.0 at e))
     ]
 
@@ -64,14 +64,14 @@ module _ (w : ℕ) (a b : Reach) (x y : BitVector) (p : IsOfWidth w x) (q : IsOf
       (0 < unsigned_result op by_number a b) ×
       (zero_extend (w - unsigned_result op by_number a b) (binary op (extract (unsigned_result op by_number a b - 1) 0 x) (extract (unsigned_result op by_number a b - 1) 0 y)) ≡ binary op x y)
   unsigned_binary Add by divides less = (
-      omega arith,
-      narrow_add w (most + 1) a.unsigned b.unsigned x y p.width (omega arith) less first.few second.few
-      (omega (arith, le-max_left a.unsigned b.unsigned)) (omega (arith, le-max_right a.unsigned b.unsigned)),
-    )
+    omega arith,
+    narrow_add w (most + 1) a.unsigned b.unsigned x y p.width (omega arith) less first.few second.few
+        (omega (arith, le-max_left a.unsigned b.unsigned)) (omega (arith, le-max_right a.unsigned b.unsigned)),
+  )
   unsigned_binary Mul by divides less = (
-      omega (arith, first.some),
-      narrow_mul w (a.unsigned + b.unsigned) a.unsigned b.unsigned x y p.width (omega (arith, first.some)) less first.few second.few (omega arith),
-    )
+    omega (arith, first.some),
+    narrow_mul w (a.unsigned + b.unsigned) a.unsigned b.unsigned x y p.width (omega (arith, first.some)) less first.few second.few (omega arith),
+  )
   unsigned_binary And by divides less =
       elim (le_tells a.unsigned b.unsigned) [
         | inl le ↦
@@ -89,9 +89,11 @@ module _ (w : ℕ) (a b : Reach) (x y : BitVector) (p : IsOfWidth w x) (q : IsOf
       (some, narrow_lshr w most a.unsigned b.unsigned x y p.width some less first.few second.few (le-max_left a.unsigned b.unsigned) (le-max_right a.unsigned b.unsigned))
   unsigned_binary Urem by divides less =
       (some, narrow_urem w most a.unsigned b.unsigned x y p.width some less first.few second.few (le-max_left a.unsigned b.unsigned) (le-max_right a.unsigned b.unsigned))
-  unsigned_binary Udiv true divides less =
-      (some, narrow_udiv w most a.unsigned b.unsigned x y p.width some less first.few second.few
-      (le-max_left a.unsigned b.unsigned) (le-max_right a.unsigned b.unsigned) (divides refl))
+  unsigned_binary Udiv true divides less = (
+    some,
+    narrow_udiv w most a.unsigned b.unsigned x y p.width some less first.few second.few
+        (le-max_left a.unsigned b.unsigned) (le-max_right a.unsigned b.unsigned) (divides refl),
+  )
   unsigned_binary Udiv false divides less = absurd (omega (arith, less, p.at_most_64))
   unsigned_binary Sub by divides less = absurd (omega (arith, less, p.at_most_64))
   unsigned_binary Shl by divides less = absurd (omega (arith, less, p.at_most_64))
@@ -203,9 +205,9 @@ module _ (w : ℕ) (a b : Reach) (x y : BitVector) (p : IsOfWidth w x) (q : IsOf
       elim (narrowest_is most widest w n e) [
         | inl h ↦ rw h.0 (record { fewer = record { some = some; fewer = h.1 }; worth = unsigned_test op h.1 })
         | inr h ↦ rw h.0 (record {
-            fewer = record { some = some_signed; fewer = h.1 };
-            worth = ap (λ (k : Comparison). compare k (extract (widest - 1) 0 x) (extract (widest - 1) 0 y)) (as_signed op) ∙ signed_test op h.1;
-          })
+          fewer = record { some = some_signed; fewer = h.1 };
+          worth = ap (λ (k : Comparison). compare k (extract (widest - 1) 0 x) (extract (widest - 1) 0 y)) (as_signed op) ∙ signed_test op h.1;
+        })
       ]
 
   -- ---- a choice
@@ -214,9 +216,9 @@ module _ (w : ℕ) (a b : Reach) (x y : BitVector) (p : IsOfWidth w x) (q : IsOf
   choice_of_low c n r e =
       elim (narrowest_is most widest w n e) [
         | inl h ↦ rw h.0 (record {
-            fewer = record { some = some; fewer = h.1 };
-            worth = narrow_ite w most a.unsigned b.unsigned x y p.width some h.1 first.few second.few c (le-max_left a.unsigned b.unsigned) (le-max_right a.unsigned b.unsigned);
-          })
+          fewer = record { some = some; fewer = h.1 };
+          worth = narrow_ite w most a.unsigned b.unsigned x y p.width some h.1 first.few second.few c (le-max_left a.unsigned b.unsigned) (le-max_right a.unsigned b.unsigned);
+        })
         | inr h ↦
             let fits : widest ≤ w = omega (arith, h.1) in
             rw h.0 (record {

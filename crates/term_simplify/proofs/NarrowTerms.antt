@@ -9,7 +9,7 @@ use Rattle.bv_dag.specs.declared.nodes.BinaryOp.{BinaryOp}
 use Rattle.bv_dag.specs.declared.nodes.Comparison.{Comparison}
 use Rattle.bv_dag.specs.declared.nodes.Node.{Node}
 use Rattle.bv_dag.specs.declared.nodes.Node.TheVariants.{Num, Input, Not, Neg, Binary, Compare, Ite, Extract, Extend, Concat}
-use Rattle.term_trees.specs.Trees.{Tree, Negated, Two, Test, Choice, tree_of, tree_width, tree_value, IsTerm, IsOfWidth}
+use Rattle.term_trees.specs.Trees.{Tree, Negated, Two, Test, Choice, tree_of, tree_width, tree_value, IsTerm}
 use Rattle.term_trees.proofs.Ranges.{in_range}
 use Rattle.term_trees.proofs.TreeLaws.{value-tree_of, width-tree_of}
 use Rattle.term_simplify.specs.Moves.{unmoved}

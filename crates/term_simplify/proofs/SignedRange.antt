@@ -1,6 +1,6 @@
 -- Signed numbers of fewer bits than they are written in: which there are, and that their low bits tell them.
 use Rattle.std.proofs.Common.{◌≡◌, ◌⊎◌, ℕ, ◌+◌, ◌-◌, ◌*◌, ◌/◌, ◌%◌, ◌^◌, ◌<◌, ◌≤◌, ap, sym, ◌∙◌, arith, inl, inr}
-use Rattle.std.proofs.Math.Nat.{add-mul-mod_self_right, div-one, mod-eq_of_lt}
+use Rattle.std.proofs.Math.Nat.{add-mul-mod_self_right, mod-eq_of_lt}
 use Rattle.std.proofs.lemmas.Nat.{div-add-mod', pow-add, pow_pos}
 use Rattle.bv_dag.specs.BitVectors.{BitVector, extract, sign_extend}
 use Rattle.bv_dag.proofs.Numbers.{wider}

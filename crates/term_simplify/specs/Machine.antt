@@ -1,6 +1,6 @@
 -- What the machine's products, quotients and remainders are made of: RISC-V unprivileged manual, "M
 -- Extension for Integer Multiplication and Division". The operands are terms of 32 bits.
-use Rattle.std.specs.Prelude.{ℕ, ◌-◌, ◌^◌, Bool, false, Option, Some, None, if◌then◌else◌}
+use Rattle.std.specs.Prelude.{ℕ, ◌-◌, ◌^◌, Bool, false, Option, Some, None}
 use Rattle.bv_dag.specs.Graphs.{Graph, number_of}
 use Rattle.bv_dag.specs.declared.nodes.BinaryOp.TheVariants.{Mul, Udiv, Urem, Xor}
 use Rattle.bv_dag.specs.declared.nodes.Comparison.TheVariants.{Eq}
