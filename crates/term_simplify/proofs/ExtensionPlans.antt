@@ -1,6 +1,6 @@
 -- The rules of extensions and joins, as the plans go through them.
-use Rattle.std.proofs.Common.{◌≡◌, ℕ, ◌+◌, ◌-◌, ◌<◌, ◌≤◌, Bool, true, false, length, refl, ap, sym, ◌∙◌, arith, Some, None}
-use Rattle.std.specs.Prelude.{Option, option_map}
+use Rattle.std.proofs.Common.{◌≡◌, ℕ, ◌+◌, ◌≤◌, Bool, true, false, refl, ap, sym, ◌∙◌, arith, Some, None}
+use Rattle.std.specs.Prelude.{Option}
 use Rattle.std.specs.List.{slice_get}
 use Rattle.bv_dag.specs.BitVectors.{BitVector, concat}
 use Rattle.bv_dag.specs.Graphs.{Graph, IsDag, width_of}
@@ -9,11 +9,12 @@ use Rattle.bv_dag.specs.declared.nodes.Node.{Node}
 use Rattle.bv_dag.specs.declared.nodes.Node.TheVariants.{Num, Input, Not, Neg, Binary, Compare, Ite, Extract, Extend, Concat}
 use Rattle.term_trees.specs.Trees.{Tree, Widened, Joined, tree_of, tree_width, node_tree}
 use Rattle.term_trees.proofs.TreeLaws.{tree_by_cases, width-tree_of}
-use Rattle.term_simplify.specs.Plans.{Follows, Makes, plan_tree, under_zeros}
-use Rattle.term_simplify.specs.Plain.{tree_number, number_tree, extension_by, join_of, joined_of}
+use Rattle.term_simplify.specs.Plans.{Follows, Makes, plan_tree, stacked, under}
+use Rattle.term_simplify.specs.Plain.{tree_number, number_tree, extension_by, further, join_of, joined_of}
 use Rattle.term_simplify.specs.declared.plan.Plan.{Plan}
+use Rattle.term_simplify.specs.declared.recipe.Above.{Above}
 use Rattle.term_simplify.proofs.JoinTerms.{width-join_of}
-use Rattle.term_simplify.proofs.Reading.{IsOperand, Makes-same, has_bits, operand, width_at}
+use Rattle.term_simplify.proofs.Reading.{IsOperand, Makes-same, extended_width, operand, term_at}
 use Rattle.term_simplify.proofs.Words.{tests_equal, tests_unequal}
 
 extension_read : (f : ℕ → Tree) (n : Node) (by : ℕ) (signed : Bool) →
@@ -51,14 +52,11 @@ module _ (g : Graph) (id by : ℕ) (signed : Bool) (dag : IsDag g) where
     inner_operand : IsOperand g id a
     inner_operand = operand g id a _ dag is (dag.all_fit id (Extend inner fill a) is).0
 
-    inner_width : width_of g id ≡ width_of g a + inner
-    inner_width = omega (arith, width_at g id (Extend inner fill a) dag is, width-tree_of g a)
-
     pub inner_sum : inner + by ≤ 64
-    inner_sum = omega (arith, inner_width, fits.2)
+    inner_sum = omega (arith, extended_width g id inner fill a dag is, fits.2)
 
     pub inner_fits : Fits g.inputs (widths_of g.nodes) (Extend (inner + by) fill a)
-    inner_fits = (inner_operand.wide, omega (arith, fits.1), omega (arith, inner_width, fits.2))
+    inner_fits = (inner_operand.wide, omega (arith, fits.1), omega (arith, extended_width g id inner fill a dag is, fits.2))
 
   zeros_over_signs : (inner : ℕ) (fill : Bool) (t : Tree) → fill ≡ true → signed ≡ false →
       Widened by signed (Widened inner fill t) ≡ extension_by by signed (Widened inner fill t)
@@ -109,52 +107,74 @@ module _ (s t : Tree) (p q : Option BitVector) (e : p ≡ tree_number s) (f : q 
   pub join_none : p ≡ None → join_of s t ≡ Joined s t
   join_none is = rw (← e, is) refl
 
--- ---- zeros above the first
--- what a term is that widens another by zeros
-widened_so : (t u : Tree) → Some u ≡ under_zeros t → t ≡ Widened (tree_width t - tree_width u) false u
-widened_so (Widened by false t) u e =
-    let same : t ≡ u = cc in
-    ap (λ k. Widened k false t) (omega arith) ∙ ap (λ k. Widened (tree_width t + by - tree_width k) false k) same
-widened_so (Widened by true t) u e = cc
-widened_so t u e = cc
-
-joined_under : (by : ℕ) (u t : Tree) → joined_of (Widened by false u) t ≡ extension_by by false (join_of u t)
+-- ---- further bits above the first
+joined_read : (f : ℕ → Tree) (n : Node) (t : Tree) →
+    ((by : ℕ) (signed : Bool) (a : ℕ) → n ≡ Extend by signed a → ⊥) →
+    joined_of (node_tree f n) t ≡ join_of (node_tree f n) t
 unfolding joined_of
-joined_under by u t = refl
+joined_read f (Extend by signed a) t other = absurd (other by signed a refl)
+joined_read f (Num w v) t other = refl
+joined_read f (Input i) t other = refl
+joined_read f (Not a) t other = refl
+joined_read f (Neg a) t other = refl
+joined_read f (Binary op a b) t other = refl
+joined_read f (Compare op a b) t other = refl
+joined_read f (Ite c a b) t other = refl
+joined_read f (Extract high low a) t other = refl
+joined_read f (Concat a b) t other = refl
 
-joined_plain : (s t : Tree) → None ≡ under_zeros s → joined_of s t ≡ join_of s t
+joined_under : (by : ℕ) (signed : Bool) (s t : Tree) → joined_of (Widened by signed s) t ≡ extension_by by signed (join_of s t)
 unfolding joined_of
-joined_plain (Widened by false s) t e = cc
-joined_plain (Widened by true s) t e = refl
-joined_plain s t e = refl
+joined_under by signed s t = refl
+
+-- no bits above, before those that are widened by
+abbrev bare_top : Above
+bare_top = record { signs = 0; zeros = 0 }
+
+stacked_alone : (by : ℕ) (signed : Bool) (t : Tree) → 1 ≤ by → under (stacked bare_top by signed) t ≡ extension_by by signed t
+stacked_alone by true t some =
+    let count : 0 + by ≡ by = omega arith in
+    ap (λ k. further k true t) count ∙ rw (tests_unequal by 0 (λ z. omega (arith, z, some))) refl
+stacked_alone by false t some =
+    let count : 0 + by + 0 ≡ by = omega arith in
+    ap (λ k. further k false t) count ∙ rw (tests_unequal by 0 (λ z. omega (arith, z, some))) refl
+
+stacked_count : (by : ℕ) (signed : Bool) → (stacked bare_top by signed).signs + (stacked bare_top by signed).zeros ≡ by
+stacked_count by true = omega arith
+stacked_count by false = omega arith
 
 module _ (g : Graph) (dag : IsDag g) (high low : ℕ) (fits : Fits g.inputs (widths_of g.nodes) (Concat high low)) where
-  pub none_under : (r : Option ℕ) (plan : Plan) → r ≡ None → option_map (tree_of g) r ≡ under_zeros (tree_of g high) →
+  pub joined_plain : (n : Node) (plan : Plan) → slice_get g.nodes high ≡ Some n →
+      ((by : ℕ) (signed : Bool) (a : ℕ) → n ≡ Extend by signed a → ⊥) →
       Makes g plan (join_of (tree_of g high) (tree_of g low)) → Makes g plan (joined_of (tree_of g high) (tree_of g low))
-  none_under r plan is e makes =
-      Makes-same g plan _ _ makes (joined_plain (tree_of g high) (tree_of g low) (sym (ap (option_map (tree_of g)) is) ∙ e))
+  joined_plain n plan is other makes = Makes-same g plan _ _ makes
+      (rw (tree_by_cases g high n dag is) (joined_read (tree_of g) n (tree_of g low) other))
 
-  module _ (k by : ℕ) (r : Option ℕ) (is : r ≡ Some k) (e : option_map (tree_of g) r ≡ under_zeros (tree_of g high)) (there : k < length g.nodes)
-      (less : width_of g k < width_of g high) (difference : by ≡ width_of g high - width_of g k) where
-    as_zeros : tree_of g high ≡ Widened by false (tree_of g k)
-    as_zeros =
-        widened_so (tree_of g high) (tree_of g k) (sym (ap (option_map (tree_of g)) is) ∙ e)
-        ∙ ap (λ j. Widened j false (tree_of g k)) (omega (arith, difference, width-tree_of g high, width-tree_of g k))
+  module _ (by : ℕ) (signed : Bool) (k : ℕ) (is : slice_get g.nodes high ≡ Some (Extend by signed k)) where
+    high_width : width_of g high ≡ width_of g k + by
+    high_width = extended_width g high by signed k dag is
+
+    pub room_above : 0 + by + 0 ≤ 64
+    room_above = omega (arith, high_width, fits.2)
 
     pub join_fits : Fits g.inputs (widths_of g.nodes) (Concat k low)
-    join_fits = ((has_bits g k dag there).0, fits.1, omega (arith, less, fits.2))
+    join_fits =
+        ((operand g high k _ dag is (dag.all_fit high (Extend by signed k) is).0).wide, fits.1, omega (arith, high_width, fits.2))
 
-    pub zeros_on_top : (plan : Plan) → Makes g plan (join_of (tree_of g k) (tree_of g low)) →
-        Follows g (record { core = plan; above = record { signs = 0; zeros = by } }) (joined_of (tree_of g high) (tree_of g low))
-    zeros_on_top plan makes =
+    pub bits_on_top : (plan : Plan) (above : Above) → above ≡ stacked bare_top by signed →
+        Makes g plan (join_of (tree_of g k) (tree_of g low)) →
+        Follows g (record { core = plan; above = above }) (joined_of (tree_of g high) (tree_of g low))
+    bits_on_top plan above e makes =
         let bits : tree_width (plan_tree g plan) ≡ width_of g k + width_of g low =
         ap tree_width makes.is ∙ width-join_of (tree_of g k) (tree_of g low) ∙ omega (arith, width-tree_of g k, width-tree_of g low) in
+        let count : above.signs + above.zeros ≡ by = ap (λ (a : Above). a.signs + a.zeros) e ∙ stacked_count by signed in
         record {
           is =
-              rw (tests_unequal by 0 (λ z. omega (arith, z, difference, less)))
-              (ap (extension_by by false) makes.is ∙ sym (ap (λ s. joined_of s (tree_of g low)) as_zeros ∙ joined_under by (tree_of g k) (tree_of g low)));
+              ap (λ a. under a (plan_tree g plan)) e ∙ stacked_alone by signed (plan_tree g plan) (term_at g high _ dag is).1
+              ∙ ap (extension_by by signed) makes.is ∙ sym (joined_under by signed (tree_of g k) (tree_of g low))
+              ∙ ap (λ s. joined_of s (tree_of g low)) (sym (tree_by_cases g high _ dag is));
           fits = record {
             core = makes.fits;
-            room = λ _. (omega (arith, bits, fits.1), omega (arith, bits, difference, less, fits.2));
+            room = λ _. (omega (arith, bits, fits.1), omega (arith, bits, count, high_width, fits.2));
           };
         }

@@ -1,9 +1,9 @@
 -- An extension is worth what it was before it was simplified, and so are two terms that are joined.
 use Rattle.std.proofs.Common.{◌≡◌, ◌==◌, ℕ, ◌+◌, ◌-◌, ◌*◌, ◌^◌, ◌<◌, ◌≤◌, Bool, true, false, cond, List, Some, None, refl, ap, sym, ◌∙◌, arith, inl, inr}
-use Rattle.std.specs.Prelude.{Option}
+use Rattle.std.specs.Prelude.{Option, nat_le}
 use Rattle.std.proofs.lemmas.Bool.Decides.{eqb_tells}
 use Rattle.std.specs.List.{All}
-use Rattle.std.proofs.lemmas.Nat.{pow-add}
+use Rattle.std.proofs.lemmas.Nat.{div-mul-add, pow-add}
 use Rattle.bv_dag.specs.BitVectors.{BitVector, zero_extend, sign_extend, concat, is_negative}
 use Rattle.bv_dag.specs.Nodes.{extend}
 use Rattle.bv_dag.proofs.Numbers.{wider}
@@ -13,6 +13,7 @@ use Rattle.term_simplify.specs.Plain.{tree_number, extension_by, further, join_o
 use Rattle.term_simplify.proofs.JoinTerms.{term-join_of, width-join_of}
 use Rattle.term_simplify.proofs.Words.{by_parts, value_by_test, number_value, number_width, is_number, is_at_most, le_tells, not_at_most}
 use Rattle.term_simplify.proofs.TestRules.{not_negative}
+use Rattle.term_simplify.proofs.Uppers.{ones_over, sign_up}
 
 -- the top bit is 1 from the half on
 negative : (v : BitVector) (n : ℕ) → n ≡ v.width → 2 ^ (n - 1) ≤ v.number → is_negative v ≡ true
@@ -160,13 +161,52 @@ zeros_first : (by : ℕ) (x y : BitVector) → zero_extend by (concat x y) ≡ c
 unfolding zero_extend concat
 zeros_first by x y = by_parts (x.width + by + y.width) (x.number * 2 ^ y.width + y.number) _ (omega arith) refl
 
+-- copies of the sign of both are copies of that of the first, which has the top bit
+ones_first : (n m k a b : ℕ) → n * b + m + k * (a * b) ≡ (n + k * a) * b + m
+ones_first n m k a b = omega arith
+
+signs_filled : (by w v n m : ℕ) →
+    n * 2 ^ v + m + (2 ^ (w + v + by) - 2 ^ (w + v)) ≡ (n + (2 ^ (w + by) - 2 ^ w)) * 2 ^ v + m
+signs_filled by w v n m =
+    ap (λ k. n * 2 ^ v + m + k) (ones_over (w + v) by ∙ ap (λ k. (2 ^ by - 1) * k) (pow-add 2 w v))
+    ∙ ones_first n m (2 ^ by - 1) (2 ^ w) (2 ^ v) ∙ ap (λ k. (n + k) * 2 ^ v + m) (sym (ones_over w by))
+
+sign_joined : (w v : ℕ) (x y : BitVector) → IsOfWidth w x → IsOfWidth v y → is_negative (concat x y) ≡ is_negative x
+unfolding concat
+sign_joined w v x y p q =
+    let small : y.number < 2 ^ y.width = rw q.width q.in_range in
+    let top : x.width + y.width - 1 ≡ x.width - 1 + y.width = omega (arith, p.width, p.not_empty) in
+    ap (λ k. nat_le (2 ^ k) (x.number * 2 ^ y.width + y.number)) top
+    ∙ sym (sign_up (x.width - 1) y.width (x.number * 2 ^ y.width + y.number))
+    ∙ ap (nat_le (2 ^ (x.width - 1))) (div-mul-add x.number (2 ^ y.width) y.number small)
+
+signs_first : (by w v : ℕ) (x y : BitVector) → IsOfWidth w x → IsOfWidth v y →
+    sign_extend by (concat x y) ≡ concat (sign_extend by x) y
+unfolding sign_extend concat
+signs_first by w v x y p q =
+    let wide : x.width + y.width + by ≡ x.width + by + y.width = omega arith in
+    rw (sign_joined w v x y p q)
+    (elim (is_negative x) as (λ b. record {
+      width = x.width + y.width + by;
+      number = cond b (x.number * 2 ^ y.width + y.number + (2 ^ (x.width + y.width + by) - 2 ^ (x.width + y.width))) (x.number * 2 ^ y.width + y.number);
+    } ≡ concat (record { width = x.width + by; number = cond b (x.number + (2 ^ (x.width + by) - 2 ^ x.width)) x.number }) y) [
+      | true ↦ by_parts _ _ _ wide (signs_filled by x.width y.width x.number y.number)
+      | false ↦ by_parts _ _ _ wide refl
+    ])
+
+bits_first : (by w v : ℕ) (signed : Bool) (x y : BitVector) → IsOfWidth w x → IsOfWidth v y →
+    extend signed by (concat x y) ≡ concat (extend signed by x) y
+bits_first by w v true x y p q = signs_first by w v x y p q
+bits_first by w v false x y p q = zeros_first by x y
+
 pub value-joined_of : (inputs : ℕ) (input : List ℕ) (s t : Tree) → All (λ b. b < 256) input →
     IsTerm inputs (Joined s t) → tree_value input (joined_of s t) ≡ tree_value input (Joined s t)
 unfolding joined_of
-value-joined_of inputs input (Widened by false s) t bytes term =
+value-joined_of inputs input (Widened by signed s) t bytes term =
     let join : IsTerm inputs (Joined s t) = (term.0.0, term.1, omega (arith, term.2)) in
-    value-extension_by inputs input by false (join_of s t) bytes
+    value-extension_by inputs input by signed (join_of s t) bytes
     (term-join_of inputs s t join, term.0.1, omega (arith, width-join_of s t, term.2))
-    ∙ ap (zero_extend by) (value-join_of inputs input s t bytes join) ∙ zeros_first by (tree_value input s) (tree_value input t)
-value-joined_of inputs input (Widened by true s) t bytes term = value-join_of inputs input (Widened by true s) t bytes term
+    ∙ ap (extend signed by) (value-join_of inputs input s t bytes join)
+    ∙ bits_first by (tree_width s) (tree_width t) signed (tree_value input s) (tree_value input t)
+    (in_range inputs input bytes s term.0.0) (in_range inputs input bytes t term.1)
 value-joined_of inputs input s t bytes term = value-join_of inputs input s t bytes term

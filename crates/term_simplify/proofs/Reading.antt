@@ -1,5 +1,5 @@
 -- What stands at a place of a graph: its node, its tree, the number that it is, and its operands.
-use Rattle.std.proofs.Common.{◌≡◌, ℕ, ◌<◌, ◌≤◌, Bool, true, false, get_or, length, take, refl, ap, sym, subst, ◌∙◌, arith, Some, None}
+use Rattle.std.proofs.Common.{◌≡◌, ℕ, ◌+◌, ◌<◌, ◌≤◌, Bool, true, false, get_or, length, take, refl, ap, sym, subst, ◌∙◌, arith, Some, None}
 use Rattle.std.proofs.lemmas.Option.{slice_get_within}
 use Rattle.std.specs.Prelude.{Option}
 use Rattle.std.specs.List.{slice_get}
@@ -83,6 +83,11 @@ pub width_at : (g : Graph) (id : ℕ) (n : Node) → IsDag g → slice_get g.nod
     width_of g id ≡ tree_width (node_tree (tree_of g) n)
 width_at g id n dag is = sym (width-tree_of g id) ∙ ap tree_width (tree_by_cases g id n dag is)
 
+-- ---- widened
+pub extended_width : (g : Graph) (id by : ℕ) (signed : Bool) (a : ℕ) → IsDag g →
+    slice_get g.nodes id ≡ Some (Extend by signed a) → width_of g id ≡ width_of g a + by
+extended_width g id by signed a dag is = omega (arith, width_at g id (Extend by signed a) dag is, width-tree_of g a)
+
 -- ---- widened by zeros
 pub extended_below_64 : (g : Graph) (id by : ℕ) (signed : Bool) (a : ℕ) → IsDag g →
     slice_get g.nodes id ≡ Some (Extend by signed a) → width_of g a < 64
@@ -90,8 +95,7 @@ extended_below_64 g id by signed a dag is = omega (arith, (term_at g id _ dag is
 
 pub extended_narrower : (g : Graph) (id by : ℕ) (signed : Bool) (a : ℕ) → IsDag g →
     slice_get g.nodes id ≡ Some (Extend by signed a) → width_of g a < width_of g id
-extended_narrower g id by signed a dag is =
-    omega (arith, (term_at g id _ dag is).1, width-tree_of g a, sym (width-tree_of g id) ∙ ap tree_width (tree_by_cases g id _ dag is))
+extended_narrower g id by signed a dag is = omega (arith, (term_at g id _ dag is).1, extended_width g id by signed a dag is)
 
 zeros_read : (f : ℕ → Tree) (n : Node) →
     ((by : ℕ) (signed : Bool) (a : ℕ) → n ≡ Extend by signed a → ⊥) →

@@ -44,7 +44,7 @@ upper_filled n c low k =
     ∙ ap (λ m. n / 2 ^ low + m) (sym (ones_over c k))
 
 -- the top bit stays on top
-sign_up : (h low n : ℕ) → nat_le (2 ^ h) (n / 2 ^ low) ≡ nat_le (2 ^ (h + low)) n
+pub sign_up : (h low n : ℕ) → nat_le (2 ^ h) (n / 2 ^ low) ≡ nat_le (2 ^ (h + low)) n
 sign_up h low n =
     elim (le_tells (2 ^ (h + low)) n) [
       | inl over ↦ most_true _ _ (le-div (2 ^ h) n (2 ^ low) (pow_pos low) (omega (arith, pow-add 2 h low, over.1))) ∙ sym over.0

@@ -234,9 +234,9 @@ joined_by None y s t = Joined s t
 abbrev pub join_of : Tree → Tree → Tree
 join_of s t = joined_by (tree_number s) (tree_number t) s t
 
--- Zeros above a term go to the top.
+-- Zeros above the upper term, and copies of its sign, go to the top.
 unfoldable pub joined_of : Tree → Tree → Tree
-joined_of (Widened by false s) t = extension_by by false (join_of s t)
+joined_of (Widened by signed s) t = extension_by by signed (join_of s t)
 joined_of s t = join_of s t
 
 -- ---- The tree of a node by these rules, from those of its operands.

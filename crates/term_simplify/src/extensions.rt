@@ -7,8 +7,8 @@ ghost use Rattle.term_trees.specs.Trees.{tree_of};
 ghost use Rattle.term_simplify.specs.Plans.{Follows, HasRoom, Makes};
 ghost use Rattle.term_simplify.specs.Plain.{extension_by, further, join_of, joined_of};
 
-use crate::plan::{Plan, number, number_at, under_zeros};
-use crate::recipe::{Above, Recipe, alone};
+use crate::plan::{Plan, number, number_at};
+use crate::recipe::{Above, Recipe, alone, stacked};
 use bv_dag::{Node, Word};
 use term_table::Terms;
 
@@ -96,14 +96,15 @@ pub(crate) fn joined(terms: &Terms, high: usize, low: usize) -> Recipe
         (joined_of (tree_of terms.now high) (tree_of terms.now low)) }
     ensures fit { IsDag terms.now }
 {
-    match under_zeros(terms, high) {
-        Some(narrow) => {
-            let zeros = terms.width_of(high) - terms.width_of(narrow);
-            Recipe {
-                core: join(terms, narrow, low),
-                above: Above { signs: 0, zeros },
-            }
-        }
-        None => alone(join(terms, high, low)),
+    match terms.node(high) {
+        Node::Extend {
+            by,
+            signed,
+            operand: narrow,
+        } => Recipe {
+            core: join(terms, narrow, low),
+            above: stacked(Above { signs: 0, zeros: 0 }, by, signed),
+        },
+        _ => alone(join(terms, high, low)),
     }
 }
