@@ -19,6 +19,7 @@ use Rattle.term_simplify.specs.Moves.{move_tree}
 use Rattle.term_simplify.specs.Plans.{Follows, HasRoom, Makes, recipe_tree}
 use Rattle.term_simplify.specs.Plain.{further, plain}
 use Rattle.term_simplify.specs.Simplified.{simplified}
+use Rattle.term_simplify.specs.Steps.{Stands}
 use Rattle.term_simplify.specs.declared.moves.Move.{Move}
 use Rattle.term_simplify.specs.declared.plan.Plan.TheVariants.{Term}
 use Rattle.term_simplify.specs.declared.recipe.Recipe.{Recipe}
@@ -75,7 +76,7 @@ width_built g more id n value =
     width-val (with_node g n) (length g.nodes) [] ∙ width_of-new g n
 
 -- an answer that is such a tree
-built_as : {E : Type 0} (g more : Graph) (r : Result ℕ E) (n : Node) (made : Tree) →
+pub built_as : {E : Type 0} (g more : Graph) (r : Result ℕ E) (n : Node) (made : Tree) →
     IsWorth (node_tree (tree_of g) n) made → IfOk r (λ id. id < length more.nodes) →
     IfOk r (λ id. tree_of more id ≡ made) → OnOk r (Continues g more) →
     IfOk r (BuildsAs made g more n)
@@ -90,6 +91,11 @@ built_as g more (Ok id) n made worth there is ok =
       value = value;
     }
 built_as g more (Err x) n made worth there is ok = tt
+
+-- and is a term on the way
+pub stands_as : (g more : Graph) (n : Node) (made : Tree) (id : ℕ) → BuildsAs made g more n id →
+    Stands more id made (node_width (widths_of g.nodes) n) (λ input. node_value input (λ k. val g k input) n)
+stands_as g more n made id built = record { there = built.there; tree = built.tree; width = built.width; value = built.value }
 
 -- the answer of a recipe
 planned : {E : Type 0} (g more : Graph) (r : Result ℕ E) (recipe : Recipe) (tree : Tree) →

@@ -16,6 +16,7 @@ pub mod Moving
 pub mod MovedRules
 pub mod Moved
 pub mod NodeRules
+pub mod JointRules
 pub mod Reading
 pub mod NarrowReading
 pub mod Masking
@@ -24,6 +25,7 @@ pub mod ComparisonPlans
 pub mod PartPlans
 pub mod ChoicePlans
 pub mod ExtensionPlans
+pub mod JointReading
 pub mod Building
 pub mod Stepping
 pub mod MachineNumbers

@@ -5,5 +5,6 @@ pub mod Builds
 pub mod Plans
 pub mod Machine
 pub mod Moves
+pub mod Joints
 pub mod Operations
 pub mod Steps

@@ -164,7 +164,7 @@ impl Builder {
     }
 
     /// A term with so many further bits, where there are any.
-    fn further(&mut self, by: u32, signed: bool, id: usize) -> Result<usize, NoMemory>
+    pub(crate) fn further(&mut self, by: u32, signed: bool, id: usize) -> Result<usize, NoMemory>
         requires there { id < length self.old.nodes }
         requires room { HasRoom by (width_of self.old id) }
         ensures there { IfOk result (λ more. more < length self.new.nodes) }
@@ -234,7 +234,7 @@ impl Builder {
     {
         match narrowing_of(&self.terms, node) {
             Some(narrow) => self.narrow(node, narrow),
-            None => self.plain(node),
+            None => self.of_own_width(node),
         }
     }
 

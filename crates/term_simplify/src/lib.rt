@@ -1,7 +1,8 @@
 //! Terms that are simplified as they are built.
 //!
 //! A call finds its answer first, without a change: a term that stands already or one node to be pushed, and how many bits
-//! stand above it. Only then is the table written. A shift by a number is made of two or three such terms.
+//! stand above it. Only then is the table written. A shift by a number is made of two or three such terms, and an operation of
+//! two terms without a bit in common of one or two.
 #![tactic(auto)]
 
 mod binaries;
@@ -10,6 +11,7 @@ mod calls;
 mod choices;
 mod comparisons;
 mod extensions;
+mod joints;
 mod machine;
 mod masks;
 mod moves;

@@ -148,7 +148,8 @@ fn narrowest(unsigned: u32, signed: u32, width: u32) -> Option<Narrow>
     }
 }
 
-fn is_zero(x: Option<Word>) -> bool
+/// Whether it is the number 0.
+pub(crate) fn is_zero(x: Option<Word>) -> bool
     ensures { result ≡ narrowings.is_zero x }
 {
     match x {
