@@ -1,12 +1,14 @@
 //! Operations of which few low bits tell the result: they are made of as many low bits of their operands, and widened.
 
 mod bits;
+mod joints;
 mod products;
 mod sums;
 mod tests;
 
 use crate::of_term_simplify::calls::{build, is_node};
 use crate::of_term_simplify::narrow::bits::{BITWISE, FULL, SETTLED};
+use crate::of_term_simplify::narrow::joints::JOINTS;
 use crate::of_term_simplify::narrow::products::{PRODUCTS, QUOTIENTS, REMAINDERS};
 use crate::of_term_simplify::narrow::sums::{DIFFERENCES, SUMS};
 use crate::of_term_simplify::narrow::tests::{ALIKE, CHOICES, TESTS};
@@ -25,6 +27,8 @@ pub(crate) enum New {
     Zeros(u32, usize),
     /// So many copies of its sign above the term at a place.
     Signs(u32, usize),
+    /// The term at the first place above that at the second.
+    Above(usize, usize),
     /// So many low bits of the term at a place.
     Low(u32, usize),
     Is(Node),
@@ -64,6 +68,7 @@ fn node_of(rt: &impl Abort, term: &New) -> Node {
         New::Number(width, value) => Node::Num { width, value },
         New::Zeros(by, operand) => extended(by, false, operand),
         New::Signs(by, operand) => extended(by, true, operand),
+        New::Above(high, low) => Node::Concat { high, low },
         New::Low(bits, operand) => {
             assert!(rt; bits > 0);
             Node::Extract {
@@ -131,6 +136,7 @@ fn few_low_bits_tell_a_result(rt: HostRuntime) -> Result<(), Fail> {
         CHOICES,
         SETTLED,
         FULL,
+        JOINTS,
     ];
     for (table, rows) in tables.iter().enumerate() {
         for (at, row) in rows.iter().enumerate() {
