@@ -28,6 +28,8 @@ pub mod ExtensionPlans
 pub mod JointReading
 pub mod Building
 pub mod Stepping
+pub mod Multiples
+pub mod Multiplying
 pub mod MachineNumbers
 pub mod MachineBuilds
 pub mod OperationNumbers

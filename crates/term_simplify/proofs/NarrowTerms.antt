@@ -12,12 +12,12 @@ use Rattle.bv_dag.specs.declared.nodes.Node.TheVariants.{Num, Input, Not, Neg, B
 use Rattle.term_trees.specs.Trees.{Tree, Negated, Two, Test, Choice, tree_of, tree_width, tree_value, IsTerm}
 use Rattle.term_trees.proofs.Ranges.{in_range}
 use Rattle.term_trees.proofs.TreeLaws.{value-tree_of, width-tree_of}
-use Rattle.term_simplify.specs.Joints.{of_own_width}
 use Rattle.term_simplify.specs.Moves.{unmoved}
 use Rattle.term_simplify.specs.Narrowing.{binary_narrowing, choice_narrowing, is_zero, negative_narrowing, node_narrowing, pair_narrowing, reach_of}
 use Rattle.term_simplify.specs.Plain.{tree_number}
 use Rattle.term_simplify.specs.Simplified.{binary_at, choice_at, choice_of, comparison_at, comparison_by_low, comparison_of, negative_at, negative_of}
 use Rattle.term_simplify.specs.Steps.{low_word, widened_word}
+use Rattle.term_simplify.specs.Times.{own}
 use Rattle.term_simplify.specs.declared.narrowing.Narrow.{Narrow}
 use Rattle.term_simplify.proofs.NarrowRanges.{told}
 use Rattle.term_simplify.proofs.NarrowRules.{IsMadeOf, binary_of_low, choice_of_low, negative_of_low, test_of_low}
@@ -120,15 +120,15 @@ unfolding choice_of
 choice_is c s t n is = ap (λ k. choice_at k c s t) (sym is)
 
 -- any other node is as it is at its own width
-pub as_own_width : (f : ℕ → Tree) (node : Node) → node_narrowing f node ≡ None → of_own_width f node ≡ unmoved f node
+pub as_own : (f : ℕ → Tree) (node : Node) → node_narrowing f node ≡ None → own f node ≡ unmoved f node
 unfolding negative_of comparison_of choice_of
-as_own_width f (Num w v) e = refl
-as_own_width f (Input i) e = refl
-as_own_width f (Not a) e = refl
-as_own_width f (Neg a) e = ap (λ k. negative_at k (f a)) (sym e)
-as_own_width f (Binary op a b) e = ap (λ k. binary_at k op (f a) (f b)) (sym e)
-as_own_width f (Compare op a b) e = ap (λ k. comparison_at k op (f a) (f b)) (sym e)
-as_own_width f (Ite c a b) e = ap (λ k. choice_at k (f c) (f a) (f b)) (sym e)
-as_own_width f (Extract high low a) e = refl
-as_own_width f (Extend by signed a) e = refl
-as_own_width f (Concat a b) e = refl
+as_own f (Num w v) e = refl
+as_own f (Input i) e = refl
+as_own f (Not a) e = refl
+as_own f (Neg a) e = ap (λ k. negative_at k (f a)) (sym e)
+as_own f (Binary op a b) e = ap (λ k. binary_at k op (f a) (f b)) (sym e)
+as_own f (Compare op a b) e = ap (λ k. comparison_at k op (f a) (f b)) (sym e)
+as_own f (Ite c a b) e = ap (λ k. choice_at k (f c) (f a) (f b)) (sym e)
+as_own f (Extract high low a) e = refl
+as_own f (Extend by signed a) e = refl
+as_own f (Concat a b) e = refl

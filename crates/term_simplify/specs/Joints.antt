@@ -35,10 +35,10 @@ unfoldable pub joint_of : BinaryOp → Tree → Tree → Tree
 joint_of op s t =
     if joins op then joint_by s t (joint_by t s (plain_binary op s t)) else plain_binary op s t
 
--- the simplified tree of a node at its own width
-abbrev pub of_own_width : (operand : ℕ → Tree) → Node → Tree
-of_own_width operand (Binary op a b) = joint_of op (operand a) (operand b)
-of_own_width operand node = plain operand node
+-- the tree at its own width of a node that multiplies nothing by a number
+abbrev pub unmultiplied : (operand : ℕ → Tree) → Node → Tree
+unmultiplied operand (Binary op a b) = joint_of op (operand a) (operand b)
+unmultiplied operand node = plain operand node
 
 -- ---- Such terms as the code finds them.
 abbrev pub joint_tree : Graph → Joint → Tree

@@ -1,5 +1,6 @@
 pub mod Simplified
 pub mod Plain
+pub mod Times
 pub mod Narrowing
 pub mod Builds
 pub mod Plans

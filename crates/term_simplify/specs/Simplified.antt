@@ -1,7 +1,8 @@
 -- What a term is simplified to: a tree, from the trees of its operands. A shift by a number moves
 -- bits; an operation of which few low bits tell the result is made of as many bits of its operands,
--- and widened; two terms without a bit in common are the one above the other (`Joints`); any other
--- is as `Plain` has it. Each rule is decided by the numbers that operands are and by their top nodes.
+-- and widened. At its own width a product by a number is as `Times` has it, two terms without a bit
+-- in common are the one above the other (`Joints`), and any other term is as `Plain` has it. Each
+-- rule is decided by the numbers that operands are and by their top nodes.
 use Rattle.std.specs.Prelude.{ℕ, ◌-◌, ◌&&◌, Bool, true, false, nat_lt, Option, Some, None, if◌then◌else◌}
 use Rattle.bv_dag.specs.BitVectors.{BitVector}
 use Rattle.bv_dag.specs.declared.nodes.BinaryOp.{BinaryOp}
@@ -11,9 +12,9 @@ use Rattle.bv_dag.specs.declared.nodes.Comparison.TheVariants.{Ult, Slt}
 use Rattle.bv_dag.specs.declared.nodes.Node.{Node}
 use Rattle.bv_dag.specs.declared.nodes.Node.TheVariants.{Num, Input, Not, Neg, Binary, Compare, Ite, Extract, Extend, Concat}
 use Rattle.term_trees.specs.Trees.{Tree, Constant, Byte, tree_width}
-use Rattle.term_simplify.specs.Joints.{joint_of}
 use Rattle.term_simplify.specs.Narrowing.{negative_narrowing, binary_narrowing, pair_narrowing, choice_narrowing}
 use Rattle.term_simplify.specs.Plain.{tree_number, complement_of, plain_negative, plain_comparison, plain_choice, extension_by, part_of, joined_of}
+use Rattle.term_simplify.specs.Times.{own_binary}
 use Rattle.term_simplify.specs.declared.narrowing.Narrow.{Narrow}
 
 -- ---- A shift of a term by a number below its width moves its bits, which takes no circuit: the lower
@@ -52,8 +53,8 @@ unfoldable pub negative_of : Tree → Tree
 negative_of t = negative_at (negative_narrowing t) t
 
 abbrev pub binary_at : Option Narrow → BinaryOp → Tree → Tree → Tree
-binary_at (Some n) op s t = widened_to (tree_width s) n (joint_of op (low_of n s) (low_of n t))
-binary_at None op s t = joint_of op s t
+binary_at (Some n) op s t = widened_to (tree_width s) n (own_binary op (low_of n s) (low_of n t))
+binary_at None op s t = own_binary op s t
 
 unfoldable pub binary_of : BinaryOp → Tree → Tree → Tree
 binary_of op s t =

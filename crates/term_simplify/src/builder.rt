@@ -234,7 +234,7 @@ impl Builder {
     {
         match narrowing_of(&self.terms, node) {
             Some(narrow) => self.narrow(node, narrow),
-            None => self.of_own_width(node),
+            None => self.own(node),
         }
     }
 

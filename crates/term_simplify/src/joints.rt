@@ -1,12 +1,11 @@
 //! Two terms without a bit in common, joined by or, xor or a sum: they are the one above the other, which takes no circuit.
 
-ghost use Rattle.std.specs.Prelude.{◌≡◌, ◌<◌, IfOk, IfSome, None, OnErr, length};
+ghost use Rattle.std.specs.Prelude.{◌≡◌, ◌<◌, IfOk, IfSome, None, length};
 ghost use Rattle.bv_dag.specs.Graphs.{IsDag, val, width_of};
 ghost use Rattle.bv_dag.specs.Nodes.{Fits, binary, node_value, node_width, widths_of};
 ghost use Rattle.term_trees.specs.Growth.{Continues};
 ghost use Rattle.term_trees.specs.Trees.{Tree, tree_of, node_tree, IsTerm};
-ghost use Rattle.term_simplify.specs.Builds.{BuildsAs};
-ghost use Rattle.term_simplify.specs.Joints.{IsJoint, joins, joint_by, joint_of, joint_tree, of_own_width};
+ghost use Rattle.term_simplify.specs.Joints.{IsJoint, joins, joint_by, joint_of, joint_tree, unmultiplied};
 ghost use Rattle.term_simplify.specs.Plain.{plain_binary};
 ghost use Rattle.term_simplify.specs.Steps.{Stands};
 
@@ -110,7 +109,7 @@ impl Builder {
     }
 
     /// The term that an operation of two terms is at their own width.
-    pub(crate) fn operation_step(
+    fn operation_step(
         &mut self,
         op: BinaryOp,
         a: usize,
@@ -129,11 +128,11 @@ impl Builder {
         }
     }
 
-    /// The term that a node is at its own width, or only some of those that it stands on.
-    fn own_width_step(&mut self, node: Node) -> Result<usize, NoMemory>
+    /// The term at its own width of a node that multiplies nothing by a number, on the way to another.
+    pub(crate) fn unmultiplied_step(&mut self, node: Node) -> Result<usize, NoMemory>
         requires { Fits self.old.inputs (widths_of self.old.nodes) node }
         ensures continues { Continues self.old self.new }
-        ensures ok { IfOk result (λ id. Stands self.new id (of_own_width (tree_of self.old) node)
+        ensures ok { IfOk result (λ id. Stands self.new id (unmultiplied (tree_of self.old) node)
             (node_width (widths_of self.old.nodes) node)
             (λ input. node_value input (λ k. val self.old k input) node)) }
         ensures term { IsTerm self.old.inputs (node_tree (tree_of self.old) node) }
@@ -142,18 +141,5 @@ impl Builder {
             Node::Binary(op, a, b) => self.operation_step(op, a, b),
             _ => self.plain_step(node),
         }
-    }
-
-    /// The term that a node is at its own width.
-    pub(crate) fn of_own_width(&mut self, node: Node) -> Result<usize, NoMemory>
-        requires { Fits self.old.inputs (widths_of self.old.nodes) node }
-        ensures ok { IfOk result
-            (BuildsAs (of_own_width (tree_of self.old) node) self.old self.new node) }
-        ensures err { OnErr result (self.new ≡ self.old) }
-        ensures term { IsTerm self.old.inputs (node_tree (tree_of self.old) node) }
-    {
-        let len = self.len();
-        let answer = self.own_width_step(node);
-        self.settled(len, answer)
     }
 }

@@ -1,8 +1,8 @@
 //! Terms that are simplified as they are built.
 //!
 //! A call finds its answer first, without a change: a term that stands already or one node to be pushed, and how many bits
-//! stand above it. Only then is the table written. A shift by a number is made of two or three such terms, and an operation of
-//! two terms without a bit in common of one or two.
+//! stand above it. Only then is the table written. A shift by a number is made of two or three such terms, an operation of two
+//! terms without a bit in common of one or two, and a product by a number of a few for each of its digits that is not 0.
 #![tactic(auto)]
 
 mod binaries;
@@ -21,5 +21,6 @@ mod operations;
 mod parts;
 mod plan;
 mod recipe;
+mod times;
 
 pub use builder::Builder;

@@ -95,7 +95,7 @@ impl Builder {
         let width = self.terms().width_of(a);
         let left = self.low(n, a)?;
         let right = self.low(n, b)?;
-        let result = self.operation_step(op, left, right)?;
+        let result = self.own_step(Node::Binary(op, left, right))?;
         self.widened_to(width, n, result)
     }
 

@@ -1,9 +1,9 @@
 //! Products, which have as many bits as both operands, and quotients and remainders, which have no more than the longer one.
 
-use crate::of_term_simplify::narrow::New::{Is, Number, Signs, Zeros};
+use crate::of_term_simplify::narrow::New::{Is, Low, Number, Signs, Zeros};
 use crate::of_term_simplify::narrow::Row;
-use bv_dag::BinaryOp::{Lshr, Mul, Udiv, Urem};
-use bv_dag::Node::{Binary, Extend, Extract};
+use bv_dag::BinaryOp::{Add, Lshr, Mul, Sub, Udiv, Urem};
+use bv_dag::Node::{Binary, Concat, Extend, Extract, Neg};
 
 pub(crate) const PRODUCTS: &[Row] = &[
     // Two bytes, without sign, with signs, and one of each, where the first takes 9 bits with a sign.
@@ -40,17 +40,60 @@ pub(crate) const PRODUCTS: &[Row] = &[
         ],
         12,
     ),
-    // 10 has 4 bits.
+    // 10 has 4 bits, and is 2 * (4 + 1): the sum is of 11 bits, and what is moved up by 2 of 9.
     (
         &[10],
         &[Binary(Mul, 2, 9)],
         &[
             Zeros(4, 0),
             Number(12, 10),
-            Is(Binary(Mul, 10, 11)),
-            Zeros(20, 12),
+            Zeros(3, 0),
+            Zeros(1, 0),
+            Number(2, 0),
+            Is(Concat { high: 0, low: 14 }),
+            Zeros(1, 15),
+            Is(Binary(Add, 16, 12)),
+            Number(1, 0),
+            Is(Concat { high: 17, low: 18 }),
+            Zeros(20, 19),
+        ],
+        20,
+    ),
+    // A word by 3, which is 4 - 1, on either side; by -1; and by -3, which is -4 + 1.
+    (
+        &[3],
+        &[Binary(Mul, 6, 9)],
+        &[
+            Low(30, 6),
+            Number(2, 0),
+            Is(Concat { high: 10, low: 11 }),
+            Is(Binary(Sub, 12, 6)),
         ],
         13,
+    ),
+    (
+        &[3],
+        &[Binary(Mul, 9, 6)],
+        &[
+            Low(30, 6),
+            Number(2, 0),
+            Is(Concat { high: 10, low: 11 }),
+            Is(Binary(Sub, 12, 6)),
+        ],
+        13,
+    ),
+    (&[0xFFFF_FFFF], &[Binary(Mul, 6, 9)], &[Is(Neg(6))], 10),
+    (
+        &[0xFFFF_FFFD],
+        &[Binary(Mul, 6, 9)],
+        &[
+            Low(30, 6),
+            Is(Neg(10)),
+            Number(2, 0),
+            Is(Concat { high: 11, low: 12 }),
+            Is(Binary(Add, 13, 6)),
+        ],
+        14,
     ),
     // A product by 1 is the operand: the same tree, at a place of its own.
     (

@@ -3,7 +3,7 @@ use Rattle.bv_dag.specs.Graphs.{Graph, IsDag}
 use Rattle.term_trees.specs.Trees.{tree_of}
 use Rattle.term_simplify.specs.Narrowing.{node_narrowing}
 use Rattle.term_simplify.proofs.Building.{is_term_of, named}
-use Rattle.term_simplify.proofs.NarrowTerms.{as_own_width}
+use Rattle.term_simplify.proofs.NarrowTerms.{as_own}
 use Rattle.term_simplify.proofs.builder.Builder.unmoved.Goals as goal
 
 pub narrow-requires-clause-term : goal.narrow-requires-clause-term
@@ -17,4 +17,4 @@ returns-in-None-clause-ok c =
     let g = c.args.self.now in
     let none : node_narrowing (tree_of g) c.args.node ≡ None =
     ap (λ (h : Graph). node_narrowing (tree_of h) c.args.node) (sym c.self.view_is) ∙ sym c.narrowing_of.ensures.is ∙ c.in-None.is in
-    named g c.of_own_width.new.self c.of_own_width.result c.args.node _ _ (as_own_width (tree_of g) c.args.node none) c.of_own_width.ensures.ok
+    named g c.own.new.self c.own.result c.args.node _ _ (as_own (tree_of g) c.args.node none) c.own.ensures.ok
