@@ -43,3 +43,6 @@ pub mod NarrowRules
 pub mod NarrowTerms
 pub mod NarrowSteps
 pub mod Magnitudes
+pub mod EqualityNumbers
+pub mod Undoing
+pub mod Telling

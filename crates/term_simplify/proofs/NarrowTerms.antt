@@ -12,12 +12,12 @@ use Rattle.bv_dag.specs.declared.nodes.Node.TheVariants.{Num, Input, Not, Neg, B
 use Rattle.term_trees.specs.Trees.{Tree, Negated, Two, Test, Choice, tree_of, tree_width, tree_value, IsTerm}
 use Rattle.term_trees.proofs.Ranges.{in_range}
 use Rattle.term_trees.proofs.TreeLaws.{value-tree_of, width-tree_of}
-use Rattle.term_simplify.specs.Moves.{unmoved}
 use Rattle.term_simplify.specs.Narrowing.{binary_narrowing, choice_narrowing, is_zero, negative_narrowing, node_narrowing, pair_narrowing, reach_of}
 use Rattle.term_simplify.specs.Plain.{tree_number}
-use Rattle.term_simplify.specs.Simplified.{binary_at, choice_at, choice_of, comparison_at, comparison_by_low, comparison_of, negative_at, negative_of}
+use Rattle.term_simplify.specs.Simplified.{binary_at, choice_at, choice_of, comparison_at, comparison_by_low, compared, negative_at, negative_of}
 use Rattle.term_simplify.specs.Steps.{low_word, widened_word}
 use Rattle.term_simplify.specs.Times.{own}
+use Rattle.term_simplify.specs.Told.{untold}
 use Rattle.term_simplify.specs.declared.narrowing.Narrow.{Narrow}
 use Rattle.term_simplify.proofs.NarrowRanges.{told}
 use Rattle.term_simplify.proofs.NarrowRules.{IsMadeOf, binary_of_low, choice_of_low, negative_of_low, test_of_low}
@@ -111,8 +111,7 @@ pub negative_is : (t : Tree) (n : Narrow) → negative_narrowing t ≡ Some n �
 unfolding negative_of
 negative_is t n is = ap (λ k. negative_at k t) (sym is)
 
-pub comparison_is : (op : Comparison) (s t : Tree) (n : Narrow) → pair_narrowing s t ≡ Some n → comparison_at (Some n) op s t ≡ comparison_of op s t
-unfolding comparison_of
+pub comparison_is : (op : Comparison) (s t : Tree) (n : Narrow) → pair_narrowing s t ≡ Some n → comparison_at (Some n) op s t ≡ compared op s t
 comparison_is op s t n is = ap (λ k. comparison_at k op s t) (sym is)
 
 pub choice_is : (c s t : Tree) (n : Narrow) → choice_narrowing c s t ≡ Some n → choice_at (Some n) c s t ≡ choice_of c s t
@@ -120,8 +119,8 @@ unfolding choice_of
 choice_is c s t n is = ap (λ k. choice_at k c s t) (sym is)
 
 -- any other node is as it is at its own width
-pub as_own : (f : ℕ → Tree) (node : Node) → node_narrowing f node ≡ None → own f node ≡ unmoved f node
-unfolding negative_of comparison_of choice_of
+pub as_own : (f : ℕ → Tree) (node : Node) → node_narrowing f node ≡ None → own f node ≡ untold f node
+unfolding negative_of choice_of
 as_own f (Num w v) e = refl
 as_own f (Input i) e = refl
 as_own f (Not a) e = refl

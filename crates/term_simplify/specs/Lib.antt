@@ -9,3 +9,5 @@ pub mod Moves
 pub mod Joints
 pub mod Operations
 pub mod Steps
+pub mod Equalities
+pub mod Told

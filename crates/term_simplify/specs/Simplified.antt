@@ -3,17 +3,18 @@
 -- and widened. At its own width a product by a number is as `Times` has it, two terms without a bit
 -- in common are the one above the other (`Joints`), and any other term is as `Plain` has it. Each
 -- rule is decided by the numbers that operands are and by their top nodes.
-use Rattle.std.specs.Prelude.{ℕ, ◌-◌, ◌&&◌, Bool, true, false, nat_lt, Option, Some, None, if◌then◌else◌}
+use Rattle.std.specs.Prelude.{ℕ, ◌-◌, ◌==◌, ◌&&◌, Bool, true, false, nat_lt, Option, Some, None, if◌then◌else◌}
 use Rattle.bv_dag.specs.BitVectors.{BitVector}
 use Rattle.bv_dag.specs.declared.nodes.BinaryOp.{BinaryOp}
 use Rattle.bv_dag.specs.declared.nodes.BinaryOp.TheVariants.{Shl, Lshr, Ashr}
 use Rattle.bv_dag.specs.declared.nodes.Comparison.{Comparison}
-use Rattle.bv_dag.specs.declared.nodes.Comparison.TheVariants.{Ult, Slt}
+use Rattle.bv_dag.specs.declared.nodes.Comparison.TheVariants.{Ult, Slt, Eq}
 use Rattle.bv_dag.specs.declared.nodes.Node.{Node}
 use Rattle.bv_dag.specs.declared.nodes.Node.TheVariants.{Num, Input, Not, Neg, Binary, Compare, Ite, Extract, Extend, Concat}
 use Rattle.term_trees.specs.Trees.{Tree, Constant, Byte, tree_width}
+use Rattle.term_simplify.specs.Equalities.{Peeled, peeled}
 use Rattle.term_simplify.specs.Narrowing.{negative_narrowing, binary_narrowing, pair_narrowing, choice_narrowing}
-use Rattle.term_simplify.specs.Plain.{tree_number, complement_of, plain_negative, plain_comparison, plain_choice, extension_by, part_of, joined_of}
+use Rattle.term_simplify.specs.Plain.{tree_number, number_tree, complement_of, plain_negative, plain_comparison, plain_choice, extension_by, part_of, joined_of}
 use Rattle.term_simplify.specs.Times.{own_binary}
 use Rattle.term_simplify.specs.declared.narrowing.Narrow.{Narrow}
 
@@ -70,8 +71,23 @@ comparison_at (Some n) op s t =
     plain_comparison (comparison_by_low n.signed op) (low_of n s) (low_of n t)
 comparison_at None op s t = plain_comparison op s t
 
+abbrev pub compared : Comparison → Tree → Tree → Tree
+compared op s t = comparison_at (pair_narrowing s t) op s t
+
+-- A term below the number 0, with sign, is its sign. A term is equal to a number exactly where what
+-- it is made of is equal to another.
+abbrev pub equal_to : Peeled → Tree
+equal_to p = compared Eq p.term (number_tree p.number)
+
+abbrev pub told_by : Comparison → Option BitVector → Option BitVector → (s t : Tree) → Tree
+told_by Slt None (Some y) s t =
+    if y.number == 0 then part_of (y.width - 1) (y.width - 1) s else compared Slt s t
+told_by Eq None (Some y) s t = equal_to (peeled s y)
+told_by Eq (Some x) None s t = equal_to (peeled t x)
+told_by op x y s t = compared op s t
+
 unfoldable pub comparison_of : Comparison → Tree → Tree → Tree
-comparison_of op s t = comparison_at (pair_narrowing s t) op s t
+comparison_of op s t = told_by op (tree_number s) (tree_number t) s t
 
 abbrev pub choice_at : Option Narrow → (condition yes no : Tree) → Tree
 choice_at (Some n) c s t = widened_to (tree_width s) n (plain_choice c (low_of n s) (low_of n t))

@@ -11,6 +11,7 @@ ghost use Rattle.term_simplify.specs.Steps.{Stands};
 use crate::binaries::binary;
 use crate::choices::choice;
 use crate::comparisons::comparison;
+use crate::equalities::told_of;
 use crate::extensions::{extension, further, joined};
 use crate::moves::move_of;
 use crate::narrowing::narrowing_of;
@@ -90,6 +91,7 @@ impl Builder {
     ghost use Rattle.term_simplify.specs.Moves.{unmoved};
     ghost use Rattle.term_simplify.specs.Plans.{plan_tree, recipe_tree, HasRoom, RecipeFits};
     ghost use Rattle.term_simplify.specs.Plain.{further};
+    ghost use Rattle.term_simplify.specs.Told.{untold};
     ghost use Rattle.term_trees.specs.Growth.{Continues};
 
     /// Builds on these terms, which stay as they are.
@@ -224,6 +226,20 @@ impl Builder {
         self.plain(node)
     }
 
+    /// The term that a node is simplified to which moves no bits and is no test that another term tells.
+    pub(crate) fn untold(&mut self, node: Node) -> Result<usize, NoMemory>
+        requires { Fits self.old.inputs (widths_of self.old.nodes) node }
+        ensures ok { IfOk result
+            (BuildsAs (untold (tree_of self.old) node) self.old self.new node) }
+        ensures err { OnErr result (self.new ≡ self.old) }
+        ensures term { IsTerm self.old.inputs (node_tree (tree_of self.old) node) }
+    {
+        match narrowing_of(&self.terms, node) {
+            Some(narrow) => self.narrow(node, narrow),
+            None => self.own(node),
+        }
+    }
+
     /// The term that a node is simplified to which moves no bits.
     fn unmoved(&mut self, node: Node) -> Result<usize, NoMemory>
         requires { Fits self.old.inputs (widths_of self.old.nodes) node }
@@ -232,9 +248,9 @@ impl Builder {
         ensures err { OnErr result (self.new ≡ self.old) }
         ensures term { IsTerm self.old.inputs (node_tree (tree_of self.old) node) }
     {
-        match narrowing_of(&self.terms, node) {
-            Some(narrow) => self.narrow(node, narrow),
-            None => self.own(node),
+        match told_of(&self.terms, node) {
+            Some(told) => self.tell(told),
+            None => self.untold(node),
         }
     }
 

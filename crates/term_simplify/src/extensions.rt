@@ -13,7 +13,7 @@ use bv_dag::{Node, Word};
 use term_table::Terms;
 
 /// A number that is widened.
-fn extended(word: Word, by: u32, signed: bool) -> Word
+pub(crate) fn extended(word: Word, by: u32, signed: bool) -> Word
     requires { word.width + by ≤ 64 }
     ensures { result ≡ extend signed by word }
 {

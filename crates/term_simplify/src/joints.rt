@@ -109,12 +109,7 @@ impl Builder {
     }
 
     /// The term that an operation of two terms is at their own width.
-    fn operation_step(
-        &mut self,
-        op: BinaryOp,
-        a: usize,
-        b: usize,
-    ) -> Result<usize, NoMemory>
+    fn operation_step(&mut self, op: BinaryOp, a: usize, b: usize) -> Result<usize, NoMemory>
         requires { Fits self.old.inputs (widths_of self.old.nodes) (Node.Binary op a b) }
         ensures continues { Continues self.old self.new }
         ensures ok { IfOk result (λ id. Stands self.new id

@@ -1,8 +1,9 @@
 //! Terms that are simplified as they are built.
 //!
 //! A call finds its answer first, without a change: a term that stands already or one node to be pushed, and how many bits
-//! stand above it. Only then is the table written. A shift by a number is made of two or three such terms, an operation of two
-//! terms without a bit in common of one or two, and a product by a number of a few for each of its digits that is not 0.
+//! stand above it. Only then is the table written. A shift by a number is made of two or three such terms, a test of one or two,
+//! an operation of two terms without a bit in common likewise, and a product by a number of a few for each of its digits that is
+//! not 0.
 #![tactic(auto)]
 
 mod binaries;
@@ -10,6 +11,7 @@ mod builder;
 mod calls;
 mod choices;
 mod comparisons;
+mod equalities;
 mod extensions;
 mod joints;
 mod machine;
