@@ -2,9 +2,10 @@
 
 use crate::of_term_simplify::narrow::New::{Is, Number, Signs, Zeros};
 use crate::of_term_simplify::narrow::Row;
+use bv_dag::BinaryOp::Add;
 use bv_dag::Comparison;
 use bv_dag::Comparison::{Slt, Ult};
-use bv_dag::Node::{Compare, Ite, Not};
+use bv_dag::Node::{Binary, Compare, Extract, Ite, Not};
 
 pub(crate) const TESTS: &[Row] = &[
     // Two bytes: none is negative, so the sign makes no difference.
@@ -96,11 +97,71 @@ pub(crate) const ALIKE: &[Row] = &[
         11,
     ),
     (&[1], &[Compare(Comparison::Eq, 8, 9)], &[Number(1, 1)], 7),
-    // A term of 32 bits.
+    // A complement: of a byte, of which the upper bits are ones, and so never 0.
+    (
+        &[0xFFFF_FFBE],
+        &[Compare(Comparison::Eq, 6, 9)],
+        &[Number(8, 65), Is(Compare(Comparison::Eq, 0, 10))],
+        11,
+    ),
     (
         &[0],
-        &[Compare(Comparison::Eq, 6, 9)],
-        &[Is(Compare(Comparison::Eq, 6, 9))],
+        &[Compare(Comparison::Eq, 9, 6)],
+        &[
+            Number(32, 0xFFFF_FFFF),
+            Zeros(1, 0),
+            Number(9, 0x1FF),
+            Number(1, 0),
+        ],
+        13,
+    ),
+    // A sum is 70 where the byte in it is 65; it is never 3, since the byte would be below 0.
+    (
+        &[5, 70],
+        &[Binary(Add, 2, 9), Compare(Comparison::Eq, 14, 10)],
+        &[
+            Zeros(1, 0),
+            Number(9, 5),
+            Is(Binary(Add, 11, 12)),
+            Zeros(23, 13),
+            Number(8, 65),
+            Is(Compare(Comparison::Eq, 0, 15)),
+        ],
+        16,
+    ),
+    (
+        &[5, 3],
+        &[Binary(Add, 2, 9), Compare(Comparison::Eq, 14, 10)],
+        &[
+            Zeros(1, 0),
+            Number(9, 5),
+            Is(Binary(Add, 11, 12)),
+            Zeros(23, 13),
+            Number(9, 0x1FE),
+            Number(1, 0),
+        ],
+        16,
+    ),
+    // What is below 0 by its sign: a byte with its sign, one without, and a term of 32 bits.
+    (
+        &[0],
+        &[Compare(Slt, 4, 9)],
+        &[Is(Extract {
+            high: 7,
+            low: 7,
+            operand: 0,
+        })],
+        10,
+    ),
+    (&[0], &[Compare(Slt, 2, 9)], &[Number(1, 0)], 10),
+    (
+        &[0],
+        &[Compare(Slt, 6, 9)],
+        &[Is(Extract {
+            high: 31,
+            low: 31,
+            operand: 6,
+        })],
         10,
     ),
 ];
