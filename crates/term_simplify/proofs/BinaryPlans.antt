@@ -7,7 +7,7 @@ use Rattle.bv_dag.specs.Nodes.{Fits, widths_of}
 use Rattle.bv_dag.specs.declared.nodes.BinaryOp.{BinaryOp}
 use Rattle.bv_dag.specs.declared.nodes.BinaryOp.TheVariants.{Add, Sub, Mul, Udiv, Urem, And, Or, Xor, Shl, Lshr, Ashr}
 use Rattle.bv_dag.specs.declared.nodes.Node.TheVariants.{Binary}
-use Rattle.term_trees.specs.Trees.{Tree, Two, tree_of}
+use Rattle.term_trees.specs.Trees.{Negated, Tree, Two, tree_of}
 use Rattle.term_simplify.specs.Plans.{Makes}
 use Rattle.term_simplify.specs.Plain.{is_ones, number_tree, number_first, number_second}
 use Rattle.term_simplify.specs.declared.plan.Plan.TheVariants.{Push}
@@ -41,8 +41,11 @@ module _ (op : BinaryOp) (x : BitVector) (n : ℕ) (s t : Tree) (value : n ≡ x
         [ inl e ↦ rw (e, value) refl | inr e ↦ rw (e, value) refl ]
   ]
 
-  pub number_first-plain : (op ≡ Sub) ⊎ (op ≡ Udiv) ⊎ (op ≡ Urem) → number_first op x s t ≡ Two op s t
-  number_first-plain is = elim is [ inl e ↦ rw e refl | inr is' ↦ elim is' [ inl e ↦ rw e refl | inr e ↦ rw e refl ] ]
+  pub number_first-sub : op ≡ Sub → number_first op x s t ≡ cond (n == 0) (Negated t) (Two op s t)
+  number_first-sub e = rw (e, value) refl
+
+  pub number_first-plain : (op ≡ Udiv) ⊎ (op ≡ Urem) → number_first op x s t ≡ Two op s t
+  number_first-plain is = elim is [ inl e ↦ rw e refl | inr e ↦ rw e refl ]
 
   pub number_second-add : (op ≡ Add) ⊎ (op ≡ Sub) ⊎ (op ≡ Xor) ⊎ (op ≡ Ashr) →
       number_second op x s t ≡ cond (n == 0) s (Two op s t)

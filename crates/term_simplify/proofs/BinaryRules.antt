@@ -6,12 +6,12 @@ use Rattle.bv_dag.specs.BitVectors.{BitVector}
 use Rattle.bv_dag.specs.Nodes.{binary}
 use Rattle.bv_dag.specs.declared.nodes.BinaryOp.{BinaryOp}
 use Rattle.bv_dag.specs.declared.nodes.BinaryOp.TheVariants.{Add, Sub, Mul, Udiv, Urem, And, Or, Xor, Shl, Lshr, Ashr}
-use Rattle.term_trees.specs.Trees.{Tree, Constant, Two, tree_width, tree_value, IsTerm, IsOfWidth}
+use Rattle.term_trees.specs.Trees.{Tree, Constant, Negated, Two, tree_width, tree_value, IsTerm, IsOfWidth}
 use Rattle.term_trees.proofs.Ranges.{in_range}
 use Rattle.term_simplify.specs.Plain.{tree_number, number_first, number_second, binary_by, plain_binary}
 use Rattle.term_simplify.proofs.Masking.{value-masked_first, value-masked_second}
 use Rattle.term_simplify.proofs.Words.{number_value, value_by_test, is_number, is_at_most}
-use Rattle.term_simplify.proofs.Sums.{zero_plus, plus_zero, less_zero}
+use Rattle.term_simplify.proofs.Sums.{zero_plus, plus_zero, less_zero, zero_less}
 use Rattle.term_simplify.proofs.Products.{zero_times, one_times, times_zero, times_one, udiv_by_zero, udiv_by_one, urem_by_zero, urem_by_one}
 use Rattle.term_simplify.proofs.Bits.{zero_and, and_zero, ones_and, and_with_ones, zero_or, or_zero, ones_or, or_with_ones, zero_xor, xor_zero}
 use Rattle.term_simplify.proofs.Shifts.{shl_by_zero, shl_by_width, zero_shl, lshr_by_zero, lshr_by_width, zero_lshr, ashr_by_zero, zero_ashr}
@@ -21,7 +21,7 @@ module _ (input : List ℕ) (w : ℕ) (s t : Tree) (p : IsOfWidth w (tree_value 
   value-number_first : (op : BinaryOp) →
       tree_value input (number_first op (tree_value input s) s t) ≡ binary op (tree_value input s) (tree_value input t)
   value-number_first Add = value_by_test input _ t _ _ (λ h. zero_plus w _ _ p q (is_number _ _ h)) (λ _. refl)
-  value-number_first Sub = refl
+  value-number_first Sub = value_by_test input _ (Negated t) _ _ (λ h. zero_less w _ _ p q (is_number _ _ h)) (λ _. refl)
   value-number_first Mul = value_by_test input _ s _ _ (λ h. zero_times w _ _ p q (is_number _ _ h))
       (λ _. value_by_test input _ t _ _ (λ h. one_times w _ _ p q (is_number _ _ h)) (λ _. refl))
   value-number_first Udiv = refl

@@ -29,6 +29,20 @@ less_zero w x y p q z =
     ∙ add-mul-mod_self_right x.number 1 (2 ^ w) ∙ mod-eq_of_lt p.in_range
     ))
 
+none_before : (a : ℕ) → 0 + a ≡ a
+none_before a = omega arith
+
+pub zero_less : (w : ℕ) (x y : BitVector) → IsOfWidth w x → IsOfWidth w y → x.number ≡ 0 →
+    bvneg y ≡ bvsub x y
+unfolding bvsub bvneg
+zero_less w x y p q z =
+    let number : (2 ^ y.width - y.number) % 2 ^ y.width ≡ (x.number + (2 ^ y.width - y.number)) % 2 ^ x.width =
+    ap (λ k. (2 ^ y.width - y.number) % 2 ^ k) q.width
+    ∙ sym (ap (λ k. (x.number + (2 ^ y.width - y.number)) % 2 ^ k) p.width
+    ∙ ap (λ k. (k + (2 ^ y.width - y.number)) % 2 ^ w) z
+    ∙ ap (λ k. k % 2 ^ w) (none_before (2 ^ y.width - y.number))) in
+    λ i. record { width = (q.width ∙ sym p.width) i; number = number i }
+
 twice_from : (b n : ℕ) → n < b → n ≡ b - 1 - (b - 1 - n)
 twice_from b n h = omega arith
 

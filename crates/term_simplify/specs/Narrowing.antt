@@ -77,10 +77,17 @@ is_zero None = false
 abbrev pub are_numbers : Tree → Tree → Bool
 are_numbers s t = is_some (tree_number s) && is_some (tree_number t)
 
--- a number alone settles what an operation of two terms is
+-- the number 0 comes first, and leaves no more of an operation than 0 or the other term; of a
+-- difference it leaves the negative, which may be narrow
+abbrev pub is_zero_first : BinaryOp → Option BitVector → Bool
+is_zero_first Sub x = false
+is_zero_first op x = is_zero x
+
+-- An operation of two terms is made at their width where they are numbers, where one is the number 0,
+-- or where one is a number that masks nothing of the other.
 abbrev pub is_settled : BinaryOp → Tree → Tree → Bool
 is_settled op s t =
-    are_numbers s t || is_zero (tree_number s) || is_zero (tree_number t)
+    are_numbers s t || is_zero_first op (tree_number s) || is_zero (tree_number t)
     || masks_nothing op (tree_number s) t || masks_nothing op (tree_number t) s
 
 abbrev pub binary_narrowing : BinaryOp → Tree → Tree → Option Narrow

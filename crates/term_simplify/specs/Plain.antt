@@ -40,7 +40,8 @@ plain_negative t = Negated t
 
 -- ---- Two operands of one width.
 -- Of a number and a term:
---   0 + t, 0 | t and 0 ^ t are t;  0 * t and 0 & t are 0, and so is 0 shifted by t;  1 * t is t;
+--   0 + t, 0 | t and 0 ^ t are t;  0 - t is the negative of t;
+--   0 * t and 0 & t are 0, and so is 0 shifted by t;  1 * t is t;
 --   with all ones, & is t and | is all ones.
 abbrev pub number_first : BinaryOp → BitVector → (s t : Tree) → Tree
 number_first Add x s t = if x.number == 0 then t else Two Add s t
@@ -51,7 +52,7 @@ number_first Xor x s t = if x.number == 0 then t else Two Xor s t
 number_first Shl x s t = if x.number == 0 then s else Two Shl s t
 number_first Lshr x s t = if x.number == 0 then s else Two Lshr s t
 number_first Ashr x s t = if x.number == 0 then s else Two Ashr s t
-number_first Sub x s t = Two Sub s t
+number_first Sub x s t = if x.number == 0 then Negated t else Two Sub s t
 number_first Udiv x s t = Two Udiv s t
 number_first Urem x s t = Two Urem s t
 

@@ -43,7 +43,14 @@ fn number_first(op: BinaryOp, x: Word, a: usize, b: usize) -> Plan
         BinaryOp::And => term_if(value == 0, a, term_if(is_ones(x), b, plain)),
         BinaryOp::Or => term_if(value == 0, b, term_if(is_ones(x), a, plain)),
         BinaryOp::Shl | BinaryOp::Lshr | BinaryOp::Ashr => term_if(value == 0, a, plain),
-        BinaryOp::Sub | BinaryOp::Udiv | BinaryOp::Urem => plain,
+        BinaryOp::Sub => {
+            if value == 0 {
+                Plan::Push(Node::Neg(b))
+            } else {
+                plain
+            }
+        }
+        BinaryOp::Udiv | BinaryOp::Urem => plain,
     }
 }
 

@@ -1,9 +1,10 @@
 //! Terms that are simplified as they are built.
 //!
 //! A call finds its answer first, without a change: a term that stands already or one node to be pushed, and how many bits
-//! stand above it. Only then is the table written. A shift by a number is made of two or three such terms, a test of one or two,
-//! an operation of two terms without a bit in common likewise, and a product by a number of a few for each of its digits that is
-//! not 0.
+//! stand above it. Only then is the table written. A shift by a number is made of two or three such terms, an operation of two
+//! terms without a bit in common likewise, and a product by a number of a few for each of its digits that is not 0. An operation
+//! or a test of which few low bits tell the result is made of as many bits of its operands, which are up to two terms more, and
+//! widened. A test that another term tells is made of that term.
 #![tactic(auto)]
 
 mod binaries;

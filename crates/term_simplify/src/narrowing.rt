@@ -158,7 +158,26 @@ pub(crate) fn is_zero(x: Option<Word>) -> bool
     }
 }
 
-/// Whether a number alone settles what an operation of two terms is.
+/// Whether the number 0 comes first, and leaves no more of an operation than 0 or the other term.
+fn is_zero_first(op: BinaryOp, left: Option<Word>) -> bool
+    ensures { result ≡ narrowings.is_zero_first op left }
+{
+    match op {
+        BinaryOp::Sub => false,
+        BinaryOp::Add
+        | BinaryOp::Mul
+        | BinaryOp::Udiv
+        | BinaryOp::Urem
+        | BinaryOp::And
+        | BinaryOp::Or
+        | BinaryOp::Xor
+        | BinaryOp::Shl
+        | BinaryOp::Lshr
+        | BinaryOp::Ashr => is_zero(left),
+    }
+}
+
+/// Whether an operation of two terms is made at their width.
 fn is_settled(terms: &Terms, op: BinaryOp, a: usize, b: usize) -> bool
     requires first { a < length terms.now.nodes }
     requires second { b < length terms.now.nodes }
@@ -168,7 +187,7 @@ fn is_settled(terms: &Terms, op: BinaryOp, a: usize, b: usize) -> bool
     let left = number_at(terms, a);
     let right = number_at(terms, b);
     left.is_some() && right.is_some()
-        || is_zero(left)
+        || is_zero_first(op, left)
         || is_zero(right)
         || masks_nothing(terms, op, a, b)
         || masks_nothing(terms, op, b, a)

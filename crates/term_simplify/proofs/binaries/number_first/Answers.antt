@@ -1,5 +1,5 @@
 use Rattle.term_trees.specs.Trees.{tree_of}
-use Rattle.term_simplify.proofs.BinaryPlans.{number_first-add, number_first-and, number_first-mul, number_first-or, number_first-plain, number_first-shift, Makes-plain}
+use Rattle.term_simplify.proofs.BinaryPlans.{number_first-add, number_first-and, number_first-mul, number_first-or, number_first-plain, number_first-shift, number_first-sub, Makes-plain}
 use Rattle.term_simplify.proofs.Reading.{Makes-same}
 use Rattle.term_simplify.proofs.binaries.number_first.Goals as goal
 
@@ -38,8 +38,8 @@ returns-in-Shl c = λ g at_a at_b fits.
     (number_first-shift c.args.op c.args.x c.number-value.result (tree_of g c.args.a)
     (tree_of g c.args.b) c.number-value.ensures.value c.in-Shl.is)
 
-pub returns-in-Sub : goal.returns-in-Sub
-returns-in-Sub c = λ g at_a at_b fits.
+pub returns-in-Udiv : goal.returns-in-Udiv
+returns-in-Udiv c = λ g at_a at_b fits.
     Makes-same g _ _ _ (Makes-plain g c.args.op c.args.a c.args.b fits)
     (number_first-plain c.args.op c.args.x c.number-value.result (tree_of g c.args.a)
-    (tree_of g c.args.b) c.number-value.ensures.value c.in-Sub.is)
+    (tree_of g c.args.b) c.number-value.ensures.value c.in-Udiv.is)
