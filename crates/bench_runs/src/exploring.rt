@@ -46,7 +46,8 @@ fn explored<R: Threads + Wait + Clock + Sync>(
 {
     let root = State::first(alloc, worker.program())?;
     let start = Instant::now(rt)?;
-    let tree = explore(rt, alloc, worker, root, workers, &OpenGate)?;
+    let nodes = worker.budgets().nodes;
+    let tree = explore(rt, alloc, worker, root, workers, nodes, &OpenGate)?;
     let time = start.elapsed(rt)?;
     Ok((ends_of(alloc, &tree)?, time))
 }

@@ -2,23 +2,23 @@ use Rattle.std.proofs.Common.{◌≡◌, ◌∙◌, ◌≤◌, ℕ, Bool, true, 
 use Rattle.std.proofs.lemmas.Bool.Decides.{nat_tests}
 use Rattle.std.proofs.lemmas.List.{append-nil, length-append, length-map}
 use Rattle.tree_core.specs.declared.cause.Cause.{Cause}
-use Rattle.fork_spec.specs.Walks.{Line, Side, Standing, are_branch_sides, are_sides, are_small, are_values, is_increasing, is_rest, is_rest_cut, rest_side, walk_step, value_side, values_first, walk_from}
+use Rattle.fork_spec.specs.Walks.{Bounds, Line, Side, Standing, are_branch_sides, are_sides, are_small, are_values, is_increasing, is_rest, is_rest_cut, rest_side, walk_step, value_side, values_first, walk_from}
 
 -- a walk that goes on, from where the first line leads if it leads anywhere
-after_step : (workers targets : ℕ) (more : List Line) (first : List Line) →
-    ((nodes : List Standing) → walk_from workers targets nodes (first ++ more) ≡ option_and_then (λ reached. walk_from workers targets reached more) (walk_from workers targets nodes first)) →
+after_step : (bounds : Bounds) (more : List Line) (first : List Line) →
+    ((nodes : List Standing) → walk_from bounds nodes (first ++ more) ≡ option_and_then (λ reached. walk_from bounds reached more) (walk_from bounds nodes first)) →
     (next : Option (List Standing)) →
-    option_and_then (λ nodes. walk_from workers targets nodes (first ++ more)) next
-    ≡ option_and_then (λ reached. walk_from workers targets reached more) (option_and_then (λ nodes. walk_from workers targets nodes first) next)
-after_step workers targets more first goes_on None = refl
-after_step workers targets more first goes_on (Some nodes) = goes_on nodes
+    option_and_then (λ nodes. walk_from bounds nodes (first ++ more)) next
+    ≡ option_and_then (λ reached. walk_from bounds reached more) (option_and_then (λ nodes. walk_from bounds nodes first) next)
+after_step bounds more first goes_on None = refl
+after_step bounds more first goes_on (Some nodes) = goes_on nodes
 
-pub walk_goes_on : (workers targets : ℕ) (nodes : List Standing) (first more : List Line) →
-    walk_from workers targets nodes (first ++ more) ≡ option_and_then (λ reached. walk_from workers targets reached more) (walk_from workers targets nodes first)
+pub walk_goes_on : (bounds : Bounds) (nodes : List Standing) (first more : List Line) →
+    walk_from bounds nodes (first ++ more) ≡ option_and_then (λ reached. walk_from bounds reached more) (walk_from bounds nodes first)
 unfolding walk_from
-walk_goes_on workers targets nodes [] more = refl
-walk_goes_on workers targets nodes (event ∷ first) more =
-    after_step workers targets more first (λ next. walk_goes_on workers targets next first more) (walk_step workers targets nodes event)
+walk_goes_on bounds nodes [] more = refl
+walk_goes_on bounds nodes (event ∷ first) more =
+    after_step bounds more first (λ next. walk_goes_on bounds next first more) (walk_step bounds nodes event)
 
 -- the values come first, whatever else comes behind them
 values_then : (values : List ℕ) (behind : List Side) → values_first behind ≡ [] → values_first (map value_side values ++ behind) ≡ values

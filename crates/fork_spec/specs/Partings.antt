@@ -1,18 +1,21 @@
 -- How two places of the fork tree part: their choices first differ at one fork, and there the runs of what they cover decide as the
 -- choices say. No fork is made at no instruction's need.
-use Rattle.std.specs.Prelude.{◌≡◌, ◌≢◌, ℕ, ◌&&◌, Bool, true, false, List, ◌∷◌, ◌++◌, IsTrue}
+use Rattle.std.specs.Prelude.{◌≡◌, ◌≢◌, ℕ, ◌&&◌, Bool, true, false, List, ◌∷◌, ◌++◌, IsTrue, Option}
 use Rattle.elf_load.specs.Images.{Image}
 use Rattle.elf_load.specs.declared.region.Region.{Region}
 use Rattle.rv_spec.specs.Decisions.{Decision, Side, Number, decisions}
 use Rattle.rv_spec.specs.Memory.{IsAssignment}
+use Rattle.tree_core.specs.declared.cause.Cause.{Cause}
 use Rattle.tree_core.specs.declared.choice.Choice.{Choice}
 use Rattle.tree_core.specs.declared.choice.Choice.TheVariants.{No, Yes, Value, Rest}
+use Rattle.fork_spec.specs.Histories.{cause_of}
 use Rattle.fork_spec.specs.Leaves.{Leaf, are_bytes, covers}
 
--- a place of the fork tree: the sides that lead to it, and the assignments that it stands for
+-- a place of the fork tree: the sides that lead to it, the assignments that it stands for, and why it was cut, if it is a leaf that was
 pub record Place : Type 0 where
   pub choices : List Choice
   pub covers : List ℕ → Bool
+  pub cut : Option Cause
 
 -- the place of a leaf
 abbrev pub place_of : Leaf → Place
@@ -20,6 +23,7 @@ place_of leaf = record {
   choices = leaf.choices;
   covers = λ input. are_bytes input
       && covers leaf input;
+  cut = cause_of leaf.end;
 }
 
 -- the side that a decision takes

@@ -1,10 +1,10 @@
 -- A leaf with what shows it, and when it is right.
-use Rattle.std.specs.Prelude.{◌≡◌, ℕ, List, Option, Some, None}
+use Rattle.std.specs.Prelude.{◌≡◌, ◌≤◌, ℕ, List, Option, Some, None}
 use Rattle.elf_load.specs.Images.{Image}
 use Rattle.elf_load.specs.declared.region.Region.{Region}
 use Rattle.rv_spec.specs.Memory.{count_of}
 use Rattle.tree_core.specs.declared.budgets.Budgets.{Budgets}
-use Rattle.tree_core.specs.declared.cause.Cause.TheVariants.{Conflicts, Steps, Targets}
+use Rattle.tree_core.specs.declared.cause.Cause.TheVariants.{Conflicts, Nodes, Steps, Targets}
 use Rattle.tree_core.specs.declared.choice.Choice.{Choice}
 use Rattle.fork_spec.specs.Evidence.{IsSample, Learnt, Spent, SpendsConflicts, SpendsTargets}
 use Rattle.fork_spec.specs.Leaves.{IsFull, Leaf}
@@ -19,6 +19,8 @@ pub data Evidence : Type 0 where
   OnTargets : Spent → Evidence
   -- the question on which the budget of conflicts was spent
   OnConflicts : Learnt → Evidence
+  -- how many nodes there were where the leaf was cut for want of them
+  OnNodes : ℕ → Evidence
 
 -- a leaf, an assignment that it covers, and what shows the budget that was spent, where steps alone don't
 pub record Part : Type 0 where
@@ -27,24 +29,27 @@ pub record Part : Type 0 where
   pub evidence : Option Evidence
 
 -- A leaf is shown: by a sample, and where it was cut by targets by the values too. One that is cut by conflicts has no
--- sample: it is shown by the question.
-abbrev pub Shows : List Region → Budgets → (sides : List Choice) → Leaf → LeafEnd → Option (List ℕ)
-    → Option Evidence → Type 0
-Shows regions budgets sides leaf (Exits status) (Some sample) None = IsSample regions leaf sample
-Shows regions budgets sides leaf (Traps trap) (Some sample) None = IsSample regions leaf sample
-Shows regions budgets sides leaf (Cut Steps) (Some sample) None = IsSample regions leaf sample
-Shows regions budgets sides leaf (Cut Targets) (Some sample) (Some (OnTargets spent)) =
+-- sample: it is shown by the question. Nor has one that is cut by nodes: it is shown by how many there were.
+abbrev pub Shows : List Region → Budgets → (sides : List Choice) → (nodes : Option ℕ) → Leaf
+    → LeafEnd → Option (List ℕ) → Option Evidence → Type 0
+Shows regions budgets sides nodes leaf (Exits status) (Some sample) None = IsSample regions leaf sample
+Shows regions budgets sides nodes leaf (Traps trap) (Some sample) None = IsSample regions leaf sample
+Shows regions budgets sides nodes leaf (Cut Steps) (Some sample) None = IsSample regions leaf sample
+Shows regions budgets sides nodes leaf (Cut Targets) (Some sample) (Some (OnTargets spent)) =
     IsSample regions leaf sample × SpendsTargets regions budgets.targets sides leaf spent
-Shows regions budgets sides leaf (Cut Conflicts) None (Some (OnConflicts learnt)) =
+Shows regions budgets sides nodes leaf (Cut Conflicts) None (Some (OnConflicts learnt)) =
     SpendsConflicts regions budgets.conflicts leaf learnt
-Shows regions budgets sides leaf _ _ _ = ⊥
+Shows regions budgets sides (Some count) leaf (Cut Nodes) None (Some (OnNodes shown)) =
+    (shown ≡ count) × (budgets.nodes ≤ count)
+Shows regions budgets sides nodes leaf _ _ _ = ⊥
 
--- A leaf is right, within these budgets and as a side of a fork with these choices, of none where it is no kid: it is one in full,
--- over the bytes of the regions; its runs are as it says, and decide alike; and it is shown.
+-- A leaf is right, within these budgets, as a side of a fork with these choices, of none where it is no kid, and where there were so
+-- many nodes when it was cut for want of them, if it was: it is one in full, over the bytes of the regions; its runs are as it
+-- says, and decide alike; and it is shown.
 pub record IsRight (image : Image) (regions : List Region) (budgets : Budgets) (sides : List Choice)
-    (part : Part) : Type 0 where
+    (nodes : Option ℕ) (part : Part) : Type 0 where
   pub full : IsFull part.leaf
   pub inputs : part.leaf.condition.graph.inputs ≡ count_of regions
   pub faithful : IsFaithful image regions budgets.steps part.leaf
   pub alike : DecidesAlike image regions part.leaf
-  pub shown : Shows regions budgets sides part.leaf part.leaf.end part.sample part.evidence
+  pub shown : Shows regions budgets sides nodes part.leaf part.leaf.end part.sample part.evidence

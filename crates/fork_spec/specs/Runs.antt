@@ -6,7 +6,7 @@ use Rattle.rv_decode.specs.declared.ends.End.{End}
 use Rattle.rv_decode.specs.declared.ends.End.TheVariants.{Exit, Trapped}
 use Rattle.rv_spec.specs.Memory.{IsAssignment}
 use Rattle.rv_spec.specs.Runs.{run, IsRunOf}
-use Rattle.tree_core.specs.declared.cause.Cause.TheVariants.{Steps, Targets, Conflicts}
+use Rattle.tree_core.specs.declared.cause.Cause.TheVariants.{Steps, Targets, Conflicts, Nodes}
 use Rattle.fork_spec.specs.Leaves.{Leaf, covers, worth}
 use Rattle.fork_spec.specs.declared.end.LeafEnd.{LeafEnd}
 use Rattle.fork_spec.specs.declared.end.LeafEnd.TheVariants.{Exits, Traps, Cut}
@@ -24,6 +24,7 @@ AreWithin most steps (Traps trap) = steps ≤ most
 AreWithin most steps (Cut Steps) = steps ≡ most
 AreWithin most steps (Cut Targets) = steps < most
 AreWithin most steps (Cut Conflicts) = steps < most
+AreWithin most steps (Cut Nodes) = steps < most
 
 -- the run of each assignment that the leaf covers is as the leaf says
 pub record IsFaithful (image : Image) (regions : List Region) (most : ℕ)

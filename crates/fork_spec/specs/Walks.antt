@@ -2,10 +2,10 @@
 use Rattle.std.specs.Prelude.{ℕ, Bool, true, false, List, [], ◌∷◌, ◌++◌, ◌==◌, ◌&&◌, ◌||◌, ◌^◌, if◌then◌else◌, nat_le, nat_lt, drop, length, map, slice_get, slice_set, Option, Some, None, option_and_then}
 use Rattle.std.specs.List.{list_all}
 use Rattle.tree_core.specs.Choices.{is_same}
-use Rattle.tree_core.specs.Replays.{allows}
+use Rattle.tree_core.specs.Replays.{allows, has_room}
 use Rattle.tree_core.specs.Stories.{left_by}
 use Rattle.tree_core.specs.declared.cause.Cause.{Cause}
-use Rattle.tree_core.specs.declared.cause.Cause.TheVariants.{Steps, Targets, Conflicts}
+use Rattle.tree_core.specs.declared.cause.Cause.TheVariants.{Steps, Targets, Conflicts, Nodes}
 use Rattle.tree_core.specs.declared.choice.Choice.{Choice}
 use Rattle.tree_core.specs.declared.choice.Choice.TheVariants.{No, Yes, Value, Rest}
 use Rattle.tree_core.specs.declared.event.Event.{Event}
@@ -33,6 +33,12 @@ pub record Standing : Type 0 where
   pub choices : List Choice
   pub status : Status
   pub cut : Option Cause
+
+-- what a walk is held to: so many workers, so many values of a term as sides, and so many nodes, from which on none is parted
+pub record Bounds : Type 0 where
+  pub workers : ℕ
+  pub targets : ℕ
+  pub nodes : ℕ
 
 -- before any event
 abbrev pub root : Standing
@@ -106,14 +112,25 @@ value_side value = record { choice = Value value; cut = None }
 abbrev pub rest_side : Option Cause → Side
 rest_side cut = record { choice = Rest; cut = cut }
 
--- the form of a written deed, where there are so many nodes so far: sides get the next numbers, and what is cut is cut by steps
+-- a leaf that was cut for want of nodes
+abbrev pub is_by_nodes : Option Cause → Bool
+is_by_nodes (Some Nodes) = true
+is_by_nodes _ = false
+
+-- what a run is cut for that goes on no further, not as a side of a fork: its steps, or want of nodes
+abbrev pub is_end_cut : Option Cause → Bool
+is_end_cut (Some Steps) = true
+is_end_cut (Some Nodes) = true
+is_end_cut _ = false
+
+-- the form of a written deed, where there are so many nodes so far: sides get the next numbers, and what is cut is cut by steps or by
+-- nodes
 abbrev pub is_in_form : (targets nodes : ℕ) → Deed (Option Cause) Sides → Bool
 is_in_form targets nodes Claim = true
 is_in_form targets nodes (Split sides) = (sides.first == nodes) && are_sides targets sides.sides
 is_in_form targets nodes (Finish None) = true
 is_in_form targets nodes (Finish (Some cause)) = false
-is_in_form targets nodes (Cut (Some Steps)) = true
-is_in_form targets nodes (Cut _) = false
+is_in_form targets nodes (Cut cut) = is_end_cut cut
 is_in_form targets nodes Release = true
 
 -- why a deed leaves a leaf that was cut, if it does
@@ -147,29 +164,29 @@ done_on nodes line node =
     (record node { status = left_by line.by line.deed; cut = cut_by line.deed })
     ++ side_births node.choices line.deed
 
--- whether the event may come, on this one of the nodes: its worker is one of so many and may do it, and it is in form
-abbrev pub may_come : (workers targets : ℕ) → List Standing → Line → Standing → Bool
-may_come workers targets nodes line node =
-    nat_lt line.by workers && allows node.status line.by line.deed
-    && is_in_form targets (length nodes) line.deed
+-- whether the event may come, on this one of the nodes: its worker is one of so many and may do it, there are few enough nodes for it,
+-- or enough, and it is in form
+abbrev pub may_come : Bounds → List Standing → Line → Standing → Bool
+may_come bounds nodes line node =
+    nat_lt line.by bounds.workers && allows node.status line.by line.deed
+    && has_room is_by_nodes bounds.nodes (length nodes) line.deed
+    && is_in_form bounds.targets (length nodes) line.deed
 
 -- the nodes after an event, and none where it may not come
-unfoldable pub walk_step : (workers targets : ℕ) → List Standing → Line → Option (List Standing)
-walk_step workers targets nodes line =
-    option_and_then (λ node. if may_come workers targets nodes line node
+unfoldable pub walk_step : Bounds → List Standing → Line → Option (List Standing)
+walk_step bounds nodes line =
+    option_and_then (λ node. if may_come bounds nodes line node
     then Some (done_on nodes line node) else None) (slice_get nodes line.node)
 
 -- the nodes after more events, and none from the first on that may not come
-unfoldable pub walk_from : (workers targets : ℕ) → List Standing → List Line
-    → Option (List Standing)
-walk_from workers targets nodes [] = Some nodes
-walk_from workers targets nodes (line ∷ lines) =
-    option_and_then (λ next. walk_from workers targets next lines)
-    (walk_step workers targets nodes line)
+unfoldable pub walk_from : Bounds → List Standing → List Line → Option (List Standing)
+walk_from bounds nodes [] = Some nodes
+walk_from bounds nodes (line ∷ lines) =
+    option_and_then (λ next. walk_from bounds next lines) (walk_step bounds nodes line)
 
 -- the nodes after all events, from the root on
-abbrev pub walk : (workers targets : ℕ) → List Line → Option (List Standing)
-walk workers targets lines = walk_from workers targets (root ∷ []) lines
+abbrev pub walk : Bounds → List Line → Option (List Standing)
+walk bounds lines = walk_from bounds (root ∷ []) lines
 
 -- parted, or a leaf
 abbrev pub is_settled : Status → Bool

@@ -6,13 +6,21 @@ use Rattle.tree_core.specs.declared.choice.Choice.TheVariants.{No, Yes, Value, R
 use Rattle.tree_core.specs.declared.event.Deed.{Deed}
 use Rattle.tree_core.specs.declared.event.Deed.TheVariants.{Claim, Split, Finish, Cut, Release}
 use Rattle.tree_core.specs.declared.node.Status.TheVariants.{Held, Parted, Leaf}
-use Rattle.fork_spec.specs.Walks.{Line, Side, Sides, Standing, rest_side, value_side}
+use Rattle.fork_spec.specs.Walks.{Bounds, Line, Side, Sides, Standing, rest_side, value_side}
 
 abbrev pub line : (by node : ℕ) → Deed (Option Cause) Sides → Line
 line by node deed = record { by = by; node = node; deed = deed }
 
 abbrev pub parts : (first : ℕ) → List Side → Deed (Option Cause) Sides
 parts first sides = Split (record { first = first; sides = sides })
+
+-- two workers, and budgets of two values and of two nodes
+abbrev pub two : Bounds
+two = record { workers = 2; targets = 2; nodes = 2 }
+
+-- no node may be parted
+abbrev pub one_node : Bounds
+one_node = record { workers = 2; targets = 2; nodes = 1 }
 
 -- a branch of whose sides the second is cut by conflicts; the first is released, claimed again and finished
 abbrev pub branch_lines : List Line
@@ -31,6 +39,16 @@ branch_nodes =
     record { choices = []; status = Parted; cut = None }
     ∷ record { choices = No ∷ []; status = Leaf; cut = None }
     ∷ record { choices = Yes ∷ []; status = Leaf; cut = Some Conflicts }
+    ∷ []
+
+-- there are three nodes behind the branch: its first side is cut
+abbrev pub branch_then_cut : Cause → List Line
+branch_then_cut cause =
+    line 0 0 Claim
+    ∷ line 0 0 (parts 1 (record { choice = No; cut = None }
+    ∷ record { choice = Yes; cut = Some Conflicts } ∷ []))
+    ∷ line 1 1 Claim
+    ∷ line 1 1 (Cut (Some cause))
     ∷ []
 
 -- two values and the rest; the first is cut by steps, the second is claimed

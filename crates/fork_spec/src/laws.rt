@@ -1,18 +1,19 @@
 //! What holds of every walk, and walks that can be followed by hand.
 
-ghost use Rattle.std.specs.Prelude.{◌^◌, ◌≡◌, ◌≤◌, ◌++◌, ℕ, List, [], ◌∷◌, Option, Some, None, IsFalse, IsTrue, length, map, option_and_then};
+ghost use Rattle.std.specs.Prelude.{◌^◌, ◌≡◌, ◌≤◌, ◌++◌, ℕ, List, [], ◌∷◌, Option, Some, None, IsFalse, IsTrue, length, map, option_and_then, option_map, true};
 ghost use Rattle.tree_core.specs.declared.cause.Cause.{Cause};
-ghost use Rattle.tree_core.specs.declared.cause.Cause.TheVariants.{Conflicts, Targets};
+ghost use Rattle.tree_core.specs.declared.cause.Cause.TheVariants.{Conflicts, Nodes, Targets};
 ghost use Rattle.tree_core.specs.declared.event.Deed.TheVariants.{Claim, Cut, Finish};
-ghost use Rattle.fork_spec.specs.Walks.{Line, Standing, are_sides, are_small, is_increasing, is_quiet, is_rest_cut, rest_side, value_side, walk, walk_from};
-ghost use Rattle.fork_spec.specs.WorkedWalks.{branch_lines, branch_nodes, claimed_and, line, parts, value_lines, value_nodes};
+ghost use Rattle.tree_core.specs.declared.node.Status.TheVariants.{Leaf};
+ghost use Rattle.fork_spec.specs.Walks.{Bounds, Line, Standing, are_sides, are_small, is_increasing, is_quiet, is_rest_cut, rest_side, value_side, walk, walk_from};
+ghost use Rattle.fork_spec.specs.WorkedWalks.{branch_lines, branch_nodes, branch_then_cut, claimed_and, line, one_node, parts, two, value_lines, value_nodes};
 
 /// A walk goes on from where its first events lead.
 pub fn a_walk_goes_on_from_its_first_events()
-    ensures { (workers targets : ℕ) (nodes : List Standing) (first more : List Line)
-        → walk_from workers targets nodes (first ++ more)
-        ≡ option_and_then (λ reached. walk_from workers targets reached more)
-        (walk_from workers targets nodes first) }
+    ensures { (bounds : Bounds) (nodes : List Standing) (first more : List Line)
+        → walk_from bounds nodes (first ++ more)
+        ≡ option_and_then (λ reached. walk_from bounds reached more)
+        (walk_from bounds nodes first) }
 {}
 
 /// A node may part into the values of a term, two at least and no more than there may be, by increasing value.
@@ -30,37 +31,43 @@ pub fn a_node_may_part_into_values_and_the_rest()
         → IsTrue (are_sides targets (map value_side values ++ rest_side cut ∷ [])) }
 {}
 
-/// Two walks, followed by hand: with two workers and a budget of two values.
+/// Walks, followed by hand: with two workers and budgets of two values and of two nodes, or of one.
 #[tactic(auto, unfolding(crate::specs::Walks::walk_from, crate::specs::Walks::walk_step, crate::specs::Walks::are_values, crate::specs::Walks::values_first))]
 pub fn worked_walks()
-    ensures branch { walk 2 2 branch_lines ≡ Some branch_nodes }
+    ensures branch { walk two branch_lines ≡ Some branch_nodes }
     ensures branch_is_quiet { IsTrue (is_quiet branch_nodes) }
-    ensures values { walk 2 2 value_lines ≡ Some value_nodes }
+    ensures values { walk two value_lines ≡ Some value_nodes }
     ensures values_are_not_quiet { IsFalse (is_quiet value_nodes) }
+    ensures root_cut { walk one_node (claimed_and 0 (Cut (Some Nodes)))
+        ≡ Some (record { choices = []; status = Leaf; cut = Some Nodes } ∷ []) }
+    ensures side_cut { option_map is_quiet (walk two (branch_then_cut Nodes)) ≡ Some true }
 {}
 
 /// Events that may not come, first of all or once worker 0 has claimed the root.
 #[tactic(auto, unfolding(crate::specs::Walks::walk_from, crate::specs::Walks::walk_step, crate::specs::Walks::are_values, crate::specs::Walks::values_first))]
 pub fn worked_refusals()
-    ensures third_worker { walk 2 2 (line 2 0 Claim ∷ []) ≡ None }
-    ensures no_such_node { walk 2 2 (line 0 1 Claim ∷ []) ≡ None }
-    ensures not_claimed { walk 2 2 (line 0 0 (Finish None) ∷ []) ≡ None }
-    ensures claimed_twice { walk 2 2 (claimed_and 1 Claim) ≡ None }
-    ensures held_by_another { walk 2 2 (claimed_and 1 (Finish None)) ≡ None }
-    ensures cut_by_targets { walk 2 2 (claimed_and 0 (Cut (Some Targets))) ≡ None }
-    ensures wrong_first_kid { walk 2 2 (claimed_and 0 (parts 2 (value_side 7 ∷ value_side 9 ∷ [])))
+    ensures third_worker { walk two (line 2 0 Claim ∷ []) ≡ None }
+    ensures no_such_node { walk two (line 0 1 Claim ∷ []) ≡ None }
+    ensures not_claimed { walk two (line 0 0 (Finish None) ∷ []) ≡ None }
+    ensures claimed_twice { walk two (claimed_and 1 Claim) ≡ None }
+    ensures held_by_another { walk two (claimed_and 1 (Finish None)) ≡ None }
+    ensures cut_by_targets { walk two (claimed_and 0 (Cut (Some Targets))) ≡ None }
+    ensures cut_early { walk two (claimed_and 0 (Cut (Some Nodes))) ≡ None }
+    ensures parted_late { walk one_node (claimed_and 0 (parts 1 (value_side 7 ∷ value_side 9 ∷ [])))
         ≡ None }
-    ensures one_kid { walk 2 2 (claimed_and 0 (parts 1 (value_side 7 ∷ []))) ≡ None }
-    ensures rest_alone { walk 2 2 (claimed_and 0 (parts 1 (rest_side (Some Conflicts) ∷ [])))
+    ensures wrong_first_kid { walk two (claimed_and 0 (parts 2 (value_side 7 ∷ value_side 9 ∷ [])))
         ≡ None }
-    ensures not_increasing { walk 2 2 (claimed_and 0 (parts 1 (value_side 9 ∷ value_side 7 ∷ [])))
+    ensures one_kid { walk two (claimed_and 0 (parts 1 (value_side 7 ∷ []))) ≡ None }
+    ensures rest_alone { walk two (claimed_and 0 (parts 1 (rest_side (Some Conflicts) ∷ [])))
         ≡ None }
-    ensures too_large { walk 2 2 (claimed_and 0 (parts 1 (value_side 7 ∷ value_side (2 ^ 32) ∷ [])))
+    ensures not_increasing { walk two (claimed_and 0 (parts 1 (value_side 9 ∷ value_side 7 ∷ [])))
         ≡ None }
-    ensures too_many { walk 2 2
+    ensures too_large { walk two (claimed_and 0 (parts 1 (value_side 7 ∷ value_side (2 ^ 32) ∷ [])))
+        ≡ None }
+    ensures too_many { walk two
         (claimed_and 0 (parts 1 (value_side 7 ∷ value_side 8 ∷ value_side 9 ∷ []))) ≡ None }
-    ensures too_few { walk 2 2
+    ensures too_few { walk two
         (claimed_and 0 (parts 1 (value_side 7 ∷ rest_side (Some Targets) ∷ []))) ≡ None }
-    ensures open_rest { walk 2 2 (claimed_and 0 (parts 1 (value_side 7 ∷ rest_side None ∷ [])))
+    ensures open_rest { walk two (claimed_and 0 (parts 1 (value_side 7 ∷ rest_side None ∷ [])))
         ≡ None }
 {}

@@ -1,5 +1,5 @@
 -- A tree that is quiet.
-use Rattle.std.proofs.Common.{◌≡◌, ◌≢◌, ℕ, ◌+◌, ◌<◌, ◌≤◌, ◌&&◌, Bool, true, false, Option, List, [], ◌∷◌, length, sym, refl, ap, ◌∙◌, subst, arith, eqb, cond, eq-eqb}
+use Rattle.std.proofs.Common.{◌≡◌, ◌≢◌, ℕ, ◌+◌, ◌^◌, ◌<◌, ◌≤◌, ◌&&◌, Bool, true, false, Option, List, [], ◌∷◌, length, sym, refl, ap, ◌∙◌, subst, arith, eqb, cond, eq-eqb}
 use Rattle.std.proofs.lemmas.List.Sums.{sum_by-cons}
 use Rattle.tree_core.specs.declared.cause.Cause.{Cause}
 use Rattle.tree_core.specs.declared.choice.Choice.{Choice}
@@ -86,9 +86,13 @@ module _ {S L : Type 0} (rules : Rules S L) (state_place : S → Place) (leaf_pl
         (λ m lt. ap (λ b. b && covered covers_in (content s m) input)
         (live_leaf (status s m) (quiet.0 m lt) (not-held s m lt quiet.1)))) ∙ parts input;
     leaves = λ m lt is. subst
-        (λ (st : Status). HoldsFor rules.IsWell (IsLeafRight rules s m) st (content s m)) is
+        (λ (st : Status). HoldsFor rules.IsWell (IsLeafRight rules state_place leaf_place s m) st (content s m)) is
         (follows.holds m lt);
     walked = follows.walked;
     apart = follows.apart;
-    few = follows.few;
+    bounded = follows.few;
+    few = below (length s.nodes) (rules.nodes + rules.targets) follows.few follows.small;
   }
+    where
+      below : (n bound : ℕ) → n ≤ bound → bound < 2 ^ 32 → n < 2 ^ 32
+      below n bound le small = omega arith

@@ -17,6 +17,7 @@ use Rattle.fork_tree.specs.Calls.{claim_event}
 use Rattle.tree_core.specs.Replays.{allows, is_held_by, births, kids_of, deed_kept, kept, with_event}
 use Rattle.tree_core.specs.Cores.{held_count, takes, ends}
 use Rattle.tree_core.proofs.Sharing.{held_count-noted}
+use Rattle.fork_spec.specs.Partings.{Place}
 use Rattle.fork_tree.specs.Nodes.{StateIs}
 use Rattle.fork_tree.specs.Works.{IsPart, Rules}
 use Rattle.fork_tree.specs.Drains.{heft, fuel, GrowsBy}
@@ -109,23 +110,23 @@ module _ {S L : Type 0} (rules : Rules S L) where
       below f a k p x y z = omega arith
 
   -- kids add less than what they came from
-  pub kids-less : (choices : List Choice) (s t : Story (Content S L)) (e : Coming (Content S L))
+  pub kids-less : (leaf_place : L → Place) (choices : List Choice) (s t : Story (Content S L)) (e : Coming (Content S L))
       (x : S) →
       t ≡ with_event s e → AreThere s → e.node < length s.nodes → status s e.node ≡ Held e.by →
       ((st : Status) (by : ℕ) → allows st by e.deed ≡ is_held_by by st) →
       heft rules (left_by e.by (deed_kept e.deed))
       (content_by (content s e.node) (deed_kept e.deed)) ≡ 0 →
-      All (λ (kid : Kid (Content S L)). IsPart rules (rules.left x) choices kid kid.content)
+      All (λ (kid : Kid (Content S L)). IsPart rules leaf_place (rules.left x) choices kid kid.content)
       (kids_of e.deed) →
       length (kids_of e.deed) ≤ rules.targets + 1 →
       fuel rules t < fuel rules s + (rules.targets + 2) ^ rules.left x
-  kids-less choices s t e x is named there held allow now parts few =
+  kids-less leaf_place choices s t e x is named there held allow now parts few =
       let all = fuel-end rules s e named there (held-allows s e held allow) held now in
       subst (λ (y : Story (Content S L)). fuel rules y < fuel rules s + (rules.targets + 2) ^
       rules.left x) (sym is)
       (below (fuel rules (with_event s e)) (fuel rules s) (sum_by (kid_heft rules) (kids_of e.deed))
       ((rules.targets + 2) ^ rules.left x) all
-      (kids_light rules (rules.left x) choices (kids_of e.deed) parts few))
+      (kids_light rules leaf_place (rules.left x) choices (kids_of e.deed) parts few))
     where
       below : (f a k p : ℕ) → f ≡ a + k → k < p → f < a + p
       below f a k p x y = omega arith

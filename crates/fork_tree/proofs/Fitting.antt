@@ -1,6 +1,7 @@
 -- What comes of a state that is worked may come in the place of its node.
 use Rattle.std.proofs.Common.{◌≡◌, ℕ, zero, suc, ◌+◌, ◌<◌, ◌≤◌, Bool, true, false, cond, IsTrue, Option, Some, None, List, [], ◌∷◌, ◌++◌, length, get_or, sym, refl, ap, ◌∙◌, subst, arith}
 use Rattle.std.specs.List.{All, count_by}
+use Rattle.std.specs.Arc.{arc_value}
 use Rattle.std.specs.Global.{Vec}
 use Rattle.std.proofs.lemmas.List.Sums.{sum_by-cons}
 use Rattle.tree_core.specs.declared.cause.Cause.{Cause}
@@ -14,7 +15,7 @@ use Rattle.fork_tree.specs.Written.{IsCutOr}
 use Rattle.fork_tree.specs.Calls.{IsEndFit, IsSplitFit}
 use Rattle.fork_tree.specs.Contents.{choices_in, cut_in, place_in}
 use Rattle.fork_tree.specs.Nodes.{HoldsFor, StateIs}
-use Rattle.fork_tree.specs.Works.{EndsAs, IsPart, IsSplit, IsWorked, Rules}
+use Rattle.fork_tree.specs.Works.{EndsAs, IsPart, IsRunAt, IsSplit, IsWorked, Rules, nodes_at}
 use Rattle.fork_tree.specs.declared.content.Content.{Content}
 use Rattle.fork_tree.specs.declared.content.Content.TheVariants.{Open, Shut}
 use Rattle.fork_tree.specs.declared.work.Parts.{Parts}
@@ -57,11 +58,11 @@ module _ {S L : Type 0} (rules : Rules S L) (state_place : S → Place) (leaf_pl
   state_at (Some (Shut l)) x is = absurd is
   state_at None x is = absurd is
 
-  pub end_fits : (cut : Option Cause) (s : Story (Content S L)) (by node : ℕ) (x : S) (leaf : L) →
+  pub end_fits : (cut : Option Cause) (nodes : Option ℕ) (s : Story (Content S L)) (by node : ℕ) (x : S) (leaf : L) →
       node < length s.nodes → status s node ≡ Held by → StateIs (content s node) x →
-      EndsAs rules state_place leaf_place cut x leaf →
+      EndsAs rules state_place leaf_place cut nodes x leaf → nodes ≡ nodes_at cut (length s.nodes) →
       IsEndFit rules state_place leaf_place cut s by node leaf
-  end_fits cut s by node x leaf there held state ends =
+  end_fits cut nodes s by node x leaf there held state ends counted =
       let old = state_at (content s node) x state in record {
         there = there;
         held = held;
@@ -69,32 +70,44 @@ module _ {S L : Type 0} (rules : Rules S L) (state_place : S → Place) (leaf_pl
         is_old = old.1;
         same_choices = ends.same_choices ∙ sym (ap (λ (p : Place). p.choices) old.2);
         same_cover = λ input. ends.same_cover input ∙ sym (ap (λ (p : Place). p.covers input) old.2);
-        right = ends.right;
+        right = subst (λ (o : Option ℕ). rules.IsRight [] o leaf) counted ends.right;
         cause = ends.cause;
       }
 
+  -- the leaf of a run at the place of a state is one of the state
+  pub ends_at : (cut : Option Cause) (nodes : Option ℕ) (x run : S) (leaf : L) →
+      IsRunAt rules state_place x run →
+      EndsAs rules state_place leaf_place cut nodes run leaf →
+      EndsAs rules state_place leaf_place cut nodes x leaf
+  ends_at cut nodes x run leaf at ends = record {
+    same_choices = ends.same_choices ∙ at.same_choices;
+    same_cover = λ input. ends.same_cover input ∙ at.same_cover input;
+    right = ends.right;
+    cause = ends.cause;
+  }
+
   part_marked : (limit : ℕ) (choices : List Choice) (kid : Kid (Content S L)) (c : Content S L) →
-      IsPart rules limit choices kid c → IsCutOr kid.is_leaf (cut_in rules.cut c)
-  part_marked limit choices kid (Open a) part = subst (λ (b : Bool). IsCutOr b None) (sym part.0) tt
+      IsPart rules leaf_place limit choices kid c → IsCutOr kid.is_leaf (cut_in state_place leaf_place c)
+  part_marked limit choices kid (Open a) part = subst (λ (b : Bool). IsCutOr b (state_place (arc_value a)).cut) (sym part.0) tt
   part_marked limit choices kid (Shut l) part =
-      subst (λ (b : Bool). IsCutOr b (rules.cut l)) (sym part.0) part.2
+      subst (λ (b : Bool). IsCutOr b (leaf_place l).cut) (sym part.0) part.2
 
   part_holds : (limit : ℕ) (choices : List Choice) (kid : Kid (Content S L)) (c : Content S L) →
-      IsPart rules limit choices kid c →
-      HoldsFor rules.IsWell (rules.IsRight choices) (cond kid.is_leaf Leaf Free) (Some c)
+      IsPart rules leaf_place limit choices kid c →
+      HoldsFor rules.IsWell (rules.IsRight choices None) (cond kid.is_leaf Leaf Free) (Some c)
   part_holds limit choices kid (Open a) part =
-      subst (λ (b : Bool). HoldsFor rules.IsWell (rules.IsRight choices) (cond b Leaf Free)
+      subst (λ (b : Bool). HoldsFor rules.IsWell (rules.IsRight choices None) (cond b Leaf Free)
       (Some (Open a))) (sym part.0) part.1
   part_holds limit choices kid (Shut l) part =
-      subst (λ (b : Bool). HoldsFor rules.IsWell (rules.IsRight choices) (cond b Leaf Free)
+      subst (λ (b : Bool). HoldsFor rules.IsWell (rules.IsRight choices None) (cond b Leaf Free)
       (Some (Shut l))) (sym part.0) part.1
 
   pub split_fits : (s : Story (Content S L)) (by node : ℕ) (x : S) (kids : Vec (Kid (Content S L)))
       →
       node < length s.nodes → status s node ≡ Held by → StateIs (content s node) x →
-      IsSplit rules state_place leaf_place x kids.items →
+      IsSplit rules state_place leaf_place x kids.items → length s.nodes < rules.nodes →
       IsSplitFit rules state_place leaf_place s by node kids
-  split_fits s by node x kids there held state split =
+  split_fits s by node x kids there held state split not_full =
       let old = state_at (content s node) x state in
       let same_choices : (place_in state_place leaf_place old.0).choices ≡ (state_place x).choices =
       ap (λ (p : Place). p.choices) old.2 in
@@ -130,6 +143,8 @@ module _ {S L : Type 0} (rules : Rules S L) (state_place : S → Place) (leaf_pl
         );
         parts = λ k d lt. let kid : Kid (Content S L) = get_or kids.items k d in
             part_holds (rules.left x) (choices_in kids.items) kid kid.content (split.parts k d lt);
+        few = split.few;
+        not_full = not_full;
       }
     where
       within : (input : List ℕ) (k : ℕ) (d : Kid (Content S L)) → k < length kids.items →

@@ -17,6 +17,7 @@ use Rattle.tree_core.specs.declared.node.Status.TheVariants.{Free, Held, Leaf}
 use Rattle.tree_core.specs.Stories.{Story, status, content, left_by, content_by}
 use Rattle.tree_core.specs.Replays.{is_allowed, kids_of, deed_kept, with_event}
 use Rattle.tree_core.proofs.Standing.{status-kid, content-kid}
+use Rattle.fork_spec.specs.Partings.{Place}
 use Rattle.fork_tree.specs.Nodes.{StateIs}
 use Rattle.fork_tree.specs.Works.{IsPart, Rules}
 use Rattle.fork_tree.specs.Drains.{sum_below, weight, heft, fuel}
@@ -156,9 +157,10 @@ module _ {S L : Type 0} (rules : Rules S L) where
       added : (f p a h k : ℕ) → f + p ≡ a + h + k → p ≡ 0 → h ≡ 0 → f ≡ a + k
       added f p a h k x y z = omega arith
 
+module _ {S L : Type 0} (rules : Rules S L) (leaf_place : L → Place) where
   -- a part with less left than a bound weighs at most the power below it
   part_light : (l : ℕ) (choices : List Choice) (kid : Kid (Content S L)) (c : Content S L) →
-      IsPart rules (suc l) choices kid c →
+      IsPart rules leaf_place (suc l) choices kid c →
       heft rules (cond kid.is_leaf Leaf Free) (Some c) ≤ (rules.targets + 2) ^ l
   part_light l choices kid (Open a) part =
       subst (λ (b : Bool). heft rules (cond b Leaf Free) (Some (Open a)) ≤ (rules.targets + 2) ^ l)
@@ -173,7 +175,7 @@ module _ {S L : Type 0} (rules : Rules S L) where
       (sym part.0) (omega arith)
 
   part_none : (choices : List Choice) (kid : Kid (Content S L)) (c : Content S L) →
-      IsPart rules 0 choices kid c → heft rules (cond kid.is_leaf Leaf Free) (Some c) ≤ 0
+      IsPart rules leaf_place 0 choices kid c → heft rules (cond kid.is_leaf Leaf Free) (Some c) ≤ 0
   part_none choices kid (Open a) part = absurd (never (rules.left (arc_value a)) part.2)
     where
       never : (n : ℕ) → n < 0 → ⊥
@@ -183,11 +185,11 @@ module _ {S L : Type 0} (rules : Rules S L) where
       (omega arith)
 
   abbrev PartOf : ℕ → List Choice → Kid (Content S L) → Type 0
-  PartOf l choices kid = IsPart rules l choices kid kid.content
+  PartOf l choices kid = IsPart rules leaf_place l choices kid kid.content
 
   -- kids weigh less than what they came from
   pub kids_light : (l : ℕ) (choices : List Choice) (kids : List (Kid (Content S L))) →
-      All (λ (kid : Kid (Content S L)). IsPart rules l choices kid kid.content) kids →
+      All (λ (kid : Kid (Content S L)). IsPart rules leaf_place l choices kid kid.content) kids →
       length kids ≤ rules.targets + 1 → sum_by (kid_heft rules) kids < (rules.targets + 2) ^ l
   kids_light zero choices kids parts few =
       let all : sum_by (kid_heft rules) kids ≤ length kids * 0 = sum_by-le (kid_heft rules) 0 kids

@@ -12,6 +12,7 @@ use Rattle.tree_core.specs.declared.event.Kid.{Kid}
 use Rattle.tree_core.specs.Nodes.{Node}
 use Rattle.tree_core.specs.Stories.{Story}
 use Rattle.tree_core.specs.Replays.{births, deed_kept, kept, with_event, node_of}
+use Rattle.fork_spec.specs.Histories.{node_count, sides_made}
 use Rattle.fork_spec.specs.Walks.{Line}
 use Rattle.fork_tree.specs.Written.{born_by, lines_from, lines_of, nodes_after, side_born, side_of_kid, written_deed, written_now}
 
@@ -108,4 +109,30 @@ module _ {R : Type 0} (cut : R → Option Cause) where
       after-push 1 s.events (kept e)
       ∙ ap (λ n. n + born_by (deed_kept e.deed)) counted
       ∙ ap (λ n. length s.nodes + n) (born_kept e.node e.deed)
+      ∙ sym (length-append s.nodes (births e.node e.deed))
+
+  -- as many nodes are made as are written
+  count-push : (lines : List Line) (line : Line) → node_count (lines ++ line ∷ []) ≡ node_count lines + sides_made line.deed
+  count-push [] line = swap (sides_made line.deed)
+    where
+      swap : (n : ℕ) → n + 1 ≡ 1 + n
+      swap n = omega arith
+  count-push (l ∷ lines) line = ap (λ n. sides_made l.deed + n) (count-push lines line) ∙ shift (sides_made l.deed) (node_count lines) (sides_made line.deed)
+    where
+      shift : (a b c : ℕ) → a + (b + c) ≡ a + b + c
+      shift a b c = omega arith
+
+  sides_born : (parent first : ℕ) (d : Deed R (Vec (Kid R))) → sides_made (written_now cut first d) ≡ length (births parent d)
+  sides_born parent first Claim = refl
+  sides_born parent first (Split kids) = length-map kids.items (side_of_kid cut) ∙ sym (length-map kids.items (node_of parent))
+  sides_born parent first (Finish leaf) = refl
+  sides_born parent first (Cut leaf) = refl
+  sides_born parent first Release = refl
+
+  pub written-noted : (s : Story R) (e : Event R (Vec (Kid R))) → nodes_after 1 s.events ≡ length s.nodes → node_count (lines_of cut s) ≡ length s.nodes
+      → node_count (lines_of cut (with_event s e)) ≡ length (with_event s e).nodes
+  written-noted s e counted written =
+      ap node_count (lines-noted s e counted)
+      ∙ count-push (lines_of cut s) (line_now cut (length s.nodes) e)
+      ∙ (λ k. written k + sides_born e.node (length s.nodes) e.deed k)
       ∙ sym (length-append s.nodes (births e.node e.deed))

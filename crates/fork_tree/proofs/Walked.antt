@@ -4,7 +4,7 @@ use mathlib.Core.Logic.{dite}
 use native.Mathlib.Decide.{ℕ_discrete}
 use Rattle.std.specs.Prelude.{All, slice_get}
 use Rattle.std.specs.Global.{Vec}
-use Rattle.std.proofs.lemmas.Bool.{cases_lt}
+use Rattle.std.proofs.lemmas.Bool.{and_parts, cases_lt}
 use Rattle.std.proofs.lemmas.Bool.Decides.{nat_tests}
 use Rattle.std.proofs.lemmas.List.{length-append, length-map}
 use Rattle.std.proofs.lemmas.List.Elements.{All-nil, All-cons, All-head, All-tail}
@@ -17,16 +17,17 @@ use Rattle.tree_core.specs.declared.event.Deed.TheVariants.{Claim, Split, Finish
 use Rattle.tree_core.specs.declared.event.Kid.{Kid}
 use Rattle.tree_core.specs.declared.node.Status.{Status}
 use Rattle.tree_core.specs.declared.node.Status.TheVariants.{Free, Held, Parted, Leaf}
-use Rattle.tree_core.specs.Replays.{allows, deed_kept, is_allowed, kept, kids_of, with_event, opening}
+use Rattle.tree_core.specs.Replays.{allows, deed_kept, has_room, is_allowed, kept, kids_of, with_event, opening}
 use Rattle.tree_core.specs.Replays as tree
 use Rattle.tree_core.specs.Stories.{Story, content, content_after, content_by, last_on, left_by, status}
 use Rattle.tree_core.specs.Stories as stories
+use Rattle.tree_core.proofs.Guards.{allowed-may}
 use Rattle.tree_core.proofs.Standing.{content-kid, content-noted, kid_unnamed, open_content, status-kid, status-noted}
 use Rattle.tree_core.proofs.Places.{get_behind}
-use Rattle.fork_spec.specs.Walks.{Line, Standing, side_births, side_status, cut_by, done_on, is_in_form, may_come, root, side_at, walk_step, walk, walk_from}
+use Rattle.fork_spec.specs.Walks.{Bounds, Line, Standing, is_by_nodes, side_births, side_status, cut_by, done_on, is_in_form, may_come, root, side_at, walk_step, walk, walk_from}
 use Rattle.fork_tree.specs.Written.{IsCutOr, IsInForm, IsKidOf, IsWalked, LeadsTo, StandsAs, cut_where, lines_from, lines_of, nodes_after, side_of_kid, written_now}
 use Rattle.fork_tree.proofs.Changing.{changed, get_new, get_other, get_same, length-changed}
-use Rattle.fork_tree.proofs.Lines.{counted-noted, line_now, lines-noted}
+use Rattle.fork_tree.proofs.Lines.{counted-noted, line_now, lines-noted, written-noted}
 use Rattle.fork_spec.proofs.Walking.{walk_goes_on}
 
 both : (a b : Bool) → a ≡ true → b ≡ true → (a && b) ≡ true
@@ -36,19 +37,19 @@ both false b ha hb = ha
 below : (a b : ℕ) → a < b → nat_lt a b ≡ true
 below a b lt = grind (arith, nat_tests)
 
-one_more : (workers targets : ℕ) (lines : List Line) (e : Line) (nodes next : List Standing) → walk workers targets lines ≡ Some nodes → walk_step workers targets nodes e ≡ Some next
-    → walk workers targets (lines ++ e ∷ []) ≡ Some next
+one_more : (bounds : Bounds) (lines : List Line) (e : Line) (nodes next : List Standing) → walk bounds lines ≡ Some nodes → walk_step bounds nodes e ≡ Some next
+    → walk bounds (lines ++ e ∷ []) ≡ Some next
 unfolding walk_from
-one_more workers targets lines e nodes next walked stepped =
-    walk_goes_on workers targets (root ∷ []) lines (e ∷ [])
-    ∙ ap (option_and_then (λ reached. walk_from workers targets reached (e ∷ []))) walked
-    ∙ ap (option_and_then (λ reached. walk_from workers targets reached [])) stepped
+one_more bounds lines e nodes next walked stepped =
+    walk_goes_on bounds (root ∷ []) lines (e ∷ [])
+    ∙ ap (option_and_then (λ reached. walk_from bounds reached (e ∷ []))) walked
+    ∙ ap (option_and_then (λ reached. walk_from bounds reached [])) stepped
 
-stepped : (workers targets : ℕ) (nodes : List Standing) (e : Line) (node : Standing) → slice_get nodes e.node ≡ Some node → may_come workers targets nodes e node ≡ true
-    → walk_step workers targets nodes e ≡ Some (done_on nodes e node)
+stepped : (bounds : Bounds) (nodes : List Standing) (e : Line) (node : Standing) → slice_get nodes e.node ≡ Some node → may_come bounds nodes e node ≡ true
+    → walk_step bounds nodes e ≡ Some (done_on nodes e node)
 unfolding walk_step
-stepped workers targets nodes e node at may =
-    ap (option_and_then (λ n. if may_come workers targets nodes e n then Some (done_on nodes e n) else None)) at
+stepped bounds nodes e node at may =
+    ap (option_and_then (λ n. if may_come bounds nodes e n then Some (done_on nodes e n) else None)) at
     ∙ ap (λ (b : Bool). if b then Some (done_on nodes e node) else None) may
 
 -- all of a list, of its front and of what comes behind
@@ -81,7 +82,7 @@ module _ {R : Type 0} where
       → slice_get (kids_of e.deed) i ≡ None → content (with_event s e) (length s.nodes + i) ≡ None
   no_kid_content s e i named there none = λ k. content_after (option_map (λ n. n.content) (no_kid s e i none k)) (kid_unnamed s e i named there k)
 
-module _ {R : Type 0} (choices : R → List Choice) (cut : R → Option Cause) (targets : ℕ) where
+module _ {R : Type 0} (choices : R → List Choice) (cut : R → Option Cause) (targets most : ℕ) where
   -- how a node of the story stands that has this content
   abbrev stands : Story R → ℕ → R → Standing
   stands s m r = record { choices = choices r; status = status s m; cut = cut_where cut (status s m) r }
@@ -93,11 +94,18 @@ module _ {R : Type 0} (choices : R → List Choice) (cut : R → Option Cause) (
   allows_line st by first (Cut leaf) = refl
   allows_line st by first Release = refl
 
+  full_line : (n first : ℕ) (d : Deed R (Vec (Kid R))) → has_room is_by_nodes most n (written_now cut first d) ≡ has_room (λ leaf. is_by_nodes (cut leaf)) most n d
+  full_line n first Claim = refl
+  full_line n first (Split kids) = refl
+  full_line n first (Finish leaf) = refl
+  full_line n first (Cut leaf) = refl
+  full_line n first Release = refl
+
   form_line : (first : ℕ) (r : R) (d : Deed R (Vec (Kid R))) → IsInForm choices cut targets r d → is_in_form targets first (written_now cut first d) ≡ true
   form_line first r Claim form = refl
   form_line first r (Split kids) (sides, each) = both (first == first) _ (eq-eqb first first refl) sides
   form_line first r (Finish leaf) (same, none) = ap (λ c. is_in_form targets first (Finish c)) none
-  form_line first r (Cut leaf) (same, steps) = ap (λ c. is_in_form targets first (Cut c)) steps
+  form_line first r (Cut leaf) (same, ends) = ends
   form_line first r Release form = refl
 
   abbrev standing : List Choice → Status → Option Cause → Standing
@@ -151,7 +159,14 @@ module _ {R : Type 0} (choices : R → List Choice) (cut : R → Option Cause) (
   length-births first parent r Release = refl
 
   module _ (s : Story R) (e : Event R (Vec (Kid R))) (r : R) (named : All (λ (x : Event R ℕ). x.node < length s.nodes) s.events) (there : e.node < length s.nodes)
-      (is : content s e.node ≡ Some r) (may : IsTrue (is_allowed s e)) (form : IsInForm choices cut targets r e.deed) where
+      (is : content s e.node ≡ Some r) (comes : IsTrue (tree.may_come (λ leaf. is_by_nodes (cut leaf)) most s e)) (form : IsInForm choices cut targets r e.deed) where
+    -- the guards
+    may : IsTrue (is_allowed s e)
+    may = allowed-may (λ leaf. is_by_nodes (cut leaf)) most s e comes
+
+    room : has_room (λ leaf. is_by_nodes (cut leaf)) most (length s.nodes) e.deed ≡ true
+    room = (and_parts (is_allowed s e) (has_room (λ leaf. is_by_nodes (cut leaf)) most (length s.nodes) e.deed) comes).1
+
     -- the content of its birth, which it has still
     birth : option_map (λ n. n.content) (slice_get s.nodes e.node) ≡ Some r
     birth = sym (open_content (option_map (λ n. n.content) (slice_get s.nodes e.node)) (stories.born_as (slice_get s.nodes e.node)) (last_on e.node s.events) e.by e.deed may) ∙ is
@@ -223,11 +238,14 @@ module _ {R : Type 0} (choices : R → List Choice) (cut : R → Option Cause) (
         by_place (inr ge) = let i : ℕ = m - length s.nodes in let sum : length s.nodes + i ≡ m = omega (arith, ge) in
             subst (Stands nodes q) sum (λ h. kid_node nodes i q as_many h (slice_get (kids_of e.deed) i) refl) has
 
-    leads_on : (workers : ℕ) → e.by < workers → nodes_after 1 s.events ≡ length s.nodes → LeadsTo choices cut workers targets s → LeadsTo choices cut workers targets (with_event s e)
+    abbrev bounds : ℕ → Bounds
+    bounds workers = record { workers = workers; targets = targets; nodes = most }
+
+    leads_on : (workers : ℕ) → e.by < workers → nodes_after 1 s.events ≡ length s.nodes → LeadsTo choices cut (bounds workers) s → LeadsTo choices cut (bounds workers) (with_event s e)
     leads_on workers by counted old = record {
       nodes = changed old.nodes e.node turned more;
-      walked = ap (walk workers targets) (lines-noted cut s e counted)
-          ∙ one_more workers targets (lines_of cut s) line old.nodes (done_on old.nodes line (stands s e.node r)) old.walked (stepped workers targets old.nodes line (stands s e.node r) at came);
+      walked = ap (walk (bounds workers)) (lines-noted cut s e counted)
+          ∙ one_more (bounds workers) (lines_of cut s) line old.nodes (done_on old.nodes line (stands s e.node r)) old.walked (stepped (bounds workers) old.nodes line (stands s e.node r) at came);
       same = record {
         as_many = length-changed old.nodes e.node turned more ∙ sum (length old.nodes) (length s.nodes) (length more) (length (tree.births e.node e.deed)) old.same.as_many (length-births (length s.nodes) e.node r e.deed) ∙ sym (length-append s.nodes (tree.births e.node e.deed));
         each = λ m q has. (stands (with_event s e) m q, each_node old.nodes old.same.as_many old_each m q has, refl);
@@ -241,27 +259,31 @@ module _ {R : Type 0} (choices : R → List Choice) (cut : R → Option Cause) (
         at : slice_get old.nodes e.node ≡ Some (stands s e.node r)
         at = old_each e.node r is
 
-        came : may_come workers targets old.nodes line (stands s e.node r) ≡ true
-        came = both (nat_lt e.by workers && allows (status s e.node) e.by line.deed) _
+        came : may_come (bounds workers) old.nodes line (stands s e.node r) ≡ true
+        came = both (nat_lt e.by workers && allows (status s e.node) e.by line.deed && has_room is_by_nodes most (length old.nodes) line.deed) _
+            (both (nat_lt e.by workers && allows (status s e.node) e.by line.deed) _
             (both (nat_lt e.by workers) _ (below e.by workers by) (allows_line (status s e.node) e.by (length s.nodes) e.deed ∙ may))
+            (ap (λ n. has_room is_by_nodes most n line.deed) old.same.as_many ∙ (full_line (length s.nodes) (length s.nodes) e.deed ∙ room)))
             (ap (λ n. is_in_form targets n line.deed) old.same.as_many ∙ form_line (length s.nodes) r e.deed form)
 
         sum : (a b c d : ℕ) → a ≡ b → c ≡ d → a + c ≡ b + d
         sum a b c d p q = λ i. p i + q i
 
-    pub walked-noted : IsWalked choices cut targets s → IsWalked choices cut targets (with_event s e)
+    pub walked-noted : IsWalked choices cut targets most s → IsWalked choices cut targets most (with_event s e)
     walked-noted old = record {
       counted = counted-noted cut s e old.counted;
+      written = written-noted cut s e old.counted old.written;
       leads = λ workers all. leads_on workers
           (All-head (λ (x : Event R ℕ). x.by < workers) (kept e) [] (all_back (λ (x : Event R ℕ). x.by < workers) s.events (kept e ∷ []) all))
           old.counted (old.leads workers (all_front (λ (x : Event R ℕ). x.by < workers) s.events (kept e ∷ []) all));
     }
 
   -- the root alone
-  pub walked-opening : (root_content : R) → choices root_content ≡ [] → IsWalked choices cut targets (opening root_content false)
+  pub walked-opening : (root_content : R) → choices root_content ≡ [] → IsWalked choices cut targets most (opening root_content false)
   unfolding walk_from lines_from nodes_after
   walked-opening root_content none = record {
     counted = refl;
+    written = refl;
     leads = λ workers all. record {
       nodes = root ∷ [];
       walked = refl;

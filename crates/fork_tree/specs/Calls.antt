@@ -1,5 +1,5 @@
 -- What the calls of a tree ask for and answer, and the events that they note.
-use Rattle.std.specs.Prelude.{◌≡◌, ◌≢◌, ℕ, ◌<◌, if◌then◌else◌, false, All, List, [], Option, Some, count_by, length}
+use Rattle.std.specs.Prelude.{◌≡◌, ◌≢◌, ℕ, ◌+◌, ◌<◌, ◌≤◌, ◌⊎◌, if◌then◌else◌, false, All, List, [], None, Option, Some, count_by, length}
 use Rattle.std.specs.Global.{Vec}
 use Rattle.std.specs.Arc.{arc_value}
 use Rattle.tree_core.specs.Covers.{one_if}
@@ -7,6 +7,7 @@ use Rattle.tree_core.specs.Stories.{Story, status, content}
 use Rattle.tree_core.specs.Replays.{with_event, opening}
 use Rattle.tree_core.specs.Cores.{held_count}
 use Rattle.tree_core.specs.declared.cause.Cause.{Cause}
+use Rattle.tree_core.specs.declared.cause.Cause.TheVariants.{Nodes, Steps}
 use Rattle.tree_core.specs.declared.event.Event.{Event}
 use Rattle.tree_core.specs.declared.event.Deed.TheVariants.{Claim as ClaimIt, Split, Finish, Cut, Release}
 use Rattle.tree_core.specs.declared.event.Kid.{Kid}
@@ -17,7 +18,7 @@ use Rattle.fork_tree.specs.Written.{IsInForm}
 use Rattle.fork_tree.specs.Contents.{choices_in, cut_in, place_in}
 use Rattle.fork_tree.specs.Nodes.{HoldsFor, StateIs}
 use Rattle.fork_tree.specs.Trees.{choices_at, covers_at}
-use Rattle.fork_tree.specs.Works.{Rules}
+use Rattle.fork_tree.specs.Works.{IsRunAt, IsSplit, Rules, nodes_at}
 use Rattle.fork_tree.specs.declared.content.Content.{Content}
 use Rattle.fork_tree.specs.declared.content.Content.TheVariants.{Shut}
 use Rattle.fork_tree.specs.declared.tree.Claim.{Claim}
@@ -76,12 +77,14 @@ module _ {S L : Type 0} where
         count_by (λ (kid : Kid (Content S L)). covers_at state_place leaf_place kid.content input)
         kids.items
         ≡ one_if (covers_at state_place leaf_place old input)
-    pub in_form : IsInForm (choices_at state_place leaf_place) (cut_in rules.cut) rules.targets old
-        (Split kids)
+    pub in_form : IsInForm (choices_at state_place leaf_place) (cut_in state_place leaf_place) rules.targets
+        old (Split kids)
     pub apart : KeepsApart (place_in state_place leaf_place) rules.decides old (Split kids)
     pub parts : All (λ (kid : Kid (Content S L)). HoldsFor rules.IsWell
-        (rules.IsRight (choices_in kids.items)) (if kid.is_leaf then Leaf else Free)
+        (rules.IsRight (choices_in kids.items) None) (if kid.is_leaf then Leaf else Free)
         (Some kid.content)) kids.items
+    pub few : length kids.items ≤ rules.targets + 1
+    pub not_full : length s.nodes < rules.nodes
 
   -- A leaf may come in the place of a node, which the worker holds: it has the same place, is right
   -- as no kid's, and was cut for this cause, if for one.
@@ -94,5 +97,28 @@ module _ {S L : Type 0} where
     pub same_choices : (leaf_place leaf).choices ≡ choices_at state_place leaf_place old
     pub same_cover : (input : List ℕ) →
         (leaf_place leaf).covers input ≡ covers_at state_place leaf_place old input
-    pub right : rules.IsRight [] leaf
-    pub cause : rules.cut leaf ≡ cut
+    pub right : rules.IsRight [] (nodes_at cut (length s.nodes)) leaf
+    pub cause : (leaf_place leaf).cut ≡ cut
+
+  -- A node, which the worker holds, may be parted into the kids, or cut in the place of the run: they are what comes of its state.
+  pub record IsPartFit (rules : Rules S L) (state_place : S → Place) (leaf_place : L → Place)
+      (s : Story (Content S L)) (by node : ℕ) (kids : List (Kid (Content S L))) (run : S)
+      : Type 0 where
+    pub there : node < length s.nodes
+    pub held : status s node ≡ Held by
+    pub state : S
+    pub is_state : StateIs (content s node) state
+    pub split : IsSplit rules state_place leaf_place state kids
+    pub run_at : IsRunAt rules state_place state run
+
+  -- the kids have come in the place of a node, or a leaf
+  abbrev pub IsParted : Story (Content S L) → (by node : ℕ) → Vec (Kid (Content S L))
+      → Story (Content S L) → Type 0
+  IsParted s by node kids t = (t ≡ with_event s (split_event by node kids))
+      ⊎ ((leaf : L) × (t ≡ with_event s (cut_event by node leaf)))
+
+-- a run is cut so, as no side of a fork: its steps are spent, or there are as many nodes as there may be
+abbrev pub MayCut : (most nodes : ℕ) → Cause → Type 0
+MayCut most nodes Steps = Unit {0}
+MayCut most nodes Nodes = most ≤ nodes
+MayCut most nodes _ = ⊥

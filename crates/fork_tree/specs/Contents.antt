@@ -1,5 +1,5 @@
 -- What nodes hold.
-use Rattle.std.specs.Prelude.{Option, None, List, map}
+use Rattle.std.specs.Prelude.{Option, List, map}
 use Rattle.std.specs.Arc.{arc_value}
 use Rattle.tree_core.specs.declared.cause.Cause.{Cause}
 use Rattle.tree_core.specs.declared.choice.Choice.{Choice}
@@ -13,10 +13,9 @@ abbrev pub place_in : {S L : Type 0} → (S → Place) → (L → Place) → Con
 place_in of_state of_leaf (Open a) = of_state (arc_value a)
 place_in of_state of_leaf (Shut l) = of_leaf l
 
--- why a content is a leaf that was cut, if it is
-abbrev pub cut_in : {S L : Type 0} → (L → Option Cause) → Content S L → Option Cause
-cut_in cut (Open a) = None
-cut_in cut (Shut l) = cut l
+-- why a content was cut, if it is a leaf that was
+abbrev pub cut_in : {S L : Type 0} → (S → Place) → (L → Place) → Content S L → Option Cause
+cut_in of_state of_leaf c = (place_in of_state of_leaf c).cut
 
 -- the choices of kids
 abbrev pub choices_in : {R : Type 0} → List (Kid R) → List Choice

@@ -1,5 +1,5 @@
 -- What the loop makes of a tree, and how much is left to it.
-use Rattle.std.specs.Prelude.{◌≡◌, ℕ, zero, suc, ◌+◌, ◌<◌, ◌^◌, Bool, ◌&&◌, Option, Some, List, ◌++◌, length}
+use Rattle.std.specs.Prelude.{◌≡◌, ℕ, zero, suc, ◌+◌, ◌<◌, ◌≤◌, ◌^◌, Bool, ◌&&◌, Option, Some, List, ◌++◌, length}
 use Rattle.std.specs.List.{All}
 use Rattle.std.specs.Arc.{arc_value}
 use Rattle.tree_core.specs.Stories.{Story, status, content}
@@ -60,7 +60,8 @@ leaf_count covers s input =
 
 -- No node is free or held: each assignment that the root stands for is covered by exactly one leaf,
 -- and any other by none; each leaf is right as a side of its own split; what is written is a walk
--- that leads to these nodes; and the leaves, which alone have no kids, part by a decision.
+-- that leads to these nodes; the leaves, which alone have no kids, part by a decision; and there are
+-- no more nodes than the budget and the further kids of one split.
 pub record IsDrained {S L : Type 0} (rules : Rules S L) (state_place : S → Place)
     (leaf_place : L → Place) (s : Story (Content S L)) : Type 0 where
   pub quiet : IsQuiet s
@@ -68,9 +69,11 @@ pub record IsDrained {S L : Type 0} (rules : Rules S L) (state_place : S → Pla
       leaf_count (covers_at state_place leaf_place) s input
       ≡ one_if (covered (covers_at state_place leaf_place) (root_content s) input)
   pub leaves : (m : ℕ) → m < length s.nodes → status s m ≡ IsLeaf →
-      HasLeaf (IsLeafRight rules s m) (content s m)
-  pub walked : IsWalked (choices_at state_place leaf_place) (cut_in rules.cut) rules.targets s
+      HasLeaf (IsLeafRight rules state_place leaf_place s m) (content s m)
+  pub walked : IsWalked (choices_at state_place leaf_place) (cut_in state_place leaf_place)
+      rules.targets rules.nodes s
   pub apart : AreNodesApart (place_in state_place leaf_place) rules.decides s
+  pub bounded : length s.nodes ≤ rules.nodes + rules.targets
   pub few : length s.nodes < 2 ^ 32
 
 -- the entry is of a leaf of the tree: its node is a leaf, and of what that holds this leaf is read
@@ -82,7 +85,6 @@ pub record IsLeafOf {S L : Type 0} (leaf_of : L → Leaf) (s : Story (Content S 
   pub same : leaf_of held ≡ entry.leaf
 
 -- what is read of a worker's leaf tells the choices that lead to it, and why it was cut
-pub record Reads {S L : Type 0} (rules : Rules S L) (leaf_place : L → Place)
-    (leaf_of : L → Leaf) : Type 0 where
+pub record Reads {L : Type 0} (leaf_place : L → Place) (leaf_of : L → Leaf) : Type 0 where
   pub choices : (l : L) → (leaf_place l).choices ≡ (leaf_of l).choices
-  pub cause : (l : L) → rules.cut l ≡ cause_of (leaf_of l).end
+  pub cause : (l : L) → (leaf_place l).cut ≡ cause_of (leaf_of l).end

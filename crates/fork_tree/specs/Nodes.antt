@@ -5,7 +5,8 @@ use Rattle.tree_core.specs.Stories.{Story, content, status}
 use Rattle.tree_core.specs.declared.choice.Choice.{Choice}
 use Rattle.tree_core.specs.declared.node.Status.{Status}
 use Rattle.tree_core.specs.declared.node.Status.TheVariants.{Free, Held, Parted, Leaf}
-use Rattle.fork_spec.specs.Histories.{IsOwnSplit}
+use Rattle.fork_spec.specs.Histories.{IsOwnCut, IsOwnSplit}
+use Rattle.fork_spec.specs.Partings.{Place}
 use Rattle.fork_spec.specs.Walks.{Line}
 use Rattle.fork_tree.specs.Written.{lines_of}
 use Rattle.fork_tree.specs.Contents.{cut_in}
@@ -37,17 +38,21 @@ module _ {S L : Type 0} where
   HoldsFor well right Parted c = Unit {0}
   HoldsFor well right Leaf c = HasLeaf right c
 
-  -- a leaf at this node is right as a side of the node's own split
+  -- a leaf at this node is right as a side of the node's own split, and where it was cut
   pub record IsRightAt (rules : Rules S L) (lines : List Line) (node : ℕ) (leaf : L) : Type 0 where
     pub sides : List Choice
     pub own : IsOwnSplit lines node sides
-    pub right : rules.IsRight sides leaf
+    pub nodes : Option ℕ
+    pub own_cut : IsOwnCut lines node nodes
+    pub right : rules.IsRight sides nodes leaf
 
   -- a leaf of the story is right at its node
-  abbrev pub IsLeafRight : Rules S L → Story (Content S L) → ℕ → L → Type 0
-  IsLeafRight rules s node leaf = IsRightAt rules (lines_of (cut_in rules.cut) s) node leaf
+  abbrev pub IsLeafRight : Rules S L → (S → Place) → (L → Place) → Story (Content S L) → ℕ → L
+      → Type 0
+  IsLeafRight rules state_place leaf_place s node leaf =
+      IsRightAt rules (lines_of (cut_in state_place leaf_place) s) node leaf
 
   -- each node holds what it has to: a state that is well, or a leaf that is right
-  abbrev pub AllHold : Rules S L → Story (Content S L) → Type 0
-  AllHold rules s = (m : ℕ) → m < length s.nodes →
-      HoldsFor rules.IsWell (IsLeafRight rules s m) (status s m) (content s m)
+  abbrev pub AllHold : Rules S L → (S → Place) → (L → Place) → Story (Content S L) → Type 0
+  AllHold rules state_place leaf_place s = (m : ℕ) → m < length s.nodes →
+      HoldsFor rules.IsWell (IsLeafRight rules state_place leaf_place s m) (status s m) (content s m)

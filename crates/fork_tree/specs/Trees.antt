@@ -34,13 +34,16 @@ covers_at state_place leaf_place c = (place_in state_place leaf_place c).covers
 
 -- What holds of a tree's story at every moment, by the rules of its worker: nodes hold what they
 -- have to; what is written of it is a walk that leads to its nodes; nodes with no kids part by a
--- decision; and there are fewer than 2 ^ 32 nodes.
+-- decision; and there are no more nodes than the budget and the further kids of one split, which
+-- are fewer than 2 ^ 32.
 pub record FollowsRules {S L : Type 0} (rules : Rules S L) (state_place : S → Place)
     (leaf_place : L → Place) (s : Story (Content S L)) : Type 0 where
-  pub holds : AllHold rules s
-  pub walked : IsWalked (choices_at state_place leaf_place) (cut_in rules.cut) rules.targets s
+  pub holds : AllHold rules state_place leaf_place s
+  pub walked : IsWalked (choices_at state_place leaf_place) (cut_in state_place leaf_place)
+      rules.targets rules.nodes s
   pub apart : AreNodesApart (place_in state_place leaf_place) rules.decides s
-  pub few : length s.nodes < 2 ^ 32
+  pub few : length s.nodes ≤ rules.nodes + rules.targets
+  pub small : rules.nodes + rules.targets < 2 ^ 32
 
 module _ {R : Type 0} where
   -- the node is there, and stands free

@@ -1,7 +1,6 @@
 -- What is written of the story of a fork tree: its events, with of each content no more than why it was cut.
 use Rattle.std.specs.Prelude.{◌≡◌, ℕ, ◌+◌, ◌<◌, Bool, true, IsTrue, List, [], ◌∷◌, ◌++◌, Option, Some, None, All, drop, if◌then◌else◌, length, map, slice_get, take}
 use Rattle.tree_core.specs.declared.cause.Cause.{Cause}
-use Rattle.tree_core.specs.declared.cause.Cause.TheVariants.{Steps}
 use Rattle.tree_core.specs.declared.choice.Choice.{Choice}
 use Rattle.tree_core.specs.declared.choice.Choice.TheVariants.{Rest}
 use Rattle.tree_core.specs.declared.event.Event.{Event}
@@ -14,7 +13,8 @@ use Rattle.tree_core.specs.declared.node.Status.{Status}
 use Rattle.tree_core.specs.declared.node.Status.TheVariants.{Leaf}
 use Rattle.tree_core.specs.Stories.{Story, content, status}
 use Rattle.std.specs.Global.{Vec}
-use Rattle.fork_spec.specs.Walks.{Line, Side, Sides, Standing, are_sides, walk}
+use Rattle.fork_spec.specs.Histories.{node_count}
+use Rattle.fork_spec.specs.Walks.{Bounds, Line, Side, Sides, Standing, are_sides, is_end_cut, walk}
 
 -- on which side of its parent's fork a node is; the root is on none
 abbrev pub choice_in : Option Origin → Choice
@@ -91,19 +91,20 @@ unfoldable pub nodes_after : {R : Type 0} → (first : ℕ) → List (Event R �
 nodes_after first [] = first
 nodes_after first (e ∷ es) = nodes_after (first + born_by e.deed) es
 
--- the walk of what is written, for so many workers, leads to the nodes of the story
+-- the walk of what is written, held to these bounds, leads to the nodes of the story
 pub record LeadsTo {R : Type 0} (choices : R → List Choice) (cut : R → Option Cause)
-    (workers targets : ℕ) (s : Story R) : Type 0 where
+    (bounds : Bounds) (s : Story R) : Type 0 where
   pub nodes : List Standing
-  pub walked : walk workers targets (lines_of cut s) ≡ Some nodes
+  pub walked : walk bounds (lines_of cut s) ≡ Some nodes
   pub same : AreNodesOf choices cut s nodes
 
 -- What is written of the story is a walk that leads to its nodes, for any number of workers that all of its workers are among.
-pub record IsWalked {R : Type 0} (choices : R → List Choice) (cut : R → Option Cause) (targets : ℕ)
-    (s : Story R) : Type 0 where
+pub record IsWalked {R : Type 0} (choices : R → List Choice) (cut : R → Option Cause)
+    (targets most : ℕ) (s : Story R) : Type 0 where
   pub counted : nodes_after 1 s.events ≡ length s.nodes
+  pub written : node_count (lines_of cut s) ≡ length s.nodes
   pub leads : (workers : ℕ) → All (λ (e : Event R ℕ). e.by < workers) s.events
-      → LeadsTo choices cut workers targets s
+      → LeadsTo choices cut (record { workers = workers; targets = targets; nodes = most }) s
 
 -- a deed as it is written where there are so many nodes so far
 abbrev pub written_now : {R : Type 0} → (cut : R → Option Cause) → (first : ℕ)
@@ -127,7 +128,7 @@ pub record IsKidOf {R : Type 0} (choices : R → List Choice) (cut : R → Optio
   pub marked : IsCutOr kid.is_leaf (cut kid.content)
 
 -- a deed on a node with this content is in form: kids are sides of its fork and have its choices and then their own, and a leaf
--- has its choices, and was cut by steps or not at all
+-- has its choices, and was cut by steps, by nodes or not at all
 abbrev pub IsInForm : {R : Type 0} → (choices : R → List Choice) → (cut : R → Option Cause)
     → (targets : ℕ) → R → Deed R (Vec (Kid R)) → Type 0
 IsInForm choices cut targets r Claim = Unit {0}
@@ -135,5 +136,5 @@ IsInForm {R} choices cut targets r (Split kids) =
     IsTrue (are_sides targets (map (side_of_kid cut) kids.items))
     × All (IsKidOf choices cut r) kids.items
 IsInForm choices cut targets r (Finish leaf) = (choices leaf ≡ choices r) × (cut leaf ≡ None)
-IsInForm choices cut targets r (Cut leaf) = (choices leaf ≡ choices r) × (cut leaf ≡ Some Steps)
+IsInForm choices cut targets r (Cut leaf) = (choices leaf ≡ choices r) × IsTrue (is_end_cut (cut leaf))
 IsInForm choices cut targets r Release = Unit {0}

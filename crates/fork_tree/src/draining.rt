@@ -13,6 +13,7 @@ use crate::tree::{Claim, Tree};
 use crate::work::{Parts, Work};
 use std::alloc::{AllocError as NoMemory, Global};
 use std::sync::Wait;
+use tree_core::Cause;
 use work_gate::OpenGate;
 
 /// Works the tree until no node is free or held. Where memory is refused no node is held, and what was entered stays: a node that
@@ -106,15 +107,11 @@ fn enter<W: Work>(
             Ok(())
         }
         Ok(Parts::CutSteps(leaf)) => {
-            tree.cut(by, node, leaf);
+            tree.cut(by, node, Cause::Steps, leaf);
             Ok(())
         }
-        Ok(Parts::Kids(kids)) => {
-            if tree.reserve(kids.len()).is_err() {
-                tree.release(by, node);
-                return Err(NoMemory);
-            }
-            tree.split(by, node, kids);
+        Ok(Parts::Kids(kids, run)) => {
+            tree.part(alloc, by, node, kids, run)?;
             Ok(())
         }
     }

@@ -4,7 +4,7 @@ ghost use Rattle.std.specs.Prelude.{◌≡◌, ◌<◌, ◌++◌, ℕ, All, IsTr
 ghost use Rattle.std.specs.Global.{Vec};
 ghost use Rattle.rv_spec.specs.Decisions.{Decision};
 ghost use Rattle.tree_core.specs.Covers.{count_below};
-ghost use Rattle.tree_core.specs.Replays.{is_allowed, with_event, opening};
+ghost use Rattle.tree_core.specs.Replays.{is_allowed, may_come, with_event, opening};
 ghost use Rattle.tree_core.specs.Stories.{Story, content, status};
 ghost use Rattle.tree_core.specs.declared.cause.Cause.{Cause};
 ghost use Rattle.tree_core.specs.declared.choice.Choice.{Choice};
@@ -13,7 +13,7 @@ ghost use Rattle.tree_core.specs.declared.event.Kid.{Kid};
 ghost use Rattle.fork_spec.specs.Histories.{IsHistory, LeafNode, is_leaf, is_leaf_status};
 ghost use Rattle.fork_spec.specs.Leaves.{Leaf};
 ghost use Rattle.fork_spec.specs.Partings.{Place};
-ghost use Rattle.fork_spec.specs.Walks.{Standing, is_quiet, is_settled};
+ghost use Rattle.fork_spec.specs.Walks.{Standing, is_by_nodes, is_quiet, is_settled};
 ghost use Rattle.fork_tree.specs.Calls.{IsQuiet};
 ghost use Rattle.fork_tree.specs.Contents.{cut_in};
 ghost use Rattle.fork_tree.specs.Drains.{IsDrained, IsLeafOf, Reads, leaf_nodes};
@@ -25,14 +25,16 @@ use crate::work::Work;
 
 /// What is written of the story of a tree is a walk that leads to its nodes: of one free root, and where an event that may come is noted.
 pub fn what_is_written_of_a_story_is_a_walk<R: Drop>()
-    ensures opening { (choices : R → List Choice) (cut : R → Option Cause) (targets : ℕ) (root : R)
-        → choices root ≡ [] → IsWalked choices cut targets (opening root false) }
-    ensures noted { (choices : R → List Choice) (cut : R → Option Cause) (targets : ℕ) (s : Story R)
-        (e : Event R (Vec (Kid R))) (r : R)
+    ensures opening { (choices : R → List Choice) (cut : R → Option Cause) (targets most : ℕ)
+        (root : R) → choices root ≡ [] → IsWalked choices cut targets most (opening root false) }
+    ensures noted { (choices : R → List Choice) (cut : R → Option Cause) (targets most : ℕ)
+        (s : Story R) (e : Event R (Vec (Kid R))) (r : R)
         → All (λ (x : Event R ℕ). x.node < length s.nodes) s.events
-        → e.node < length s.nodes → content s e.node ≡ Some r → IsTrue (is_allowed s e)
+        → e.node < length s.nodes → content s e.node ≡ Some r
+        → IsTrue (may_come (λ leaf. is_by_nodes (cut leaf)) most s e)
         → IsInForm choices cut targets r e.deed
-        → IsWalked choices cut targets s → IsWalked choices cut targets (with_event s e) }
+        → IsWalked choices cut targets most s
+        → IsWalked choices cut targets most (with_event s e) }
     ensures lines { (cut : R → Option Cause) (s : Story R) (e : Event R (Vec (Kid R)))
         → nodes_after 1 s.events ≡ length s.nodes
         → lines_of cut (with_event s e)
@@ -83,8 +85,11 @@ pub fn a_drained_tree_is_a_history<W: Work>()
         (workers : ℕ) (entries : List LeafNode)
         → IsDrained (W.rules worker) W.State.place W.Leaf.place s
         → All (λ (e : Event (Content W.State W.Leaf) ℕ). e.by < workers) s.events
-        → Reads (W.rules worker) W.Leaf.place leaf_of → All (IsLeafOf leaf_of s) entries
+        → Reads W.Leaf.place leaf_of → All (IsLeafOf leaf_of s) entries
         → length entries ≡ leaf_nodes s
-        → IsHistory workers (W.rules worker).targets
-        (lines_of (cut_in (W.rules worker).cut) s) entries }
+        → IsHistory (record {
+          workers = workers;
+          targets = (W.rules worker).targets;
+          nodes = (W.rules worker).nodes;
+        }) (lines_of (cut_in W.State.place W.Leaf.place) s) entries }
 {}

@@ -1,15 +1,14 @@
 //! The tree, and the calls by which workers take nodes and enter what came of them.
 
-ghost use Rattle.std.specs.Prelude.{◌≡◌, ◌↔◌, ◌<◌, ◌≤◌, ◌+◌, ◌^◌, IfOk, OnOk, OnErr, IsTrue, Some, None, All, [], length, vec_len};
+ghost use Rattle.std.specs.Prelude.{◌≡◌, ◌↔◌, ◌<◌, ◌≤◌, ◌+◌, ◌^◌, IfOk, nat_le, OnOk, OnErr, IsTrue, Some, None, All, [], length, vec_len};
 ghost use Rattle.std.specs.Arc.{arc_value};
-ghost use Rattle.tree_core.specs.declared.cause.Cause.TheVariants.{Steps};
 ghost use Rattle.tree_core.specs.declared.node.Status.TheVariants.{Free, Held, Leaf};
 ghost use Rattle.tree_core.specs.Cores.{LacksRoom, held_count};
 ghost use Rattle.tree_core.specs.Covers.{Partition};
-ghost use Rattle.tree_core.specs.Replays.{IsFit, Replays, is_allowed, with_event};
+ghost use Rattle.tree_core.specs.Replays.{IsFit, Replays, may_come, with_event};
 ghost use Rattle.tree_core.specs.Stories.{content, status};
 ghost use Rattle.fork_tree.specs.declared.content.Content.TheVariants.{Shut};
-ghost use Rattle.fork_tree.specs.Calls.{IsClaim, IsEndFit, IsOpening, IsQuiet, IsSplitFit, cut_event, finish_event, release_event, split_event};
+ghost use Rattle.fork_tree.specs.Calls.{IsClaim, IsEndFit, IsOpening, IsPartFit, IsParted, IsQuiet, IsSplitFit, MayCut, cut_event, finish_event, release_event, split_event};
 ghost use Rattle.fork_tree.specs.Nodes.{HasState, IsLeafRight, StateIs};
 ghost use Rattle.fork_tree.specs.Trees.{FollowsRules, HasBorn};
 
@@ -20,7 +19,7 @@ use fork_spec::Placed;
 use std::alloc::{AllocError as NoMemory, Global};
 use std::marker::Model;
 use std::sync::Arc;
-use tree_core::{Core, Cover, Deed, Event, Kid, Node, Noted, Status};
+use tree_core::{Cause, Core, Cover, Deed, Event, Kid, Node, Noted, Status};
 
 /// What a claim gives.
 #[derive(Drop)]
@@ -33,12 +32,9 @@ pub enum Claim<S: Drop> {
     Quiet,
 }
 
-// The numbers of nodes are below 2^32.
-const MOST_NODES: usize = u32::MAX as usize;
-
 /// A fork tree: nodes that hold states or leaves of a worker's program, and the events that made them.
 ///
-/// It has room for fewer than 2^32 nodes, so that each number of a node is below that.
+/// From so many nodes on as the worker's rules have it none is parted: a run that would part is cut.
 pub struct Tree<W: Work> {
     worker: W,
     core: Core<Content<W::State, W::Leaf>>,
@@ -57,45 +53,51 @@ impl<W: Work> Drop for Tree<W> {
 }
 
 impl<W: Work> Model for Tree<W> {
-    ghost use Rattle.std.specs.Prelude.{◌+◌, ◌-◌, ◌^◌, min, length};
+    ghost use Rattle.std.specs.Prelude.{◌≡◌, ◌+◌, ◌-◌, min, length};
     ghost use Rattle.tree_core.specs.Cores.{held_count};
     ghost use Rattle.fork_tree.specs.Trees.{FollowsRules, HasPlaces, IsListOfFree, TreeValue};
 
     ghost Value = { TreeValue W W.State W.Leaf };
 
-    ghost view = { λ t. record { worker = t.worker; story = t.core.story; node_room = min (min t.core.node_room (2 ^ 32 - 1 - length t.core.story.nodes)) (t.free.capacity - (length t.free.nodes + held_count t.core.story)); event_room = t.core.event_room } };
+    ghost view = { λ t. record { worker = t.worker; story = t.core.story; node_room = min t.core.node_room (t.free.capacity - (length t.free.nodes + held_count t.core.story)); event_room = t.core.event_room } };
 
-    ghost invariant = { λ t. FollowsRules (W.rules t.worker) W.State.place W.Leaf.place t.core.story × IsListOfFree t.core.story t.free.nodes × HasPlaces t.core.story t.free };
+    ghost invariant = { λ t. FollowsRules (W.rules t.worker) W.State.place W.Leaf.place t.core.story × IsListOfFree t.core.story t.free.nodes × HasPlaces t.core.story t.free × (t.core.most ≡ (W.rules t.worker).nodes) };
 }
 
 impl<W: Work> Tree<W> {
     /// A tree of one node, which is free, to be worked by so many workers: each has a list of the nodes that it made free, and
-    /// claims the last of these first. Where there are more workers, some share a list.
-    pub fn new(alloc: Global, worker: W, root: W::State, workers: u32) -> Result<Tree<W>, NoMemory>
+    /// claims the last of these first. Where there are more workers, some share a list. It may have so many nodes, and the
+    /// further kids of its last split.
+    pub fn new(
+        alloc: Global,
+        worker: W,
+        root: W::State,
+        workers: u32,
+        nodes: u32,
+    ) -> Result<Tree<W>, NoMemory>
         requires well { (W.rules worker).IsWell root }
         requires first { (W.State.place root).choices ≡ [] }
+        requires nodes { nodes ≡ (W.rules worker).nodes }
+        requires some { 1 ≤ nodes }
+        requires few { nodes + (W.rules worker).targets < 2 ^ 32 }
         ensures worker { IfOk result (λ t. t.worker ≡ worker) }
         ensures story { IfOk result (λ t. IsOpening root t.story) }
     {
-        let core = Core::new(alloc, Content::Open(Arc::new(alloc, root)?), false)?;
+        let root = Content::Open(Arc::new(alloc, root)?);
+        let core = Core::new(alloc, root, false, nodes as usize)?;
         let mut free = Worklists::new(alloc, workers)?;
         free.reserve(1)?;
         free.push(0, 0);
         Ok(Tree { worker, core, free })
     }
 
-    /// Finds room for so many kids, for a claim and for the event that ends it. There is none where the tree would come to have
-    /// 2^32 nodes.
+    /// Finds room for so many kids, for a claim and for the event that ends it.
     pub fn reserve(&mut self, kids: usize) -> Result<(), NoMemory>
         ensures worker { self.new.worker ≡ self.old.worker }
         ensures story { self.new.story ≡ self.old.story }
         ensures nodes { OnOk result (kids ≤ self.new.node_room) }
         ensures events { OnOk result (2 ≤ self.new.event_room) }
-        ensures few { OnOk result (length self.new.story.nodes + kids < 2 ^ 32) }
     {
-        if kids > MOST_NODES - self.core.len() {
-            return Err(NoMemory);
-        }
         self.core.reserve(kids)?;
         self.free.reserve(self.core.held() + kids)
     }
@@ -149,15 +151,76 @@ impl<W: Work> Tree<W> {
         note(&mut self.core, Event { by, node, deed });
     }
 
-    /// Makes a node that the worker holds a leaf, where it has spent its steps.
-    pub fn cut(&mut self, by: u32, node: usize, leaf: W::Leaf)
+    /// Whether there are as many nodes as there may be, so that none may be parted.
+    pub fn full(&self) -> bool
+        ensures { result ≡ nat_le (W.rules self.now.worker).nodes (length self.now.story.nodes) }
+    {
+        self.core.most() <= self.core.len()
+    }
+
+    /// Makes a node that the worker holds a leaf, where it has spent its steps, or where it would be parted and the tree is full.
+    pub fn cut(&mut self, by: u32, node: usize, cause: Cause, leaf: W::Leaf)
         requires fit { IsEndFit (W.rules self.old.worker) W.State.place W.Leaf.place
-            (Some Steps) self.old.story by node leaf }
+            (Some cause) self.old.story by node leaf }
+        requires may { MayCut
+            (W.rules self.old.worker).nodes (length self.old.story.nodes) cause }
         ensures worker { self.new.worker ≡ self.old.worker }
         ensures story { self.new.story ≡ with_event self.old.story (cut_event by node leaf) }
     {
         let deed = Deed::Cut(Content::Shut(leaf));
         note(&mut self.core, Event { by, node, deed });
+    }
+
+    /// Parts a node that the worker holds into kids, or makes it a leaf in the place of the run that parts into them, where the
+    /// tree is full. A run that wasn't made a leaf is handed back, so that its memory may be freed later. Where memory is refused
+    /// the node is free again.
+    pub fn part(
+        &mut self,
+        alloc: Global,
+        by: u32,
+        node: usize,
+        kids: Vec<Kid<Content<W::State, W::Leaf>>>,
+        run: W::State,
+    ) -> Result<Option<W::State>, NoMemory>
+        requires fit { IsPartFit (W.rules self.old.worker) W.State.place W.Leaf.place
+            self.old.story by node kids.items run }
+        ensures worker { self.new.worker ≡ self.old.worker }
+        ensures ok { OnOk result (IsParted self.old.story by node kids self.new.story) }
+        ensures err { OnErr result (self.new.story
+            ≡ with_event self.old.story (release_event by node)) }
+    {
+        let parted = self.split_or_cut(alloc, by, node, kids, run);
+        if parted.is_err() {
+            self.release(by, node);
+        }
+        parted
+    }
+
+    // Does so. Where memory is refused nothing changes.
+    fn split_or_cut(
+        &mut self,
+        alloc: Global,
+        by: u32,
+        node: usize,
+        kids: Vec<Kid<Content<W::State, W::Leaf>>>,
+        run: W::State,
+    ) -> Result<Option<W::State>, NoMemory>
+        requires fit { IsPartFit (W.rules self.old.worker) W.State.place W.Leaf.place
+            self.old.story by node kids.items run }
+        ensures worker { self.new.worker ≡ self.old.worker }
+        ensures ok { OnOk result (IsParted self.old.story by node kids self.new.story) }
+        ensures err { OnErr result (self.new.story ≡ self.old.story) }
+    {
+        if self.full() {
+            let nodes = self.len() as u32;
+            let leaf = self.worker.cut_nodes(alloc, run, nodes)?;
+            self.cut(by, node, Cause::Nodes, leaf);
+            Ok(None)
+        } else {
+            self.reserve(kids.len())?;
+            self.split(by, node, kids);
+            Ok(Some(run))
+        }
     }
 
     /// Frees a node that the worker holds.
@@ -183,7 +246,9 @@ impl<W: Work> Tree<W> {
     pub fn is_whole(&self)
         ensures follows { FollowsRules
             (W.rules self.now.worker) W.State.place W.Leaf.place self.now.story }
-        ensures replays { Replays ⟦<Content<W::State, W::Leaf> as Cover>⟧.covers self.now.story }
+        ensures replays { Replays ⟦<Content<W::State, W::Leaf> as Cover>⟧.covers
+            ⟦<Content<W::State, W::Leaf> as Cover>⟧.by_nodes
+            (W.rules self.now.worker).nodes self.now.story }
         ensures partition { Partition ⟦<Content<W::State, W::Leaf> as Cover>⟧.covers
             self.now.story }
         ensures named { All (λ e. e.node < length self.now.story.nodes) self.now.story.events }
@@ -236,7 +301,8 @@ impl<W: Work> Tree<W> {
         requires there { node < length self.now.story.nodes }
         requires leaf { status self.now.story node ≡ Leaf }
         ensures content { content self.now.story node ≡ Some (Shut result.now) }
-        ensures right { IsLeafRight (W.rules self.now.worker) self.now.story node result.now }
+        ensures right { IsLeafRight (W.rules self.now.worker) W.State.place W.Leaf.place
+            self.now.story node result.now }
     {
         match self.core.content(node) {
             Some(Content::Shut(leaf)) => leaf,
@@ -264,9 +330,10 @@ fn state_of<S: Placed, L: Placed>(
 // Notes an event that may come, and for which there is room.
 fn note<R: Cover>(core: &mut Core<R>, event: Event<R>)
     requires fit { IsFit R.covers core.old.story event }
-    requires allowed { IsTrue (is_allowed core.old.story event) }
+    requires may { IsTrue (may_come R.by_nodes core.old.most core.old.story event) }
     requires room { LacksRoom core.old event.deed → ⊥ }
     ensures story { core.new.story ≡ with_event core.old.story event }
+    ensures most { core.new.most ≡ core.old.most }
     ensures named { All (λ e. e.node < length core.old.story.nodes) core.old.story.events }
 {
     let _ = core.events();

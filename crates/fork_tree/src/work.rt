@@ -1,7 +1,8 @@
 //! Who works a node, and what comes of it.
 
-ghost use Rattle.std.specs.Prelude.{IfOk};
-ghost use Rattle.fork_tree.specs.Works.{IsWorked, Rules};
+ghost use Rattle.std.specs.Prelude.{◌≤◌, IfOk, Some};
+ghost use Rattle.tree_core.specs.declared.cause.Cause.TheVariants.{Nodes};
+ghost use Rattle.fork_tree.specs.Works.{EndsAs, IsWorked, Rules};
 
 use crate::content::Content;
 use fork_spec::Placed;
@@ -15,8 +16,8 @@ use work_gate::Gate;
 pub enum Parts<S: Drop, L: Drop> {
     Finished(L),
     CutSteps(L),
-    /// By the order of their choices.
-    Kids(Vec<Kid<Content<S, L>>>),
+    /// By the order of their choices, with the run that parts into them.
+    Kids(Vec<Kid<Content<S, L>>>, S),
 }
 
 /// A worker of states. Which states are well and which leaves are right may depend on it, as on a program and its budgets.
@@ -41,4 +42,11 @@ pub trait Work: Drop {
         requires well { (rules self.now).IsWell state.now }
         ensures { IfOk result (IsWorked
             (rules self.now) Self.State.place Self.Leaf.place state.now) };
+
+    /// The leaf of a run that may not part, since there are so many nodes.
+    fn cut_nodes(&self, alloc: Global, run: Self::State, nodes: u32) -> Result<Self::Leaf, NoMemory>
+        requires well { (rules self.now).IsWell run }
+        requires full { (rules self.now).nodes ≤ nodes }
+        ensures { IfOk result (EndsAs
+            (rules self.now) Self.State.place Self.Leaf.place (Some Nodes) (Some nodes) run) };
 }

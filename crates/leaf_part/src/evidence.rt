@@ -87,4 +87,6 @@ pub enum Evidence {
     Targets(Spent),
     /// The question on which the budget of conflicts was spent.
     Conflicts(Learnt),
+    /// How many nodes there were where the leaf was cut for want of them.
+    Nodes(u32),
 }

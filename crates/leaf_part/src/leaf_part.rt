@@ -11,7 +11,7 @@ use fork_spec::{LeafEnd, Placed};
 use rv_decode::PathStep;
 use std::alloc::{AllocError as NoMemory, Global};
 use std::marker::Model;
-use tree_core::Choice;
+use tree_core::{Cause, Choice};
 
 /// What a leaf part is made of. It stands in a place of its own: a tree moves leaf parts into its nodes and events while no other
 /// worker can go on, and moves a reference then.
@@ -84,6 +84,13 @@ impl Placed for LeafPart {
     ghost use Rattle.fork_spec.specs.Partings.{place_of};
 
     ghost place = { λ part. place_of part.leaf };
+
+    fn cut(&self) -> Option<Cause> {
+        match self.fields.end {
+            LeafEnd::Cut(cause) => Some(cause),
+            LeafEnd::Exits { .. } | LeafEnd::Traps(_) => None,
+        }
+    }
 }
 
 impl LeafPart {

@@ -179,7 +179,7 @@ pub from_line : (place : Spot) (text : List ℕ) (line : LeafLine) (rest : List 
 from_line AtFormat text line rest h = from_fixed FormatLine text line rest h
 from_line AtKind text line rest h =
     word_line (λ cause. KindLine (kind_said cause)) (λ cause. kind_text (kind_said cause)) kinds (codes "; kind ") text line rest
-    (refl, (refl, (refl, (refl, tt)))) (λ cause. refl) h
+    (refl, (refl, (refl, (refl, (refl, tt))))) (λ cause. refl) h
 from_line AtChoices text line rest h =
     let a = made_from ChoicesLine (option_and_then all_choices (behind (codes "; choices ") text)) line rest h in
     let b = then_from all_choices (behind (codes "; choices ") text) (a.0, rest) a.1 in

@@ -14,11 +14,12 @@ use smt_text::{Ending, Spot};
 use std::alloc::{AllocError as NoMemory, Global};
 use tree_core::Cause;
 
-const KINDS: [(&str, Option<Cause>); 4] = [
+const KINDS: [(&str, Option<Cause>); 5] = [
     ("finished\n", None),
     ("steps\n", Some(Cause::Steps)),
     ("targets\n", Some(Cause::Targets)),
     ("conflicts\n", Some(Cause::Conflicts)),
+    ("nodes\n", Some(Cause::Nodes)),
 ];
 
 const ENDINGS: [(&str, Ending); 11] = [

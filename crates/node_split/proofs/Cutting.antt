@@ -78,8 +78,8 @@ module _ (p : Program) (budgets : Budgets) (sides : List Choice) (s : Symbolic) 
   alike = record { made = was.alike.made; alike = λ input stood. was.alike.alike input (stood_before input stood) }
 
   cut_right : IsFull (left_as q t (Cut cause)) → AreWithin budgets.steps s.steps (Cut cause)
-      → Shows p.regions budgets sides (left_as q t (Cut cause)) (Cut cause) shown_by evidence
-      → IsRight p.image p.regions budgets sides (cut_part q t cause shown_by evidence)
+      → Shows p.regions budgets sides None (left_as q t (Cut cause)) (Cut cause) shown_by evidence
+      → IsRight p.image p.regions budgets sides None (cut_part q t cause shown_by evidence)
   cut_right full within shown = record {
     full = full;
     inputs = has.condition.inputs ∙ grown.inputs ∙ was.inputs;
@@ -89,7 +89,7 @@ module _ (p : Program) (budgets : Budgets) (sides : List Choice) (s : Symbolic) 
   }
 
   pub cut_side : IsFull (left_as q t (Cut cause)) → AreWithin budgets.steps s.steps (Cut cause)
-      → Shows p.regions budgets sides (left_as q t (Cut cause)) (Cut cause) shown_by evidence
+      → Shows p.regions budgets sides None (left_as q t (Cut cause)) (Cut cause) shown_by evidence
       → IsSideIn p budgets sides s choice (Some cause) test (leaf_side choice (cut_part q t cause shown_by evidence))
   cut_side full within shown = record {
     same = refl;

@@ -12,7 +12,7 @@ use Rattle.tree_core.specs.declared.choice.Choice.{Choice}
 use Rattle.fork_spec.specs.Leaves.{IsSmall}
 use Rattle.fork_spec.specs.Parts.{Part}
 use Rattle.fork_tree.specs.Contents.{choices_in}
-use Rattle.fork_tree.specs.Works.{EndsAs, IsPart, IsWorked}
+use Rattle.fork_tree.specs.Works.{EndsAs, IsPart, IsRunAt, IsWorked}
 use Rattle.fork_tree.specs.declared.content.Content.{Content}
 use Rattle.fork_tree.specs.declared.content.Content.TheVariants.{Open, Shut}
 use Rattle.fork_tree.specs.declared.work.Parts.{Parts}
@@ -56,8 +56,8 @@ onward_along p most s t u v was next on now goes far = record {
 
 -- it has become a leaf
 leaf_since : (p : Program) (budgets : Budgets) (cut : Option Cause) (s t : Symbolic) (part : Part) → IsSame s t
-    → EndsAs (rules_of p budgets) run_place leaf_place cut t part
-    → EndsAs (rules_of p budgets) run_place leaf_place cut s part
+    → EndsAs (rules_of p budgets) run_place leaf_place cut None t part
+    → EndsAs (rules_of p budgets) run_place leaf_place cut None s part
 leaf_since p budgets cut s t part same is = record {
   same_choices = is.same_choices ∙ same.same_choices;
   same_cover = λ input. is.same_cover input ∙ same.same_cover input;
@@ -66,8 +66,8 @@ leaf_since p budgets cut s t part same is = record {
 }
 
 part_since : (p : Program) (budgets : Budgets) (less more : ℕ) (sides : List Choice) (kid : Piece)
-    (c : Content Symbolic Part) → less ≤ more → IsPart (rules_of p budgets) less sides kid c
-    → IsPart (rules_of p budgets) more sides kid c
+    (c : Content Symbolic Part) → less ≤ more → IsPart (rules_of p budgets) leaf_place less sides kid c
+    → IsPart (rules_of p budgets) leaf_place more sides kid c
 part_since p budgets less more sides kid (Open a) within (no_leaf, well, smaller) =
     (no_leaf, well, omega (arith, within, smaller))
 part_since p budgets less more sides kid (Shut part) within is = is
@@ -86,13 +86,25 @@ split_since p budgets s t kids same less is = record {
   apart = is.apart;
 }
 
+-- the run that has parted
+run_since : (p : Program) (budgets : Budgets) (s t run : Symbolic) → IsSame s t → IsRunAt (rules_of p budgets) run_place t run
+    → IsRunAt (rules_of p budgets) run_place s run
+run_since p budgets s t run same is = record {
+  same_choices = is.same_choices ∙ same.same_choices;
+  same_cover = λ input. is.same_cover input ∙ same.same_cover input;
+  well = is.well;
+}
+
 -- whatever has become of it
 pub worked_since : (p : Program) (budgets : Budgets) (s t : Symbolic) (parts : Parts Symbolic Part) → IsSame s t
     → left_to_do t ≤ left_to_do s → IsWorked (rules_of p budgets) run_place leaf_place t parts
     → IsWorked (rules_of p budgets) run_place leaf_place s parts
 worked_since p budgets s t (Finished part) same less is = leaf_since p budgets None s t part same is
 worked_since p budgets s t (CutSteps part) same less is = leaf_since p budgets (Some StepsSpent) s t part same is
-worked_since p budgets s t (Kids kids) same less is = split_since p budgets s t kids.items same less is
+worked_since p budgets s t (Kids kids run) same less is = (
+  split_since p budgets s t kids.items same less is.0,
+  run_since p budgets s t run same is.1,
+)
 
 -- ---- There is room for the numbers of its texts.
 writable : (s : Symbolic) (inputs steps : ℕ) → s.terms.inputs ≡ inputs → IsSmall inputs → length s.output ≤ 4096 * s.steps
@@ -144,5 +156,12 @@ module _ (p : Program) (budgets : Budgets) (u : Symbolic) (forked : Forked) (at 
 
 -- it parts
 pub fork_parts : (p : Program) (budgets : Budgets) (u : Symbolic) (forked : Forked) (kids : Vec Piece) → IsAtFork p budgets u forked
-    → forked ≡ Split kids → IsForkOf p budgets u kids.items
-fork_parts p budgets u forked kids at is = subst (IsForked budgets u) is at.goes p at.underway.is_open at.underway.room
+    → forked ≡ Split kids → IsWorked (rules_of p budgets) run_place leaf_place u (Kids kids u)
+fork_parts p budgets u forked kids at is = (
+  subst (IsForked budgets u) is at.goes p at.underway.is_open at.underway.room,
+  record {
+    same_choices = refl;
+    same_cover = λ input. refl;
+    well = (at.underway.is_open, at.underway.room);
+  },
+)

@@ -20,11 +20,11 @@ use Rattle.term_trees.specs.Trees.{tree_of}
 use Rattle.term_trees.proofs.TreeLaws.{tree-grown, value-grown, width-grown}
 use Rattle.tree_core.specs.declared.budgets.Budgets.{Budgets}
 use Rattle.tree_core.specs.declared.cause.Cause.{Cause}
-use Rattle.tree_core.specs.declared.cause.Cause.TheVariants.{Steps}
+use Rattle.tree_core.specs.declared.cause.Cause.TheVariants.{Nodes, Steps}
 use Rattle.fork_spec.specs.Evidence.{IsSample}
 use Rattle.fork_spec.specs.Leaves.{AreBytes, IsByteStatus, IsFull, are_bytes, covers, worth}
 use Rattle.fork_spec.specs.Partings.{DecidesAlike}
-use Rattle.fork_spec.specs.Parts.{Part}
+use Rattle.fork_spec.specs.Parts.{OnNodes, Part}
 use Rattle.fork_spec.specs.Runs.{end_on}
 use Rattle.fork_spec.specs.declared.end.LeafEnd.{LeafEnd}
 use Rattle.fork_spec.specs.declared.end.LeafEnd.TheVariants.{Exits as LeafExits, Traps as LeafTraps, Cut}
@@ -172,10 +172,10 @@ pub full_as : (s new : Symbolic) (t : LeafTerms) (end : LeafEnd) → IsGrown s n
 full_as s new t end grown full = subst (λ (part : Part). IsFull part.leaf) (sym (left-same s new t end grown)) full
 
 pub ends_as : (p : Program) (budgets : Budgets) (cut : Option Cause) (s new : Symbolic) (t : LeafTerms) (end : LeafEnd) → IsGrown s new
-    → EndsAs (rules_of p budgets) run_place leaf_place cut s (left_part s t end)
-    → EndsAs (rules_of p budgets) run_place leaf_place cut s (left_part new t end)
+    → EndsAs (rules_of p budgets) run_place leaf_place cut None s (left_part s t end)
+    → EndsAs (rules_of p budgets) run_place leaf_place cut None s (left_part new t end)
 ends_as p budgets cut s new t end grown is =
-    subst (λ (part : Part). EndsAs (rules_of p budgets) run_place leaf_place cut s part) (sym (left-same s new t end grown)) is
+    subst (λ (part : Part). EndsAs (rules_of p budgets) run_place leaf_place cut None s part) (sym (left-same s new t end grown)) is
 
 -- ---- A run that has spent its steps.
 pub still_runs : (p : Program) (s : Symbolic) (input : List ℕ) → IsOpen p s → stands_for s input ≡ true
@@ -194,7 +194,7 @@ still_left p s t end has was none =
     (still_runs p s input was stood))
 
 pub cut_whole : (p : Program) (budgets : Budgets) (s : Symbolic) (t : LeafTerms) → HasTerms s t → IsFormed s → HasTextRoom s → budgets.steps ≡ s.steps
-    → IsOpen p s → EndsAs (rules_of p budgets) run_place leaf_place (Some Steps) s (left_part s t (Cut Steps))
+    → IsOpen p s → EndsAs (rules_of p budgets) run_place leaf_place (Some Steps) None s (left_part s t (Cut Steps))
 cut_whole p budgets s t has formed writable spent was = record {
   same_choices = refl;
   same_cover = λ input. ap (λ b. are_bytes input && b) (holds-left s t has input);
@@ -208,10 +208,39 @@ cut_whole p budgets s t has formed writable spent was = record {
   cause = refl;
 }
 
+-- ---- A run that may not part, since there are so many nodes.
+-- its leaf: what shows it is how many there are
+abbrev pub nodes_part : Symbolic → LeafTerms → ℕ → Part
+nodes_part s t nodes = record { leaf = left_as s t (Cut Nodes); sample = None; evidence = Some (OnNodes nodes) }
+
+nodes-whole : (p : Program) (budgets : Budgets) (nodes : ℕ) (s : Symbolic) (t : LeafTerms) → HasTerms s t → IsFormed s → HasTextRoom s
+    → s.steps < budgets.steps → budgets.nodes ≤ nodes → IsOpen p s
+    → EndsAs (rules_of p budgets) run_place leaf_place (Some Nodes) (Some nodes) s (nodes_part s t nodes)
+nodes-whole p budgets nodes s t has formed writable few full was = record {
+  same_choices = refl;
+  same_cover = λ input. ap (λ b. are_bytes input && b) (holds-left s t has input);
+  right = record {
+    full = full-left s t has (Cut Nodes) formed writable tt;
+    inputs = has.condition.inputs ∙ was.inputs;
+    faithful = record { within = few; runs = still_left p s t (Cut Nodes) has was (λ input. refl) };
+    alike = alike-left s t has p (Cut Nodes) was.alike;
+    shown = (refl, full);
+  };
+  cause = refl;
+}
+
+-- terms are all that was added
+pub nodes_whole : (p : Program) (budgets : Budgets) (nodes : ℕ) (s new : Symbolic) (t : LeafTerms) → IsGrown s new → HasTerms s t
+    → HasTextRoom s → s.steps < budgets.steps → budgets.nodes ≤ nodes → IsOpen p s
+    → EndsAs (rules_of p budgets) run_place leaf_place (Some Nodes) (Some nodes) s (nodes_part new t nodes)
+nodes_whole p budgets nodes s new t grown has writable few full was =
+    subst (λ (r : Symbolic). EndsAs (rules_of p budgets) run_place leaf_place (Some Nodes) (Some nodes) s (nodes_part r t nodes)) (sym grown.same)
+    (nodes-whole p budgets nodes s t has grown.before writable few full was)
+
 -- ---- A run whose runs have all ended.
 pub trapped_whole : (p : Program) (budgets : Budgets) (s : Symbolic) (t : LeafTerms) (trap : Trap) → HasTerms s t → IsFormed s
     → HasTextRoom s → IsEnded p s (Traps trap) → s.steps ≤ budgets.steps
-    → EndsAs (rules_of p budgets) run_place leaf_place None s (left_part s t (LeafTraps trap))
+    → EndsAs (rules_of p budgets) run_place leaf_place None None s (left_part s t (LeafTraps trap))
 trapped_whole p budgets s t trap has formed writable was within = record {
   same_choices = refl;
   same_cover = λ input. ap (λ b. are_bytes input && b) (holds-left s t has input);
@@ -235,7 +264,7 @@ pub record IsStatus (s : Symbolic) (g : Graph) (status : ℕ) : Type 0 where
 
 pub exited_whole : (p : Program) (budgets : Budgets) (s : Symbolic) (t : LeafTerms) (status : ℕ) → HasTerms s t → IsFormed s
     → HasTextRoom s → IsEnded p s Exits → IsStatus s t.condition.graph status → s.steps ≤ budgets.steps
-    → EndsAs (rules_of p budgets) run_place leaf_place None s (left_part s t (LeafExits status))
+    → EndsAs (rules_of p budgets) run_place leaf_place None None s (left_part s t (LeafExits status))
 exited_whole p budgets s t status has formed writable was is within = record {
   same_choices = refl;
   same_cover = λ input. ap (λ b. are_bytes input && b) (holds-left s t has input);

@@ -7,7 +7,7 @@ use Rattle.rv_spec.specs.Decisions.{Side as OnSide}
 use Rattle.tree_core.specs.Covers.{one_if}
 use Rattle.tree_core.specs.declared.budgets.Budgets.{Budgets}
 use Rattle.tree_core.specs.declared.cause.Cause.{Cause}
-use Rattle.tree_core.specs.declared.cause.Cause.TheVariants.{Conflicts, Steps, Targets}
+use Rattle.tree_core.specs.declared.cause.Cause.TheVariants.{Conflicts, Nodes, Steps, Targets}
 use Rattle.tree_core.specs.declared.choice.Choice.TheVariants.{No, Yes}
 use Rattle.fork_spec.specs.Partings.{IsOnSide}
 use Rattle.fork_spec.specs.Walks.{Side, are_sides, is_one_cut_at_most}
@@ -15,11 +15,12 @@ use Rattle.fork_tree.specs.Written.{side_of_kid}
 use Rattle.fork_tree.specs.Contents.{choices_in, cut_in}
 use Rattle.fork_tree.specs.Works.{IsPart}
 use Rattle.sym_machine.specs.Stops.{IsBranch}
+use Rattle.sym_state.specs.Places.{run_place}
 use Rattle.sym_state.specs.Programs.{Program}
 use Rattle.sym_state.specs.Runs.{IsOpen, left_to_do}
 use Rattle.sym_state.specs.Symbolic.{Symbolic, stands_for}
 use Rattle.node_split.specs.Narrowing.{is_side}
-use Rattle.node_split.specs.Rules.{Piece, content_place, rules_of}
+use Rattle.node_split.specs.Rules.{Piece, content_place, leaf_place, rules_of}
 use Rattle.node_split.specs.Splits.{IsBranchSide, IsForkOf, IsSide, IsSideIn, branch_choice}
 use Rattle.node_split.proofs.Apart.{AreTwoSides, IsOnFork, kids_apart}
 use Rattle.node_split.proofs.Bytes.{not_true}
@@ -54,10 +55,12 @@ branch_form targets None None is = refl
 branch_form targets None (Some Steps) is = absurd (cc is)
 branch_form targets None (Some Targets) is = absurd (cc is)
 branch_form targets None (Some Conflicts) is = refl
+branch_form targets None (Some Nodes) is = absurd (cc is)
 branch_form targets (Some Steps) yes_cut is = absurd (cc is)
 branch_form targets (Some Targets) yes_cut is = absurd (cc is)
 branch_form targets (Some Conflicts) None is = refl
 branch_form targets (Some Conflicts) (Some cause) is = absurd (cc is)
+branch_form targets (Some Nodes) yes_cut is = absurd (cc is)
 
 abbrev no_test : Symbolic → ℕ → List ℕ → Bool
 no_test s term input = is_side false (number_of s.terms term input)
@@ -78,8 +81,8 @@ two_sides p budgets s left_kid right_kid term no_cut yes_cut was at few some one
     let sides = No ∷ Yes ∷ [] in
     let decision = λ (input : List ℕ). OnSide (number_of s.terms term input == 1) in
     let choices : choices_in (left_kid ∷ right_kid ∷ []) ≡ sides = cc (left.same, right.same) in
-    let Part = λ (k : Piece). IsPart (rules_of p budgets) (left_to_do s) (choices_in (left_kid ∷ right_kid ∷ [])) k k.content in
-    let forms : map (side_of_kid (cut_in (rules_of p budgets).cut)) (left_kid ∷ right_kid ∷ []) ≡ record { choice = No; cut = no_cut } ∷ record { choice = Yes; cut = yes_cut } ∷ []
+    let Part = λ (k : Piece). IsPart (rules_of p budgets) leaf_place (left_to_do s) (choices_in (left_kid ∷ right_kid ∷ [])) k k.content in
+    let forms : map (side_of_kid (cut_in run_place leaf_place)) (left_kid ∷ right_kid ∷ []) ≡ record { choice = No; cut = no_cut } ∷ record { choice = Yes; cut = yes_cut } ∷ []
     = cc (left.form, right.form) in record {
       shared = λ input.
           count-cons input left_kid (right_kid ∷ [])
@@ -89,8 +92,8 @@ two_sides p budgets s left_kid right_kid term no_cut yes_cut was at few some one
           ∙ one_of_two (stands_for s input) (number_of s.terms term input == 1);
       choices = All-cons (StandsOnSide s) left_kid (right_kid ∷ []) (placed_in p budgets sides s No no_cut (no_test s term) left_kid left)
           (All-cons (StandsOnSide s) right_kid [] (placed_in p budgets sides s Yes yes_cut (yes_test s term) right_kid right) (All-nil (StandsOnSide s)));
-      parts = All-cons Part left_kid (right_kid ∷ []) (subst (λ cs. IsPart (rules_of p budgets) (left_to_do s) cs left_kid left_kid.content) (sym choices) left.part)
-          (All-cons Part right_kid [] (subst (λ cs. IsPart (rules_of p budgets) (left_to_do s) cs right_kid right_kid.content) (sym choices) right.part) (All-nil Part));
+      parts = All-cons Part left_kid (right_kid ∷ []) (subst (λ cs. IsPart (rules_of p budgets) leaf_place (left_to_do s) cs left_kid left_kid.content) (sym choices) left.part)
+          (All-cons Part right_kid [] (subst (λ cs. IsPart (rules_of p budgets) leaf_place (left_to_do s) cs right_kid right_kid.content) (sym choices) right.part) (All-nil Part));
       sides = subst (λ (forms : List Side). IsTrue (are_sides budgets.targets forms)) (sym forms) (branch_form budgets.targets no_cut yes_cut one_cut);
       few = omega (arith, some);
       apart = kids_apart p s budgets.steps 1 decision (left_kid ∷ right_kid ∷ []) was few at.stands
@@ -107,6 +110,7 @@ one_cut_only None is = is
 one_cut_only (Some Steps) is = is
 one_cut_only (Some Targets) is = is
 one_cut_only (Some Conflicts) is = is
+one_cut_only (Some Nodes) is = is
 
 -- both sides in their order: the sample's is a run
 pub sides_of_branch : (budgets : Budgets) (s : Symbolic) (term : ℕ) (side : Bool) (own other : Piece) → IsBranch s term → 1 ≤ budgets.targets

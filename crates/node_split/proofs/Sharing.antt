@@ -20,7 +20,7 @@ use Rattle.sym_state.specs.Places.{run_place}
 use Rattle.sym_state.specs.Programs.{Program}
 use Rattle.sym_state.specs.Runs.{IsOpen, left_to_do}
 use Rattle.sym_state.specs.Symbolic.{Symbolic, stands_for}
-use Rattle.node_split.specs.Rules.{Piece, content_place, rules_of}
+use Rattle.node_split.specs.Rules.{Piece, content_place, leaf_place, rules_of}
 use Rattle.node_split.specs.Splits.{HoldsRun, IsSide, IsSideIn}
 use Rattle.node_split.proofs.Apart.{AreTwoSides, IsOnFork}
 
@@ -76,7 +76,7 @@ two_runs s decision c d one_test other_test one other is_one is_other differ dec
 held_part : (p : Program) (budgets : Budgets) (limit : ℕ) (sides : List Choice) (kid : Piece)
     (c : Content Symbolic Part) (run : Symbolic) → HoldsRun c run → kid.is_leaf ≡ false
     → IsOpen p run → run.steps < budgets.steps → left_to_do run < limit
-    → IsPart (rules_of p budgets) limit sides kid c
+    → IsPart (rules_of p budgets) leaf_place limit sides kid c
 held_part p budgets limit sides kid (Open a) run is no_leaf one few less = (
   no_leaf,
   (subst (IsOpen p) (sym is) one, subst (λ (r : Symbolic). r.steps < budgets.steps) (sym is) few),
@@ -87,16 +87,16 @@ held_part p budgets limit sides kid (Shut part) run is no_leaf one few less = ab
 pub side_part : (p : Program) (budgets : Budgets) (sides : List Choice) (s : Symbolic)
     (choice : Choice) (test : List ℕ → Bool) (kid : Piece) → IsOpen p s → s.steps < budgets.steps
     → IsSide s choice test kid
-    → IsPart (rules_of p budgets) (left_to_do s) sides kid kid.content
+    → IsPart (rules_of p budgets) leaf_place (left_to_do s) sides kid kid.content
 side_part p budgets sides s choice test kid was few side =
     held_part p budgets (left_to_do s) sides kid kid.content side.run side.on.holds side.on.no_leaf (side.narrower.is_open p was) (omega (arith, few, side.narrower.steps)) side.narrower.less
 
 -- as a side it isn't cut
-pub side_form : (p : Program) (budgets : Budgets) (s : Symbolic) (choice : Choice)
-    (test : List ℕ → Bool) (kid : Piece) → IsSide s choice test kid
-    → side_of_kid (cut_in (rules_of p budgets).cut) kid ≡ record { choice = choice; cut = None }
-side_form p budgets s choice test kid side =
-    ap {B = Side} (λ b. record { choice = kid.choice; cut = if b then cut_in (rules_of p budgets).cut kid.content else None }) side.on.no_leaf
+pub side_form : (s : Symbolic) (choice : Choice) (test : List ℕ → Bool) (kid : Piece)
+    → IsSide s choice test kid
+    → side_of_kid (cut_in run_place leaf_place) kid ≡ record { choice = choice; cut = None }
+side_form s choice test kid side =
+    ap {B = Side} (λ b. record { choice = kid.choice; cut = if b then cut_in run_place leaf_place kid.content else None }) side.on.no_leaf
     ∙ ap {B = Side} (λ c. record { choice = c; cut = None }) side.on.choice
 
 -- a side that is a run is one of each program's fork
@@ -107,7 +107,7 @@ side_in p budgets sides s choice test kid was few side = record {
   placed = side-choices s choice test kid side ∙ ap (λ c. s.choices ++ c ∷ []) side.on.choice;
   covers = side-covers s choice test kid side;
   part = side_part p budgets sides s choice test kid was few side;
-  form = side_form p budgets s choice test kid side;
+  form = side_form s choice test kid side;
 }
 
 -- ---- A side of a fork, whether it is a run or a leaf.

@@ -22,11 +22,12 @@ use Rattle.fork_tree.specs.Contents.{choices_in, cut_in}
 use Rattle.fork_tree.specs.Works.{IsPart}
 use Rattle.sym_machine.specs.Stops.{IsPin, StandsAt}
 use Rattle.sym_state.specs.declared.decided.Decided.TheVariants.{Number}
+use Rattle.sym_state.specs.Places.{run_place}
 use Rattle.sym_state.specs.Programs.{Program}
 use Rattle.sym_state.specs.Runs.{IsOpen, left_to_do}
 use Rattle.sym_state.specs.Symbolic.{Symbolic, stands_for}
 use Rattle.node_split.specs.Narrowing.{IsForced}
-use Rattle.node_split.specs.Rules.{Piece, content_place, rules_of}
+use Rattle.node_split.specs.Rules.{Piece, content_place, leaf_place, rules_of}
 use Rattle.node_split.specs.Splits.{AreSidesOf, IsForkOf, IsSideIn, IsValueSide}
 use Rattle.node_split.specs.Values.{AreValues, HasValue}
 use Rattle.node_split.proofs.Apart.{AreOtherSides, AreTwoSides, IsOnFork, kids_apart}
@@ -99,23 +100,23 @@ sides-placed s term fs ks is = sides-all s term _ (λ f k side. side-choices s (
 
 pub sides-parts : (p : Program) (budgets : Budgets) (sides : List Choice) (s : Symbolic) (term : ℕ)
     (fs : List Found) (ks : List Piece) → IsOpen p s → s.steps < budgets.steps → AreSidesOf s term fs ks
-    → All (λ (k : Piece). IsPart (rules_of p budgets) (left_to_do s) sides k k.content) ks
+    → All (λ (k : Piece). IsPart (rules_of p budgets) leaf_place (left_to_do s) sides k k.content) ks
 sides-parts p budgets sides s term fs ks was few is =
-    sides-all s term (λ (k : Piece). IsPart (rules_of p budgets) (left_to_do s) sides k k.content)
+    sides-all s term (λ (k : Piece). IsPart (rules_of p budgets) leaf_place (left_to_do s) sides k k.content)
     (λ f k side. side_part p budgets sides s (Value f.value) (has_value s term f.value) k was few side) fs ks is
 
 -- the forms of sides
-abbrev forms_of : Program → Budgets → List Piece → List Side
-forms_of p budgets kids = map (side_of_kid (cut_in (rules_of p budgets).cut)) kids
+abbrev forms_of : List Piece → List Side
+forms_of kids = map (side_of_kid (cut_in run_place leaf_place)) kids
 
-pub sides-forms : (p : Program) (budgets : Budgets) (s : Symbolic) (term : ℕ) (fs : List Found)
-    (ks : List Piece) → AreSidesOf s term fs ks
-    → forms_of p budgets ks ≡ map value_side (values_of fs)
-sides-forms p budgets s term [] [] is = refl
-sides-forms p budgets s term [] (l ∷ ls) is = absurd is
-sides-forms p budgets s term (g ∷ gs) [] is = absurd is
-sides-forms p budgets s term (g ∷ gs) (l ∷ ls) (first, rest) =
-    cc (side_form p budgets s (Value g.value) (has_value s term g.value) l first, sides-forms p budgets s term gs ls rest)
+pub sides-forms : (s : Symbolic) (term : ℕ) (fs : List Found) (ks : List Piece)
+    → AreSidesOf s term fs ks
+    → forms_of ks ≡ map value_side (values_of fs)
+sides-forms s term [] [] is = refl
+sides-forms s term [] (l ∷ ls) is = absurd is
+sides-forms s term (g ∷ gs) [] is = absurd is
+sides-forms s term (g ∷ gs) (l ∷ ls) (first, rest) =
+    cc (side_form s (Value g.value) (has_value s term g.value) l first, sides-forms s term gs ls rest)
 
 pub sides-choices : (s : Symbolic) (term : ℕ) (fs : List Found) (ks : List Piece)
     → AreSidesOf s term fs ks → choices_in ks ≡ map Value (values_of fs)
@@ -220,7 +221,7 @@ all_values p budgets s term found kids place was few next values all several is 
       ∙ ones-true (stands_for s input) (is_among (values_of found) (number_of s.terms term input)) (λ covered. all input covered);
   choices = sides-placed s term found kids is;
   parts = sides-parts p budgets (choices_in kids) s term found kids was few is;
-  sides = subst (λ (sides : List Side). IsTrue (are_sides budgets.targets sides)) (sym (sides-forms p budgets s term found kids is))
+  sides = subst (λ (sides : List Side). IsTrue (are_sides budgets.targets sides)) (sym (sides-forms s term found kids is))
       (part_into_values budgets.targets (values_of found) (increases (values_of found) values.increasing) (all_small s term found values.each)
       (omega (arith, several, length-map found (λ (f : Found). f.value))) (omega (arith, values.few, length-map found (λ (f : Found). f.value))));
   few = omega (arith, sides-length s term found kids is, values.few);
@@ -301,11 +302,11 @@ values_and_rest p budgets s term found cause kids kid place was few next values 
     let all = kids ++ kid ∷ [] in
     let choices : choices_in all ≡ rest_sides (values_of found)
     = map-append (λ (k : Piece). k.choice) kids (kid ∷ []) ∙ cc (sides-choices s term found kids is, rest.same) in
-    let forms : forms_of p budgets all ≡ map value_side (values_of found) ++ rest_side (Some cause) ∷ []
-    = map-append (side_of_kid (cut_in (rules_of p budgets).cut)) kids (kid ∷ [])
-    ∙ cc (sides-forms p budgets s term found kids is, rest.form) in
+    let forms : forms_of all ≡ map value_side (values_of found) ++ rest_side (Some cause) ∷ []
+    = map-append (side_of_kid (cut_in run_place leaf_place)) kids (kid ∷ [])
+    ∙ cc (sides-forms s term found kids is, rest.form) in
     let counted : length (values_of found) ≡ length found = length-map found (λ (f : Found). f.value) in
-    let Part = λ (k : Piece). IsPart (rules_of p budgets) (left_to_do s) (choices_in all) k k.content in record {
+    let Part = λ (k : Piece). IsPart (rules_of p budgets) leaf_place (left_to_do s) (choices_in all) k k.content in record {
       shared = λ input.
           sum_by-append (λ (k : Piece). cond ((content_place k.content).covers input) 1 0) kids (kid ∷ [])
           ∙ ap (λ n. n + count_by (λ (k : Piece). (content_place k.content).covers input) (kid ∷ [])) (sides-count s term found kids input is ∙ ap (when (stands_for s input)) (counted-once (values_of found) (number_of s.terms term input) values.increasing))
@@ -314,7 +315,7 @@ values_and_rest p budgets s term found cause kids kid place was few next values 
       choices = All-push (λ (k : Piece). (content_place k.content).choices ≡ s.choices ++ k.choice ∷ []) kids kid (sides-placed s term found kids is)
           (placed_in p budgets (rest_sides (values_of found)) s Rest (Some cause) (has_none s term (values_of found)) kid rest);
       parts = All-push Part kids kid (sides-parts p budgets (choices_in all) s term found kids was few is)
-          (subst (λ cs. IsPart (rules_of p budgets) (left_to_do s) cs kid kid.content) (sym choices) rest.part);
+          (subst (λ cs. IsPart (rules_of p budgets) leaf_place (left_to_do s) cs kid kid.content) (sym choices) rest.part);
       sides = subst (λ (sides : List Side). IsTrue (are_sides budgets.targets sides)) (sym forms)
           (part_into_values_and_rest budgets.targets (values_of found) (Some cause) (increases (values_of found) values.increasing) (all_small s term found values.each) (omega (arith, some, counted)) (omega (arith, values.few, counted)) may);
       few = omega (arith, length-append kids (kid ∷ []), sides-length s term found kids is, values.few);

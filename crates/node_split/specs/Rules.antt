@@ -4,7 +4,6 @@ use Rattle.std.specs.Coded.{Coded, code_by, coded×, coded_ℕ}
 use Rattle.rv_spec.specs.Decisions.{decisions}
 use Rattle.tree_core.specs.declared.budgets.Budgets.{Budgets}
 use Rattle.tree_core.specs.declared.event.Kid.{Kid}
-use Rattle.fork_spec.specs.Histories.{cause_of}
 use Rattle.fork_spec.specs.Partings.{Place, place_of}
 use Rattle.fork_spec.specs.Parts.{IsRight, Part}
 use Rattle.fork_tree.specs.Contents.{place_in}
@@ -22,12 +21,20 @@ pub record Worker : Type 0 where
 
 -- the code of workers, by which they are told apart
 abbrev pub worker_code : Coded Worker
-worker_code = code_by (Program × (ℕ × (ℕ × ℕ)))
-    (coded× program_code (coded× coded_ℕ (coded× coded_ℕ coded_ℕ)))
-    (λ w. (w.program, (w.budgets.steps, (w.budgets.targets, w.budgets.conflicts))))
+worker_code = code_by (Program × (ℕ × (ℕ × (ℕ × ℕ))))
+    (coded× program_code (coded× coded_ℕ (coded× coded_ℕ (coded× coded_ℕ coded_ℕ))))
+    (λ w. (
+      w.program,
+      (w.budgets.steps, (w.budgets.targets, (w.budgets.conflicts, w.budgets.nodes))),
+    ))
     (λ c. record {
       program = c.0;
-      budgets = record { steps = c.1.0; targets = c.1.1.0; conflicts = c.1.1.1 };
+      budgets = record {
+        steps = c.1.0;
+        targets = c.1.1.0;
+        conflicts = c.1.1.1.0;
+        nodes = c.1.1.1.1;
+      };
     }) (λ _. refl)
 
 -- runs are open with steps left; leaves are right as the report claims
@@ -35,10 +42,10 @@ abbrev pub rules_of : Program → Budgets → Rules Symbolic Part
 rules_of p budgets = record {
   left = left_to_do;
   targets = budgets.targets;
+  nodes = budgets.nodes;
   decides = λ input. decisions p.image p.regions input budgets.steps;
   IsWell = λ s. IsOpen p s × (s.steps < budgets.steps);
-  IsRight = λ sides part. IsRight p.image p.regions budgets sides part;
-  cut = λ part. cause_of part.leaf.end;
+  IsRight = λ sides nodes part. IsRight p.image p.regions budgets sides nodes part;
 }
 
 -- one side of a fork

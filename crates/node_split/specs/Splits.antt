@@ -52,8 +52,8 @@ pub record IsSideIn (p : Program) (budgets : Budgets) (sides : List Choice) (s :
   pub placed : (content_place kid.content).choices ≡ s.choices ++ choice ∷ []
   pub covers : (input : List ℕ)
       → (content_place kid.content).covers input ≡ (stands_for s input && test input)
-  pub part : IsPart (rules_of p budgets) (left_to_do s) sides kid kid.content
-  pub form : side_of_kid (cut_in (rules_of p budgets).cut) kid
+  pub part : IsPart (rules_of p budgets) leaf_place (left_to_do s) sides kid kid.content
+  pub form : side_of_kid (cut_in run_place leaf_place) kid
       ≡ record { choice = choice; cut = cut }
 
 -- the side that is this leaf

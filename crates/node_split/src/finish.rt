@@ -1,6 +1,6 @@
 //! The leaves of runs that go on no more.
 
-ghost use Rattle.std.specs.Prelude.{◌≡◌, ◌%◌, ◌≤◌, IfOk, None, Some};
+ghost use Rattle.std.specs.Prelude.{◌≡◌, ◌%◌, ◌<◌, ◌≤◌, IfOk, None, Some};
 ghost use Rattle.fork_tree.specs.Works.{EndsAs};
 ghost use Rattle.sym_machine.specs.Advancing.{IsEnded};
 ghost use Rattle.sym_machine.specs.declared.outcome.RunEnd.TheVariants.{Exits, Traps};
@@ -11,14 +11,14 @@ ghost use Rattle.sym_state.specs.Runs.{IsOpen};
 ghost use Rattle.sym_state.specs.Symbolic.{value_at};
 ghost use Rattle.sym_state.specs.Values.{worth_of};
 ghost use Rattle.tree_core.specs.declared.budgets.Budgets.{Budgets};
-ghost use Rattle.tree_core.specs.declared.cause.Cause.TheVariants.{Steps};
+ghost use Rattle.tree_core.specs.declared.cause.Cause.TheVariants.{Nodes, Steps};
 ghost use Rattle.node_split.specs.Leaving.{HasTextRoom};
 ghost use Rattle.node_split.specs.Rules.{leaf_place, rules_of};
 
 use crate::forked::sample_of;
 use crate::leaf::{leaf_of, leaf_terms};
 use fork_spec::LeafEnd;
-use leaf_part::LeafPart;
+use leaf_part::{Evidence, LeafPart};
 use rv_decode::{Register, Trap};
 use std::alloc::{AllocError as NoMemory, Global};
 use sym_machine::RunEnd;
@@ -30,7 +30,7 @@ pub(crate) fn cut_steps(alloc: Global, state: &mut State) -> Result<LeafPart, No
     requires writable { HasTextRoom state.old }
     ensures { IfOk result (λ part. (p : Program) (budgets : Budgets)
         → budgets.steps ≡ state.old.steps → IsOpen p state.old
-        → EndsAs (rules_of p budgets) run_place leaf_place (Some Steps) state.old part) }
+        → EndsAs (rules_of p budgets) run_place leaf_place (Some Steps) None state.old part) }
 {
     let terms = leaf_terms(alloc, state, &[])?;
     let sample = Some(sample_of(alloc, state)?);
@@ -44,12 +44,26 @@ pub(crate) fn cut_steps(alloc: Global, state: &mut State) -> Result<LeafPart, No
     )
 }
 
+/// The leaf of a run that may not part, since there are so many nodes. The run is of no use after that.
+pub(crate) fn cut_nodes(alloc: Global, state: &mut State, nodes: u32) -> Result<LeafPart, NoMemory>
+    requires writable { HasTextRoom state.old }
+    ensures { IfOk result (λ part. (p : Program) (budgets : Budgets)
+        → state.old.steps < budgets.steps → budgets.nodes ≤ nodes → IsOpen p state.old
+        → EndsAs (rules_of p budgets) run_place leaf_place
+        (Some Nodes) (Some nodes) state.old part) }
+{
+    let terms = leaf_terms(alloc, state, &[])?;
+    let end = LeafEnd::Cut(Cause::Nodes);
+    let evidence = Some(Evidence::Nodes(nodes));
+    leaf_of(alloc, state, terms, end, None, evidence)
+}
+
 // The leaf of a run whose runs have all trapped so.
 fn trapped(alloc: Global, state: &mut State, trap: Trap) -> Result<LeafPart, NoMemory>
     requires writable { HasTextRoom state.old }
     ensures { IfOk result (λ part. (p : Program) (budgets : Budgets)
         → IsEnded p state.old (Traps trap) → state.old.steps ≤ budgets.steps
-        → EndsAs (rules_of p budgets) run_place leaf_place None state.old part) }
+        → EndsAs (rules_of p budgets) run_place leaf_place None None state.old part) }
 {
     let terms = leaf_terms(alloc, state, &[])?;
     let sample = Some(sample_of(alloc, state)?);
@@ -71,7 +85,7 @@ fn exited(alloc: Global, state: &mut State) -> Result<LeafPart, NoMemory>
     requires writable { HasTextRoom state.old }
     ensures { IfOk result (λ part. (p : Program) (budgets : Budgets) → IsEnded p state.old Exits
         → state.old.steps ≤ budgets.steps
-        → EndsAs (rules_of p budgets) run_place leaf_place None state.old part) }
+        → EndsAs (rules_of p budgets) run_place leaf_place None None state.old part) }
 {
     let status = exit_status(state)?;
     let terms = leaf_terms(alloc, state, &[status])?;
@@ -85,7 +99,7 @@ pub fn finish(alloc: Global, state: &mut State, end: RunEnd) -> Result<LeafPart,
     requires writable { HasTextRoom state.old }
     ensures { IfOk result (λ part. (p : Program) (budgets : Budgets) → IsEnded p state.old end
         → state.old.steps ≤ budgets.steps
-        → EndsAs (rules_of p budgets) run_place leaf_place None state.old part) }
+        → EndsAs (rules_of p budgets) run_place leaf_place None None state.old part) }
 {
     match end {
         RunEnd::Traps(trap) => trapped(alloc, state, trap),

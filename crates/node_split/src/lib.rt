@@ -1,4 +1,5 @@
-//! Work on one symbolic run: it goes on until it forks, all its runs have ended, or its budget of steps is spent.
+//! Work on one symbolic run: it goes on until it forks, all its runs have ended, or its budget of steps is spent. One that forks
+//! where there are as many nodes as there may be is cut instead.
 //!
 //! - `worker`: who works the runs of a program
 //! - `asking`: a question about a run

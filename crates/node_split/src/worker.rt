@@ -11,7 +11,7 @@ ghost use Rattle.sym_machine.specs.Advancing.{Advances, StoppedBy};
 ghost use Rattle.node_split.specs.Rules.{leaf_place, rules_of};
 
 use crate::branch::at_branch;
-use crate::finish::{cut_steps, finish};
+use crate::finish::{cut_nodes, cut_steps, finish};
 use crate::forked::Forked;
 use crate::pin::{Pin, at_pin};
 use fork_tree::{Parts, Work};
@@ -26,7 +26,8 @@ use tree_core::Budgets;
 use work_gate::{Gate, Point};
 
 /// Works the runs of a program, within budgets, and keeps the answers to the questions that it asks. A run may make 1,000,000
-/// steps at most, and one value of a term at least becomes a side of its own.
+/// steps at most, and one value of a term at least becomes a side of its own. Whether there are as many nodes as there may be is
+/// for the tree to tell: a run that parts is handed out with its sides, so that it can be cut in their place.
 pub struct Worker {
     program: Program,
     budgets: Budgets,
@@ -112,31 +113,31 @@ impl Worker {
         &self,
         rt: &impl Wait,
         alloc: Global,
-        run: &mut State,
+        mut run: State,
         mut stop: Stop,
     ) -> Result<Parts<State, LeafPart>, NoMemory>
-        requires stopped { StoppedBy self.now.program self.now.budgets.steps run.old stop }
+        requires stopped { StoppedBy self.now.program self.now.budgets.steps run stop }
         ensures { IfOk result (IsWorked
-            (rules_of self.now.program self.now.budgets) run_place leaf_place run.old) }
+            (rules_of self.now.program self.now.budgets) run_place leaf_place run) }
     {
         loop {
             let forked = match stop {
-                Stop::Steps => return Ok(Parts::CutSteps(cut_steps(alloc, run)?)),
-                Stop::Ended(end) => return Ok(Parts::Finished(finish(alloc, run, end)?)),
+                Stop::Steps => return Ok(Parts::CutSteps(cut_steps(alloc, &mut run)?)),
+                Stop::Ended(end) => return Ok(Parts::Finished(finish(alloc, &mut run, end)?)),
                 Stop::Branch { term } => {
-                    at_branch(rt, alloc, &self.shared, run, term, &self.budgets)?
+                    at_branch(rt, alloc, &self.shared, &run, term, &self.budgets)?
                 }
                 Stop::Pin { place, term } => {
                     let pin = Pin { place, term };
-                    at_pin(rt, alloc, &self.shared, run, &pin, &self.budgets)?
+                    at_pin(rt, alloc, &self.shared, &run, &pin, &self.budgets)?
                 }
             };
             match forked {
                 Forked::One { place, decided } => {
                     run.know(place, decided);
-                    stop = self.resume(run)?;
+                    stop = self.resume(&mut run)?;
                 }
-                Forked::Split(kids) => return Ok(Parts::Kids(kids)),
+                Forked::Split(kids) => return Ok(Parts::Kids(kids, run)),
             }
         }
     }
@@ -159,10 +160,16 @@ impl Work for Worker {
         by: u32,
         state: &State,
     ) -> Result<Parts<State, LeafPart>, NoMemory> {
-        let Advanced { mut run, stop } = advance(state, self.budgets.steps)?;
-        let parts = self.follow(rt, alloc, &mut run, stop);
+        let Advanced { run, stop } = advance(state, self.budgets.steps)?;
+        let parts = self.follow(rt, alloc, run, stop);
         // Whoever may leave is asked again before the parts are entered.
         let _ = gate.reached(by, Point::Working);
         parts
+    }
+
+    fn cut_nodes(&self, alloc: Global, mut run: State, nodes: u32) -> Result<LeafPart, NoMemory> {
+        // What is known of the budgets tells that the leaf's texts have room.
+        let _ = &self.budgets;
+        cut_nodes(alloc, &mut run, nodes)
     }
 }

@@ -18,7 +18,7 @@ use Rattle.tree_core.specs.Covers.{count_below, is_live, covered, one_if, root_c
 use Rattle.tree_core.specs.Cores.{is_held}
 use Rattle.tree_core.specs.Stories.{Story, content, status}
 use Rattle.tree_core.specs.declared.budgets.Budgets.{Budgets}
-use Rattle.tree_core.specs.declared.cause.Cause.TheVariants.{Steps, Targets, Conflicts}
+use Rattle.tree_core.specs.declared.cause.Cause.TheVariants.{Steps, Targets, Conflicts, Nodes}
 use Rattle.tree_core.specs.declared.choice.Choice.{Choice}
 use Rattle.tree_core.specs.declared.choice.Choice.TheVariants.{No, Yes, Value, Rest}
 use Rattle.tree_core.specs.declared.event.Event.{Event}
@@ -26,13 +26,13 @@ use Rattle.tree_core.specs.declared.node.Status.{Status}
 use Rattle.tree_core.specs.declared.node.Status.TheVariants.{Free, Held, Parted, Leaf as IsLeaf}
 use Rattle.tree_core.proofs.Counting.{count_at, count_by-map}
 use Rattle.fork_spec.specs.Evidence.{SpendsConflicts, SpendsTargets, values_of}
-use Rattle.fork_spec.specs.Histories.{cause_of, IsHistory, IsOwnSplit, IsSideOf, LeafNode, ReleaseOnce, is_leaf_status, standing_of}
+use Rattle.fork_spec.specs.Histories.{cause_of, IsCutAt, IsHistory, IsOwnCut, IsOwnSplit, IsSideOf, LeafNode, ReleaseOnce, is_leaf_status, standing_of}
 use Rattle.fork_spec.specs.Leaves.{IsFull, Leaf, covers}
 use Rattle.fork_spec.specs.Partings.{ArePlacesApart, DecidesAlike, PartAt, Place, place_of}
-use Rattle.fork_spec.specs.Parts.{Evidence, IsRight, OnConflicts, OnTargets, Part, Shows}
+use Rattle.fork_spec.specs.Parts.{Evidence, IsRight, OnConflicts, OnNodes, OnTargets, Part, Shows}
 use Rattle.fork_spec.specs.Ranks.{AreRanked}
 use Rattle.fork_spec.specs.Runs.{AreWithin, IsFaithful}
-use Rattle.fork_spec.specs.Walks.{Line, Standing, is_settled}
+use Rattle.fork_spec.specs.Walks.{Bounds, Line, Standing, is_settled}
 use Rattle.fork_tree.specs.Written.{LeadsTo, StandsAs, cut_where, lines_of}
 use Rattle.fork_spec.specs.declared.end.LeafEnd.{LeafEnd}
 use Rattle.fork_spec.specs.declared.end.LeafEnd.TheVariants.{Exits, Traps, Cut}
@@ -46,7 +46,7 @@ use Rattle.fork_tree.specs.Trees.{choices_at}
 use Rattle.fork_tree.specs.Works.{Rules}
 use Rattle.fork_tree.specs.declared.content.Content.{Content}
 use Rattle.fork_tree.specs.declared.content.Content.TheVariants.{Shut}
-use Rattle.report_text.specs.Claims.{ArePartedAll, Beside, Entry, HasHistory, HasSpent, IsExactCover, IsReport, IsRun, IsTested, Learning, Report, Spending, Tested, leaf_nodes_of, leaves_of}
+use Rattle.report_text.specs.Claims.{ArePartedAll, Beside, Entry, Filling, HasHistory, HasSpent, IsExactCover, IsReport, IsRun, IsTested, Learning, Report, Spending, Tested, bounds_of, leaf_nodes_of, leaves_of}
 use Rattle.report_text.specs.Entries.{AreEntries, AskAsClaimed, IsBeside, IsEntry, IsLeafAt, leaf_numbers, numbers_where}
 use Rattle.report_text.specs.Files.{test_of}
 
@@ -150,62 +150,92 @@ run_beside image regions leaf rank most input test sample is faithful = subst (I
   runs = faithful.runs input sample.0 sample.1;
 })
 
-tested_beside : (image : Image) (regions : List Region) (budgets : Budgets) (sides : List Choice) (leaf : Leaf) (rank : ℕ) (end : LeafEnd) (sample : Option (List ℕ)) (evidence : Option Evidence) (beside : Beside)
-    → IsFaithful image regions budgets.steps leaf → Shows regions budgets sides leaf end sample evidence → IsBeside regions rank leaf sample evidence beside → IsTested image regions leaf end rank beside
-tested_beside image regions budgets sides leaf rank (Exits status) (Some input) None (Tested test) faithful shows is = run_beside image regions leaf rank budgets.steps input test shows is faithful
-tested_beside image regions budgets sides leaf rank (Exits status) (Some input) None (Spending spent) faithful shows is = absurd is
-tested_beside image regions budgets sides leaf rank (Exits status) (Some input) None (Learning learnt) faithful shows is = absurd is
-tested_beside image regions budgets sides leaf rank (Exits status) (Some input) (Some e) beside faithful shows is = absurd shows
-tested_beside image regions budgets sides leaf rank (Exits status) None evidence beside faithful shows is = absurd shows
-tested_beside image regions budgets sides leaf rank (Traps trap) (Some input) None (Tested test) faithful shows is = run_beside image regions leaf rank budgets.steps input test shows is faithful
-tested_beside image regions budgets sides leaf rank (Traps trap) (Some input) None (Spending spent) faithful shows is = absurd is
-tested_beside image regions budgets sides leaf rank (Traps trap) (Some input) None (Learning learnt) faithful shows is = absurd is
-tested_beside image regions budgets sides leaf rank (Traps trap) (Some input) (Some e) beside faithful shows is = absurd shows
-tested_beside image regions budgets sides leaf rank (Traps trap) None evidence beside faithful shows is = absurd shows
-tested_beside image regions budgets sides leaf rank (Cut Steps) (Some input) None (Tested test) faithful shows is = run_beside image regions leaf rank budgets.steps input test shows is faithful
-tested_beside image regions budgets sides leaf rank (Cut Steps) (Some input) None (Spending spent) faithful shows is = absurd is
-tested_beside image regions budgets sides leaf rank (Cut Steps) (Some input) None (Learning learnt) faithful shows is = absurd is
-tested_beside image regions budgets sides leaf rank (Cut Steps) (Some input) (Some e) beside faithful shows is = absurd shows
-tested_beside image regions budgets sides leaf rank (Cut Steps) None evidence beside faithful shows is = absurd shows
-tested_beside image regions budgets sides leaf rank (Cut Targets) (Some input) (Some (OnTargets spent)) (Spending written) faithful shows is = tt
-tested_beside image regions budgets sides leaf rank (Cut Targets) (Some input) (Some (OnTargets spent)) (Tested test) faithful shows is = absurd is
-tested_beside image regions budgets sides leaf rank (Cut Targets) (Some input) (Some (OnTargets spent)) (Learning learnt) faithful shows is = absurd is
-tested_beside image regions budgets sides leaf rank (Cut Targets) (Some input) (Some (OnConflicts learnt)) beside faithful shows is = absurd shows
-tested_beside image regions budgets sides leaf rank (Cut Targets) (Some input) None beside faithful shows is = absurd shows
-tested_beside image regions budgets sides leaf rank (Cut Targets) None evidence beside faithful shows is = absurd shows
-tested_beside image regions budgets sides leaf rank (Cut Conflicts) None (Some (OnConflicts learnt)) (Learning written) faithful shows is = tt
-tested_beside image regions budgets sides leaf rank (Cut Conflicts) None (Some (OnConflicts learnt)) (Tested test) faithful shows is = absurd is
-tested_beside image regions budgets sides leaf rank (Cut Conflicts) None (Some (OnConflicts learnt)) (Spending spent) faithful shows is = absurd is
-tested_beside image regions budgets sides leaf rank (Cut Conflicts) None (Some (OnTargets spent)) beside faithful shows is = absurd shows
-tested_beside image regions budgets sides leaf rank (Cut Conflicts) None None beside faithful shows is = absurd shows
-tested_beside image regions budgets sides leaf rank (Cut Conflicts) (Some input) evidence beside faithful shows is = absurd shows
+tested_beside : (image : Image) (regions : List Region) (budgets : Budgets) (sides : List Choice) (nodes : Option ℕ) (leaf : Leaf) (rank : ℕ) (end : LeafEnd) (sample : Option (List ℕ)) (evidence : Option Evidence) (beside : Beside)
+    → IsFaithful image regions budgets.steps leaf → Shows regions budgets sides nodes leaf end sample evidence → IsBeside regions rank leaf sample evidence beside → IsTested image regions leaf end rank beside
+tested_beside image regions budgets sides nodes leaf rank (Exits status) (Some input) None (Tested test) faithful shows is = run_beside image regions leaf rank budgets.steps input test shows is faithful
+tested_beside image regions budgets sides nodes leaf rank (Exits status) (Some input) None (Spending spent) faithful shows is = absurd is
+tested_beside image regions budgets sides nodes leaf rank (Exits status) (Some input) None (Learning learnt) faithful shows is = absurd is
+tested_beside image regions budgets sides nodes leaf rank (Exits status) (Some input) None (Filling count) faithful shows is = absurd is
+tested_beside image regions budgets sides nodes leaf rank (Exits status) (Some input) (Some e) beside faithful shows is = absurd shows
+tested_beside image regions budgets sides nodes leaf rank (Exits status) None evidence beside faithful shows is = absurd shows
+tested_beside image regions budgets sides nodes leaf rank (Traps trap) (Some input) None (Tested test) faithful shows is = run_beside image regions leaf rank budgets.steps input test shows is faithful
+tested_beside image regions budgets sides nodes leaf rank (Traps trap) (Some input) None (Spending spent) faithful shows is = absurd is
+tested_beside image regions budgets sides nodes leaf rank (Traps trap) (Some input) None (Learning learnt) faithful shows is = absurd is
+tested_beside image regions budgets sides nodes leaf rank (Traps trap) (Some input) None (Filling count) faithful shows is = absurd is
+tested_beside image regions budgets sides nodes leaf rank (Traps trap) (Some input) (Some e) beside faithful shows is = absurd shows
+tested_beside image regions budgets sides nodes leaf rank (Traps trap) None evidence beside faithful shows is = absurd shows
+tested_beside image regions budgets sides nodes leaf rank (Cut Steps) (Some input) None (Tested test) faithful shows is = run_beside image regions leaf rank budgets.steps input test shows is faithful
+tested_beside image regions budgets sides nodes leaf rank (Cut Steps) (Some input) None (Spending spent) faithful shows is = absurd is
+tested_beside image regions budgets sides nodes leaf rank (Cut Steps) (Some input) None (Learning learnt) faithful shows is = absurd is
+tested_beside image regions budgets sides nodes leaf rank (Cut Steps) (Some input) None (Filling count) faithful shows is = absurd is
+tested_beside image regions budgets sides nodes leaf rank (Cut Steps) (Some input) (Some e) beside faithful shows is = absurd shows
+tested_beside image regions budgets sides nodes leaf rank (Cut Steps) None evidence beside faithful shows is = absurd shows
+tested_beside image regions budgets sides nodes leaf rank (Cut Targets) (Some input) (Some (OnTargets spent)) (Spending written) faithful shows is = tt
+tested_beside image regions budgets sides nodes leaf rank (Cut Targets) (Some input) (Some (OnTargets spent)) (Tested test) faithful shows is = absurd is
+tested_beside image regions budgets sides nodes leaf rank (Cut Targets) (Some input) (Some (OnTargets spent)) (Learning learnt) faithful shows is = absurd is
+tested_beside image regions budgets sides nodes leaf rank (Cut Targets) (Some input) (Some (OnTargets spent)) (Filling count) faithful shows is = absurd is
+tested_beside image regions budgets sides nodes leaf rank (Cut Targets) (Some input) (Some (OnConflicts learnt)) beside faithful shows is = absurd shows
+tested_beside image regions budgets sides nodes leaf rank (Cut Targets) (Some input) (Some (OnNodes count)) beside faithful shows is = absurd shows
+tested_beside image regions budgets sides nodes leaf rank (Cut Targets) (Some input) None beside faithful shows is = absurd shows
+tested_beside image regions budgets sides nodes leaf rank (Cut Targets) None evidence beside faithful shows is = absurd shows
+tested_beside image regions budgets sides nodes leaf rank (Cut Conflicts) None (Some (OnConflicts learnt)) (Learning written) faithful shows is = tt
+tested_beside image regions budgets sides nodes leaf rank (Cut Conflicts) None (Some (OnConflicts learnt)) (Tested test) faithful shows is = absurd is
+tested_beside image regions budgets sides nodes leaf rank (Cut Conflicts) None (Some (OnConflicts learnt)) (Spending spent) faithful shows is = absurd is
+tested_beside image regions budgets sides nodes leaf rank (Cut Conflicts) None (Some (OnConflicts learnt)) (Filling count) faithful shows is = absurd is
+tested_beside image regions budgets sides nodes leaf rank (Cut Conflicts) None (Some (OnTargets spent)) beside faithful shows is = absurd shows
+tested_beside image regions budgets sides nodes leaf rank (Cut Conflicts) None (Some (OnNodes count)) beside faithful shows is = absurd shows
+tested_beside image regions budgets sides nodes leaf rank (Cut Conflicts) None None beside faithful shows is = absurd shows
+tested_beside image regions budgets sides nodes leaf rank (Cut Conflicts) (Some input) evidence beside faithful shows is = absurd shows
+tested_beside image regions budgets sides (Some count) leaf rank (Cut Nodes) None (Some (OnNodes shown)) (Filling written) faithful shows is = tt
+tested_beside image regions budgets sides (Some count) leaf rank (Cut Nodes) None (Some (OnNodes shown)) (Tested test) faithful shows is = absurd is
+tested_beside image regions budgets sides (Some count) leaf rank (Cut Nodes) None (Some (OnNodes shown)) (Spending spent) faithful shows is = absurd is
+tested_beside image regions budgets sides (Some count) leaf rank (Cut Nodes) None (Some (OnNodes shown)) (Learning learnt) faithful shows is = absurd is
+tested_beside image regions budgets sides (Some count) leaf rank (Cut Nodes) None (Some (OnTargets spent)) beside faithful shows is = absurd shows
+tested_beside image regions budgets sides (Some count) leaf rank (Cut Nodes) None (Some (OnConflicts learnt)) beside faithful shows is = absurd shows
+tested_beside image regions budgets sides (Some count) leaf rank (Cut Nodes) None None beside faithful shows is = absurd shows
+tested_beside image regions budgets sides (Some count) leaf rank (Cut Nodes) (Some input) evidence beside faithful shows is = absurd shows
+tested_beside image regions budgets sides None leaf rank (Cut Nodes) sample evidence beside faithful shows is = absurd shows
 
 own_split : (lines : List Line) (node : ℕ) (sides : List Choice) (vs : List ℕ) → sides ≡ map Value vs ++ Rest ∷ [] → IsOwnSplit lines node sides → IsSideOf lines node sides
 own_split lines node [] [] others own = cc
 own_split lines node [] (v ∷ vs) others own = cc
 own_split lines node (c ∷ cs) vs others own = own
 
-spent_beside : (image : Image) (regions : List Region) (budgets : Budgets) (lines : List Line) (node : ℕ) (sides : List Choice) (leaf : Leaf) (rank : ℕ) (end : LeafEnd) (sample : Option (List ℕ)) (evidence : Option Evidence) (beside : Beside)
-    → leaf.end ≡ end → IsFaithful image regions budgets.steps leaf → IsOwnSplit lines node sides → Shows regions budgets sides leaf end sample evidence → IsBeside regions rank leaf sample evidence beside
+spent_beside : (image : Image) (regions : List Region) (budgets : Budgets) (lines : List Line) (node : ℕ) (sides : List Choice) (nodes : Option ℕ) (leaf : Leaf) (rank : ℕ) (end : LeafEnd) (sample : Option (List ℕ)) (evidence : Option Evidence) (beside : Beside)
+    → leaf.end ≡ end → IsFaithful image regions budgets.steps leaf → IsOwnSplit lines node sides → IsOwnCut lines node nodes → Shows regions budgets sides nodes leaf end sample evidence → IsBeside regions rank leaf sample evidence beside
     → HasSpent regions budgets lines node leaf end beside
-spent_beside image regions budgets lines node sides leaf rank (Exits status) sample evidence beside is faithful own shows beside_is = tt
-spent_beside image regions budgets lines node sides leaf rank (Traps trap) sample evidence beside is faithful own shows beside_is = tt
-spent_beside image regions budgets lines node sides leaf rank (Cut Steps) sample evidence beside is faithful own shows beside_is =
+spent_beside image regions budgets lines node sides nodes leaf rank (Exits status) sample evidence beside is faithful own own_cut shows beside_is = tt
+spent_beside image regions budgets lines node sides nodes leaf rank (Traps trap) sample evidence beside is faithful own own_cut shows beside_is = tt
+spent_beside image regions budgets lines node sides nodes leaf rank (Cut Steps) sample evidence beside is faithful own own_cut shows beside_is =
     subst (AreWithin budgets.steps leaf.steps) is faithful.within
-spent_beside image regions budgets lines node sides leaf rank (Cut Targets) (Some input) (Some (OnTargets spent)) (Spending written) is faithful own (sampled, spends) beside_is =
+spent_beside image regions budgets lines node sides nodes leaf rank (Cut Targets) (Some input) (Some (OnTargets spent)) (Spending written) is faithful own own_cut (sampled, spends) beside_is =
     (sides, own_split lines node sides (values_of spent.found) spends.others own, subst (SpendsTargets regions budgets.targets sides leaf) (sym beside_is) spends)
-spent_beside image regions budgets lines node sides leaf rank (Cut Targets) (Some input) (Some (OnTargets spent)) (Tested test) is faithful own shows beside_is = absurd beside_is
-spent_beside image regions budgets lines node sides leaf rank (Cut Targets) (Some input) (Some (OnTargets spent)) (Learning learnt) is faithful own shows beside_is = absurd beside_is
-spent_beside image regions budgets lines node sides leaf rank (Cut Targets) (Some input) (Some (OnConflicts learnt)) beside is faithful own shows beside_is = absurd shows
-spent_beside image regions budgets lines node sides leaf rank (Cut Targets) (Some input) None beside is faithful own shows beside_is = absurd shows
-spent_beside image regions budgets lines node sides leaf rank (Cut Targets) None evidence beside is faithful own shows beside_is = absurd shows
-spent_beside image regions budgets lines node sides leaf rank (Cut Conflicts) None (Some (OnConflicts learnt)) (Learning written) is faithful own shows beside_is =
+spent_beside image regions budgets lines node sides nodes leaf rank (Cut Targets) (Some input) (Some (OnTargets spent)) (Tested test) is faithful own own_cut shows beside_is = absurd beside_is
+spent_beside image regions budgets lines node sides nodes leaf rank (Cut Targets) (Some input) (Some (OnTargets spent)) (Learning learnt) is faithful own own_cut shows beside_is = absurd beside_is
+spent_beside image regions budgets lines node sides nodes leaf rank (Cut Targets) (Some input) (Some (OnTargets spent)) (Filling count) is faithful own own_cut shows beside_is = absurd beside_is
+spent_beside image regions budgets lines node sides nodes leaf rank (Cut Targets) (Some input) (Some (OnConflicts learnt)) beside is faithful own own_cut shows beside_is = absurd shows
+spent_beside image regions budgets lines node sides nodes leaf rank (Cut Targets) (Some input) (Some (OnNodes count)) beside is faithful own own_cut shows beside_is = absurd shows
+spent_beside image regions budgets lines node sides nodes leaf rank (Cut Targets) (Some input) None beside is faithful own own_cut shows beside_is = absurd shows
+spent_beside image regions budgets lines node sides nodes leaf rank (Cut Targets) None evidence beside is faithful own own_cut shows beside_is = absurd shows
+spent_beside image regions budgets lines node sides nodes leaf rank (Cut Conflicts) None (Some (OnConflicts learnt)) (Learning written) is faithful own own_cut shows beside_is =
     subst (SpendsConflicts regions budgets.conflicts leaf) (sym beside_is) shows
-spent_beside image regions budgets lines node sides leaf rank (Cut Conflicts) None (Some (OnConflicts learnt)) (Tested test) is faithful own shows beside_is = absurd beside_is
-spent_beside image regions budgets lines node sides leaf rank (Cut Conflicts) None (Some (OnConflicts learnt)) (Spending spent) is faithful own shows beside_is = absurd beside_is
-spent_beside image regions budgets lines node sides leaf rank (Cut Conflicts) None (Some (OnTargets spent)) beside is faithful own shows beside_is = absurd shows
-spent_beside image regions budgets lines node sides leaf rank (Cut Conflicts) None None beside is faithful own shows beside_is = absurd shows
-spent_beside image regions budgets lines node sides leaf rank (Cut Conflicts) (Some input) evidence beside is faithful own shows beside_is = absurd shows
+spent_beside image regions budgets lines node sides nodes leaf rank (Cut Conflicts) None (Some (OnConflicts learnt)) (Tested test) is faithful own own_cut shows beside_is = absurd beside_is
+spent_beside image regions budgets lines node sides nodes leaf rank (Cut Conflicts) None (Some (OnConflicts learnt)) (Spending spent) is faithful own own_cut shows beside_is = absurd beside_is
+spent_beside image regions budgets lines node sides nodes leaf rank (Cut Conflicts) None (Some (OnConflicts learnt)) (Filling count) is faithful own own_cut shows beside_is = absurd beside_is
+spent_beside image regions budgets lines node sides nodes leaf rank (Cut Conflicts) None (Some (OnTargets spent)) beside is faithful own own_cut shows beside_is = absurd shows
+spent_beside image regions budgets lines node sides nodes leaf rank (Cut Conflicts) None (Some (OnNodes count)) beside is faithful own own_cut shows beside_is = absurd shows
+spent_beside image regions budgets lines node sides nodes leaf rank (Cut Conflicts) None None beside is faithful own own_cut shows beside_is = absurd shows
+spent_beside image regions budgets lines node sides nodes leaf rank (Cut Conflicts) (Some input) evidence beside is faithful own own_cut shows beside_is = absurd shows
+spent_beside image regions budgets lines node sides (Some count) leaf rank (Cut Nodes) None (Some (OnNodes shown)) (Filling written) is faithful own own_cut (same, enough) beside_is =
+    subst (λ n. (budgets.nodes ≤ n) × IsCutAt lines node n) (sym (beside_is ∙ same)) (enough, own_cut)
+spent_beside image regions budgets lines node sides (Some count) leaf rank (Cut Nodes) None (Some (OnNodes shown)) (Tested test) is faithful own own_cut shows beside_is = absurd beside_is
+spent_beside image regions budgets lines node sides (Some count) leaf rank (Cut Nodes) None (Some (OnNodes shown)) (Spending spent) is faithful own own_cut shows beside_is = absurd beside_is
+spent_beside image regions budgets lines node sides (Some count) leaf rank (Cut Nodes) None (Some (OnNodes shown)) (Learning learnt) is faithful own own_cut shows beside_is = absurd beside_is
+spent_beside image regions budgets lines node sides (Some count) leaf rank (Cut Nodes) None (Some (OnTargets spent)) beside is faithful own own_cut shows beside_is = absurd shows
+spent_beside image regions budgets lines node sides (Some count) leaf rank (Cut Nodes) None (Some (OnConflicts learnt)) beside is faithful own own_cut shows beside_is = absurd shows
+spent_beside image regions budgets lines node sides (Some count) leaf rank (Cut Nodes) None None beside is faithful own own_cut shows beside_is = absurd shows
+spent_beside image regions budgets lines node sides (Some count) leaf rank (Cut Nodes) (Some input) evidence beside is faithful own own_cut shows beside_is = absurd shows
+spent_beside image regions budgets lines node sides None leaf rank (Cut Nodes) sample evidence beside is faithful own own_cut shows beside_is = absurd shows
 
 -- A quiet tree's nodes are settled.
 settled_if : (st : Status) → st ≢ Free → is_held st ≡ false → is_settled st ≡ true
@@ -225,7 +255,7 @@ module _ {S L : Type 0} (part_of : L → Part) (rules : Rules S L) (state_place 
     (image : Image) (regions : List Region) (budgets : Budgets) (asks : AskAsClaimed part_of rules leaf_place image regions budgets)
     (s : Story (Content S L)) (drained : IsDrained rules state_place leaf_place s) (entries : List Entry) (are : AreEntries part_of regions s entries) where
   abbrev lines : List Line
-  lines = lines_of (cut_in rules.cut) s
+  lines = lines_of (cut_in state_place leaf_place) s
 
   -- the report of the tree, by so many workers
   abbrev report : ℕ → Report
@@ -237,7 +267,7 @@ module _ {S L : Type 0} (part_of : L → Part) (rules : Rules S L) (state_place 
   abbrev covers_at : Content S L → List ℕ → Bool
   covers_at c = (place_in state_place leaf_place c).covers
 
-  -- the leaf of an entry is right, with the choices of its own split
+  -- the leaf of an entry is right, with the choices of its own split, and where it was cut
   record IsRightEntry (rank : ℕ) (e : Entry) : Type 0 where
     part : Part
     at : IsLeafAt part_of s e.node part
@@ -245,7 +275,9 @@ module _ {S L : Type 0} (part_of : L → Part) (rules : Rules S L) (state_place 
     beside : IsBeside regions rank e.leaf part.sample part.evidence e.beside
     sides : List Choice
     own : IsOwnSplit lines e.node sides
-    right : IsRight image regions budgets sides (record part { leaf = e.leaf })
+    nodes : Option ℕ
+    own_cut : IsOwnCut lines e.node nodes
+    right : IsRight image regions budgets sides nodes (record part { leaf = e.leaf })
 
   right_entry : (rank : ℕ) (e : Entry) → slice_get entries rank ≡ Some e → IsRightEntry rank e
   right_entry rank e found = record {
@@ -255,15 +287,17 @@ module _ {S L : Type 0} (part_of : L → Part) (rules : Rules S L) (state_place 
     beside = subst (λ leaf. IsBeside regions rank leaf entry.part.sample entry.part.evidence e.beside) (sym entry.same_leaf) entry.beside;
     sides = here.sides;
     own = here.own;
-    right = subst (λ leaf. IsRight image regions budgets here.sides (record entry.part { leaf = leaf })) (sym entry.same_leaf)
-        (subst (IsRight image regions budgets here.sides) entry.at.same (asks.right here.sides entry.at.leaf here.right));
+    nodes = here.nodes;
+    own_cut = here.own_cut;
+    right = subst (λ leaf. IsRight image regions budgets here.sides here.nodes (record entry.part { leaf = leaf })) (sym entry.same_leaf)
+        (subst (IsRight image regions budgets here.sides here.nodes) entry.at.same (asks.right here.sides here.nodes entry.at.leaf here.right));
   }
     where
       entry : IsEntry part_of regions s rank e
       entry = are.each rank e found
 
       here : IsRightAt rules lines e.node entry.at.leaf
-      here = subst (HasLeaf (IsLeafRight rules s e.node)) entry.at.held (drained.leaves e.node entry.at.within entry.at.is_leaf)
+      here = subst (HasLeaf (IsLeafRight rules state_place leaf_place s e.node)) entry.at.held (drained.leaves e.node entry.at.within entry.at.is_leaf)
 
   -- what its place is
   place_of_entry : (rank : ℕ) (e : Entry) (entry : IsEntry part_of regions s rank e) → leaf_place entry.at.leaf ≡ place_of e.leaf
@@ -353,12 +387,12 @@ module _ {S L : Type 0} (part_of : L → Part) (rules : Rules S L) (state_place 
       covered_place l input assignment is = ap (λ x. x && covers l input) (are_bytes-of input assignment.1) ∙ is
 
   history : (workers : ℕ) → All (λ (x : Event (Content S L) ℕ). x.by < workers) s.events → HasHistory (report workers)
-  history workers all = subst (λ t. IsHistory workers t lines (leaf_nodes_of entries)) asks.targets (record {
+  history workers all = subst (λ b. IsHistory b lines (leaf_nodes_of entries)) same_bounds (record {
     nodes = led.nodes;
     walked = led.walked;
-    quiet = quiet-walked (choices_at state_place leaf_place) (cut_in rules.cut) s led.nodes led.same settled;
+    quiet = quiet-walked (choices_at state_place leaf_place) (cut_in state_place leaf_place) s led.nodes led.same settled;
     each = all_items (λ (l : LeafNode). slice_get led.nodes l.node ≡ Some (standing_of l)) (leaf_nodes_of entries) each;
-    as_many = leaves-walked (choices_at state_place leaf_place) (cut_in rules.cut) s led.nodes led.same
+    as_many = leaves-walked (choices_at state_place leaf_place) (cut_in state_place leaf_place) s led.nodes led.same
         ∙ sym (below_true (λ m. is_leaf_status (status s m)) (length s.nodes))
         ∙ sym (count_where (λ m. is_leaf_status (status s m)) (λ _. true) (length s.nodes))
         ∙ count_all (leaf_numbers s)
@@ -367,7 +401,13 @@ module _ {S L : Type 0} (part_of : L → Part) (rules : Rules S L) (state_place 
         ∙ sym (length-map entries (λ (e : Entry). record { leaf = e.leaf; node = e.node }));
   })
     where
-      led : LeadsTo (choices_at state_place leaf_place) (cut_in rules.cut) workers rules.targets s
+      bounds : Bounds
+      bounds = record { workers = workers; targets = rules.targets; nodes = rules.nodes }
+
+      same_bounds : bounds ≡ bounds_of (report workers)
+      same_bounds k = record { workers = workers; targets = asks.targets k; nodes = asks.nodes k }
+
+      led : LeadsTo (choices_at state_place leaf_place) (cut_in state_place leaf_place) bounds s
       led = drained.walked.leads workers all
 
       settled : (m : ℕ) → m < length s.nodes → is_settled (status s m) ≡ true
@@ -388,7 +428,7 @@ module _ {S L : Type 0} (part_of : L → Part) (rules : Rules S L) (state_place 
           held : content s l.node ≡ Some (shut entry.at.leaf)
           held = ap (content s) (sym node_is) ∙ entry.at.held
 
-          found : (standing : Standing) × (slice_get led.nodes l.node ≡ Some standing) × StandsAs (choices_at state_place leaf_place) (cut_in rules.cut) s l.node (shut entry.at.leaf) standing
+          found : (standing : Standing) × (slice_get led.nodes l.node ≡ Some standing) × StandsAs (choices_at state_place leaf_place) (cut_in state_place leaf_place) s l.node (shut entry.at.leaf) standing
           found = led.same.each l.node (shut entry.at.leaf) held
 
           status_is : status s l.node ≡ IsLeaf
@@ -400,12 +440,11 @@ module _ {S L : Type 0} (part_of : L → Part) (rules : Rules S L) (state_place 
           choices_is : (leaf_place entry.at.leaf).choices ≡ l.leaf.choices
           choices_is = ap (λ (p : Place). p.choices) (place_of_entry i e.0 entry) ∙ ap (λ (x : Leaf). x.choices) leaf_is
 
-          cause_is : rules.cut entry.at.leaf ≡ cause_of l.leaf.end
-          cause_is = asks.cut entry.at.leaf ∙ ap (λ (p : Part). cause_of p.leaf.end) entry.at.same
-              ∙ ap (λ (x : Leaf). cause_of x.end) (sym entry.same_leaf ∙ leaf_is)
+          cause_is : (leaf_place entry.at.leaf).cut ≡ cause_of l.leaf.end
+          cause_is = ap (λ (p : Place). p.cut) (place_of_entry i e.0 entry) ∙ ap (λ (x : Leaf). cause_of x.end) leaf_is
 
-          stands : record { choices = (leaf_place entry.at.leaf).choices; status = status s l.node; cut = cut_where (cut_in rules.cut) (status s l.node) (shut entry.at.leaf) } ≡ standing_of l
-          stands = ap (λ st. record { choices = (leaf_place entry.at.leaf).choices; status = st; cut = cut_where (cut_in rules.cut) st (shut entry.at.leaf) }) status_is
+          stands : record { choices = (leaf_place entry.at.leaf).choices; status = status s l.node; cut = cut_where (cut_in state_place leaf_place) (status s l.node) (shut entry.at.leaf) } ≡ standing_of l
+          stands = ap (λ st. record { choices = (leaf_place entry.at.leaf).choices; status = st; cut = cut_where (cut_in state_place leaf_place) st (shut entry.at.leaf) }) status_is
               ∙ (λ k. record { choices = choices_is k; status = IsLeaf; cut = cause_is k })
 
   pub are_a_report : ((input : List ℕ) → IsAssignment regions input → covered covers_at (root_content s) input ≡ true)
@@ -419,10 +458,10 @@ module _ {S L : Type 0} (part_of : L → Part) (rules : Rules S L) (state_place 
     alike = all_leaves (DecidesAlike image regions) (λ rank e at. (right_entry rank e at).right.alike);
     parted = parted workers;
     runs = λ rank e at. let r : IsRightEntry rank e = right_entry rank e at in
-        tested_beside image regions budgets r.sides e.leaf rank e.leaf.end r.part.sample r.part.evidence e.beside r.right.faithful r.right.shown r.beside;
+        tested_beside image regions budgets r.sides r.nodes e.leaf rank e.leaf.end r.part.sample r.part.evidence e.beside r.right.faithful r.right.shown r.beside;
     cuts = all_items (λ (e : Entry). HasSpent regions budgets lines e.node e.leaf e.leaf.end e.beside) entries (λ rank e at. let r : IsRightEntry rank e = right_entry rank e at in
-        spent_beside image regions budgets lines e.node r.sides e.leaf rank e.leaf.end r.part.sample r.part.evidence e.beside refl r.right.faithful r.own r.right.shown r.beside);
+        spent_beside image regions budgets lines e.node r.sides r.nodes e.leaf rank e.leaf.end r.part.sample r.part.evidence e.beside refl r.right.faithful r.own r.own_cut r.right.shown r.beside);
     history = history workers all;
-    releases = once_written (cut_in rules.cut) s once;
+    releases = once_written (cut_in state_place leaf_place) s once;
     ranked = are.ranked;
   }

@@ -14,7 +14,7 @@ use Rattle.term_trees.proofs.Terms.{is_term}
 use Rattle.rv_decode.specs.declared.ends.PathStep.{PathStep}
 use Rattle.rv_decode.specs.declared.ends.PathStep.TheVariants.{Taken, NotTaken, Target}
 use Rattle.rv_spec.specs.Runs.{Run, run}
-use Rattle.tree_core.specs.declared.cause.Cause.TheVariants.{Conflicts, Steps, Targets}
+use Rattle.tree_core.specs.declared.cause.Cause.TheVariants.{Conflicts, Nodes, Steps, Targets}
 use Rattle.tree_core.specs.declared.choice.Choice.{Choice}
 use Rattle.fork_spec.specs.Evidence.{Found, Learnt, Spent, SpendsConflicts, SpendsTargets}
 use Rattle.fork_spec.specs.Histories.{is_leaf}
@@ -26,7 +26,7 @@ use Rattle.fork_spec.specs.declared.end.LeafEnd.TheVariants.{Exits, Traps, Cut}
 use Rattle.term_trees.proofs.Numbers.{number_fits}
 use Rattle.test_files.specs.Tests.{Test}
 use Rattle.test_files.specs.Writable.{HasStatus, HasTarget, IsLegible}
-use Rattle.report_text.specs.Claims.{Beside, Entry, HasSpent, IsReport, IsRun, IsTested, Learning, Report, Spending, Tested, leaf_nodes_of, leaves_of}
+use Rattle.report_text.specs.Claims.{Beside, Entry, Filling, HasSpent, IsReport, IsRun, IsTested, Learning, Report, Spending, Tested, bounds_of, leaf_nodes_of, leaves_of}
 use Rattle.report_text.specs.Legible.{AreLegible, HasSmallCounts, HasSmallLogBeside, IsLegibleBeside, IsLegibleLearnt, IsLegibleSpent}
 use Rattle.report_text.proofs.SpentBack.{bytes_of}
 use Rattle.report_text.proofs.WalkedLines.{legible_from}
@@ -107,7 +107,7 @@ module _ (r : Report) (claims : IsReport r) (counts : HasSmallCounts r) where
   few_nodes = counts.few_nodes claims.history.nodes claims.history.walked
 
   pub lines_legible : AreLegible r.lines
-  lines_legible = (legible_from r.workers r.budgets.targets (root ∷ []) claims.history.nodes r.lines counts.few_workers claims.history.walked few_nodes).0
+  lines_legible = (legible_from (bounds_of r) (root ∷ []) claims.history.nodes r.lines counts.few_workers claims.history.walked few_nodes).0
 
   few_entries : IsSmall (length r.entries)
   few_entries =
@@ -125,18 +125,27 @@ module _ (r : Report) (claims : IsReport r) (counts : HasSmallCounts r) where
     beside_legible leaf node rank (Exits status) (Tested test) full faithful low is spent small = test_legible r.image r.regions r.budgets.steps leaf rank test full faithful starts sizes low is
     beside_legible leaf node rank (Exits status) (Spending found) full faithful low is spent small = absurd is
     beside_legible leaf node rank (Exits status) (Learning learnt) full faithful low is spent small = absurd is
+    beside_legible leaf node rank (Exits status) (Filling count) full faithful low is spent small = absurd is
     beside_legible leaf node rank (Traps trap) (Tested test) full faithful low is spent small = test_legible r.image r.regions r.budgets.steps leaf rank test full faithful starts sizes low is
     beside_legible leaf node rank (Traps trap) (Spending found) full faithful low is spent small = absurd is
     beside_legible leaf node rank (Traps trap) (Learning learnt) full faithful low is spent small = absurd is
+    beside_legible leaf node rank (Traps trap) (Filling count) full faithful low is spent small = absurd is
     beside_legible leaf node rank (Cut Steps) (Tested test) full faithful low is spent small = test_legible r.image r.regions r.budgets.steps leaf rank test full faithful starts sizes low is
     beside_legible leaf node rank (Cut Steps) (Spending found) full faithful low is spent small = absurd is
     beside_legible leaf node rank (Cut Steps) (Learning learnt) full faithful low is spent small = absurd is
+    beside_legible leaf node rank (Cut Steps) (Filling count) full faithful low is spent small = absurd is
     beside_legible leaf node rank (Cut Targets) (Tested test) full faithful low is spent small = absurd is
     beside_legible leaf node rank (Cut Targets) (Spending found) full faithful low is spent small = spent_legible r.regions r.budgets.targets spent.0 leaf found full counts.few_targets spent.2
     beside_legible leaf node rank (Cut Targets) (Learning learnt) full faithful low is spent small = absurd is
+    beside_legible leaf node rank (Cut Targets) (Filling count) full faithful low is spent small = absurd is
     beside_legible leaf node rank (Cut Conflicts) (Tested test) full faithful low is spent small = absurd is
     beside_legible leaf node rank (Cut Conflicts) (Spending found) full faithful low is spent small = absurd is
     beside_legible leaf node rank (Cut Conflicts) (Learning learnt) full faithful low is spent small = learnt_legible r.regions r.budgets.conflicts leaf learnt counts.few_conflicts small spent
+    beside_legible leaf node rank (Cut Conflicts) (Filling count) full faithful low is spent small = absurd is
+    beside_legible leaf node rank (Cut Nodes) (Tested test) full faithful low is spent small = absurd is
+    beside_legible leaf node rank (Cut Nodes) (Spending found) full faithful low is spent small = absurd is
+    beside_legible leaf node rank (Cut Nodes) (Learning learnt) full faithful low is spent small = absurd is
+    beside_legible leaf node rank (Cut Nodes) (Filling count) full faithful low is spent small = small
 
     pub entry_legible : (rank : ℕ) (e : Entry) → slice_get r.entries rank ≡ Some e → IsLegibleBeside e.beside
     entry_legible rank e at =

@@ -7,11 +7,11 @@ use Rattle.elf_load.specs.declared.region.Region.{Region}
 use Rattle.tree_core.specs.Choices.{precedes}
 use Rattle.tree_core.specs.Stories.{Story}
 use Rattle.tree_core.specs.declared.budgets.Budgets.{Budgets}
-use Rattle.tree_core.specs.declared.cause.Cause.TheVariants.{Steps, Targets, Conflicts}
+use Rattle.tree_core.specs.declared.cause.Cause.TheVariants.{Steps, Targets, Conflicts, Nodes}
 use Rattle.tree_core.specs.declared.choice.Choice.{Choice}
 use Rattle.rv_spec.specs.Memory.{count_of}
 use Rattle.fork_spec.specs.Leaves.{Leaf}
-use Rattle.fork_spec.specs.Parts.{Evidence, IsRight, OnConflicts, OnTargets, Part, Shows}
+use Rattle.fork_spec.specs.Parts.{Evidence, IsRight, OnConflicts, OnNodes, OnTargets, Part, Shows}
 use Rattle.fork_spec.specs.Ranks.{AreRanked}
 use Rattle.fork_spec.specs.declared.end.LeafEnd.{LeafEnd}
 use Rattle.fork_spec.specs.declared.end.LeafEnd.TheVariants.{Exits, Traps, Cut}
@@ -56,27 +56,32 @@ beside_is : (regions : List Region) (rank : ℕ) (leaf : Leaf) (places : ℕ) (s
     → IsBeside regions rank leaf sample evidence (beside_of regions rank leaf sample evidence)
 beside_is regions rank leaf places sample (Some (OnTargets spent)) has = refl
 beside_is regions rank leaf places sample (Some (OnConflicts learnt)) has = refl
+beside_is regions rank leaf places sample (Some (OnNodes count)) has = refl
 beside_is regions rank leaf places (Some input) None has = refl
 beside_is regions rank leaf places None None has = absurd has
 
 -- a leaf that is shown has it
-shown_beside : (regions : List Region) (budgets : Budgets) (places : ℕ) (sides : List Choice) (leaf : Leaf) (end : LeafEnd) (sample : Option (List ℕ)) (evidence : Option Evidence)
-    → places ≡ count_of regions → Shows regions budgets sides leaf end sample evidence → HasBeside places sample evidence
-shown_beside regions budgets places sides leaf end sample (Some evidence) is shows = tt
-shown_beside regions budgets places sides leaf (Exits status) (Some input) None is shows = shows.0.0 ∙ sym is
-shown_beside regions budgets places sides leaf (Traps trap) (Some input) None is shows = shows.0.0 ∙ sym is
-shown_beside regions budgets places sides leaf (Cut Steps) (Some input) None is shows = shows.0.0 ∙ sym is
-shown_beside regions budgets places sides leaf (Cut Targets) (Some input) None is shows = absurd shows
-shown_beside regions budgets places sides leaf (Cut Conflicts) (Some input) None is shows = absurd shows
-shown_beside regions budgets places sides leaf (Exits status) None None is shows = absurd shows
-shown_beside regions budgets places sides leaf (Traps trap) None None is shows = absurd shows
-shown_beside regions budgets places sides leaf (Cut Steps) None None is shows = absurd shows
-shown_beside regions budgets places sides leaf (Cut Targets) None None is shows = absurd shows
-shown_beside regions budgets places sides leaf (Cut Conflicts) None None is shows = absurd shows
+shown_beside : (regions : List Region) (budgets : Budgets) (places : ℕ) (sides : List Choice) (nodes : Option ℕ) (leaf : Leaf) (end : LeafEnd) (sample : Option (List ℕ)) (evidence : Option Evidence)
+    → places ≡ count_of regions → Shows regions budgets sides nodes leaf end sample evidence → HasBeside places sample evidence
+shown_beside regions budgets places sides nodes leaf end sample (Some evidence) is shows = tt
+shown_beside regions budgets places sides nodes leaf (Exits status) (Some input) None is shows = shows.0.0 ∙ sym is
+shown_beside regions budgets places sides nodes leaf (Traps trap) (Some input) None is shows = shows.0.0 ∙ sym is
+shown_beside regions budgets places sides nodes leaf (Cut Steps) (Some input) None is shows = shows.0.0 ∙ sym is
+shown_beside regions budgets places sides nodes leaf (Cut Targets) (Some input) None is shows = absurd shows
+shown_beside regions budgets places sides nodes leaf (Cut Conflicts) (Some input) None is shows = absurd shows
+shown_beside regions budgets places sides (Some count) leaf (Cut Nodes) (Some input) None is shows = absurd shows
+shown_beside regions budgets places sides None leaf (Cut Nodes) (Some input) None is shows = absurd shows
+shown_beside regions budgets places sides nodes leaf (Exits status) None None is shows = absurd shows
+shown_beside regions budgets places sides nodes leaf (Traps trap) None None is shows = absurd shows
+shown_beside regions budgets places sides nodes leaf (Cut Steps) None None is shows = absurd shows
+shown_beside regions budgets places sides nodes leaf (Cut Targets) None None is shows = absurd shows
+shown_beside regions budgets places sides nodes leaf (Cut Conflicts) None None is shows = absurd shows
+shown_beside regions budgets places sides (Some count) leaf (Cut Nodes) None None is shows = absurd shows
+shown_beside regions budgets places sides None leaf (Cut Nodes) None None is shows = absurd shows
 
 -- a report can be written of a leaf that is right
-pub reportable : (image : Image) (regions : List Region) (budgets : Budgets) (sides : List Choice) (part : Part) → IsRight image regions budgets sides part → IsReportable part
-reportable image regions budgets sides part right = shown_beside regions budgets part.leaf.condition.graph.inputs sides part.leaf part.leaf.end part.sample part.evidence right.inputs right.shown
+pub reportable : (image : Image) (regions : List Region) (budgets : Budgets) (sides : List Choice) (nodes : Option ℕ) (part : Part) → IsRight image regions budgets sides nodes part → IsReportable part
+reportable image regions budgets sides nodes part right = shown_beside regions budgets part.leaf.condition.graph.inputs sides nodes part.leaf part.leaf.end part.sample part.evidence right.inputs right.shown
 
 -- leaves by rank are the entries of their tree
 pub are_entries : {S L : Type 0} (part_of : L → Part) (regions : List Region) (s : Story (Content S L)) (leaves : List LeafAt) → AreByRank part_of s leaves

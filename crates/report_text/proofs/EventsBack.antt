@@ -5,7 +5,7 @@ use Rattle.std.specs.Option.{option_or}
 use Rattle.std.proofs.lemmas.List.{append_cancel_left}
 use Rattle.std.proofs.lemmas.Option.{same_Some}
 use Rattle.tree_core.specs.declared.cause.Cause.{Cause}
-use Rattle.tree_core.specs.declared.cause.Cause.TheVariants.{Steps, Targets, Conflicts}
+use Rattle.tree_core.specs.declared.cause.Cause.TheVariants.{Steps, Targets, Conflicts, Nodes}
 use Rattle.tree_core.specs.declared.event.Deed.{Deed}
 use Rattle.tree_core.specs.declared.event.Deed.TheVariants.{Claim, Split, Finish, Cut, Release}
 use Rattle.fork_spec.specs.Leaves.{IsSmall, IsSmallChoice}
@@ -23,7 +23,7 @@ use Rattle.report_text.proofs.ListsBack.{items_told, lines_told}
 -- ---- sides
 
 abbrev causes : List (List ℕ × Cause)
-causes = (codes "steps", Steps) ∷ (codes "targets", Targets) ∷ (codes "conflicts", Conflicts) ∷ []
+causes = (codes "steps", Steps) ∷ (codes "targets", Targets) ∷ (codes "conflicts", Conflicts) ∷ (codes "nodes", Nodes) ∷ []
 
 -- the budget behind an exclamation mark, and none where there is no such mark
 abbrev mark : Reader (Option Cause)
@@ -44,6 +44,7 @@ mark_back None rest none = rw none refl
 mark_back (Some Steps) rest none = refl
 mark_back (Some Targets) rest none = refl
 mark_back (Some Conflicts) rest none = refl
+mark_back (Some Nodes) rest none = refl
 
 side_back : (s : Side) (rest : List ℕ) → IsSmallChoice s.choice → HasNoMark rest → side (side_text s ++ rest) ≡ Some (s, rest)
 side_back s rest small none =
@@ -138,7 +139,7 @@ deed_named by node (Cut cut) rest = refl
 deed_named by node Release rest = refl
 
 abbrev cut_words : List (List ℕ × Option Cause)
-cut_words = (codes "\n", None) ∷ (codes "steps\n", Some Steps) ∷ (codes "targets\n", Some Targets) ∷ (codes "conflicts\n", Some Conflicts) ∷ []
+cut_words = (codes "\n", None) ∷ (codes "steps\n", Some Steps) ∷ (codes "targets\n", Some Targets) ∷ (codes "conflicts\n", Some Conflicts) ∷ (codes "nodes\n", Some Nodes) ∷ []
 
 cut_named : (cut : Option Cause) (rest : List ℕ) → named cut_words (cut_text cut ++ (codes "\n" ++ rest)) ≡ Some (cut, rest)
 unfolding named behind
@@ -146,6 +147,7 @@ cut_named None rest = refl
 cut_named (Some Steps) rest = refl
 cut_named (Some Targets) rest = refl
 cut_named (Some Conflicts) rest = refl
+cut_named (Some Nodes) rest = refl
 
 cut_told : (cut other : Option Cause) (more rest : List ℕ) →
     cut_text cut ++ (codes "\n" ++ more) ≡ cut_text other ++ (codes "\n" ++ rest) → (cut ≡ other) × (more ≡ rest)

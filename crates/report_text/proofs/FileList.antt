@@ -9,7 +9,7 @@ use Rattle.elf_load.specs.declared.region.Region.{Region}
 use Rattle.tree_core.specs.Stories.{Story, status}
 use Rattle.fork_spec.specs.Histories.{LeafNode, is_leaf_status}
 use Rattle.fork_spec.specs.Leaves.{Leaf}
-use Rattle.fork_spec.specs.Parts.{Evidence, OnConflicts, OnTargets, Part}
+use Rattle.fork_spec.specs.Parts.{Evidence, OnConflicts, OnNodes, OnTargets, Part}
 use Rattle.fork_tree.specs.declared.content.Content.{Content}
 use Rattle.report_text.specs.Claims.{Entry, leaf_nodes_of, leaves_of}
 use Rattle.report_text.specs.Legible.{HasSmallLog, HasSmallLogBeside}
@@ -63,6 +63,7 @@ few_leaves part_of s leaves by_rank few =
 log_beside : (regions : List Region) (rank : ℕ) (leaf : Leaf) (sample : Option (List ℕ)) (evidence : Option Evidence) → HasSmallLog evidence → HasSmallLogBeside (beside_of regions rank leaf sample evidence)
 log_beside regions rank leaf sample (Some (OnTargets spent)) small = tt
 log_beside regions rank leaf sample (Some (OnConflicts learnt)) small = small
+log_beside regions rank leaf sample (Some (OnNodes count)) small = small
 log_beside regions rank leaf (Some input) None small = tt
 log_beside regions rank leaf None None small = tt
 

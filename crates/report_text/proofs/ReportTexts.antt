@@ -14,10 +14,6 @@ use Rattle.fork_spec.specs.Histories.{LeafNode}
 use Rattle.report_text.specs.Reports.{budgets_text, leaf_node_text, leaves_in, report_text, totals_text, with_commas}
 use Rattle.report_text.specs.Summaries.{count}
 
-four : (a v b w c x d y last : List ℕ) → a ++ (v ++ (b ++ (w ++ (c ++ (x ++ (d ++ (y ++ last)))))))
-    ≡ a ++ v ++ b ++ w ++ c ++ x ++ d ++ y ++ last
-four a v b w c x d y last = simp append_assoc
-
 five : (a v b w c x d y e z last : List ℕ) → a
     ++ (v ++ (b ++ (w ++ (c ++ (x ++ (d ++ (y ++ (e ++ (z ++ last)))))))))
     ≡ a ++ v ++ b ++ w ++ c ++ x ++ d ++ y ++ e ++ z ++ last
@@ -27,7 +23,7 @@ text_of_budgets : (budgets : Budgets) (workers : ℕ) →
     compact_text (budgets_data budgets workers) ≡ budgets_text budgets workers
 unfolding serde_json_on_literals
 text_of_budgets budgets workers =
-    four (codes "{\"conflicts\":") (decimal budgets.conflicts) (codes ",\"steps\":") (decimal budgets.steps)
+    five (codes "{\"conflicts\":") (decimal budgets.conflicts) (codes ",\"nodes\":") (decimal budgets.nodes) (codes ",\"steps\":") (decimal budgets.steps)
     (codes ",\"targets\":") (decimal budgets.targets) (codes ",\"workers\":") (decimal workers) (codes "}")
 
 text_of_totals : (summary : Summary) → compact_text (totals_data summary) ≡ totals_text summary

@@ -1,4 +1,4 @@
--- Values that were spent are told by their text.
+-- Values that were spent are told by their text, and so is a number of nodes.
 use Rattle.std.proofs.Common.{◌≡◌, ◌∙◌, ℕ, zero, suc, ◌<◌, ◌/◌, ◌%◌, true, false, ◌==◌, Bool, List, [], ◌∷◌, ◌++◌, Some, append_assoc, ap, arith, codes, decimal, length, refl, slice_index, sym}
 use Rattle.std.specs.Prelude.{All, ◌||◌}
 use Rattle.std.specs.List.{flat_map, list_any}
@@ -8,14 +8,15 @@ use Rattle.std.proofs.lemmas.List.Elements.{All-head, All-tail}
 use Rattle.std.proofs.lemmas.Option.{same_Some}
 use Rattle.hex.specs.Hex.{IsBytes, encode_lower, encode_with, lower_digits}
 use Rattle.fork_spec.specs.Evidence.{Found, Spent}
+use Rattle.fork_spec.specs.Leaves.{IsSmall}
 use Rattle.text_parts.specs.Names.{eight_digits}
-use Rattle.text_parts.specs.Pieces.{eight, two}
+use Rattle.text_parts.specs.Pieces.{eight, number, two}
 use Rattle.text_parts.proofs.DigitsBack.{bytes_by_digits, none_at}
 use Rattle.text_parts.proofs.ItemsBack.{eight_back}
 use Rattle.text_parts.proofs.Joined.{five_pieces}
-use Rattle.text_parts.proofs.Words.{two_back}
+use Rattle.text_parts.proofs.Words.{number_back, two_back}
 use Rattle.report_text.specs.Legible.{IsLegibleFound, IsLegibleSpent}
-use Rattle.report_text.specs.Spent.{found_text, targets_text}
+use Rattle.report_text.specs.Spent.{found_text, nodes_text, targets_text}
 use Rattle.report_text.proofs.ListsBack.{lines_told}
 
 -- ---- up to the end of a line
@@ -128,3 +129,16 @@ spent_told spent other legible also e =
     let found : spent.found ≡ other.found =
     lines_told found_text IsLegibleFound found_told some_found spent.found other.found legible.2 also.2 (ap (λ (p : (ℕ × ℕ) × List ℕ). p.1) pair) in
     λ k. record { term = term k; found = found k }
+
+-- ---- a number of nodes
+
+-- numbers of one text are the same
+pub nodes_told : (count other : ℕ) → IsSmall count → IsSmall other → nodes_text count ≡ nodes_text other → count ≡ other
+unfolding nodes_text
+nodes_told count other small also e =
+    let text : decimal count ++ codes "\n" ≡ decimal other ++ codes "\n" =
+    append_cancel_left (codes "; spent nodes ") (decimal count ++ codes "\n") (decimal other ++ codes "\n")
+    (sym (append_assoc (codes "; spent nodes ") (decimal count) (codes "\n")) ∙ e ∙ append_assoc (codes "; spent nodes ") (decimal other) (codes "\n")) in
+    let both : Some (count, codes "\n") ≡ Some (other, codes "\n") =
+    sym (number_back count (codes "\n") (omega (arith, small)) refl) ∙ ap number text ∙ number_back other (codes "\n") (omega (arith, also)) refl in
+    ap (λ (p : ℕ × List ℕ). p.0) (same_Some (count, codes "\n") (other, codes "\n") both)

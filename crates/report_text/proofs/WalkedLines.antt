@@ -6,7 +6,7 @@ use Rattle.std.proofs.lemmas.List.{length-set}
 use Rattle.std.proofs.lemmas.List.Elements.{All-cons, All-nil}
 use Rattle.std.proofs.lemmas.Option.{same_Some, slice_get_within}
 use Rattle.tree_core.specs.Choices.{is_same}
-use Rattle.tree_core.specs.Replays.{allows}
+use Rattle.tree_core.specs.Replays.{allows, has_room}
 use Rattle.tree_core.specs.declared.cause.Cause.{Cause}
 use Rattle.tree_core.specs.declared.choice.Choice.{Choice}
 use Rattle.tree_core.specs.declared.choice.Choice.TheVariants.{No, Yes, Value, Rest}
@@ -14,7 +14,7 @@ use Rattle.tree_core.specs.declared.event.Deed.{Deed}
 use Rattle.tree_core.specs.declared.event.Deed.TheVariants.{Claim, Split, Finish, Cut, Release}
 use Rattle.tree_core.specs.Stories.{left_by}
 use Rattle.fork_spec.specs.Leaves.{IsSmall, IsSmallChoice}
-use Rattle.fork_spec.specs.Walks.{Line, Side, Sides, Standing, are_branch_sides, are_sides, are_small, are_values, side_births, cut_by, done_on, is_in_form, is_increasing, is_one_cut_at_most, is_rest, is_rest_cut, may_come, open_value, walk_step, value_before, values_first, walk_from}
+use Rattle.fork_spec.specs.Walks.{Bounds, Line, Side, Sides, Standing, are_branch_sides, are_sides, are_small, are_values, side_births, cut_by, done_on, is_in_form, is_by_nodes, is_increasing, is_one_cut_at_most, is_rest, is_rest_cut, may_come, open_value, walk_step, value_before, values_first, walk_from}
 use Rattle.text_parts.proofs.Options.{then_from}
 use Rattle.text_parts.proofs.Tests.{lt_from}
 use Rattle.report_text.specs.Legible.{AreLegible, IsLegibleDeed, IsLegibleLine}
@@ -103,19 +103,19 @@ deed_legible targets nodes Release form small = tt
 -- ---- a step
 
 -- what a line that may come says of the nodes before it and behind it
-record Came (workers targets : ℕ) (nodes next : List Standing) (line : Line) : Type 0 where
-  by : line.by < workers
+record Came (bounds : Bounds) (nodes next : List Standing) (line : Line) : Type 0 where
+  by : line.by < bounds.workers
   within : line.node < length nodes
-  form : is_in_form targets (length nodes) line.deed ≡ true
+  form : is_in_form bounds.targets (length nodes) line.deed ≡ true
   grows : length nodes ≤ length next
 
-module _ (workers targets : ℕ) where
-  came : (nodes next : List Standing) (line : Line) → walk_step workers targets nodes line ≡ Some next → Came workers targets nodes next line
+module _ (bounds : Bounds) where
+  came : (nodes next : List Standing) (line : Line) → walk_step bounds nodes line ≡ Some next → Came bounds nodes next line
   unfolding walk_step
-  came nodes next line h = go (may_come workers targets nodes line node) refl at.2
+  came nodes next line h = go (may_come bounds nodes line node) refl at.2
     where
-      at : (node : Standing) × (slice_get nodes line.node ≡ Some node) × ((if may_come workers targets nodes line node then Some (done_on nodes line node) else None) ≡ Some next)
-      at = then_from (λ (node : Standing). if may_come workers targets nodes line node then Some (done_on nodes line node) else None) (slice_get nodes line.node) next h
+      at : (node : Standing) × (slice_get nodes line.node ≡ Some node) × ((if may_come bounds nodes line node then Some (done_on nodes line node) else None) ≡ Some next)
+      at = then_from (λ (node : Standing). if may_come bounds nodes line node then Some (done_on nodes line node) else None) (slice_get nodes line.node) next h
 
       node : Standing
       node = at.0
@@ -126,12 +126,14 @@ module _ (workers targets : ℕ) where
       longer : done_on nodes line node ≡ next → length nodes ≤ length next
       longer same = omega (arith, ap length same, length-append (slice_set nodes line.node left) (side_births node.choices line.deed), length-set nodes line.node left)
 
-      go : (b : Bool) → may_come workers targets nodes line node ≡ b → (if b then Some (done_on nodes line node) else None) ≡ Some next → Came workers targets nodes next line
+      go : (b : Bool) → may_come bounds nodes line node ≡ b → (if b then Some (done_on nodes line node) else None) ≡ Some next → Came bounds nodes next line
       go true may is =
-          let parts = and_parts (nat_lt line.by workers && allows node.status line.by line.deed) (is_in_form targets (length nodes) line.deed) may in
-          let worker = and_parts (nat_lt line.by workers) (allows node.status line.by line.deed) parts.0 in
+          let parts = and_parts (nat_lt line.by bounds.workers && allows node.status line.by line.deed && has_room is_by_nodes bounds.nodes (length nodes) line.deed)
+          (is_in_form bounds.targets (length nodes) line.deed) may in
+          let guards = and_parts (nat_lt line.by bounds.workers && allows node.status line.by line.deed) (has_room is_by_nodes bounds.nodes (length nodes) line.deed) parts.0 in
+          let worker = and_parts (nat_lt line.by bounds.workers) (allows node.status line.by line.deed) guards.0 in
           record {
-            by = lt_from line.by workers worker.0;
+            by = lt_from line.by bounds.workers worker.0;
             within = slice_get_within nodes line.node node at.1;
             form = parts.1;
             grows = longer (same_Some (done_on nodes line node) next is);
@@ -140,15 +142,15 @@ module _ (workers targets : ℕ) where
 
   -- ---- the walk
 
-  pub legible_from : (nodes reached : List Standing) (lines : List Line) → IsSmall workers → walk_from workers targets nodes lines ≡ Some reached → IsSmall (length reached) →
+  pub legible_from : (nodes reached : List Standing) (lines : List Line) → IsSmall bounds.workers → walk_from bounds nodes lines ≡ Some reached → IsSmall (length reached) →
       AreLegible lines × (length nodes ≤ length reached)
   unfolding walk_from
   legible_from nodes reached [] few h small = (All-nil IsLegibleLine, omega (arith, ap length (same_Some nodes reached h)))
   legible_from nodes reached (line ∷ lines) few h small =
-      let at = then_from (λ (next : List Standing). walk_from workers targets next lines) (walk_step workers targets nodes line) reached h in
+      let at = then_from (λ (next : List Standing). walk_from bounds next lines) (walk_step bounds nodes line) reached h in
       let here = came nodes at.0 line at.1 in
       let later : AreLegible lines × (length at.0 ≤ length reached) = legible_from at.0 reached lines few at.2 small in
       let low : IsSmall (length nodes) = omega (arith, here.grows, later.1, small) in
       let legible : IsLegibleLine line =
-      (omega (arith, here.by, few), omega (arith, here.within, low), deed_legible targets (length nodes) line.deed here.form low) in
+      (omega (arith, here.by, few), omega (arith, here.within, low), deed_legible bounds.targets (length nodes) line.deed here.form low) in
       (All-cons IsLegibleLine line lines legible later.0, omega (arith, here.grows, later.1))

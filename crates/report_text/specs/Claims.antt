@@ -1,19 +1,19 @@
 -- What a report claims, claim by claim, of the leaves of a program whose input bytes stand in these regions.
-use Rattle.std.specs.Prelude.{◌≡◌, ◌≢◌, ℕ, List, All, map, Some, IsTrue, count_by, slice_get}
+use Rattle.std.specs.Prelude.{◌≡◌, ◌≢◌, ◌≤◌, ℕ, List, All, map, Some, IsTrue, count_by, slice_get}
 use Rattle.elf_load.specs.Images.{Image}
 use Rattle.elf_load.specs.declared.region.Region.{Region}
 use Rattle.rv_spec.specs.Memory.{IsAssignment, count_of}
 use Rattle.rv_spec.specs.Runs.{run, IsRunOf}
 use Rattle.tree_core.specs.declared.budgets.Budgets.{Budgets}
-use Rattle.tree_core.specs.declared.cause.Cause.TheVariants.{Conflicts, Steps, Targets}
+use Rattle.tree_core.specs.declared.cause.Cause.TheVariants.{Conflicts, Nodes, Steps, Targets}
 use Rattle.tree_core.specs.declared.choice.Choice.{Choice}
 use Rattle.fork_spec.specs.Evidence.{Learnt, Spent, SpendsConflicts, SpendsTargets}
-use Rattle.fork_spec.specs.Histories.{IsHistory, IsSideOf, LeafNode, ReleaseOnce}
+use Rattle.fork_spec.specs.Histories.{IsCutAt, IsHistory, IsSideOf, LeafNode, ReleaseOnce}
 use Rattle.fork_spec.specs.Leaves.{IsFull, Leaf, covers}
 use Rattle.fork_spec.specs.Partings.{ArePartedLeaves, DecidesAlike}
 use Rattle.fork_spec.specs.Ranks.{AreRanked}
 use Rattle.fork_spec.specs.Runs.{IsFaithful}
-use Rattle.fork_spec.specs.Walks.{Line}
+use Rattle.fork_spec.specs.Walks.{Bounds, Line}
 use Rattle.fork_spec.specs.declared.end.LeafEnd.{LeafEnd}
 use Rattle.fork_spec.specs.declared.end.LeafEnd.TheVariants.{Exits, Traps, Cut}
 use Rattle.test_files.specs.Tests.{Test}
@@ -26,6 +26,8 @@ pub data Beside : Type 0 where
   Spending : Spent → Beside
   -- the question on which the budget of conflicts was spent, and its clauses
   Learning : Learnt → Beside
+  -- how many nodes there were where the leaf was cut for want of them
+  Filling : ℕ → Beside
 
 -- a leaf, the number of its node in the events, and what stands beside it, as they are written
 pub record Entry : Type 0 where
@@ -92,13 +94,14 @@ pub record IsRun (image : Image) (regions : List Region) (leaf : Leaf) (rank : �
   pub runs : IsRunOf (run image regions test.input test.steps) test.steps test.path test.end
       test.output
 
--- beside a leaf stands a run of it, unless it was cut where it had spent its targets or its conflicts
+-- beside a leaf stands a run of it, unless it was cut where it had spent its targets or its conflicts, or for want of nodes
 abbrev pub IsTested : Image → List Region → Leaf → LeafEnd → (rank : ℕ) → Beside → Type 0
 IsTested image regions leaf (Exits status) rank (Tested test) = IsRun image regions leaf rank test
 IsTested image regions leaf (Traps trap) rank (Tested test) = IsRun image regions leaf rank test
 IsTested image regions leaf (Cut Steps) rank (Tested test) = IsRun image regions leaf rank test
 IsTested image regions leaf (Cut Targets) rank (Spending spent) = Unit {0}
 IsTested image regions leaf (Cut Conflicts) rank (Learning learnt) = Unit {0}
+IsTested image regions leaf (Cut Nodes) rank (Filling count) = Unit {0}
 IsTested image regions leaf _ rank _ = ⊥
 
 -- this holds at each rank
@@ -108,7 +111,8 @@ AreRuns r = (rank : ℕ) (e : Entry) → slice_get r.entries rank ≡ Some e
 
 -- a cut leaf has spent its budget: it has made all steps; or beside it stand as many values of a term as it may have,
 -- which are the other sides of the split of which, by the events, its node is a side; or beside it stands the question on
--- the last of its assertions, with as many clauses as may be learnt for one
+-- the last of its assertions, with as many clauses as may be learnt for one; or by the events its node was cut where there
+-- were as many nodes as stand beside it, which are as many as there may be, or more
 abbrev pub HasSpent : List Region → Budgets → List Line → (node : ℕ) → Leaf → LeafEnd → Beside
     → Type 0
 HasSpent regions budgets lines node leaf (Exits status) beside = Unit {0}
@@ -119,15 +123,21 @@ HasSpent regions budgets lines node leaf (Cut Targets) (Spending spent) =
     × SpendsTargets regions budgets.targets sides leaf spent
 HasSpent regions budgets lines node leaf (Cut Conflicts) (Learning learnt) =
     SpendsConflicts regions budgets.conflicts leaf learnt
+HasSpent regions budgets lines node leaf (Cut Nodes) (Filling count) = (budgets.nodes ≤ count)
+    × IsCutAt lines node count
 HasSpent regions budgets lines node leaf (Cut _) beside = ⊥
 
 abbrev pub ShowBudgets : Report → Type 0
 ShowBudgets r = All (λ (e : Entry).
     HasSpent r.regions r.budgets r.lines e.node e.leaf e.leaf.end e.beside) r.entries
 
+-- what its events are held to: its workers, and its budgets of values and of nodes
+abbrev pub bounds_of : Report → Bounds
+bounds_of r = record { workers = r.workers; targets = r.budgets.targets; nodes = r.budgets.nodes }
+
 -- the events are one run of so many workers through the fork tree that leaves nothing to be done, and the leaves of its tree are those that are written
 abbrev pub HasHistory : Report → Type 0
-HasHistory r = IsHistory r.workers r.budgets.targets r.lines (leaf_nodes_of r.entries)
+HasHistory r = IsHistory (bounds_of r) r.lines (leaf_nodes_of r.entries)
 
 -- by which each worker gave up one node at most
 abbrev pub GiveUpOnce : Report → Type 0

@@ -7,21 +7,21 @@ use Rattle.rv_spec.specs.Decisions.{decisions}
 use Rattle.tree_core.specs.Choices.{precedes}
 use Rattle.tree_core.specs.Stories.{Story, content, status}
 use Rattle.tree_core.specs.declared.budgets.Budgets.{Budgets}
+use Rattle.tree_core.specs.declared.cause.Cause.{Cause}
 use Rattle.tree_core.specs.declared.choice.Choice.{Choice}
 use Rattle.tree_core.specs.declared.node.Status.TheVariants.{Leaf as IsLeaf}
-use Rattle.fork_spec.specs.Histories.{LeafNode, cause_of, is_leaf_status}
+use Rattle.fork_spec.specs.Histories.{LeafNode, is_leaf_status}
 use Rattle.fork_spec.specs.Leaves.{Leaf}
 use Rattle.fork_spec.specs.Partings.{Place, place_of}
-use Rattle.fork_spec.specs.Parts.{Evidence, IsRight, OnConflicts, OnTargets, Part}
+use Rattle.fork_spec.specs.Parts.{Evidence, IsRight, OnConflicts, OnNodes, OnTargets, Part}
 use Rattle.fork_spec.specs.Ranks.{AreRanked}
 use Rattle.fork_tree.specs.Written.{lines_of}
 use Rattle.fork_tree.specs.Contents.{cut_in}
 use Rattle.fork_tree.specs.Works.{Rules}
 use Rattle.tool_io.specs.Told.{Put}
-use Rattle.tree_core.specs.declared.cause.Cause.{Cause}
 use Rattle.fork_tree.specs.declared.content.Content.{Content}
 use Rattle.fork_tree.specs.declared.content.Content.TheVariants.{Shut}
-use Rattle.report_text.specs.Claims.{Beside, Entry, Learning, Spending, Tested, leaves_of}
+use Rattle.report_text.specs.Claims.{Beside, Entry, Filling, Learning, Spending, Tested, leaves_of}
 use Rattle.report_text.specs.Files.{files_of, summary_of, test_of}
 use Rattle.report_text.specs.Legible.{HasSmallLog}
 use Rattle.report_text.specs.declared.leaves.LeafAt.{LeafAt}
@@ -32,6 +32,7 @@ abbrev pub IsBeside : List Region → (rank : ℕ) → Leaf → Option (List ℕ
     → Type 0
 IsBeside regions rank leaf sample (Some (OnTargets spent)) (Spending written) = written ≡ spent
 IsBeside regions rank leaf sample (Some (OnConflicts learnt)) (Learning written) = written ≡ learnt
+IsBeside regions rank leaf sample (Some (OnNodes count)) (Filling written) = written ≡ count
 IsBeside regions rank leaf (Some input) None (Tested test) = test ≡ test_of regions rank leaf input
 IsBeside regions rank leaf _ _ _ = ⊥
 
@@ -39,6 +40,7 @@ IsBeside regions rank leaf _ _ _ = ⊥
 abbrev pub beside_of : List Region → (rank : ℕ) → Leaf → Option (List ℕ) → Option Evidence → Beside
 beside_of regions rank leaf sample (Some (OnTargets spent)) = Spending spent
 beside_of regions rank leaf sample (Some (OnConflicts learnt)) = Learning learnt
+beside_of regions rank leaf sample (Some (OnNodes count)) = Filling count
 beside_of regions rank leaf (Some input) None = Tested (test_of regions rank leaf input)
 beside_of regions rank leaf None None = Spending (record { term = 0; found = [] })
 
@@ -68,6 +70,10 @@ numbers_where p (suc n) = numbers_where p n ++ (if p n then n ∷ [] else [])
 -- the numbers of the leaves of a tree
 abbrev pub leaf_numbers : {R : Type 0} → Story R → List ℕ
 leaf_numbers s = numbers_where (λ m. is_leaf_status (status s m)) (length s.nodes)
+
+-- why what has a place was cut, if it is a leaf that was
+abbrev pub cut_by_place : {R : Type 0} → (R → Place) → R → Option Cause
+cut_by_place place r = (place r).cut
 
 -- the place of a leaf is that of its part
 abbrev pub IsPlacedByPart : {L : Type 0} → (part_of : L → Part) → (L → Place) → Type 0
@@ -116,13 +122,13 @@ module _ {S L : Type 0} (part_of : L → Part) where
   -- what a worker's rules ask of its leaves is what a report claims of them
   pub record AskAsClaimed (rules : Rules S L) (leaf_place : L → Place) (image : Image)
       (regions : List Region) (budgets : Budgets) : Type 0 where
-    pub right : (sides : List Choice) (leaf : L) → rules.IsRight sides leaf
-        → IsRight image regions budgets sides (part_of leaf)
-    pub cut : (leaf : L) → rules.cut leaf ≡ cause_of (part_of leaf).leaf.end
+    pub right : (sides : List Choice) (nodes : Option ℕ) (leaf : L) → rules.IsRight sides nodes leaf
+        → IsRight image regions budgets sides nodes (part_of leaf)
     pub place : IsPlacedByPart part_of leaf_place
     pub decides : (input : List ℕ)
         → rules.decides input ≡ decisions image regions input budgets.steps
     pub targets : rules.targets ≡ budgets.targets
+    pub nodes : rules.nodes ≡ budgets.nodes
 
 -- there is what stands beside a leaf: its evidence, or a byte for each place
 abbrev pub HasBeside : (places : ℕ) → Option (List ℕ) → Option Evidence → Type 0
@@ -139,13 +145,13 @@ abbrev pub AreReportable : {S L : Type 0} → (part_of : L → Part) → Story (
 AreReportable {S} {L} part_of s = (m : ℕ) (leaf : L) → m < length s.nodes → status s m ≡ IsLeaf
     → content s m ≡ Some (Shut leaf) → IsReportable (part_of leaf)
 
--- these files and this line are the report of the leaves of a tree, in the folder `out`; the numbers in the logs are those that texts have
-pub record IsReportOfTree {S L : Type 0} (part_of : L → Part) (cut : L → Option Cause)
-    (out : List ℕ) (regions : List Region) (budgets : Budgets) (workers : ℕ)
-    (s : Story (Content S L)) (puts : List Put) (text : List ℕ) : Type 0 where
+-- these files and this line are the report of the leaves of a tree, in the folder `out`; the numbers in the logs, and of nodes, are those that texts have
+pub record IsReportOfTree {S L : Type 0} (part_of : L → Part) (state_place : S → Place)
+    (leaf_place : L → Place) (out : List ℕ) (regions : List Region) (budgets : Budgets)
+    (workers : ℕ) (s : Story (Content S L)) (puts : List Put) (text : List ℕ) : Type 0 where
   pub leaves : List LeafAt
   pub by_rank : AreByRank part_of s leaves
-  pub files : puts ≡ files_of out budgets workers regions (lines_of (cut_in cut) s)
-      (entries_of regions 0 leaves)
+  pub files : puts ≡ files_of out budgets workers regions
+      (lines_of (cut_in state_place leaf_place) s) (entries_of regions 0 leaves)
   pub summary : text ≡ summary_of (entries_of regions 0 leaves)
   pub small_logs : All (λ (l : LeafAt). HasSmallLog l.part.now.evidence) leaves

@@ -9,12 +9,12 @@ use Rattle.fork_spec.specs.Runs.{end_on}
 use Rattle.fork_spec.specs.Walks.{Line}
 use Rattle.smt_text.specs.LeafLines.{leaf_text}
 use Rattle.test_files.specs.Tests.{Test, test_text}
-use Rattle.report_text.specs.Claims.{Beside, Entry, Learning, Spending, Tested, leaf_nodes_of, leaves_of}
+use Rattle.report_text.specs.Claims.{Beside, Entry, Filling, Learning, Spending, Tested, leaf_nodes_of, leaves_of}
 use Rattle.report_text.specs.Events.{events_text}
 use Rattle.report_text.specs.FileNames.{events_name, leaf_name, report_name, test_name, spent_name}
 use Rattle.report_text.specs.Learnt.{conflicts_text}
 use Rattle.report_text.specs.Reports.{report_text}
-use Rattle.report_text.specs.Spent.{targets_text}
+use Rattle.report_text.specs.Spent.{nodes_text, targets_text}
 use Rattle.report_text.specs.Summaries.{count, summary_text}
 
 abbrev pub leaf_put : List ℕ → ℕ → Leaf → Put
@@ -26,6 +26,8 @@ beside_put out rank (Spending spent) =
     record { name = spent_name out rank; bytes = targets_text spent }
 beside_put out rank (Learning learnt) =
     record { name = spent_name out rank; bytes = conflicts_text learnt }
+beside_put out rank (Filling count) =
+    record { name = spent_name out rank; bytes = nodes_text count }
 
 -- two for each leaf, whose ranks begin with this one
 unfoldable pub files_from : List ℕ → ℕ → List Entry → List Put

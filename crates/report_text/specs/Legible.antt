@@ -8,10 +8,10 @@ use Rattle.tree_core.specs.declared.event.Deed.{Deed}
 use Rattle.tree_core.specs.declared.event.Deed.TheVariants.{Claim, Split, Finish, Cut, Release}
 use Rattle.fork_spec.specs.Evidence.{Found, IsQuestion, Learnt, Spent}
 use Rattle.fork_spec.specs.Leaves.{IsCount, IsSmall, IsSmallChoice}
-use Rattle.fork_spec.specs.Parts.{Evidence, OnConflicts, OnTargets}
+use Rattle.fork_spec.specs.Parts.{Evidence, OnConflicts, OnNodes, OnTargets}
 use Rattle.fork_spec.specs.Walks.{Line, Side, Sides, Standing, walk}
 use Rattle.test_files.specs.Writable.{IsLegible}
-use Rattle.report_text.specs.Claims.{Beside, Entry, Learning, Report, Spending, Tested}
+use Rattle.report_text.specs.Claims.{Beside, Entry, Filling, Learning, Report, Spending, Tested, bounds_of}
 
 -- the numbers of sides and their values have 32 bits, and the line of what is finished says of no cut
 abbrev pub IsLegibleDeed : Deed (Option Cause) Sides → Type 0
@@ -43,11 +43,12 @@ pub record HasSmallNumbers (s : Step) : Type 0 where
   pub variables : All (λ (l : Literal). IsSmall l.variable) s.clause
   pub hints : All (λ h. h < 2 ^ 64) s.hints
 
--- so it is of each step of a log, where there is one
+-- so it is of each step of a log, where there is one; and a number of nodes has 32 bits
 abbrev pub HasSmallLog : Option Evidence → Type 0
 HasSmallLog None = Unit {0}
 HasSmallLog (Some (OnTargets spent)) = Unit {0}
 HasSmallLog (Some (OnConflicts learnt)) = All HasSmallNumbers learnt.log
+HasSmallLog (Some (OnNodes count)) = IsSmall count
 
 -- a question in full, and clauses as texts have them, of such numbers
 pub record IsLegibleLearnt (learnt : Learnt) : Type 0 where
@@ -61,19 +62,21 @@ abbrev pub IsLegibleBeside : Beside → Type 0
 IsLegibleBeside (Tested test) = IsLegible test
 IsLegibleBeside (Spending spent) = IsLegibleSpent spent
 IsLegibleBeside (Learning learnt) = IsLegibleLearnt learnt
+IsLegibleBeside (Filling count) = IsSmall count
 
--- its steps, where a log stands there
+-- its steps, where a log stands there, and its number, where one does
 abbrev pub HasSmallLogBeside : Beside → Type 0
 HasSmallLogBeside (Tested test) = Unit {0}
 HasSmallLogBeside (Spending spent) = Unit {0}
 HasSmallLogBeside (Learning learnt) = All HasSmallNumbers learnt.log
+HasSmallLogBeside (Filling count) = IsSmall count
 
 -- The numbers of a report that its claims leave open: of workers, of what the budgets allow, of the nodes that the events make, and in
--- the logs beside its leaves.
+-- the logs and the numbers of nodes beside its leaves.
 pub record HasSmallCounts (r : Report) : Type 0 where
   pub few_workers : IsSmall r.workers
   pub few_targets : IsSmall r.budgets.targets
   pub few_conflicts : IsSmall r.budgets.conflicts
-  pub few_nodes : (nodes : List Standing) → walk r.workers r.budgets.targets r.lines ≡ Some nodes
+  pub few_nodes : (nodes : List Standing) → walk (bounds_of r) r.lines ≡ Some nodes
       → IsSmall (length nodes)
   pub small_logs : All (λ (e : Entry). HasSmallLogBeside e.beside) r.entries

@@ -14,9 +14,10 @@ use Rattle.report_text.specs.declared.summary.Summary.{Summary}
 abbrev pub budgets_data : Budgets → (workers : ℕ) → Data
 budgets_data budgets workers = object (
     member (codes "conflicts") (number (unsigned budgets.conflicts)) (
+    member (codes "nodes") (number (unsigned budgets.nodes)) (
     member (codes "steps") (number (unsigned budgets.steps)) (
     member (codes "targets") (number (unsigned budgets.targets)) (
-    member (codes "workers") (number (unsigned workers)) no_members))))
+    member (codes "workers") (number (unsigned workers)) no_members)))))
 
 abbrev pub leaf_node_data : LeafNode → Data
 leaf_node_data l = object (

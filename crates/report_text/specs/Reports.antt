@@ -23,6 +23,7 @@ with_commas (text ∷ next ∷ texts) = text ++ codes "," ++ with_commas (next �
 abbrev pub budgets_text : Budgets → (workers : ℕ) → List ℕ
 budgets_text budgets workers =
     codes "{\"conflicts\":" ++ decimal budgets.conflicts
+    ++ codes ",\"nodes\":" ++ decimal budgets.nodes
     ++ codes ",\"steps\":" ++ decimal budgets.steps
     ++ codes ",\"targets\":" ++ decimal budgets.targets
     ++ codes ",\"workers\":" ++ decimal workers

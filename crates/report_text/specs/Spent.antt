@@ -1,4 +1,5 @@
--- What was spent on a leaf that stands for all other values of a term: the values that were found.
+-- What was spent on a leaf that stands for all other values of a term, the values that were found; or on one that was cut for want of
+-- nodes, how many there were.
 use Rattle.std.specs.Prelude.{ℕ, List, ◌++◌, codes, decimal, length}
 use Rattle.std.specs.List.{flat_map}
 use Rattle.hex.specs.Hex.{encode_lower}
@@ -16,3 +17,7 @@ targets_text spent =
     codes "; spent targets " ++ decimal (length spent.found) ++ codes "\n"
     ++ codes "; term n" ++ decimal spent.term ++ codes "\n"
     ++ flat_map found_text spent.found
+
+-- how many nodes
+unfoldable pub nodes_text : ℕ → List ℕ
+nodes_text count = codes "; spent nodes " ++ decimal count ++ codes "\n"

@@ -1,6 +1,6 @@
 -- How many leaves of which sort there are, and the line that says it.
 use Rattle.std.specs.Prelude.{Bool, true, false, not, ℕ, ◌*◌, ◌-◌, ◌^◌, ◌<◌, ◌≤◌, List, ◌++◌, codes, decimal, filter, length, sum_by}
-use Rattle.tree_core.specs.declared.cause.Cause.TheVariants.{Steps, Targets, Conflicts}
+use Rattle.tree_core.specs.declared.cause.Cause.TheVariants.{Steps, Targets, Conflicts, Nodes}
 use Rattle.fork_spec.specs.Leaves.{Leaf}
 use Rattle.fork_spec.specs.declared.end.LeafEnd.{LeafEnd}
 use Rattle.fork_spec.specs.declared.end.LeafEnd.TheVariants.{Exits, Traps, Cut}
@@ -19,6 +19,7 @@ is_tested (Traps trap) = true
 is_tested (Cut Steps) = true
 is_tested (Cut Targets) = false
 is_tested (Cut Conflicts) = false
+is_tested (Cut Nodes) = false
 
 abbrev pub has_ended : Leaf → Bool
 has_ended leaf = is_finished leaf.end

@@ -2,10 +2,11 @@
 
 ghost use Rattle.std.specs.Prelude.{◌≡◌, ◌+◌, ◌≤◌, ◌++◌, IfOk, codes, decimal, if◌then◌else◌, length, map, None, string_bytes};
 ghost use Rattle.fork_tree.specs.Written.{born_by, choice_in, lines_of, nodes_after, side_born, written_deed};
+ghost use Rattle.report_text.specs.Entries.{cut_by_place};
 ghost use Rattle.report_text.specs.Events as spec;
 
-use crate::marked::Marked;
 use byte_list::Bytes;
+use fork_spec::Placed;
 use itoa::Buffer;
 use std::alloc::{AllocError as NoMemory, Global};
 use text_parts::{cause_name, write_choice};
@@ -45,8 +46,8 @@ fn choice_of(origin: Option<Origin>) -> Choice
 }
 
 /// Why a node that is born as a leaf was cut.
-fn cut_of<R: Marked>(node: &Node<R>) -> Option<Cause>
-    ensures { result ≡ (if node.now.is_leaf then R.cut node.now.content else None) }
+fn cut_of<R: Placed>(node: &Node<R>) -> Option<Cause>
+    ensures { result ≡ (if node.now.is_leaf then (R.place node.now.content).cut else None) }
 {
     match node.leaf() {
         Some(leaf) => leaf.cut(),
@@ -55,8 +56,9 @@ fn cut_of<R: Marked>(node: &Node<R>) -> Option<Cause>
 }
 
 /// The side that a node was born as, behind a blank.
-fn side_string<R: Marked>(alloc: Global, node: &Node<R>) -> Result<String, NoMemory>
-    ensures { IfOk result (λ text. string_bytes text ≡ spec.side_text (side_born R.cut node.now)) }
+fn side_string<R: Placed>(alloc: Global, node: &Node<R>) -> Result<String, NoMemory>
+    ensures { IfOk result (λ text. string_bytes text
+        ≡ spec.side_text (side_born (cut_by_place R.place) node.now)) }
 {
     let mark = mark_string(alloc, cut_of(node))?;
     let mut text = String::from_str(alloc, " ")?;
@@ -66,9 +68,9 @@ fn side_string<R: Marked>(alloc: Global, node: &Node<R>) -> Result<String, NoMem
 }
 
 /// The sides that these nodes were born as.
-fn sides_string<R: Marked>(alloc: Global, nodes: &[Node<R>]) -> Result<String, NoMemory>
+fn sides_string<R: Placed>(alloc: Global, nodes: &[Node<R>]) -> Result<String, NoMemory>
     ensures { IfOk result (λ text. string_bytes text
-        ≡ spec.sides_text (map (side_born R.cut) nodes.now)) }
+        ≡ spec.sides_text (map (side_born (cut_by_place R.place)) nodes.now)) }
 {
     let mut text = String::new(alloc);
     for node in nodes {
@@ -101,7 +103,7 @@ fn cut_line(alloc: Global, by: u32, node: usize, cut: Option<Cause>) -> Result<S
 }
 
 /// The line of a split into these nodes, of which the first has this number.
-fn split_line<R: Marked>(
+fn split_line<R: Placed>(
     alloc: Global,
     by: u32,
     node: usize,
@@ -110,7 +112,7 @@ fn split_line<R: Marked>(
 ) -> Result<String, NoMemory>
     ensures { IfOk result (λ line. string_bytes line
         ≡ codes "split " ++ spec.actors_text by node ++ codes " " ++ decimal first
-        ++ spec.sides_text (map (side_born R.cut) nodes.now) ++ codes "\n") }
+        ++ spec.sides_text (map (side_born (cut_by_place R.place)) nodes.now) ++ codes "\n") }
 {
     let (mut worker, mut place, mut kid) = (Buffer::new(), Buffer::new(), Buffer::new());
     let (by, node, first) = (worker.format(by), place.format(node), kid.format(first));
@@ -119,7 +121,7 @@ fn split_line<R: Marked>(
 }
 
 /// The line of an event of a tree with these nodes, of which those before it have made so many.
-fn event_line<R: Marked>(
+fn event_line<R: Placed>(
     alloc: Global,
     nodes: &[Node<R>],
     first: usize,
@@ -128,7 +130,7 @@ fn event_line<R: Marked>(
     requires { first + born_by event.now.deed ≤ length nodes.now }
     ensures { IfOk result (λ line. string_bytes line
         ≡ spec.deed_text event.now.by event.now.node
-        (written_deed R.cut nodes.now first event.now.deed)) }
+        (written_deed (cut_by_place R.place) nodes.now first event.now.deed)) }
 {
     let (by, node) = (event.by, event.node);
     match &event.deed {
@@ -141,7 +143,7 @@ fn event_line<R: Marked>(
 }
 
 /// How many nodes an event makes.
-fn born<R: Marked>(event: &Noted<R>) -> usize
+fn born<R: Placed>(event: &Noted<R>) -> usize
     ensures { result ≡ born_by event.now.deed }
 {
     match &event.deed {
@@ -151,14 +153,15 @@ fn born<R: Marked>(event: &Noted<R>) -> usize
 }
 
 /// The text of the events of a tree with these nodes, which the events have made behind the root.
-pub fn write_events<R: Marked>(
+pub fn write_events<R: Placed>(
     alloc: Global,
     nodes: &[Node<R>],
     events: &[Noted<R>],
 ) -> Result<Bytes, NoMemory>
     requires { nodes_after 1 events.now ≡ length nodes.now }
     ensures { IfOk result (λ text. text
-        ≡ spec.events_text (lines_of R.cut (record { nodes = nodes.now; events = events.now }))) }
+        ≡ spec.events_text (lines_of (cut_by_place R.place)
+        (record { nodes = nodes.now; events = events.now }))) }
 {
     let mut text = String::new(alloc);
     let mut first = 1;

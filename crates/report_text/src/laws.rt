@@ -10,6 +10,7 @@ ghost use Rattle.tree_core.specs.declared.budgets.Budgets.{Budgets};
 ghost use Rattle.tree_core.specs.declared.event.Event.{Event};
 ghost use Rattle.fork_spec.specs.Evidence.{Learnt, Spent};
 ghost use Rattle.fork_spec.specs.Histories.{ReleaseOnce};
+ghost use Rattle.fork_spec.specs.Leaves.{IsSmall};
 ghost use Rattle.fork_spec.specs.Walks.{Line};
 ghost use Rattle.fork_tree.specs.Written.{lines_of};
 ghost use Rattle.fork_tree.specs.Contents.{cut_in, place_in};
@@ -19,7 +20,7 @@ ghost use Rattle.report_text.specs.Claims.{Entry, IsReport};
 ghost use Rattle.report_text.specs.Events.{events_text};
 ghost use Rattle.report_text.specs.Learnt.{conflicts_text};
 ghost use Rattle.report_text.specs.Legible.{AreLegible, IsLegibleLearnt, IsLegibleSpent};
-ghost use Rattle.report_text.specs.Spent.{targets_text};
+ghost use Rattle.report_text.specs.Spent.{nodes_text, targets_text};
 ghost use Rattle.report_text.specs.Entries.{AreByRank, AreEntries, AskAsClaimed, IsReportable, entries_of};
 ghost use Rattle.report_text.specs.declared.leaves.LeafAt.{LeafAt};
 ghost use Rattle.tree_core.specs.Choices.{is_before, precedes};
@@ -56,7 +57,7 @@ where
           regions = regions;
           budgets = budgets;
           workers = workers;
-          lines = lines_of (cut_in (W.rules worker).cut) s;
+          lines = lines_of (cut_in W.State.place W.Leaf.place) s;
           entries = entries;
         }) }
 {}
@@ -77,10 +78,13 @@ pub fn a_text_is_that_of_one_history()
         → events_text lines ≡ events_text others → lines ≡ others }
 {}
 
-/// What was spent is told by its text: values of a term, and a question with the clauses that were learnt for it.
+/// What was spent is told by its text: values of a term, a question with the clauses that were learnt for it, and how many nodes there
+/// were.
 pub fn a_text_tells_what_was_spent()
     ensures targets { (spent other : Spent) → IsLegibleSpent spent → IsLegibleSpent other
         → targets_text spent ≡ targets_text other → spent ≡ other }
     ensures conflicts { (learnt other : Learnt) → IsLegibleLearnt learnt → IsLegibleLearnt other
         → conflicts_text learnt ≡ conflicts_text other → learnt ≡ other }
+    ensures nodes { (count other : ℕ) → IsSmall count → IsSmall other
+        → nodes_text count ≡ nodes_text other → count ≡ other }
 {}

@@ -12,10 +12,9 @@ use crate::event_lines::write_events;
 use crate::file_names::{events_name, leaf_name, report_name, spent_name, test_name};
 use crate::learnt::write_conflicts;
 use crate::leaves::{HasPart, LeafAt, by_rank};
-use crate::marked::Marked;
 use crate::report_json::write_report;
 use crate::sample_test::make_test;
-use crate::spent::write_targets;
+use crate::spent::{write_nodes, write_targets};
 use crate::summary::{summarize, summary_line};
 use byte_list::Bytes;
 use elf_load::Regions;
@@ -92,6 +91,10 @@ fn beside_file(
             let text = write_conflicts(alloc, learnt)?;
             Ok(NamedFile::new(spent_name(alloc, out, rank)?, text))
         }
+        (Some(Evidence::Nodes(nodes)), _) => {
+            let text = write_nodes(alloc, *nodes)?;
+            Ok(NamedFile::new(spent_name(alloc, out, rank)?, text))
+        }
         (None, Some(sample)) => {
             let test = make_test(alloc, regions, rank, part, sample)?;
             let text = write_test(alloc, &test)?;
@@ -143,11 +146,9 @@ fn push_leaves(
 
 // The file of the events.
 fn events_file<W: Work>(alloc: Global, out: &str, tree: &Tree<W>) -> Result<NamedFile, NoMemory>
-where
-    W::Leaf: Marked,
     requires { nodes_after 1 tree.now.story.events ≡ length tree.now.story.nodes }
     ensures { IfOk result (λ file. file
-        ≡ events_put out.now (lines_of (cut_in W.Leaf.cut) tree.now.story)) }
+        ≡ events_put out.now (lines_of (cut_in W.State.place W.Leaf.place) tree.now.story)) }
 {
     let text = write_events(alloc, tree.nodes(), tree.events())?;
     Ok(NamedFile::new(events_name(alloc, out)?, text))
@@ -181,13 +182,13 @@ pub fn make_report<W: Work>(
     tree: &Tree<W>,
 ) -> Result<Report, NoMemory>
 where
-    W::Leaf: HasPart + Marked,
+    W::Leaf: HasPart,
     requires placed { IsPlacedByPart W.Leaf.part W.Leaf.place }
     requires done { IsDrained (W.rules tree.now.worker) W.State.place W.Leaf.place tree.now.story }
     requires reportable { AreReportable W.Leaf.part tree.now.story }
     ensures { IfOk result (λ report.
-        IsReportOfTree W.Leaf.part W.Leaf.cut out.now regions.now budgets.now workers tree.now.story
-        report.files.items report.summary) }
+        IsReportOfTree W.Leaf.part W.State.place W.Leaf.place out.now regions.now budgets.now workers
+        tree.now.story report.files.items report.summary) }
 {
     let leaves = by_rank(alloc, tree)?;
     let summary = summarize(&leaves);

@@ -57,6 +57,7 @@ fn budgets_value(alloc: Global, budgets: &Budgets, workers: u32) -> Result<Value
 {
     json!(in alloc; {
         "conflicts": budgets.conflicts,
+        "nodes": budgets.nodes,
         "steps": budgets.steps,
         "targets": budgets.targets,
         "workers": workers

@@ -1,8 +1,8 @@
-//! What was spent on a leaf that stands for all other values of a term.
+//! What was spent on a leaf: the values that were found of a term, or how many nodes there were.
 
 ghost use Rattle.std.specs.Prelude.{◌≡◌, IfOk, string_bytes};
 ghost use Rattle.std.specs.List.{flat_map};
-ghost use Rattle.report_text.specs.Spent.{found_text, targets_text};
+ghost use Rattle.report_text.specs.Spent.{found_text, nodes_text, targets_text};
 
 use byte_list::Bytes;
 use itoa::Buffer;
@@ -38,5 +38,15 @@ pub fn write_targets(alloc: Global, spent: &Spent) -> Result<Bytes, NoMemory>
     let (count, term) = (count.format(spent.found.len()), place.format(spent.term));
     let lines = found_lines(alloc, &spent.found)?;
     let text = format!(in alloc; "; spent targets {count}\n; term n{term}\n{lines}")?;
+    Ok(Bytes::from_vec(text.into_bytes()))
+}
+
+/// The text of so many nodes.
+pub fn write_nodes(alloc: Global, nodes: u32) -> Result<Bytes, NoMemory>
+    ensures { IfOk result (λ text. text ≡ nodes_text nodes) }
+{
+    let mut count = Buffer::new();
+    let count = count.format(nodes);
+    let text = format!(in alloc; "; spent nodes {count}\n")?;
     Ok(Bytes::from_vec(text.into_bytes()))
 }

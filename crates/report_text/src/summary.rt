@@ -58,7 +58,7 @@ fn is_tested(end: LeafEnd) -> bool
 {
     match end {
         LeafEnd::Exits { .. } | LeafEnd::Traps(_) | LeafEnd::Cut(Cause::Steps) => true,
-        LeafEnd::Cut(Cause::Targets | Cause::Conflicts) => false,
+        LeafEnd::Cut(Cause::Targets | Cause::Conflicts | Cause::Nodes) => false,
     }
 }
 

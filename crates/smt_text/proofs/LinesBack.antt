@@ -10,7 +10,7 @@ use Rattle.bv_dag.specs.declared.nodes.Node.TheVariants.{Num, Input, Not, Neg, B
 use Rattle.bv_dag.proofs.Fitting.{all_at_most_64, length-widths_of}
 use Rattle.bv_dag.proofs.TermLaws.{there}
 use Rattle.rv_decode.specs.declared.ends.Trap.TheVariants.{Illegal, FetchMisaligned, FetchAccess, LoadMisaligned, LoadAccess, StoreMisaligned, StoreAccess, Break, Call}
-use Rattle.tree_core.specs.declared.cause.Cause.TheVariants.{Steps, Targets, Conflicts}
+use Rattle.tree_core.specs.declared.cause.Cause.TheVariants.{Steps, Targets, Conflicts, Nodes}
 use Rattle.smt_text.specs.Grammar.{Reading, graph_of, is_wide, stands}
 use Rattle.smt_text.specs.LineReading.{endings, kind_said, kinds, line_at, node_line, word_said}
 use Rattle.smt_text.specs.Lines.{LeafLine, FormatLine, KindLine, ChoicesLine, PathLine, StepsLine, EndLine, InputsLine, NodesLine, OutputsLine, LogicLine, InputLine, BaseLine, NodeLine, StatusLine, OutputLine, AssertLine, CheckLine, ExitLine, line_text}
@@ -79,6 +79,7 @@ kind_line finished rest = refl
 kind_line (cut Steps) rest = refl
 kind_line (cut Targets) rest = refl
 kind_line (cut Conflicts) rest = refl
+kind_line (cut Nodes) rest = refl
 
 end_line : (word : EndWord) (rest : List ℕ) →
     made (λ said. EndLine (word_said said)) (named endings ((word_text word ++ codes "\n") ++ rest)) ≡ Some (EndLine word, rest)

@@ -19,7 +19,7 @@ use std::alloc::{AllocError as NoMemory, Global};
 use std::marker::Model;
 use term_simplify::Builder;
 use term_table::Terms;
-use tree_core::Choice;
+use tree_core::{Cause, Choice};
 
 /// A symbolic run, somewhere before its end. Copies share what they hold until one of them changes.
 pub struct State {
@@ -105,6 +105,10 @@ impl Placed for State {
     ghost use Rattle.sym_state.specs.Places.{run_place};
 
     ghost place = { run_place };
+
+    fn cut(&self) -> Option<Cause> {
+        None
+    }
 }
 
 impl State {

@@ -29,7 +29,11 @@ struct Rung {
 }
 
 impl Placed for Rung {
-    ghost place = { λ r. record { choices = replicate r.from Yes ++ (if r.just then No ∷ [] else []); covers = λ input. if r.just then length input == r.from else nat_le r.from (length input) } };
+    ghost place = { λ r. record { choices = replicate r.from Yes ++ (if r.just then No ∷ [] else []); covers = λ input. if r.just then length input == r.from else nat_le r.from (length input); cut = None } };
+
+    fn cut(&self) -> Option<Cause> {
+        None
+    }
 }
 
 /// A rung that is done.
@@ -40,13 +44,19 @@ struct End {
 }
 
 impl Placed for End {
-    ghost place = { λ e. record { choices = replicate e.rung.from Yes ++ (if e.rung.just then No ∷ [] else []); covers = λ input. if e.rung.just then length input == e.rung.from else nat_le e.rung.from (length input) } };
+    ghost place = { λ e. record { choices = replicate e.rung.from Yes ++ (if e.rung.just then No ∷ [] else []); covers = λ input. if e.rung.just then length input == e.rung.from else nat_le e.rung.from (length input); cut = e.cut } };
+
+    fn cut(&self) -> Option<Cause> {
+        self.cut
+    }
 }
 
 /// Parts rungs below the top, and cuts the one that reaches it. The first side of the second rung is cut at once.
 #[derive(Clone, Copy)]
 struct Climber {
     top: u32,
+    // From so many on no rung is parted.
+    nodes: u32,
 }
 
 impl Work for Climber {
@@ -57,10 +67,10 @@ impl Work for Climber {
     ghost rules = { λ w. record {
       left = λ r. if r.just then 0 else w.top + 1 - r.from;
       targets = 2;
+      nodes = w.nodes;
       decides = λ input. replicate (length input) (Side true) ++ Side false ∷ [];
       IsWell = λ r. r.from ≤ w.top;
-      IsRight = λ sides e. e.cut ≡ Some Conflicts → sides ≡ No ∷ Yes ∷ [];
-      cut = λ e. e.cut;
+      IsRight = λ sides nodes e. e.cut ≡ Some Conflicts → sides ≡ No ∷ Yes ∷ [];
     } };
 
     fn work(
@@ -84,7 +94,12 @@ impl Work for Climber {
         let mut kids = Vec::with_capacity(alloc, 2)?;
         kids.push_reserved(first);
         kids.push_reserved(second);
-        Ok(Parts::Kids(kids))
+        Ok(Parts::Kids(kids, rung))
+    }
+
+    fn cut_nodes(&self, _alloc: Global, run: Rung, _nodes: u32) -> Result<End, NoMemory> {
+        let cut = Some(Cause::Nodes);
+        Ok(End { rung: run, cut })
     }
 }
 
@@ -92,12 +107,14 @@ impl Work for Climber {
 fn first_side(alloc: Global, from: u32) -> Result<Kid<Content<Rung, End>>, NoMemory>
     ensures choice { IfOk result (λ kid. kid.choice ≡ No) }
     ensures place { IfOk result (λ kid.
-        place_in ⟦<Rung as Placed>⟧.place ⟦<End as Placed>⟧.place kid.content
+        record (place_in ⟦<Rung as Placed>⟧.place ⟦<End as Placed>⟧.place kid.content) { cut = None }
         ≡ ⟦<Rung as Placed>⟧.place (record { from = from; just = true })) }
     ensures cut { IfOk result (λ kid. IsTrue
-        (is_one_cut_at_most (side_of_kid (cut_in (λ e. e.cut)) kid).cut None)) }
-    ensures part { IfOk result (λ kid. (top limit : ℕ) → from ≤ top → 0 < limit
-        → IsPart (⟦<Climber as Work>⟧.rules (record { top = top })) limit
+        (is_one_cut_at_most (side_of_kid
+        (cut_in ⟦<Rung as Placed>⟧.place ⟦<End as Placed>⟧.place) kid).cut None)) }
+    ensures part { IfOk result (λ kid. (top nodes limit : ℕ) → from ≤ top → 0 < limit
+        → IsPart (⟦<Climber as Work>⟧.rules (record { top = top; nodes = nodes }))
+        ⟦<End as Placed>⟧.place limit
         (No ∷ Yes ∷ []) kid kid.content) }
 {
     let rung = Rung { from, just: true };
@@ -135,6 +152,8 @@ fn second_side(alloc: Global, from: u32) -> Result<Kid<Content<Rung, End>>, NoMe
     })
 }
 
+const CLIMBER: Climber = Climber { top: 3, nodes: 100 };
+
 const GROUND: Rung = Rung {
     from: 0,
     just: false,
@@ -168,16 +187,28 @@ fn comes_to_rest(rt: &impl Wait, alloc: Global, tree: &mut Tree<Climber>) -> Res
 
 #[test]
 fn drains(rt: HostRuntime) -> Result<(), Fail> {
-    let mut tree = Tree::new(rt.alloc(), Climber { top: 3 }, GROUND, 1)?;
+    let mut tree = Tree::new(rt.alloc(), CLIMBER, GROUND, 1, 100)?;
     let rests = comes_to_rest(&rt, rt.alloc(), &mut tree)?;
     assert!(rt; rests && has_three_rungs(&tree));
+    Ok(())
+}
+
+// The split of the ground makes three nodes, as many as there may be: the rung above it is cut.
+#[test]
+fn a_full_tree_cuts_what_would_part(rt: HostRuntime) -> Result<(), Fail> {
+    let climber = Climber { top: 3, nodes: 3 };
+    let mut tree = Tree::new(rt.alloc(), climber, GROUND, 1, 3)?;
+    assert!(rt; !tree.full());
+    let rests = comes_to_rest(&rt, rt.alloc(), &mut tree)?;
+    assert!(rt; rests && tree.full() && tree.len() == 3 && tree.events().len() == 6);
+    assert!(rt; is_cut(&tree, 1, None) && is_cut(&tree, 2, Some(Cause::Nodes)));
     Ok(())
 }
 
 // A fork has a side for each of 64 values, and one for the rest.
 #[test]
 fn a_fork_into_65_sides_has_room(rt: HostRuntime) -> Result<(), Fail> {
-    let mut tree = Tree::new(rt.alloc(), Climber { top: 3 }, GROUND, 1)?;
+    let mut tree = Tree::new(rt.alloc(), CLIMBER, GROUND, 1, 100)?;
     tree.reserve(65)?;
     Ok(())
 }
@@ -231,7 +262,7 @@ fn are_turns_taken(
 
 #[test]
 fn two_workers_take_turns(rt: HostRuntime) -> Result<(), Fail> {
-    let mut tree = Tree::new(rt.alloc(), Climber { top: 3 }, GROUND, 2)?;
+    let mut tree = Tree::new(rt.alloc(), CLIMBER, GROUND, 2, 100)?;
     assert!(rt; are_turns_taken(&rt, rt.alloc(), &mut tree)?);
     Ok(())
 }
@@ -262,6 +293,10 @@ impl Work for Beginner {
         }
         self.climber.work(rt, alloc, gate, by, state)
     }
+
+    fn cut_nodes(&self, alloc: Global, run: Rung, nodes: u32) -> Result<End, NoMemory> {
+        self.climber.cut_nodes(alloc, run, nodes)
+    }
 }
 
 // The node that a worker claims next, if one is free.
@@ -288,8 +323,8 @@ fn goes_on(rt: &impl Wait, alloc: Global, tree: &mut Tree<Beginner>) -> Result<b
 
 #[test]
 fn a_worker_goes_on_with_its_own(rt: HostRuntime) -> Result<(), Fail> {
-    let climber = Climber { top: 3 };
-    let mut tree = Tree::new(rt.alloc(), Beginner { climber }, GROUND, 2)?;
+    let climber = CLIMBER;
+    let mut tree = Tree::new(rt.alloc(), Beginner { climber }, GROUND, 2, 100)?;
     assert!(rt; goes_on(&rt, rt.alloc(), &mut tree)?);
     Ok(())
 }

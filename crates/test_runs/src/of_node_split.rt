@@ -1,8 +1,11 @@
 //! What comes of the run of all assignments of some programs.
 
+ghost use Rattle.std.specs.Prelude.{◌≤◌};
+
 use crate::programs::program_of;
+use fork_spec::LeafEnd;
 use fork_tree::{Content, Parts, Work};
-use leaf_part::LeafPart;
+use leaf_part::{Evidence, LeafPart};
 use node_split::Worker;
 use query_front::Counts;
 use row_files::programs::{CALLED, DIVIDED, FORKED, STRAIGHT};
@@ -11,7 +14,7 @@ use std::process::Abort;
 use std::sync::Wait;
 use std::test::Fail;
 use sym_state::State;
-use tree_core::{Budgets, Choice, Kid};
+use tree_core::{Budgets, Cause, Choice, Kid};
 use work_gate::OpenGate;
 
 // It loads from an address to which it adds the low bit of twice its input byte, and exits: LUI x5, 0x11; LBU x7, 0(x5);
@@ -91,7 +94,7 @@ fn are(parts: &Parts<State, LeafPart>, comes: Comes) -> bool {
     match (parts, comes) {
         (Parts::Finished(leaf), Comes::Finished(steps)) => leaf.steps() == steps,
         (Parts::CutSteps(leaf), Comes::CutSteps(steps)) => leaf.steps() == steps,
-        (Parts::Kids(kids), Comes::Kids(choices)) => have(kids, choices),
+        (Parts::Kids(kids, _), Comes::Kids(choices)) => have(kids, choices),
         _ => false,
     }
 }
@@ -126,6 +129,7 @@ fn runs_go_on_until_they_fork_or_end(rt: HostRuntime) -> Result<(), Fail> {
             steps,
             targets,
             conflicts: 0,
+            nodes: 1,
         };
         let are = words_come_so(&rt, rt.alloc(), words, budgets, comes)?;
         assert!(rt; are, "row {at}");
@@ -148,6 +152,7 @@ fn a_question_that_comes_again_is_counted_so(rt: HostRuntime) -> Result<(), Fail
         steps: 10,
         targets: 4,
         conflicts: 0,
+        nodes: 1,
     };
     let worker = made(&rt, rt.alloc(), &FORKED, budgets)?;
     let counts = Counts {
@@ -157,5 +162,48 @@ fn a_question_that_comes_again_is_counted_so(rt: HostRuntime) -> Result<(), Fail
         spent: 0,
     };
     assert!(rt; counted(&rt, rt.alloc(), &worker)? == counts);
+    Ok(())
+}
+
+// The leaf of the run of all assignments, if it parts where there are so many nodes that it may not.
+fn cut_at(
+    rt: &(impl Abort + Wait),
+    alloc: Global,
+    worker: &Worker,
+    nodes: u32,
+) -> Result<Option<LeafPart>, Fail>
+    requires { worker.now.budgets.nodes ≤ nodes }
+{
+    assert!(rt; 1 <= worker.budgets().steps);
+    let state = State::first(alloc, worker.program())?;
+    match worker.work(rt, alloc, &OpenGate, 0, &state)? {
+        Parts::Kids(_kids, run) => Ok(Some(worker.cut_nodes(alloc, run, nodes)?)),
+        Parts::Finished(_) | Parts::CutSteps(_) => Ok(None),
+    }
+}
+
+// Whether a leaf was cut for want of nodes after so many steps, and shows how many nodes there were, and no assignment.
+fn is_by_nodes(leaf: &LeafPart, steps: u32, nodes: u32) -> bool {
+    leaf.end() == LeafEnd::Cut(Cause::Nodes)
+        && leaf.steps() == steps
+        && leaf.sample().is_none()
+        && matches!(leaf.evidence(), Some(Evidence::Nodes(shown)) if *shown == nodes)
+}
+
+// The branch comes after three steps. The last split may have passed the budget.
+#[test]
+fn a_run_that_may_not_part_is_cut(rt: HostRuntime) -> Result<(), Fail> {
+    let budgets = Budgets {
+        steps: 10,
+        targets: 4,
+        conflicts: 0,
+        nodes: 5,
+    };
+    let worker = made(&rt, rt.alloc(), &FORKED, budgets)?;
+    assert!(rt; worker.budgets().nodes <= 7);
+    let Some(leaf) = cut_at(&rt, rt.alloc(), &worker, 7)? else {
+        panic!(rt; "the run doesn't part");
+    };
+    assert!(rt; is_by_nodes(&leaf, 3, 7));
     Ok(())
 }

@@ -1,6 +1,6 @@
 //! The protocol by worked rows: claims that are held, released and ended, and a split.
 
-ghost use Rattle.std.specs.Prelude.{◌≡◌, ◌<◌, ◌≤◌, ◌&&◌, Some, IfOk, count_by, length, nat_le, nat_lt, true};
+ghost use Rattle.std.specs.Prelude.{◌≡◌, ◌<◌, ◌≤◌, ◌&&◌, Some, IfOk, count_by, length, nat_le, false, nat_lt, true};
 ghost use Rattle.tree_core.specs.Covers.{Parts};
 ghost use Rattle.tree_core.specs.Stories.{content};
 
@@ -19,6 +19,12 @@ struct Band {
 
 impl Cover for Band {
     ghost covers = { λ band input. nat_le band.low (length input) && nat_lt (length input) band.high };
+
+    ghost by_nodes = { λ band. false };
+
+    fn is_by_nodes(&self) -> bool {
+        false
+    }
 }
 
 const ALL: Band = Band { low: 0, high: 9 };
@@ -195,7 +201,7 @@ const ENDED: [Row; 2] = [
 
 #[test]
 fn a_claim_is_one_workers(rt: HostRuntime) -> Result<(), Fail> {
-    let mut core = Core::new(rt.alloc(), ALL, false)?;
+    let mut core = Core::new(rt.alloc(), ALL, false, 100)?;
     takes_shared(&core);
     core.reserve(2)?;
     check_rows(&rt, rt.alloc(), &mut core, &CLAIMED, (1, 1));
@@ -246,11 +252,79 @@ fn check_seen(rt: &impl Abort, core: &Core<Band>) {
 
 #[test]
 fn kids_stand_for_what_was_split(rt: HostRuntime) -> Result<(), Fail> {
-    let mut core = Core::new(rt.alloc(), ALL, false)?;
+    let mut core = Core::new(rt.alloc(), ALL, false, 100)?;
     check_rows(&rt, rt.alloc(), &mut core, &TOO_EARLY, (1, 0));
     check_rows(&rt, rt.alloc(), &mut core, &PARTED, (3, 2));
     check_rows(&rt, rt.alloc(), &mut core, &CUT_AFTER, (3, 4));
     check_seen(&rt, &core);
+    Ok(())
+}
+
+/// It covers every assignment. Some are leaves that were cut for want of nodes.
+#[derive(Drop)]
+struct Piece {
+    by_nodes: bool,
+}
+
+impl Cover for Piece {
+    ghost covers = { λ piece input. true };
+
+    ghost by_nodes = { λ piece. piece.by_nodes };
+
+    fn is_by_nodes(&self) -> bool {
+        self.by_nodes
+    }
+}
+
+// Makes a node a leaf that was cut for want of nodes.
+fn cut_piece(rt: &impl Abort, core: &mut Core<Piece>, node: usize) -> Result<(), Refusal> {
+    assert!(rt; node < core.len());
+    let Some(_) = core.content(node) else {
+        panic!(rt; "the node is parted");
+    };
+    let deed = Deed::Cut(Piece { by_nodes: true });
+    core.apply(Event { by: 0, node, deed })
+}
+
+// The kids of a fork with one side.
+fn only_piece(alloc: Global) -> Result<Vec<Kid<Piece>>, AllocError>
+    ensures { IfOk result (λ kids. count_by (λ _. true) kids.items ≡ 1) }
+{
+    let mut kids = Vec::with_capacity(alloc, 1)?;
+    kids.push_reserved(Kid {
+        choice: Choice::Yes,
+        content: Piece { by_nodes: false },
+        is_leaf: false,
+    });
+    Ok(kids)
+}
+
+// Parts a node into one kid.
+fn part_piece(
+    rt: &impl Abort,
+    alloc: Global,
+    core: &mut Core<Piece>,
+    node: usize,
+) -> Result<(), Refusal> {
+    assert!(rt; node < core.len());
+    let Some(_) = core.content(node) else {
+        panic!(rt; "the node is parted");
+    };
+    let deed = Deed::Split(only_piece(alloc)?);
+    core.apply(Event { by: 0, node, deed })
+}
+
+// Where there may be two nodes, the one is parted, and the other cut.
+#[test]
+fn a_full_tree_is_cut_and_not_parted(rt: HostRuntime) -> Result<(), Fail> {
+    let alloc = rt.alloc();
+    let mut core = Core::new(alloc, Piece { by_nodes: false }, false, 2)?;
+    assert!(rt; claim(&rt, &mut core, 0, 0) == Ok(()));
+    assert!(rt; cut_piece(&rt, &mut core, 0) == Err(Refusal::Early { nodes: 1 }));
+    assert!(rt; part_piece(&rt, alloc, &mut core, 0) == Ok(()));
+    assert!(rt; claim(&rt, &mut core, 0, 1) == Ok(()));
+    assert!(rt; part_piece(&rt, alloc, &mut core, 1) == Err(Refusal::Full { nodes: 2 }));
+    assert!(rt; cut_piece(&rt, &mut core, 1) == Ok(()));
     Ok(())
 }
 
@@ -260,6 +334,12 @@ struct Share(Arc<u32, Global>);
 
 impl Cover for Share {
     ghost covers = { λ share input. true };
+
+    ghost by_nodes = { λ share. false };
+
+    fn is_by_nodes(&self) -> bool {
+        false
+    }
 }
 
 fn state(alloc: Global) -> Result<Arc<u32, Global>, AllocError> {
@@ -356,7 +436,7 @@ fn share_in_turn(
     last: &Arc<u32, Global>,
 ) -> Result<(), Fail> {
     let root = Share(Arc::try_clone(first)?);
-    let mut core = Core::new(alloc, root, false)?;
+    let mut core = Core::new(alloc, root, false, 100)?;
     part_root(rt, alloc, &mut core, first, second);
     end_kid(rt, &mut core, second, last);
     Ok(())

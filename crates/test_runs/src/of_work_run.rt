@@ -11,7 +11,7 @@ use std::alloc::{AllocError as NoMemory, Global};
 use std::sync::{Arc, Wait};
 use std::test::Fail;
 use std::thread::Threads;
-use tree_core::{Choice, Deed, Kid, Status};
+use tree_core::{Cause, Choice, Deed, Kid, Status};
 use work_gate::{DropGate, Gate, MeetGate, Next, OpenGate, Point};
 use work_run::{Lent, explore};
 
@@ -26,7 +26,12 @@ impl Placed for Draw {
     ghost place = { λ d. record {
       choices = if d.drawn then Value d.card ∷ [] else [];
       covers = λ input. if d.drawn then min 2 (length input) == d.card else true;
+      cut = None;
     } };
+
+    fn cut(&self) -> Option<Cause> {
+        None
+    }
 }
 
 /// Draws the card.
@@ -41,10 +46,10 @@ impl Work for Dealer {
     ghost rules = { λ w. record {
       left = λ d. if d.drawn then 0 else 1;
       targets = 3;
+      nodes = 100;
       decides = λ input. Number (min 2 (length input)) ∷ [];
       IsWell = λ d. Unit {0};
-      IsRight = λ sides d. Unit {0};
-      cut = λ d. None;
+      IsRight = λ sides nodes d. Unit {0};
     } };
 
     fn work(
@@ -68,7 +73,12 @@ impl Work for Dealer {
         kids.push_reserved(one);
         kids.push_reserved(more);
         let _ = gate.reached(by, Point::Working);
-        Ok(Parts::Kids(kids))
+        Ok(Parts::Kids(kids, draw))
+    }
+
+    // There are four nodes at most, and never a hundred.
+    fn cut_nodes(&self, _alloc: Global, _run: Draw, _nodes: u32) -> Result<Draw, NoMemory> {
+        Err(NoMemory)
     }
 }
 
@@ -137,7 +147,7 @@ fn has_each_leaf(tree: &Tree<Lent<'_, Dealer>>) -> bool {
 
 #[test]
 fn four_workers_make_each_leaf(rt: HostRuntime) -> Result<(), Fail> {
-    let tree = explore(&rt, rt.alloc(), &Dealer, WHOLE, 4, &OpenGate)?;
+    let tree = explore(&rt, rt.alloc(), &Dealer, WHOLE, 4, 100, &OpenGate)?;
     // A claim and its end for each node.
     let events = tree.events().len();
     assert!(rt; has_each_leaf(&tree) && events == 8 && releases(&tree) == 0);
@@ -148,7 +158,7 @@ fn four_workers_make_each_leaf(rt: HostRuntime) -> Result<(), Fail> {
 #[test]
 fn two_workers_work_at_once(rt: HostRuntime) -> Result<(), Fail> {
     let gate = MeetGate::new();
-    let tree = explore(&rt, rt.alloc(), &Dealer, WHOLE, 2, &gate)?;
+    let tree = explore(&rt, rt.alloc(), &Dealer, WHOLE, 2, 100, &gate)?;
     assert!(rt; has_each_leaf(&tree) && gate.have_met() && !gate.was_limit_reached());
     Ok(())
 }
@@ -161,7 +171,7 @@ fn is_left_worked<R: Threads + Wait + Sync>(
 ) -> Result<bool, NoMemory>
     requires { 1 ≤ workers }
 {
-    let tree = explore(rt, alloc, &Dealer, WHOLE, workers, &Leaving)?;
+    let tree = explore(rt, alloc, &Dealer, WHOLE, workers, 100, &Leaving)?;
     Ok(has_each_leaf(&tree) && releases(&tree) == workers as usize)
 }
 
@@ -178,7 +188,7 @@ fn a_worker_may_leave_behind_its_claim(rt: HostRuntime) -> Result<(), Fail> {
         worker: 0,
         point: Point::AfterClaim,
     };
-    let tree = explore(&rt, rt.alloc(), &Dealer, WHOLE, 1, &gate)?;
+    let tree = explore(&rt, rt.alloc(), &Dealer, WHOLE, 1, 100, &gate)?;
     assert!(rt; has_each_leaf(&tree) && releases(&tree) == 1);
     Ok(())
 }
@@ -189,7 +199,7 @@ fn a_worker_may_leave_behind_a_give(rt: HostRuntime) -> Result<(), Fail> {
         worker: 0,
         point: Point::AfterGive,
     };
-    let tree = explore(&rt, rt.alloc(), &Dealer, WHOLE, 1, &gate)?;
+    let tree = explore(&rt, rt.alloc(), &Dealer, WHOLE, 1, 100, &gate)?;
     // The card that it claimed in the same turn is released.
     assert!(rt; has_each_leaf(&tree) && releases(&tree) == 1);
     Ok(())

@@ -4,8 +4,8 @@ use elf_load::Region;
 use std::alloc::{AllocError as NoMemory, Global};
 use tool_words::{Job, WordsError, read_words};
 
-/// Steps, targets, conflicts and workers.
-type Numbers = (u32, u32, u32, u32);
+/// Steps, targets, conflicts, nodes and workers.
+type Numbers = (u32, u32, u32, u32, u32);
 
 /// What a command line asks for.
 enum Wanted {
@@ -18,10 +18,10 @@ enum Wanted {
 }
 
 // Where no option is given.
-const DEFAULTS: Numbers = (10_000, 16, 2_000, 4);
+const DEFAULTS: Numbers = (10_000, 16, 2_000, 1_000_000, 4);
 
 /// Command lines, and what they ask for.
-static TAKEN: [(&[&str], Wanted); 15] = [
+static TAKEN: [(&[&str], Wanted); 16] = [
     (
         &["rvklee", "explore", "a.elf", "out", "00011000:1"],
         Wanted::Explore("a.elf", "out", &[(0x11000, 1)], DEFAULTS),
@@ -65,7 +65,12 @@ static TAKEN: [(&[&str], Wanted); 15] = [
             "50",
             "00011000:1",
         ],
-        Wanted::Explore("a.elf", "out", &[(0x11000, 1)], (50, 4, 2_000, 4)),
+        Wanted::Explore(
+            "a.elf",
+            "out",
+            &[(0x11000, 1)],
+            (50, 4, 2_000, 1_000_000, 4),
+        ),
     ),
     (
         &[
@@ -75,11 +80,24 @@ static TAKEN: [(&[&str], Wanted); 15] = [
             "--targets=1",
             "--conflicts=1",
             "--workers=1",
+            "--nodes=1",
             "a.elf",
             "out",
             "00011000:1",
         ],
-        Wanted::Explore("a.elf", "out", &[(0x11000, 1)], (1, 1, 1, 1)),
+        Wanted::Explore("a.elf", "out", &[(0x11000, 1)], (1, 1, 1, 1, 1)),
+    ),
+    (
+        &[
+            "rvklee",
+            "explore",
+            "--nodes",
+            "1000000",
+            "a.elf",
+            "out",
+            "00011000:1",
+        ],
+        Wanted::Explore("a.elf", "out", &[(0x11000, 1)], DEFAULTS),
     ),
     (
         &[
@@ -92,6 +110,7 @@ static TAKEN: [(&[&str], Wanted); 15] = [
             "out",
             "--targets",
             "64",
+            "--nodes=999999",
             "00011000:1",
             "--steps=1000000",
         ],
@@ -99,7 +118,7 @@ static TAKEN: [(&[&str], Wanted); 15] = [
             "a.elf",
             "out",
             &[(0x11000, 1)],
-            (1_000_000, 64, 100_000, 64),
+            (1_000_000, 64, 100_000, 999_999, 64),
         ),
     ),
     (
@@ -113,7 +132,12 @@ static TAKEN: [(&[&str], Wanted); 15] = [
             "4",
             "00011000:1",
         ],
-        Wanted::Explore("--steps", "4", &[(0x11000, 1)], (3, 16, 2_000, 4)),
+        Wanted::Explore(
+            "--steps",
+            "4",
+            &[(0x11000, 1)],
+            (3, 16, 2_000, 1_000_000, 4),
+        ),
     ),
     (
         &["rvklee", "replay", "a.elf", "t.json"],
@@ -138,7 +162,7 @@ static TAKEN: [(&[&str], Wanted); 15] = [
 ];
 
 /// Command lines that say too little, too much, or a number out of its form or its limit.
-static REFUSED: [&[&str]; 35] = [
+static REFUSED: [&[&str]; 39] = [
     &[],
     &["rvklee"],
     &["rvklee", "explore", "a.elf", "out"],
@@ -254,6 +278,35 @@ static REFUSED: [&[&str]; 35] = [
     &[
         "rvklee",
         "explore",
+        "--nodes",
+        "0",
+        "a.elf",
+        "out",
+        "00011000:1",
+    ],
+    &[
+        "rvklee",
+        "explore",
+        "--nodes",
+        "1000001",
+        "a.elf",
+        "out",
+        "00011000:1",
+    ],
+    &[
+        "rvklee",
+        "explore",
+        "--nodes",
+        "9",
+        "--nodes",
+        "9",
+        "a.elf",
+        "out",
+        "00011000:1",
+    ],
+    &[
+        "rvklee",
+        "explore",
         "--step",
         "5",
         "a.elf",
@@ -274,6 +327,7 @@ static REFUSED: [&[&str]; 35] = [
     &["rvklee", "replay", "a.elf"],
     &["rvklee", "replay", "a.elf", "t.json", "00011000:1"],
     &["rvklee", "replay", "--steps", "5", "a.elf", "t.json"],
+    &["rvklee", "bench", "--nodes", "5", "8", "2", "out"],
     &["rvklee", "bench", "0", "1", "out"],
     &["rvklee", "bench", "13", "1", "out"],
     &["rvklee", "bench", "8", "0", "out"],
@@ -322,6 +376,7 @@ fn is_wanted(job: &Job, wanted: &Wanted) -> bool {
                     budgets.steps,
                     budgets.targets,
                     budgets.conflicts,
+                    budgets.nodes,
                     asked.workers,
                 ) == *numbers
         }

@@ -8,7 +8,7 @@ use Rattle.rv_decode.specs.declared.ends.PathStep.{PathStep}
 use Rattle.rv_decode.specs.declared.ends.PathStep.TheVariants.{Taken, NotTaken, Target}
 use Rattle.rv_decode.specs.declared.ends.Trap.{Trap}
 use Rattle.tree_core.specs.declared.cause.Cause.{Cause}
-use Rattle.tree_core.specs.declared.cause.Cause.TheVariants.{Steps, Targets, Conflicts}
+use Rattle.tree_core.specs.declared.cause.Cause.TheVariants.{Steps, Targets, Conflicts, Nodes}
 use Rattle.tree_core.specs.declared.choice.Choice.{Choice}
 use Rattle.tree_core.specs.declared.choice.Choice.TheVariants.{No, Yes, Value, Rest}
 use Rattle.fork_spec.specs.declared.end.LeafEnd.{LeafEnd}
@@ -56,6 +56,7 @@ abbrev pub cause_text : Cause → List ℕ
 cause_text Steps = codes "steps"
 cause_text Targets = codes "targets"
 cause_text Conflicts = codes "conflicts"
+cause_text Nodes = codes "nodes"
 
 abbrev pub kind_text : Kind → List ℕ
 kind_text finished = codes "finished"

@@ -16,6 +16,7 @@ pub fn cause_name(cause: Cause) -> &'static str
         Cause::Steps => "steps",
         Cause::Targets => "targets",
         Cause::Conflicts => "conflicts",
+        Cause::Nodes => "nodes",
     }
 }
 

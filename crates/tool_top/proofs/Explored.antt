@@ -9,7 +9,7 @@ use Rattle.tree_core.specs.Covers.{covered, root_content}
 use Rattle.tree_core.specs.Stories.{Story}
 use Rattle.tree_core.specs.declared.budgets.Budgets.{Budgets}
 use Rattle.tree_core.specs.declared.event.Event.{Event}
-use Rattle.fork_spec.specs.Histories.{ReleaseOnce, cause_of}
+use Rattle.fork_spec.specs.Histories.{ReleaseOnce}
 use Rattle.fork_spec.specs.Leaves.{IsSmall, are_bytes}
 use Rattle.fork_spec.specs.Parts.{Part}
 use Rattle.fork_tree.specs.Written.{lines_of}
@@ -58,11 +58,11 @@ module _ (p : Program) (budgets : Budgets) where
   -- what the worker asks of leaves is what is claimed of them
   asks : AskAsClaimed (λ (part : Part). part) (rules_of p budgets) leaf_place p.image p.regions budgets
   asks = record {
-    right = λ sides leaf right. right;
-    cut = λ leaf. refl;
+    right = λ sides nodes leaf right. right;
     place = λ leaf. refl;
     decides = λ input. refl;
     targets = refl;
+    nodes = refl;
   }
 
   -- the report of a tree that grew from the program's first run, by the events of so many workers, is one of the program
@@ -70,10 +70,10 @@ module _ (p : Program) (budgets : Budgets) where
       → IsFirst p root → StartsWith new.nodes old.nodes
       → IsDrained (rules_of p budgets) run_place leaf_place new → (workers : ℕ) → All (λ (e : Event (Content Symbolic Part) ℕ). e.by < workers) new.events
       → ReleaseOnce new.events → IsSmall workers → IsBudgets budgets → (out : List ℕ) (puts : List Put) (text : List ℕ)
-      → IsReportOfTree (λ (part : Part). part) (λ part. cause_of part.leaf.end) out p.regions budgets workers new puts text
+      → IsReportOfTree (λ (part : Part). part) run_place leaf_place out p.regions budgets workers new puts text
       → IsReportOf out p.image p.regions budgets workers puts text
   is_report_of root old new opens first grows drained workers few once few_workers within out puts text made = record {
-    lines = lines_of (cut_in (λ (part : Part). cause_of part.leaf.end)) new;
+    lines = lines_of (cut_in run_place leaf_place) new;
     entries = entries_of p.regions 0 made.leaves;
     claims =
         are_a_report (λ (part : Part). part) (rules_of p budgets) run_place leaf_place p.image p.regions budgets asks new drained
@@ -93,12 +93,12 @@ module _ (p : Program) (budgets : Budgets) where
   }
     where
       HasIt : Option (Content Symbolic Part) → ℕ → Type 0
-      HasIt held node = HasLeaf {S = Symbolic} {L = Part} (IsLeafRight (rules_of p budgets) new node) held
+      HasIt held node = HasLeaf {S = Symbolic} {L = Part} (IsLeafRight (rules_of p budgets) run_place leaf_place new node) held
 
       right_at : (node : ℕ) (part : Part) → IsLeafAt (λ (x : Part). x) new node part → IsReportable part
       right_at node part at =
           let here : HasIt (Some (Shut at.leaf)) node = subst (λ held. HasIt held node) at.held (drained.leaves node at.within at.is_leaf) in
-          subst IsReportable at.same (reportable p.image p.regions budgets here.sides at.leaf here.right)
+          subst IsReportable at.same (reportable p.image p.regions budgets here.sides here.nodes at.leaf here.right)
 
       are : AreEntries (λ (part : Part). part) p.regions new (entries_of p.regions 0 made.leaves)
       are = are_entries (λ (part : Part). part) p.regions new made.leaves made.by_rank (λ rank l at. right_at l.node l.part.now (made.by_rank.each rank l at))

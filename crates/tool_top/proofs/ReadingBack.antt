@@ -9,8 +9,8 @@ use Rattle.fork_spec.specs.Leaves.{IsFull, Leaf}
 use Rattle.report_text.proofs.ClaimsLegible.{at_leaf, entry_legible, lines_legible}
 use Rattle.report_text.proofs.EventsBack.{events_told}
 use Rattle.report_text.proofs.LearntBack.{learnt_told}
-use Rattle.report_text.proofs.SpentBack.{spent_told}
-use Rattle.report_text.specs.Claims.{Beside, Entry, IsReport, Learning, Report, Spending, Tested, leaf_nodes_of}
+use Rattle.report_text.proofs.SpentBack.{nodes_told, spent_told}
+use Rattle.report_text.specs.Claims.{Beside, Entry, Filling, IsReport, Learning, Report, Spending, Tested, leaf_nodes_of}
 use Rattle.report_text.specs.Files.{beside_put, events_put, files_from, files_of, leaf_put, report_put}
 use Rattle.report_text.specs.Legible.{HasSmallCounts, IsLegibleBeside}
 use Rattle.smt_text.specs.Grammar.{IsTextOf, IsWhole}
@@ -79,6 +79,7 @@ own_text : (b : Beside) → IsLegibleBeside b → HasOwnText b
 own_text (Tested test) legible = λ other is e. test_by_text other test is legible e
 own_text (Spending spent) legible = λ other is e. spent_told other spent is legible e
 own_text (Learning learnt) legible = λ other is e. learnt_told other learnt is legible e
+own_text (Filling count) legible = λ other is e. nodes_told other count is legible e
 
 -- each leaf is what its file reads as, and the other files are those of these events, tests and evidence alone, where the claims hold
 pub read_back : (out : List ℕ) (r : Report) → IsReport r → HasSmallCounts r → unfit r.image r.regions ≡ None

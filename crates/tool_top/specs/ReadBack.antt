@@ -2,15 +2,15 @@
 use Rattle.std.specs.Prelude.{◌≡◌, ℕ, List, Some, slice_get}
 use Rattle.std.specs.List.{Contains}
 use Rattle.fork_spec.specs.Evidence.{Learnt, Spent}
-use Rattle.fork_spec.specs.Leaves.{Leaf}
+use Rattle.fork_spec.specs.Leaves.{IsSmall, Leaf}
 use Rattle.fork_spec.specs.Walks.{Line}
-use Rattle.report_text.specs.Claims.{Beside, Entry, Learning, Spending, Tested}
+use Rattle.report_text.specs.Claims.{Beside, Entry, Filling, Learning, Spending, Tested}
 use Rattle.report_text.specs.Events.{events_text}
 use Rattle.report_text.specs.FileNames.{leaf_name}
 use Rattle.report_text.specs.Files.{beside_put, events_put}
 use Rattle.report_text.specs.Learnt.{conflicts_text}
 use Rattle.report_text.specs.Legible.{AreLegible, IsLegibleLearnt, IsLegibleSpent}
-use Rattle.report_text.specs.Spent.{targets_text}
+use Rattle.report_text.specs.Spent.{nodes_text, targets_text}
 use Rattle.smt_text.specs.Grammar.{IsTextOf}
 use Rattle.test_files.specs.Tests.{Test, test_text}
 use Rattle.test_files.specs.Writable.{IsLegible}
@@ -32,7 +32,8 @@ abbrev pub HaveOwnText : List Line → Type 0
 HaveOwnText lines = (others : List Line) → AreLegible others
     → events_text others ≡ events_text lines → others ≡ lines
 
--- the text of what stands beside a leaf is that of no other test, of no other values, or of no other question and clauses
+-- the text of what stands beside a leaf is that of no other test, of no other values, of no other question and clauses, or of no other
+-- number of nodes
 abbrev pub HasOwnText : Beside → Type 0
 HasOwnText (Tested test) = (other : Test) → IsLegible other → test_text other ≡ test_text test
     → other ≡ test
@@ -40,6 +41,8 @@ HasOwnText (Spending spent) = (other : Spent) → IsLegibleSpent other
     → targets_text other ≡ targets_text spent → other ≡ spent
 HasOwnText (Learning learnt) = (other : Learnt) → IsLegibleLearnt other
     → conflicts_text other ≡ conflicts_text learnt → other ≡ learnt
+HasOwnText (Filling count) = (other : ℕ) → IsSmall other → nodes_text other ≡ nodes_text count
+    → other ≡ count
 
 -- the leaf is what the file of its rank reads as, and what stands beside it is what the other file of that rank has
 pub record IsEntryRead (out : List ℕ) (puts : List Put) (rank : ℕ) (e : Entry) : Type 0 where

@@ -38,8 +38,8 @@ pub(crate) fn plan_report<R: Threads + Wait + Sync, G: Gate + Sync>(
         workers p.files.items p.text) }
 {
     let root = State::first(alloc, worker.program())?;
-    let tree = explore(rt, alloc, worker, root, workers, gate)?;
     let budgets = worker.budgets();
+    let tree = explore(rt, alloc, worker, root, workers, budgets.nodes, gate)?;
     let regions = worker.program().regions();
     let report = make_report(alloc, out, regions, &budgets, workers, &tree)?;
     let (files, text) = report.into_parts();

@@ -106,11 +106,12 @@ pub fn run_tool<R: Threads + Wait + Sync, F: Files, G: Gate + Sync>(
     ensures alike { result ≡ 0 → Writes (ran F.seen files.old files.new words.now) AreAlike }
     // any two leaves part by a decision of their runs, which is as their choices say,
     ensures parted { result ≡ 0 → Writes (ran F.seen files.old files.new words.now) ArePartedAll }
-    // beside each leaf stands a test, which is a run of it, unless it was cut where it had spent its targets or its conflicts,
+    // beside each leaf stands a test, which is a run of it, unless it was cut where it had spent its targets or its conflicts, or for want of
+    // nodes,
     ensures tests_are_runs { result ≡ 0
         → Writes (ran F.seen files.old files.new words.now) AreRuns }
     // each leaf that was cut has spent its budget: of targets on the other sides of its own split, of conflicts on clauses that
-    // were learnt for its last assertion,
+    // were learnt for its last assertion, of nodes where by the events there were as many as there may be,
     ensures cuts_show_their_budget { result ≡ 0
         → Writes (ran F.seen files.old files.new words.now) ShowBudgets }
     // the events are one run through the fork tree that leaves nothing to be done, and its leaves are those that were written,

@@ -20,11 +20,12 @@ required_words id = record (required_word id) {
 
 -- the options of explore
 abbrev pub with_numbers : App → App
-with_numbers app = with_rule (with_rule (with_rule (with_rule app
+with_numbers app = with_rule (with_rule (with_rule (with_rule (with_rule app
     (number_option (codes "steps"))) (number_option (codes "targets")))
-    (number_option (codes "conflicts"))) (number_option (codes "workers"))
+    (number_option (codes "conflicts"))) (number_option (codes "workers")))
+    (number_option (codes "nodes"))
 
--- explore [--steps N] [--targets N] [--conflicts N] [--workers N] PROGRAM OUT INPUT..
+-- explore [--steps N] [--targets N] [--conflicts N] [--workers N] [--nodes N] PROGRAM OUT INPUT..
 unfoldable pub explore_command : App
 explore_command = with_rule (with_rule (with_rule (with_numbers (new_app (codes "explore")))
     (required_word (codes "PROGRAM"))) (required_word (codes "OUT")))

@@ -14,6 +14,9 @@ targets_limit = record { most = 64; default = 16 }
 abbrev pub conflicts_limit : Limit
 conflicts_limit = record { most = 100000; default = 2000 }
 
+abbrev pub nodes_limit : Limit
+nodes_limit = record { most = 1000000; default = 1000000 }
+
 abbrev pub workers_limit : Limit
 workers_limit = record { most = 64; default = 4 }
 
@@ -27,6 +30,7 @@ default_budgets = record {
   steps = steps_limit.default;
   targets = targets_limit.default;
   conflicts = conflicts_limit.default;
+  nodes = nodes_limit.default;
 }
 
 -- a zero (48) stands before other digits
@@ -65,16 +69,17 @@ abbrev pub number_said : Limit → List ℕ → List Row → Option ℕ
 number_said limit name rows = option_and_then (number_within limit) (first_of name rows)
 
 -- where all are there, the budgets of these numbers
-abbrev pub budgets_with : Option ℕ → Option ℕ → Option ℕ → Option Budgets
-budgets_with (Some steps) (Some targets) (Some conflicts) =
-    Some (record { steps = steps; targets = targets; conflicts = conflicts })
-budgets_with _ _ _ = None
+abbrev pub budgets_with : Option ℕ → Option ℕ → Option ℕ → Option ℕ → Option Budgets
+budgets_with (Some steps) (Some targets) (Some conflicts) (Some nodes) =
+    Some (record { steps = steps; targets = targets; conflicts = conflicts; nodes = nodes })
+budgets_with _ _ _ _ = None
 
--- --steps, --targets and --conflicts
+-- --steps, --targets, --conflicts and --nodes
 abbrev pub budgets_found : List Row → Option Budgets
 budgets_found rows = budgets_with (number_found steps_limit (codes "steps") rows)
     (number_found targets_limit (codes "targets") rows)
     (number_found conflicts_limit (codes "conflicts") rows)
+    (number_found nodes_limit (codes "nodes") rows)
 
 -- --workers
 abbrev pub workers_found : List Row → Option ℕ
@@ -89,3 +94,4 @@ pub record IsBudgets (budgets : Budgets) : Type 0 where
   pub steps_within : IsWithin steps_limit budgets.steps
   pub targets_within : IsWithin targets_limit budgets.targets
   pub conflicts_within : IsWithin conflicts_limit budgets.conflicts
+  pub nodes_within : IsWithin nodes_limit budgets.nodes

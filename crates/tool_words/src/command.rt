@@ -19,7 +19,7 @@ pub(crate) fn rvklee<'a>(alloc: Global) -> Result<Command<'a>, NoMemory>
         .subcommand(bench(alloc)?)
 }
 
-/// `explore [--steps N] [--targets N] [--conflicts N] [--workers N] PROGRAM OUT INPUT..`.
+/// `explore [--steps N] [--targets N] [--conflicts N] [--workers N] [--nodes N] PROGRAM OUT INPUT..`.
 fn explore<'a>(alloc: Global) -> Result<Command<'a>, NoMemory>
     ensures app { IfOk result (λ command. app_of command ≡ explore_command) }
     ensures local { IfOk result (λ command. (fields_of command).has_globals ≡ false) }
@@ -29,6 +29,7 @@ fn explore<'a>(alloc: Global) -> Result<Command<'a>, NoMemory>
         .arg(number_option(alloc, "targets"))?
         .arg(number_option(alloc, "conflicts"))?
         .arg(number_option(alloc, "workers"))?
+        .arg(number_option(alloc, "nodes"))?
         .arg(required_word(alloc, "PROGRAM"))?
         .arg(required_word(alloc, "OUT"))?
         .arg(required_words(alloc, "INPUT"))

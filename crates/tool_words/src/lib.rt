@@ -9,5 +9,5 @@ mod region;
 mod words;
 
 pub use job::{Exploration, Job, WordsError};
-pub use limit::{CONFLICTS, Limit, NUMBERS, STEPS, TARGETS, WORKERS};
+pub use limit::{CONFLICTS, Limit, NODES, NUMBERS, STEPS, TARGETS, WORKERS};
 pub use words::read_words;

@@ -32,6 +32,12 @@ pub const CONFLICTS: Limit = Limit {
     default: 2_000,
 };
 
+/// Of `--nodes`.
+pub const NODES: Limit = Limit {
+    most: 1_000_000,
+    default: 1_000_000,
+};
+
 /// Of `--workers`.
 pub const WORKERS: Limit = Limit {
     most: 64,
@@ -52,6 +58,7 @@ pub(crate) fn read_budgets(found: &ArgMatches<'_>) -> Option<Budgets>
         steps: read_given(found, "steps", STEPS)?,
         targets: read_given(found, "targets", TARGETS)?,
         conflicts: read_given(found, "conflicts", CONFLICTS)?,
+        nodes: read_given(found, "nodes", NODES)?,
     })
 }
 

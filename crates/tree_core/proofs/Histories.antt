@@ -11,50 +11,51 @@ use Rattle.tree_core.specs.declared.node.Status.{Status}
 use Rattle.tree_core.specs.declared.node.Status.TheVariants.{Free, Held, Leaf}
 use Rattle.tree_core.specs.Stories.{Story, status, status_by, born_as, left_by, last_on, IsClaimBy, LastIsClaim}
 use Rattle.tree_core.specs.Covers.{one_if, covered, standing_count}
-use Rattle.tree_core.specs.Replays.{noted_all, Replays, AreFit, IsFit, is_allowed, after_event, after_all, with_event, opening, deed_kept, kids_of, births}
+use Rattle.tree_core.specs.Replays.{noted_all, Replays, AreFit, IsFit, may_come, after_event, after_all, with_event, opening, deed_kept, kids_of, births}
 use Rattle.tree_core.specs.Cores.{IsCore, let_go, takes, ends, unworked_of}
 use Rattle.tree_core.proofs.Places.{get_before}
+use Rattle.tree_core.proofs.Guards.{allowed-may}
 use Rattle.tree_core.proofs.Keeping.{core-noted, core-opened, ends-held}
 
-module _ {R : Type 0} (covers : R → List ℕ → Bool) where
+module _ {R : Type 0} (covers : R → List ℕ → Bool) (by_nodes : R → Bool) (most : ℕ) where
   -- a story that events made
   pub Made : Story R → Type 0
-  Made s = (latest : List (Option ℕ)) × (contents : List (Option R)) × (held : ℕ) × IsCore covers s latest contents held
+  Made s = (latest : List (Option ℕ)) × (contents : List (Option R)) × (held : ℕ) × IsCore covers by_nodes most s latest contents held
 
-  made_after : (s : Story R) (e : Event R (Vec (Kid R))) → IsFit covers s e → Made s → Made (after_event s e)
+  made_after : (s : Story R) (e : Event R (Vec (Kid R))) → IsFit covers s e → Made s → Made (after_event by_nodes most s e)
   unfolding Made
-  made_after s e fit m = by_guard (is_allowed s e) refl
+  made_after s e fit m = by_guard (may_come by_nodes most s e) refl
     where
       balance : (a b h : ℕ) → a ≤ h → (h + b - a) + a ≡ h + b
       balance a b h le = omega arith
 
-      by_guard : (b : Bool) → is_allowed s e ≡ b → Made (cond b (with_event s e) s)
-      by_guard true may = let held : ℕ = m.2 in let low : ends e.deed ≤ held = ends-held covers s m.0 m.1 held e m.3 fit.0 may in (
+      by_guard : (b : Bool) → may_come by_nodes most s e ≡ b → Made (cond b (with_event s e) s)
+      by_guard true may = let held : ℕ = m.2 in let low : ends e.deed ≤ held = ends-held covers by_nodes most s m.0 m.1 held e m.3 fit.0 (allowed-may by_nodes most s e may) in (
         set (m.0 ++ map (λ _. None) (kids_of e.deed)) e.node (Some (length s.events)),
         let_go (deed_kept e.deed) e.node (m.1 ++ map (λ (kid : Kid R). unworked_of kid.is_leaf kid.content) (kids_of e.deed)),
         held + takes e.deed - ends e.deed,
-        core-noted covers s m.0 m.1 held (held + takes e.deed - ends e.deed) e m.3 fit may (balance (ends e.deed) (takes e.deed) held low),
+        core-noted covers by_nodes most s m.0 m.1 held (held + takes e.deed - ends e.deed) e m.3 fit may (balance (ends e.deed) (takes e.deed) held low),
       )
       by_guard false may = m
 
-  made_after_all : (s : Story R) (es : List (Event R (Vec (Kid R)))) → AreFit covers s es → Made s → Made (after_all s es)
+  made_after_all : (s : Story R) (es : List (Event R (Vec (Kid R)))) → AreFit covers by_nodes most s es → Made s → Made (after_all by_nodes most s es)
   made_after_all s [] fit m = m
-  made_after_all s (e ∷ es) fit m = made_after_all (after_event s e) es fit.1 (made_after s e fit.0 m)
+  made_after_all s (e ∷ es) fit m = made_after_all (after_event by_nodes most s e) es fit.1 (made_after s e fit.0 m)
 
-  pub core_of : (root : R) (es : List (Event R (Vec (Kid R)))) → AreFit covers (opening root false) es → (latest : List (Option ℕ)) × (contents : List (Option R)) × (held : ℕ) × IsCore covers (after_all (opening root false) es) latest contents held
+  pub core_of : (root : R) (es : List (Event R (Vec (Kid R)))) → AreFit covers by_nodes most (opening root false) es → (latest : List (Option ℕ)) × (contents : List (Option R)) × (held : ℕ) × IsCore covers by_nodes most (after_all by_nodes most (opening root false) es) latest contents held
   unfolding Made
-  core_of root es fit = made_after_all (opening root false) es fit (None ∷ [], Some root ∷ [], 0, core-opened covers root false)
+  core_of root es fit = made_after_all (opening root false) es fit (None ∷ [], Some root ∷ [], 0, core-opened covers by_nodes most root false)
 
   -- the root stays
-  pub root_after : (s : Story R) (es : List (Event R (Vec (Kid R)))) (n : Node R) → slice_get s.nodes 0 ≡ Some n → slice_get (after_all s es).nodes 0 ≡ Some n
+  pub root_after : (s : Story R) (es : List (Event R (Vec (Kid R)))) (n : Node R) → slice_get s.nodes 0 ≡ Some n → slice_get (after_all by_nodes most s es).nodes 0 ≡ Some n
   root_after s [] n at = at
-  root_after s (e ∷ es) n at = root_after (after_event s e) es n (by_guard (is_allowed s e))
+  root_after s (e ∷ es) n at = root_after (after_event by_nodes most s e) es n (by_guard (may_come by_nodes most s e))
     where
       by_guard : (b : Bool) → slice_get (cond b (with_event s e) s).nodes 0 ≡ Some n
       by_guard true = get_before s.nodes (births e.node e.deed) 0 (Rattle.std.proofs.lemmas.Option.slice_get_within s.nodes 0 n at) ∙ at
       by_guard false = at
 
-  pub exactly_one : (root : R) (es : List (Event R (Vec (Kid R)))) (input : List ℕ) → AreFit covers (opening root false) es → IsTrue (covers root input) → standing_count covers (after_all (opening root false) es) input ≡ 1
+  pub exactly_one : (root : R) (es : List (Event R (Vec (Kid R)))) (input : List ℕ) → AreFit covers by_nodes most (opening root false) es → IsTrue (covers root input) → standing_count covers (after_all by_nodes most (opening root false) es) input ≡ 1
   exactly_one root es input fit covered_by = (core_of root es fit).3.partition input
       ∙ (ap (λ (o : Option (Node R)). one_if (covered covers (option_map (λ n. n.content) o) input)) (root_after (opening root false) es (record { origin = None; content = root; is_leaf = false }) refl) ∙ ap one_if covered_by)
 
@@ -85,8 +86,8 @@ module _ {R : Type 0} where
   pub held_by_claim : (s : Story R) (m w : ℕ) → (status s m ≡ Held w) ↔ LastIsClaim s m w
   held_by_claim s m w = (to_claim (slice_get s.nodes m) (last_on m s.events) w, from_claim (born_as (slice_get s.nodes m)) (last_on m s.events) w)
 
-  pub refused_stays : (s : Story R) (e : Event R (Vec (Kid R))) → IsFalse (is_allowed s e) → after_event s e ≡ s
-  refused_stays s e barred = ap (λ b. cond b (with_event s e) s) barred
+  pub refused_stays : (by_nodes : R → Bool) (most : ℕ) (s : Story R) (e : Event R (Vec (Kid R))) → IsFalse (may_come by_nodes most s e) → after_event by_nodes most s e ≡ s
+  refused_stays by_nodes most s e barred = ap (λ b. cond b (with_event s e) s) barred
 
   -- the root is always there
   at_least : (s : Story R) (es : List (Event R (Vec (Kid R)))) → 1 ≤ length s.nodes → 1 ≤ length (noted_all s es).nodes
@@ -94,6 +95,6 @@ module _ {R : Type 0} where
   at_least s (e ∷ es) one = let more : length (s.nodes ++ births e.node e.deed) ≡ length s.nodes + length (births e.node e.deed) = length-append s.nodes (births e.node e.deed) in
       at_least (with_event s e) es (omega arith)
 
-  pub rooted : (covers : R → List ℕ → Bool) (s : Story R) → Replays covers s → 0 < length s.nodes
-  rooted covers s r = let first : Story R = opening r.0 r.1 in let one : 1 ≤ length (noted_all first r.2).nodes = at_least first r.2 (omega arith) in
+  pub rooted : (covers : R → List ℕ → Bool) (by_nodes : R → Bool) (most : ℕ) (s : Story R) → Replays covers by_nodes most s → 0 < length s.nodes
+  rooted covers by_nodes most s r = let first : Story R = opening r.0 r.1 in let one : 1 ≤ length (noted_all first r.2).nodes = at_least first r.2 (omega arith) in
       subst (λ (t : Story R). 0 < length t.nodes) (sym r.4) one

@@ -14,7 +14,8 @@ use Rattle.tree_core.specs.declared.node.Origin.{Origin}
 use Rattle.tree_core.specs.declared.node.Status.TheVariants.{Free, Leaf}
 use Rattle.tree_core.specs.Stories.{Story, status, last_on}
 use Rattle.tree_core.specs.Covers.{one_if, is_live}
-use Rattle.tree_core.specs.Replays.{is_allowed, IsFit, births, deed_kept, kids_of, kept, with_event, node_of, noted_all, AllMayCome, Replays, opening}
+use Rattle.tree_core.proofs.Guards.{allowed-may}
+use Rattle.tree_core.specs.Replays.{is_allowed, may_come, IsFit, births, deed_kept, kids_of, kept, with_event, node_of, noted_all, AllMayCome, Replays, opening}
 use Rattle.tree_core.specs.Cores.{IsCore, IsLast, is_held, held_count, let_go, takes, ends, unworked, unworked_of}
 use Rattle.tree_core.proofs.Counting.{count_at}
 use Rattle.tree_core.proofs.Places.{get_set, get_before, get_behind, get_last, last_on-push}
@@ -22,21 +23,21 @@ use Rattle.tree_core.proofs.Standing.{kid_unnamed}
 use Rattle.tree_core.proofs.Letting.{born_unworked, holds-noted, length-let_go}
 use Rattle.tree_core.proofs.Sharing.{partition-noted, held_count-noted, ends-before}
 
-module _ {R : Type 0} (covers : R → List ℕ → Bool) where
+module _ {R : Type 0} (covers : R → List ℕ → Bool) (by_nodes : R → Bool) (most : ℕ) where
   noted_all-push : (s : Story R) (es : List (Event R (Vec (Kid R)))) (e : Event R (Vec (Kid R))) → noted_all s (es ++ e ∷ []) ≡ with_event (noted_all s es) e
   noted_all-push s [] e = refl
   noted_all-push s (x ∷ es) e = noted_all-push (with_event s x) es e
 
-  may_come_more : (s : Story R) (es : List (Event R (Vec (Kid R)))) (e : Event R (Vec (Kid R))) → AllMayCome covers s es → IsFit covers (noted_all s es) e → IsTrue (is_allowed (noted_all s es) e) → AllMayCome covers s (es ++ e ∷ [])
+  may_come_more : (s : Story R) (es : List (Event R (Vec (Kid R)))) (e : Event R (Vec (Kid R))) → AllMayCome covers by_nodes most s es → IsFit covers (noted_all s es) e → IsTrue (may_come by_nodes most (noted_all s es) e) → AllMayCome covers by_nodes most s (es ++ e ∷ [])
   may_come_more s [] e all fit may = (fit, may, tt)
   may_come_more s (x ∷ es) e all fit may = (all.0, all.1, may_come_more (with_event s x) es e all.2 fit may)
 
-  replays-noted : (s : Story R) (e : Event R (Vec (Kid R))) → Replays covers s → IsFit covers s e → IsTrue (is_allowed s e) → Replays covers (with_event s e)
+  replays-noted : (s : Story R) (e : Event R (Vec (Kid R))) → Replays covers by_nodes most s → IsFit covers s e → IsTrue (may_come by_nodes most s e) → Replays covers by_nodes most (with_event s e)
   replays-noted s e r fit may = let first : Story R = opening r.0 r.1 in let is : s ≡ noted_all first r.2 = r.4 in (
     r.0,
     r.1,
     r.2 ++ e ∷ [],
-    may_come_more first r.2 e r.3 (subst (λ (t : Story R). IsFit covers t e) is fit) (subst (λ (t : Story R). IsTrue (is_allowed t e)) is may),
+    may_come_more first r.2 e r.3 (subst (λ (t : Story R). IsFit covers t e) is fit) (subst (λ (t : Story R). IsTrue (may_come by_nodes most t e)) is may),
     ap (λ (t : Story R). with_event t e) is ∙ sym (noted_all-push first r.2 e),
   )
 
@@ -93,27 +94,27 @@ module _ {R : Type 0} where
       (λ not. let low : k < length latest = subst (λ (j : ℕ). k < j) (sym long) (Rattle.std.proofs.Common.lt_of_not-le not) in
       last_stays s e k o apart (last k o (sym (get_before latest nones k low) ∙ old))))
 
-module _ {R : Type 0} (covers : R → List ℕ → Bool) where
-  pub core-noted : (s : Story R) (latest : List (Option ℕ)) (contents : List (Option R)) (held more : ℕ) (e : Event R (Vec (Kid R))) → IsCore covers s latest contents held → IsFit covers s e → IsTrue (is_allowed s e) → more + ends e.deed ≡ held + takes e.deed
-      → IsCore covers (with_event s e) (set (latest ++ map (λ _. None) (kids_of e.deed)) e.node (Some (length s.events)))
+module _ {R : Type 0} (covers : R → List ℕ → Bool) (by_nodes : R → Bool) (most : ℕ) where
+  pub core-noted : (s : Story R) (latest : List (Option ℕ)) (contents : List (Option R)) (held more : ℕ) (e : Event R (Vec (Kid R))) → IsCore covers by_nodes most s latest contents held → IsFit covers s e → IsTrue (may_come by_nodes most s e) → more + ends e.deed ≡ held + takes e.deed
+      → IsCore covers by_nodes most (with_event s e) (set (latest ++ map (λ _. None) (kids_of e.deed)) e.node (Some (length s.events)))
       (let_go (deed_kept e.deed) e.node (contents ++ map (λ (kid : Kid R). unworked_of kid.is_leaf kid.content) (kids_of e.deed))) more
   core-noted s latest contents held more e t fit may counts = record {
-    replays = replays-noted covers s e t.replays fit may;
-    partition = partition-noted covers s e t.partition t.named fit may;
+    replays = replays-noted covers by_nodes most s e t.replays fit may;
+    partition = partition-noted covers s e t.partition t.named fit (allowed-may by_nodes most s e may);
     named = named-noted s e t.named fit.0;
     older = older-noted s e t.older fit.0;
     long = length-set (latest ++ map (λ _. None) (kids_of e.deed)) e.node (Some (length s.events)) ∙ (length-append latest (map (λ _. None) (kids_of e.deed)) ∙ ((λ i. t.long i + length-map {B = Option ℕ} (kids_of e.deed) (λ _. None) i) ∙ sym (long-noted s e)));
     last = last-noted s e latest t.last t.long t.named fit.0;
     wide = wide-noted s e contents t.wide;
-    holds = holds-noted s e contents t.holds t.wide t.named fit.0 may;
-    counted = balanced more (ends e.deed) held (takes e.deed) (held_count (with_event s e)) (held_count s) counts (held_count-noted s e t.named fit.0 may) t.counted;
+    holds = holds-noted s e contents t.holds t.wide t.named fit.0 (allowed-may by_nodes most s e may);
+    counted = balanced more (ends e.deed) held (takes e.deed) (held_count (with_event s e)) (held_count s) counts (held_count-noted s e t.named fit.0 (allowed-may by_nodes most s e may)) t.counted;
   }
     where
       balanced : (more d held t after before : ℕ) → more + d ≡ held + t → after + d ≡ before + t → held ≡ before → more ≡ after
       balanced more d held t after before x y z = omega arith
 
   -- a node that a worker gives back is held
-  pub ends-held : (s : Story R) (latest : List (Option ℕ)) (contents : List (Option R)) (held : ℕ) (e : Event R (Vec (Kid R))) → IsCore covers s latest contents held → e.node < length s.nodes → IsTrue (is_allowed s e) → ends e.deed ≤ held
+  pub ends-held : (s : Story R) (latest : List (Option ℕ)) (contents : List (Option R)) (held : ℕ) (e : Event R (Vec (Kid R))) → IsCore covers by_nodes most s latest contents held → e.node < length s.nodes → IsTrue (is_allowed s e) → ends e.deed ≤ held
   ends-held s latest contents held e t there may = subst (λ (k : ℕ). ends e.deed ≤ k) (sym t.counted)
       (subst (λ (k : ℕ). k ≤ held_count s) (ends-before (status s e.node) e.by e.deed may) (count_at (λ m. is_held (status s m)) (length s.nodes) e.node there))
 
@@ -145,7 +146,7 @@ module _ {R : Type 0} (covers : R → List ℕ → Bool) where
   first_content root is_leaf zero o at = let is : unworked_of is_leaf root ≡ o = cc in sym is ∙ born_unworked is_leaf root
   first_content root is_leaf (suc m) o at = cc
 
-  pub core-opened : (root : R) (is_leaf : Bool) → IsCore covers (opening root is_leaf) (None ∷ []) (unworked_of is_leaf root ∷ []) 0
+  pub core-opened : (root : R) (is_leaf : Bool) → IsCore covers by_nodes most (opening root is_leaf) (None ∷ []) (unworked_of is_leaf root ∷ []) 0
   core-opened root is_leaf = record {
     replays = (root, is_leaf, [], tt, refl);
     partition = λ input. birth_shared input root is_leaf;

@@ -3,6 +3,7 @@ pub mod Places
 pub mod Standing
 pub mod Sharing
 pub mod Letting
+pub mod Guards
 pub mod Keeping
 pub mod Rooms
 pub mod Histories

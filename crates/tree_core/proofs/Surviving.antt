@@ -16,6 +16,7 @@ use Rattle.tree_core.specs.declared.node.Status.{Status}
 use Rattle.tree_core.specs.declared.node.Status.TheVariants.{Held}
 use Rattle.tree_core.specs.Stories.{Story, status, content, status_by, content_after, born_as, last_on, IsClaimBy}
 use Rattle.tree_core.specs.Replays.{allows, is_allowed, kept, with_event, noted_all, AllMayCome, Replays, opening}
+use Rattle.tree_core.proofs.Guards.{allowed-may}
 use Rattle.tree_core.proofs.Places.{get_before, last_on-push}
 use Rattle.tree_core.proofs.Histories.{from_claim, to_claim}
 
@@ -46,11 +47,11 @@ module _ {R : Type 0} where
   events-noted_all s [] = sym (append-nil s.events)
   events-noted_all s (e ∷ es) = events-noted_all (with_event s e) es ∙ append_assoc s.events (kept e ∷ []) (map kept es)
 
-module _ {R : Type 0} (covers : R → List ℕ → Bool) where
-  last_kept : (s : Story R) (es : List (Event R (Vec (Kid R)))) (m w : ℕ) → AllMayCome covers s es → All (λ (x : Event R ℕ). x.by ≢ w) (map kept es) → IsClaimBy w (last_on m s.events) → last_on m (noted_all s es).events ≡ last_on m s.events
+module _ {R : Type 0} (covers : R → List ℕ → Bool) (by_nodes : R → Bool) (most : ℕ) where
+  last_kept : (s : Story R) (es : List (Event R (Vec (Kid R)))) (m w : ℕ) → AllMayCome covers by_nodes most s es → All (λ (x : Event R ℕ). x.by ≢ w) (map kept es) → IsClaimBy w (last_on m s.events) → last_on m (noted_all s es).events ≡ last_on m s.events
   last_kept s [] m w all others claim = refl
   last_kept s (e ∷ es) m w all others claim =
-      let away : eqb e.node m ≡ false = names_another s e m w claim (All-head (λ (x : Event R ℕ). x.by ≢ w) (kept e) (map kept es) others) all.1 in
+      let away : eqb e.node m ≡ false = names_another s e m w claim (All-head (λ (x : Event R ℕ). x.by ≢ w) (kept e) (map kept es) others) (allowed-may by_nodes most s e all.1) in
       let one : last_on m (with_event s e).events ≡ last_on m s.events = last_on-push m s.events (kept e) ∙ ap (λ b. cond b (Some (kept e)) (last_on m s.events)) away in
       last_kept (with_event s e) es m w all.2 (All-tail (λ (x : Event R ℕ). x.by ≢ w) (kept e) (map kept es) others) (subst (IsClaimBy w) (sym one) claim) ∙ one
 
@@ -58,12 +59,12 @@ module _ {R : Type 0} (covers : R → List ℕ → Bool) where
   record WasAt (t : Story R) (xs more : List (Event R ℕ)) : Type 0 where
     story : Story R
     rest : List (Event R (Vec (Kid R)))
-    may : AllMayCome covers story rest
+    may : AllMayCome covers by_nodes most story rest
     had : story.events ≡ xs
     came : map kept rest ≡ more
     made : t ≡ noted_all story rest
 
-  was_at : (s : Story R) (es : List (Event R (Vec (Kid R)))) (xs more : List (Event R ℕ)) → AllMayCome covers s es → s.events ++ map kept es ≡ xs ++ more → length s.events ≤ length xs → WasAt (noted_all s es) xs more
+  was_at : (s : Story R) (es : List (Event R (Vec (Kid R)))) (xs more : List (Event R ℕ)) → AllMayCome covers by_nodes most s es → s.events ++ map kept es ≡ xs ++ more → length s.events ≤ length xs → WasAt (noted_all s es) xs more
   was_at s [] xs more all is le = let sums : length (s.events ++ []) ≡ length (xs ++ more) = ap length is in let left : length (s.events ++ []) ≡ length s.events + 0 = length-append s.events [] in
       let right : length (xs ++ more) ≡ length xs + length more = length-append xs more in
       let parts = same_parts s.events [] xs more (omega arith) is in record { story = s; rest = []; may = tt; had = parts.0; came = parts.1; made = refl }
@@ -71,7 +72,7 @@ module _ {R : Type 0} (covers : R → List ℕ → Bool) where
       (λ same. let parts = same_parts s.events (map kept (e ∷ es)) xs more same is in record { story = s; rest = e ∷ es; may = all; had = parts.0; came = parts.1; made = refl })
       (λ ne. was_at (with_event s e) es xs more all.2 (append_assoc s.events (kept e ∷ []) (map kept es) ∙ is) (let long : length (s.events ++ kept e ∷ []) ≡ length s.events + 1 = length-append s.events (kept e ∷ []) in omega arith))
 
-  pub survives : (s t : Story R) (nodes : List (Node R)) (events : List (Event R ℕ)) (m w : ℕ) → Replays covers t → t.nodes ≡ s.nodes ++ nodes → t.events ≡ s.events ++ events → All (λ (x : Event R ℕ). x.by ≢ w) events
+  pub survives : (s t : Story R) (nodes : List (Node R)) (events : List (Event R ℕ)) (m w : ℕ) → Replays covers by_nodes most t → t.nodes ≡ s.nodes ++ nodes → t.events ≡ s.events ++ events → All (λ (x : Event R ℕ). x.by ≢ w) events
       → m < length s.nodes → status s m ≡ Held w → (status t m ≡ Held w) × (content t m ≡ content s m)
   survives s t nodes events m w r grew came others there held =
       let first : Story R = opening r.0 r.1 in let is : t ≡ noted_all first r.2 = r.4 in

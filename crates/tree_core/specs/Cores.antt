@@ -13,9 +13,11 @@ use Rattle.tree_core.specs.Nodes.{Node}
 use Rattle.tree_core.specs.declared.node.Status.{Status}
 use Rattle.tree_core.specs.declared.node.Status.TheVariants.{Free, Held, Parted, Leaf}
 
--- a story, the number of nodes that may come with no memory, and that of events, beside the one that is kept back for each held node
+-- a story, how many nodes it may have, the number of nodes that may come with no memory, and that of events, beside the one that
+-- is kept back for each held node
 pub record CoreValue (R : Type 0) : Type 0 where
   pub story : Story R
+  pub most : ℕ
   pub node_room : ℕ
   pub event_room : ℕ
 
@@ -62,9 +64,10 @@ let_go Release m contents = contents
 let_go _ m contents = slice_set contents m None
 
 -- a story that events made, with the place of each node's last event, what the free and held nodes hold, and how many are held
-pub record IsCore {R : Type 0} (covers : R → List ℕ → Bool) (s : Story R) (latest : List (Option ℕ))
+pub record IsCore {R : Type 0} (covers : R → List ℕ → Bool) (by_nodes : R → Bool) (most : ℕ)
+    (s : Story R) (latest : List (Option ℕ))
     (contents : List (Option R)) (held : ℕ) : Type 0 where
-  pub replays : Replays covers s
+  pub replays : Replays covers by_nodes most s
   pub partition : Partition covers s
   pub named : All (λ (e : Event R ℕ). e.node < length s.nodes) s.events
   pub older : (m : ℕ) (n : Node R) → slice_get s.nodes m ≡ Some n

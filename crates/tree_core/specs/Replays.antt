@@ -1,5 +1,5 @@
 -- Events as they come to a tree: which ones may come, what they make of it, and that a tree is what its events made of its root.
-use Rattle.std.specs.Prelude.{◌≡◌, ℕ, ◌<◌, ◌==◌, Bool, true, false, if◌then◌else◌, IsTrue, Option, Some, None, List, [], ◌∷◌, ◌++◌, map, length}
+use Rattle.std.specs.Prelude.{◌≡◌, ℕ, ◌<◌, ◌==◌, ◌&&◌, Bool, true, false, not, nat_le, nat_lt, if◌then◌else◌, IsTrue, Option, Some, None, List, [], ◌∷◌, ◌++◌, map, length}
 use Rattle.std.specs.Global.{Vec}
 use Rattle.tree_core.specs.Stories.{Story, status, content}
 use Rattle.tree_core.specs.Covers.{SameCover, Parts}
@@ -37,9 +37,29 @@ IsSound covers old _ = Unit {0}
 abbrev pub IsFit : {R : Type 0} → (R → List ℕ → Bool) → Story R → Event R (Vec (Kid R)) → Type 0
 IsFit covers s e = (e.node < length s.nodes) × IsSound covers (content s e.node) e.deed
 
--- the event's guard holds
+-- the node stands as the event needs it
 abbrev pub is_allowed : {R : Type 0} → Story R → Event R (Vec (Kid R)) → Bool
 is_allowed s e = allows (status s e.node) e.by e.deed
+
+-- a split where there are as many nodes as there may be, or more
+abbrev pub is_full : {R K : Type 0} → (most nodes : ℕ) → Deed R K → Bool
+is_full most nodes (Split kids) = nat_le most nodes
+is_full most nodes _ = false
+
+-- a cut for want of nodes where there are fewer than there may be
+abbrev pub is_early : {R K : Type 0} → (by_nodes : R → Bool) → (most nodes : ℕ) → Deed R K → Bool
+is_early by_nodes most nodes (Cut leaf) = by_nodes leaf && nat_lt nodes most
+is_early by_nodes most nodes _ = false
+
+-- so many nodes are few enough for a split, and enough for a cut for want of nodes
+abbrev pub has_room : {R K : Type 0} → (by_nodes : R → Bool) → (most nodes : ℕ) → Deed R K → Bool
+has_room by_nodes most nodes deed = not (is_full most nodes deed)
+    && not (is_early by_nodes most nodes deed)
+
+-- the event's guards hold
+abbrev pub may_come : {R : Type 0} → (by_nodes : R → Bool) → (most : ℕ) → Story R
+    → Event R (Vec (Kid R)) → Bool
+may_come by_nodes most s e = is_allowed s e && has_room by_nodes most (length s.nodes) e.deed
 
 -- the node that a kid becomes
 abbrev pub node_of : {R : Type 0} → ℕ → Kid R → Node R
@@ -85,12 +105,12 @@ opening root is_leaf = record {
   events = [];
 }
 
--- each of the events is fit, and its guard holds, when it comes
-abbrev pub AllMayCome : {R : Type 0} → (R → List ℕ → Bool) → Story R → List (Event R (Vec (Kid R)))
-    → Type 0
-AllMayCome covers s [] = Unit {0}
-AllMayCome covers s (e ∷ es) = IsFit covers s e × IsTrue (is_allowed s e)
-    × AllMayCome covers (with_event s e) es
+-- each of the events is fit, and its guards hold, when it comes
+abbrev pub AllMayCome : {R : Type 0} → (R → List ℕ → Bool) → (by_nodes : R → Bool) → (most : ℕ)
+    → Story R → List (Event R (Vec (Kid R))) → Type 0
+AllMayCome covers by_nodes most s [] = Unit {0}
+AllMayCome covers by_nodes most s (e ∷ es) = IsFit covers s e × IsTrue (may_come by_nodes most s e)
+    × AllMayCome covers by_nodes most (with_event s e) es
 
 -- the story with these events more
 abbrev pub noted_all : {R : Type 0} → Story R → List (Event R (Vec (Kid R))) → Story R
@@ -98,21 +118,27 @@ noted_all s [] = s
 noted_all s (e ∷ es) = noted_all (with_event s e) es
 
 -- the story is what some events made of a root, each of which might come when it came
-abbrev pub Replays : {R : Type 0} → (R → List ℕ → Bool) → Story R → Type 0
-Replays {R} covers s = (root : R) × (is_leaf : Bool) × (es : List (Event R (Vec (Kid R))))
-    × AllMayCome covers (opening root is_leaf) es × (s ≡ noted_all (opening root is_leaf) es)
+abbrev pub Replays : {R : Type 0} → (R → List ℕ → Bool) → (by_nodes : R → Bool) → (most : ℕ)
+    → Story R → Type 0
+Replays {R} covers by_nodes most s =
+    (root : R) × (is_leaf : Bool) × (es : List (Event R (Vec (Kid R))))
+    × AllMayCome covers by_nodes most (opening root is_leaf) es
+    × (s ≡ noted_all (opening root is_leaf) es)
 
--- an event that comes to a core: it's noted where its guard holds, else nothing changes
-abbrev pub after_event : {R : Type 0} → Story R → Event R (Vec (Kid R)) → Story R
-after_event s e = if is_allowed s e then with_event s e else s
+-- an event that comes to a core: it's noted where its guards hold, else nothing changes
+abbrev pub after_event : {R : Type 0} → (by_nodes : R → Bool) → (most : ℕ) → Story R
+    → Event R (Vec (Kid R)) → Story R
+after_event by_nodes most s e = if may_come by_nodes most s e then with_event s e else s
 
 -- any events, one by one
-abbrev pub after_all : {R : Type 0} → Story R → List (Event R (Vec (Kid R))) → Story R
-after_all s [] = s
-after_all s (e ∷ es) = after_all (after_event s e) es
+abbrev pub after_all : {R : Type 0} → (by_nodes : R → Bool) → (most : ℕ) → Story R
+    → List (Event R (Vec (Kid R))) → Story R
+after_all by_nodes most s [] = s
+after_all by_nodes most s (e ∷ es) = after_all by_nodes most (after_event by_nodes most s e) es
 
 -- each event is fit when it comes
-abbrev pub AreFit : {R : Type 0} → (R → List ℕ → Bool) → Story R → List (Event R (Vec (Kid R)))
-    → Type 0
-AreFit covers s [] = Unit {0}
-AreFit covers s (e ∷ es) = IsFit covers s e × AreFit covers (after_event s e) es
+abbrev pub AreFit : {R : Type 0} → (R → List ℕ → Bool) → (by_nodes : R → Bool) → (most : ℕ)
+    → Story R → List (Event R (Vec (Kid R))) → Type 0
+AreFit covers by_nodes most s [] = Unit {0}
+AreFit covers by_nodes most s (e ∷ es) =
+    IsFit covers s e × AreFit covers by_nodes most (after_event by_nodes most s e) es

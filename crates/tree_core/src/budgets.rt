@@ -9,4 +9,6 @@ pub struct Budgets {
     pub targets: u32,
     /// The most clauses that are derived in the search for an answer; the question is then left open.
     pub conflicts: u32,
+    /// The nodes of the tree from which on no node is parted; what would be is cut. The last split may pass it by its kids.
+    pub nodes: u32,
 }

@@ -1,9 +1,10 @@
 //! What a deed needs, and what it leaves behind.
 
 ghost use Rattle.std.specs.Prelude.{◌≡◌, ◌+◌, ◌<◌, ◌≤◌, ◌++◌, ◌^◌, None, length, map, vec_len, vec_capacity, OnOk, OnErr};
-ghost use Rattle.tree_core.specs.Replays.{allows, births, deed_kept, kids_of, node_of};
+ghost use Rattle.tree_core.specs.Replays.{allows, births, deed_kept, is_early, is_full, kids_of, node_of};
 ghost use Rattle.tree_core.specs.Cores.{takes, ends, let_go, unworked_of, NoRoom};
 
+use crate::cover::Cover;
 use crate::event::{Deed, Kid, Noted};
 use crate::node::{Node, Origin, Status, newborn};
 use std::alloc::AllocError as NoMemory;
@@ -18,6 +19,28 @@ impl<R, K> Deed<R, K> {
             (Deed::Claim, _) => false,
             (_, Status::Held(holder)) => holder == by,
             (_, _) => false,
+        }
+    }
+
+    // Whether it is a split where there are as many nodes as there may be, or more.
+    pub(crate) fn is_full(&self, most: usize, nodes: usize) -> bool
+        ensures { result ≡ is_full most nodes self.now }
+    {
+        match self {
+            Deed::Split(_) => most <= nodes,
+            Deed::Claim | Deed::Finish(_) | Deed::Cut(_) | Deed::Release => false,
+        }
+    }
+}
+
+impl<R: Cover, K> Deed<R, K> {
+    // Whether it is a cut for want of nodes where there are fewer than there may be.
+    pub(crate) fn is_early(&self, most: usize, nodes: usize) -> bool
+        ensures { result ≡ is_early R.by_nodes most nodes self.now }
+    {
+        match self {
+            Deed::Cut(leaf) => leaf.is_by_nodes() && nodes < most,
+            Deed::Claim | Deed::Split(_) | Deed::Finish(_) | Deed::Release => false,
         }
     }
 }

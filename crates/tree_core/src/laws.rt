@@ -4,7 +4,7 @@ ghost use Rattle.std.specs.Prelude.{◌≡◌, ◌≢◌, ◌↔◌, ◌<◌, �
 ghost use Rattle.std.specs.Global.{Vec};
 ghost use Rattle.tree_core.specs.Stories.{Story, status, content, LastIsClaim};
 ghost use Rattle.tree_core.specs.Covers.{Partition, standing_count};
-ghost use Rattle.tree_core.specs.Replays.{AreFit, Replays, after_event, after_all, is_allowed, opening};
+ghost use Rattle.tree_core.specs.Replays.{AreFit, Replays, after_event, after_all, may_come, opening};
 ghost use Rattle.tree_core.specs.declared.event.Event.{Event};
 ghost use Rattle.tree_core.specs.declared.event.Kid.{Kid};
 ghost use Rattle.tree_core.specs.Nodes.{Node};
@@ -16,27 +16,31 @@ use crate::cover::Cover;
 /// covered by exactly one node that is free, held or a leaf; a node is held by a worker exactly where the last event noted of it
 /// is that worker's claim; and a refused event has changed nothing.
 pub fn every_list_of_events<R: Cover>()
-    ensures exactly_one { (root : R) (events : List (Event R (Vec (Kid R)))) (input : List ℕ)
-        → AreFit R.covers (opening root false) events → IsTrue (R.covers root input)
-        → standing_count R.covers (after_all (opening root false) events) input ≡ 1 }
-    ensures partition { (root : R) (events : List (Event R (Vec (Kid R))))
-        → AreFit R.covers (opening root false) events
-        → Partition R.covers (after_all (opening root false) events) }
-    ensures replays { (root : R) (events : List (Event R (Vec (Kid R))))
-        → AreFit R.covers (opening root false) events
-        → Replays R.covers (after_all (opening root false) events) }
-    ensures held { (root : R) (events : List (Event R (Vec (Kid R)))) (node by : ℕ)
-        → (status (after_all (opening root false) events) node ≡ Held by)
-        ↔ LastIsClaim (after_all (opening root false) events) node by }
-    ensures refused { (s : Story R) (event : Event R (Vec (Kid R))) → IsFalse (is_allowed s event)
-        → after_event s event ≡ s }
+    ensures exactly_one { (most : ℕ) (root : R) (events : List (Event R (Vec (Kid R))))
+        (input : List ℕ)
+        → AreFit R.covers R.by_nodes most (opening root false) events → IsTrue (R.covers root input)
+        → standing_count R.covers (after_all R.by_nodes most (opening root false) events) input
+        ≡ 1 }
+    ensures partition { (most : ℕ) (root : R) (events : List (Event R (Vec (Kid R))))
+        → AreFit R.covers R.by_nodes most (opening root false) events
+        → Partition R.covers (after_all R.by_nodes most (opening root false) events) }
+    ensures replays { (most : ℕ) (root : R) (events : List (Event R (Vec (Kid R))))
+        → AreFit R.covers R.by_nodes most (opening root false) events
+        → Replays R.covers R.by_nodes most (after_all R.by_nodes most (opening root false) events) }
+    ensures held { (most : ℕ) (root : R) (events : List (Event R (Vec (Kid R)))) (node by : ℕ)
+        → (status (after_all R.by_nodes most (opening root false) events) node ≡ Held by)
+        ↔ LastIsClaim (after_all R.by_nodes most (opening root false) events) node by }
+    ensures refused { (most : ℕ) (s : Story R) (event : Event R (Vec (Kid R)))
+        → IsFalse (may_come R.by_nodes most s event)
+        → after_event R.by_nodes most s event ≡ s }
 {}
 
 /// A claim survives what others do: where a tree has grown by nodes and by events of other workers alone, a node that the worker
 /// held is held by it still, with the content that it had.
 pub fn a_claim_survives<R: Cover>()
-    ensures { (s t : Story R) (nodes : List (Node R)) (events : List (Event R ℕ)) (node by : ℕ)
-        → Replays R.covers t → t.nodes ≡ s.nodes ++ nodes → t.events ≡ s.events ++ events
+    ensures { (most : ℕ) (s t : Story R) (nodes : List (Node R)) (events : List (Event R ℕ))
+        (node by : ℕ)
+        → Replays R.covers R.by_nodes most t → t.nodes ≡ s.nodes ++ nodes → t.events ≡ s.events ++ events
         → All (λ (e : Event R ℕ). e.by ≢ by) events → node < length s.nodes
         → status s node ≡ Held by → (status t node ≡ Held by) × (content t node ≡ content s node) }
 {}

@@ -11,6 +11,10 @@ use std::alloc::AllocError;
 pub enum Refusal {
     /// The node doesn't stand as the event needs it: free for a claim, and else held by the event's worker.
     NotNow { node: usize, status: Status },
+    /// The tree has as many nodes as it may have, or more, so that no node may be parted.
+    Full { nodes: usize },
+    /// The tree has fewer nodes than it may have, so that none may be cut for want of nodes.
+    Early { nodes: usize },
     /// Memory was refused.
     NoMemory,
 }

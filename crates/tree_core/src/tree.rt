@@ -1,10 +1,10 @@
 //! The core of a fork tree: its nodes and events, both of which only grow, and what the nodes hold on which there is work left.
 
-ghost use Rattle.std.specs.Prelude.{◌≡◌, ◌≢◌, ◌<◌, ◌≤◌, ◌↔◌, Some, Err, IsTrue, IsFalse, All, length, option_map, OnOk, OnErr, IfOk, IfSome, IsNone, Option, option_copied};
+ghost use Rattle.std.specs.Prelude.{◌≡◌, ◌≢◌, ◌+◌, ◌^◌, ◌<◌, ◌≤◌, ◌↔◌, Some, Err, IsTrue, IsFalse, All, length, option_map, OnOk, OnErr, IfOk, IfSome, IsNone, Option, option_copied};
 ghost use Rattle.tree_core.specs.Stories.{status, content, origin, left_by, born_as, content_by};
 ghost use Rattle.tree_core.specs.declared.node.Status.TheVariants.{Parted};
 ghost use Rattle.tree_core.specs.Covers.{Partition};
-ghost use Rattle.tree_core.specs.Replays.{IsFit, Replays, is_allowed, with_event, after_event, opening};
+ghost use Rattle.tree_core.specs.Replays.{IsFit, Replays, after_event, is_allowed, is_early, is_full, may_come, opening, with_event};
 ghost use Rattle.tree_core.specs.Cores.{LacksRoom, IsLast, held_count, if_leaf};
 
 use crate::choice::Choice;
@@ -17,7 +17,8 @@ use std::alloc::{AllocError as NoMemory, Global};
 use std::marker::Model;
 
 /// A fork tree under its claim protocol. What a node holds is let go as the node is parted or becomes a leaf. Room is kept for
-/// the event that ends each claim, so that only claims and splits may find no memory.
+/// the event that ends each claim, so that only claims and splits may find no memory. Once there are as many nodes as there may
+/// be, no node is parted.
 pub struct Core<R: Cover> {
     nodes: Vec<Node<R>>,
     events: Vec<Noted<R>>,
@@ -27,6 +28,8 @@ pub struct Core<R: Cover> {
     contents: Vec<Option<R>>,
     // How many nodes are held.
     held: usize,
+    // From how many nodes on none is parted.
+    most: usize,
 }
 
 impl<R: Cover> Drop for Core<R> {
@@ -37,6 +40,7 @@ impl<R: Cover> Drop for Core<R> {
             latest: _latest,
             contents: _contents,
             held: _held,
+            most: _most,
         } = self;
     }
 }
@@ -47,15 +51,16 @@ impl<R: Cover> Model for Core<R> {
 
     ghost Value = { CoreValue R };
 
-    ghost view = { λ c. record { story = record { nodes = c.nodes.items; events = c.events.items }; node_room = spare_nodes c.nodes c.latest c.contents; event_room = vec_capacity c.events - (length c.events.items + c.held) } };
+    ghost view = { λ c. record { story = record { nodes = c.nodes.items; events = c.events.items }; most = c.most; node_room = spare_nodes c.nodes c.latest c.contents; event_room = vec_capacity c.events - (length c.events.items + c.held) } };
 
-    ghost invariant = { λ c. IsCore R.covers (record { nodes = c.nodes.items; events = c.events.items }) c.latest.items c.contents.items c.held × (length c.events.items + c.held ≤ vec_capacity c.events) × (c.held ≤ length c.events.items) };
+    ghost invariant = { λ c. IsCore R.covers R.by_nodes c.most (record { nodes = c.nodes.items; events = c.events.items }) c.latest.items c.contents.items c.held × (length c.events.items + c.held ≤ vec_capacity c.events) × (c.held ≤ length c.events.items) };
 }
 
 impl<R: Cover> Core<R> {
-    /// A tree of one node, the root, and no event.
-    pub fn new(alloc: Global, root: R, is_leaf: bool) -> Result<Core<R>, NoMemory>
-        ensures { IfOk result (λ c. c.story ≡ opening root is_leaf) }
+    /// A tree of one node, the root, and no event. It may have so many nodes, and the further kids of its last split.
+    pub fn new(alloc: Global, root: R, is_leaf: bool, most: usize) -> Result<Core<R>, NoMemory>
+        ensures story { IfOk result (λ c. c.story ≡ opening root is_leaf) }
+        ensures most { IfOk result (λ c. c.most ≡ most) }
     {
         let mut nodes = Vec::with_capacity(alloc, 1)?;
         let mut latest = Vec::with_capacity(alloc, 1)?;
@@ -70,31 +75,48 @@ impl<R: Cover> Core<R> {
             latest,
             contents,
             held: 0,
+            most,
         })
     }
 
     /// Notes an event of a worker, where the node stands as the event needs it: free for a claim, and else held by that worker.
     /// The node has to be there, a split's kids have to share out what the node covers, and a leaf to cover just that.
     ///
-    /// `NotNow` comes exactly where the node doesn't stand so. Only a claim (for its own event, and for the one that ends it)
-    /// and a split (for its kids) may find no memory. Whatever isn't noted changes nothing.
+    /// `NotNow` comes exactly where the node doesn't stand so. Where it does, `Full` comes exactly for a split where there are as
+    /// many nodes as there may be, and `Early` exactly for a cut for want of nodes where there are fewer. Only a claim (for its
+    /// own event, and for the one that ends it) and a split (for its kids) may find no memory. Whatever isn't noted changes
+    /// nothing.
     pub fn apply(&mut self, event: Event<R>) -> Result<(), Refusal>
         requires fit { IsFit R.covers self.old.story event }
         ensures ok { OnOk result (self.new.story ≡ with_event self.old.story event) }
-        ensures allowed { OnOk result (IsTrue (is_allowed self.old.story event)) }
+        ensures most { self.new.most ≡ self.old.most }
+        ensures may { OnOk result (IsTrue (may_come R.by_nodes self.old.most self.old.story event)) }
 
         ensures not_now { (result
             ≡ Err (Refusal.NotNow event.node (status self.old.story event.node)))
             ↔ IsFalse (is_allowed self.old.story event) }
+        ensures full { (result ≡ Err (Refusal.Full (length self.old.story.nodes)))
+            ↔ (IsTrue (is_allowed self.old.story event)
+            × IsTrue (is_full self.old.most (length self.old.story.nodes) event.deed)) }
+        ensures early { (result ≡ Err (Refusal.Early (length self.old.story.nodes)))
+            ↔ (IsTrue (is_allowed self.old.story event) × IsTrue (is_early
+            R.by_nodes self.old.most (length self.old.story.nodes) event.deed)) }
         ensures memory { result ≡ Err Refusal.NoMemory → LacksRoom self.old event.deed }
         ensures err { OnErr result (self.new.story ≡ self.old.story) }
         ensures after { result ≢ Err Refusal.NoMemory
-            → self.new.story ≡ after_event self.old.story event }
+            → self.new.story ≡ after_event R.by_nodes self.old.most self.old.story event }
     {
         let Event { by, node, deed } = event;
         let status = status_at(&self.nodes, &self.events, self.latest[node], node);
         if !deed.is_allowed(status, by) {
             return Err(Refusal::NotNow { node, status });
+        }
+        let nodes = self.nodes.len();
+        if deed.is_full(self.most, nodes) {
+            return Err(Refusal::Full { nodes });
+        }
+        if deed.is_early(self.most, nodes) {
+            return Err(Refusal::Early { nodes });
         }
         make_room(
             &mut self.nodes,
@@ -161,7 +183,9 @@ impl<R: Cover> Core<R> {
     /// Finds room for so many kids, for a claim and for the event that ends it.
     pub fn reserve(&mut self, kids: usize) -> Result<(), NoMemory>
         ensures story { self.new.story ≡ self.old.story }
+        ensures most { self.new.most ≡ self.old.most }
         ensures nodes { OnOk result (kids ≤ self.new.node_room) }
+        ensures fits { OnOk result (length self.new.story.nodes + kids < 2 ^ 64) }
         ensures events { OnOk result (2 ≤ self.new.event_room) }
     {
         self.nodes.reserve(kids)?;
@@ -173,7 +197,7 @@ impl<R: Cover> Core<R> {
     /// At every moment the tree is what its events have made of its root, each allowed and fit when it came, and its free,
     /// held and leaf nodes share out what the root covers.
     pub fn is_whole(&self)
-        ensures replays { Replays R.covers self.now.story }
+        ensures replays { Replays R.covers R.by_nodes self.now.most self.now.story }
         ensures partition { Partition R.covers self.now.story }
     {
         let _ = &self.nodes;
@@ -185,6 +209,13 @@ impl<R: Cover> Core<R> {
         ensures root { 0 < result }
     {
         self.nodes.len()
+    }
+
+    /// From how many nodes on none is parted.
+    pub fn most(&self) -> usize
+        ensures { result ≡ self.now.most }
+    {
+        self.most
     }
 
     /// How many nodes are held.

@@ -23,13 +23,13 @@ none_below (suc n) = ap (λ k. k + 0) (none_below n)
 
 module _ {R : Type 0} where
   -- a claim survives the turns of others, whatever they did: the worker's own events stay
-  pub stays_held : (covers : R → List ℕ → Bool) (s t : Story R) (nodes : List (Node R))
-      (events : List (Event R ℕ)) (m w : ℕ) → Replays covers t → t.nodes ≡ s.nodes ++ nodes →
+  pub stays_held : (covers : R → List ℕ → Bool) (by_nodes : R → Bool) (most : ℕ) (s t : Story R) (nodes : List (Node R))
+      (events : List (Event R ℕ)) (m w : ℕ) → Replays covers by_nodes most t → t.nodes ≡ s.nodes ++ nodes →
       t.events ≡ s.events ++ events → events_by w t.events ≡ events_by w s.events →
       m < length s.nodes → status s m ≡ Held w →
       (status t m ≡ Held w) × (content t m ≡ content s m)
-  stays_held covers s t nodes events m w replays grew came same there held =
-      survives covers s t nodes events m w replays grew came
+  stays_held covers by_nodes most s t nodes events m w replays grew came same there held =
+      survives covers by_nodes most s t nodes events m w replays grew came
       (only_others w s.events events (ap (events_by w) (sym came) ∙ same)) there held
 
   -- where each worker's events are turns of work, nobody holds a node

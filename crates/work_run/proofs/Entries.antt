@@ -1,20 +1,26 @@
 -- What a worker does to the tree in one turn.
-use Rattle.std.proofs.Common.{◌≡◌, ℕ, Bool, true, sym, refl, ap, ◌∙◌, subst}
-use Rattle.std.specs.Prelude.{Result, Ok, Err, IfOk, OnErr}
+use Rattle.std.proofs.Common.{◌≡◌, ℕ, Bool, true, false, inl, inr, refl, sym, ◌∙◌, subst}
+use Rattle.std.specs.Prelude.{Result, Ok, Err, IfOk, OnErr, OnOk}
 use Rattle.std.specs.Global.{Vec}
 use Rattle.tree_core.specs.Replays.{with_event}
 use Rattle.tree_core.specs.Stories.{Story}
-use Rattle.tree_core.specs.declared.event.Event.{Event}
 use Rattle.tree_core.specs.declared.event.Kid.{Kid}
-use Rattle.fork_spec.specs.Partings.{Place}
-use Rattle.fork_tree.specs.Calls.{IsClaim, IsSplitFit, claim_event, release_event}
+use Rattle.fork_tree.specs.Calls.{IsClaim, IsParted, claim_event, cut_event, release_event, split_event}
 use Rattle.fork_tree.specs.Drains.{GrowsBy}
-use Rattle.fork_tree.specs.Works.{Rules}
 use Rattle.fork_tree.specs.declared.content.Content.{Content}
 use Rattle.fork_tree.specs.declared.tree.Claim.{Claim}
 use Rattle.fork_tree.specs.declared.tree.Claim.TheVariants.{Claimed, Nothing, Quiet}
 use Rattle.fork_tree.proofs.Entering.{grows-none, grows-one}
-use Rattle.work_run.specs.Entering.{IsClaimEnded}
+use Rattle.work_run.specs.Entering.{IsClaimEnded, claim_in}
+
+-- what follows in either case holds
+pub on_either : {T E A B P : Type 0} (r : Result T E) → OnOk r A → OnErr r B → (A → P) → (B → P) → P
+on_either (Ok x) a b f g = f a
+on_either (Err e) a b f g = g b
+
+pub on_ok-map : {T E A P : Type 0} (r : Result T E) → OnOk r A → (A → P) → OnOk r P
+on_ok-map (Ok x) a f = f a
+on_ok-map (Err e) a f = a
 
 -- a claim adds events of its worker alone
 pub made-grows : {S L : Type 0} (well : S → Type 0) (s t : Story (Content S L)) (by : ℕ)
@@ -47,18 +53,33 @@ released-ended s t by node (Err e) is = (
   },
 )
 
--- an event that was noted where nothing had changed
-pub noted_still : {R : Type 0} (s r t : Story R) (e : Event R (Vec (Kid R))) → t ≡ with_event r e →
-    r ≡ s → t ≡ with_event s e
-noted_still s r t e is same = is ∙ ap (λ x. with_event x e) same
+-- kids, or a leaf, end the claim, and not by a release
+pub parted-ended : {S L : Type 0} (s t : Story (Content S L)) (by node : ℕ)
+    (kids : Vec (Kid (Content S L))) → IsParted s by node kids t → IsClaimEnded false by node s t
+parted-ended s t by node kids (inl is) = record {
+  event = split_event by node kids;
+  of_worker = refl;
+  of_node = refl;
+  ends = refl;
+  is_released = refl;
+  story = is;
+}
+parted-ended s t by node kids (inr (leaf, is)) = record {
+  event = cut_event by node leaf;
+  of_worker = refl;
+  of_node = refl;
+  ends = refl;
+  is_released = refl;
+  story = is;
+}
 
--- kids that may come still may where nothing has changed
-pub fit_still : {W S L : Type 0} (rules : W → Rules S L) (state_place : S → Place)
-    (leaf_place : L → Place) (by node : ℕ) (kids : Vec (Kid (Content S L))) (w v : W)
-    (s t : Story (Content S L)) → v ≡ w → t ≡ s →
-    IsSplitFit (rules w) state_place leaf_place s by node kids →
-    IsSplitFit (rules v) state_place leaf_place t by node kids
-fit_still {W} {S} {L} rules state_place leaf_place by node kids w v s t same is fit =
-    subst (λ (p : W × Story (Content S L)). IsSplitFit
-    (rules p.0) state_place leaf_place p.1 by node
-    kids) (λ i. (sym same i, sym is i)) fit
+-- what holds of the claim in an answer
+pub claim_ok : {C R E : Type 0} (P : C → Type 0) (entered : Result (C × R) E) (claimed : Result C E) →
+    claimed ≡ claim_in entered → IfOk entered (λ e. P e.0) → IfOk claimed P
+claim_ok P (Ok e) claimed is ok = subst (λ (r : Result _ _). IfOk r P) (sym is) ok
+claim_ok P (Err e) claimed is ok = subst (λ (r : Result _ _). IfOk r P) (sym is) tt
+
+pub claim_err : {C R E : Type 0} (Q : Type 0) (entered : Result (C × R) E) (claimed : Result C E) →
+    claimed ≡ claim_in entered → OnErr entered Q → OnErr claimed Q
+claim_err Q (Ok e) claimed is err = subst (λ (r : Result _ _). OnErr r Q) (sym is) tt
+claim_err Q (Err e) claimed is err = subst (λ (r : Result _ _). OnErr r Q) (sym is) err

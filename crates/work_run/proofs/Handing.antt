@@ -118,11 +118,11 @@ module _ {F R : Type 0} where
     nothing-all (Err e) err = turn-nothing err
 
   -- who holds a node holds it when the story is handed out again
-  pub held-by : (covers : R → List ℕ → Bool) (v : KnownOf F R) (s : Story R) (by node : ℕ) →
-      by ≡ v.number → Replays covers s → IsHanded v s →
+  pub held-by : (covers : R → List ℕ → Bool) (by_nodes : R → Bool) (most : ℕ) (v : KnownOf F R) (s : Story R) (by node : ℕ) →
+      by ≡ v.number → Replays covers by_nodes most s → IsHanded v s →
       HoldsNode (story_of v) v.own v.number node → status s node ≡ Held by
-  held-by covers v s by node mine replays handed holds =
-      (held-handed covers v s node replays handed holds).1 ∙ ap Held (sym mine)
+  held-by covers by_nodes most v s by node mine replays handed holds =
+      (held-handed covers by_nodes most v s node replays handed holds).1 ∙ ap Held (sym mine)
 
 -- A turn in which the worker did two things, and between them the story was m, is two turns.
 module _ {F R : Type 0} (v w : KnownOf F R) (s m t : Story R) (turn : IsTurn v w s t)
@@ -188,14 +188,15 @@ module _ {W S L : Type 0} (rules : W → Rules S L) where
 
   -- what came of a node's state is still that when the story is handed out again
   pub result-handed : (state_place : S → Place) (leaf_place : L → Place)
+      (by_nodes : Content S L → Bool) (most : ℕ)
       (v : KnownOf W (Content S L)) (s : Story (Content S L)) (node : ℕ) (parts : Parts S L)
-      (x : W) → x ≡ v.fixed → IsHanded v s → Replays (covers_at state_place leaf_place) s →
+      (x : W) → x ≡ v.fixed → IsHanded v s → Replays (covers_at state_place leaf_place) by_nodes most s →
       HasResult (rules v.fixed) state_place leaf_place v node parts →
       IsResult (rules x) state_place leaf_place s node parts
-  result-handed state_place leaf_place v s node parts x same handed replays has =
+  result-handed state_place leaf_place by_nodes most v s node parts x same handed replays has =
       let y = has.1.0 in
       let stays =
-      held-handed (covers_at state_place leaf_place) v s node replays handed has.0 in (
+      held-handed (covers_at state_place leaf_place) by_nodes most v s node replays handed has.0 in (
         y,
         subst (λ (o : Option (Content S L)). StateIs o y) (sym stays.2) has.1.1,
         subst (λ (k : W). IsWorked (rules k) state_place leaf_place y parts) (sym same) has.1.2,

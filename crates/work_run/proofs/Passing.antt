@@ -72,13 +72,13 @@ module _ {F R : Type 0} where
       ∙ (ap (λ l. v.own ++ l) (drop_whole s.events) ∙ append-nil v.own)
 
   -- who holds a node holds it when the story is handed out again
-  pub held-handed : (covers : R → List ℕ → Bool) (v : KnownOf F R) (s : Story R) (node : ℕ) →
-      Replays covers s → IsHanded v s → HoldsNode (story_of v) v.own v.number node →
+  pub held-handed : (covers : R → List ℕ → Bool) (by_nodes : R → Bool) (most : ℕ) (v : KnownOf F R) (s : Story R) (node : ℕ) →
+      Replays covers by_nodes most s → IsHanded v s → HoldsNode (story_of v) v.own v.number node →
       (node < length s.nodes) × (status s node ≡ Held v.number)
       × (content s node ≡ content (story_of v) node)
-  held-handed covers v s node replays handed holds =
+  held-handed covers by_nodes most v s node replays handed holds =
       let stays =
-      stays_held covers (story_of v) s handed.nodes.0 handed.events.0 node v.number replays
+      stays_held covers by_nodes most (story_of v) s handed.nodes.0 handed.events.0 node v.number replays
       handed.nodes.1 handed.events.1 (handed.own ∙ sym holds.own_all) holds.there holds.held in
       let long : length s.nodes ≡ length v.nodes + length handed.nodes.0 =
       ap length handed.nodes.1 ∙ length-append v.nodes handed.nodes.0 in

@@ -1,5 +1,6 @@
 -- What is entered for a node that was worked.
 use Rattle.std.specs.Prelude.{◌≡◌, ℕ, Bool, false}
+use Rattle.std.specs.Prelude.{Result, Ok, Err}
 use Rattle.std.specs.Global.{Vec}
 use Rattle.tree_core.specs.Replays.{kept, with_event}
 use Rattle.tree_core.specs.Stories.{Story, content}
@@ -38,3 +39,8 @@ module _ {S L : Type 0} where
   IsNextClaim well by node s t claim =
       (between : Story (Content S L)) × IsClaimEnded false by node s between
       × IsClaim well between by claim t
+
+-- the first alone of what an answer has, as the claim of what was entered
+abbrev pub claim_in : {C R E : Type 0} → Result (C × R) E → Result C E
+claim_in (Ok entered) = Ok entered.0
+claim_in (Err e) = Err e

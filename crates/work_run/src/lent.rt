@@ -28,4 +28,8 @@ impl<'a, W: Work> Work for Lent<'a, W> {
     ) -> Result<Parts<W::State, W::Leaf>, NoMemory> {
         self.worker.work(rt, alloc, gate, by, state)
     }
+
+    fn cut_nodes(&self, alloc: Global, run: W::State, nodes: u32) -> Result<W::Leaf, NoMemory> {
+        self.worker.cut_nodes(alloc, run, nodes)
+    }
 }

@@ -108,7 +108,7 @@ fn work_claim<W: Work, R: Wait, G: Gate>(
         return Err(Stopped::Left);
     }
     match worker.work(rt, alloc, gate, by, state) {
-        Ok(parts) => hand_in(rt, lock, pass, gate, node, parts),
+        Ok(parts) => hand_in(rt, alloc, lock, pass, gate, node, parts),
         Err(_) => {
             release(rt, lock, pass, node);
             Err(Stopped::NoMemory)
@@ -119,6 +119,7 @@ fn work_claim<W: Work, R: Wait, G: Gate>(
 // Enters what came of a node that the worker holds, and claims a free node. Who leaves behind that turn gives the claim up.
 fn hand_in<W: Work, R: Wait, G: Gate>(
     rt: &R,
+    alloc: Global,
     lock: &TurnLock<TurnTree<W>>,
     pass: &mut Pass<TurnTree<W>>,
     gate: &G,
@@ -141,7 +142,7 @@ fn hand_in<W: Work, R: Wait, G: Gate>(
         release(rt, lock, pass, node);
         return Err(Stopped::Left);
     }
-    let next = enter_and_claim(rt, lock, pass, node, parts)?;
+    let next = enter_and_claim(rt, alloc, lock, pass, node, parts)?;
     if leaves(gate, by, Point::AfterGive) {
         give_up(rt, lock, pass, &next);
         return Err(Stopped::Left);

@@ -158,6 +158,7 @@ pub fn explore<'a, W, R, G>(
     worker: &'a W,
     root: W::State,
     workers: u32,
+    nodes: u32,
     gate: &G,
 ) -> Result<Tree<Lent<'a, W>>, NoMemory>
 where
@@ -169,6 +170,9 @@ where
     requires well { (W.rules worker.now).IsWell root }
     requires first { (W.State.place root).choices ≡ [] }
     requires some { 1 ≤ workers }
+    requires nodes { nodes ≡ (W.rules worker.now).nodes }
+    requires some_nodes { 1 ≤ nodes }
+    requires few_nodes { nodes + (W.rules worker.now).targets < 2 ^ 32 }
     ensures worker { IfOk result (λ t. t.worker.worker.now ≡ worker.now) }
     ensures drained { IfOk result (λ t. IsDrained
         (W.rules worker.now) W.State.place W.Leaf.place t.story) }
@@ -177,6 +181,6 @@ where
     ensures few { IfOk result (λ t. All (λ e. e.by < workers) t.story.events) }
     ensures releases { IfOk result (λ t. ReleaseOnce t.story.events) }
 {
-    let tree = Tree::new(alloc, Lent { worker }, root, workers)?;
+    let tree = Tree::new(alloc, Lent { worker }, root, workers, nodes)?;
     run_to_end(rt, alloc, tree, &Lent { worker }, workers, gate)
 }

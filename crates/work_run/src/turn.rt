@@ -3,18 +3,19 @@
 
 ghost use Rattle.std.specs.Prelude.{◌≡◌, Bool, IfOk, OnErr, false, true};
 ghost use Rattle.turn_lock.specs.Passes.{IsPassOf, known};
+ghost use Rattle.work_run.specs.Entering.{claim_in};
 ghost use Rattle.work_run.specs.Seen.{EndsAndClaims, EndsClaim, HasResult, HoldsNode, IsAtRest, IsClaimed, IsLater, story_of};
 
 use crate::turn_tree::TurnTree;
 use fork_tree::{Claim, Parts, Work};
-use std::alloc::AllocError as NoMemory;
+use std::alloc::{AllocError as NoMemory, Global};
 use std::sync::Wait;
 use turn_lock::{Pass, TurnLock};
 
 // How many of the kids are free.
 fn free_kids<W: Work>(parts: &Parts<W::State, W::Leaf>) -> usize {
     match parts {
-        Parts::Kids(kids) => kids.iter().filter(|kid| !kid.is_leaf).count(),
+        Parts::Kids(kids, _) => kids.iter().filter(|kid| !kid.is_leaf).count(),
         Parts::Finished(_) | Parts::CutSteps(_) => 0,
     }
 }
@@ -30,6 +31,18 @@ fn wake<W: Work>(
         Ok(Claim::Claimed(_, _)) => lock.wake(freed.saturating_sub(1)),
         Ok(Claim::Nothing) => {}
         Ok(Claim::Quiet) | Err(_) => lock.wake_all(),
+    }
+}
+
+// The claim of what was entered. A run that parted is freed here.
+fn claim_of<W: Work>(
+    entered: Result<(Claim<W::State>, Option<W::State>), NoMemory>,
+) -> Result<Claim<W::State>, NoMemory>
+    ensures { result ≡ claim_in entered }
+{
+    match entered {
+        Ok((claim, _)) => Ok(claim),
+        Err(refused) => Err(refused),
     }
 }
 
@@ -56,9 +69,10 @@ pub(crate) fn claim<W: Work, R: Wait>(
 }
 
 /// Enters what came of a node that the worker holds, and claims a free node. Where memory is refused the worker holds no node:
-/// either there was none for the kids, and the node is free again, or there was none for a claim.
+/// either there was none for what comes in its place, and the node is free again, or there was none for a claim.
 pub(crate) fn enter_and_claim<W: Work, R: Wait>(
     rt: &R,
+    alloc: Global,
     lock: &TurnLock<TurnTree<W>>,
     pass: &mut Pass<TurnTree<W>>,
     node: usize,
@@ -76,11 +90,13 @@ pub(crate) fn enter_and_claim<W: Work, R: Wait>(
         × EndsClaim released node (known pass.old).own (known pass.new).own) }
 {
     let by = pass.number();
-    let freed = free_kids::<W>(&parts);
+    let kids = free_kids::<W>(&parts);
     let mut tree = lock.take(rt, pass);
     tree.tree.is_whole();
-    let claimed = tree.enter_and_claim(by, node, parts);
+    let freed = if tree.tree.full() { 0 } else { kids };
+    let entered = tree.enter_and_claim(alloc, by, node, parts);
     lock.give(pass, tree);
+    let claimed = claim_of::<W>(entered);
     wake(lock, freed, &claimed);
     claimed
 }

@@ -9,8 +9,8 @@ ghost use Rattle.fork_tree.specs.Drains.{GrowsBy};
 ghost use Rattle.work_run.specs.Entering.{IsClaimEnded, IsNextClaim, IsResult};
 
 use fork_tree::{Claim, Content, Parts, Tree, Work};
-use std::alloc::AllocError as NoMemory;
-use tree_core::{Node, Noted};
+use std::alloc::{AllocError as NoMemory, Global};
+use tree_core::{Cause, Node, Noted};
 use turn_lock::Growing;
 
 /// A tree as a lock hands it out. Its nodes and events grow, and its worker stays.
@@ -53,37 +53,41 @@ impl<W: Work> TurnTree<W> {
         self.tree.claim(by)
     }
 
-    /// Enters what came of a node that the worker holds, and claims a free node. Where there is no memory for the kids of the
-    /// one it is free again, and where there is none for a claim nothing is claimed.
+    /// Enters what came of a node that the worker holds, and claims a free node. Where there is no memory for what comes in the
+    /// place of the one it is free again, and where there is none for a claim nothing is claimed. A run that parted is handed
+    /// back, so that its memory is freed behind the turn.
     pub(crate) fn enter_and_claim(
         &mut self,
+        alloc: Global,
         by: u32,
         node: usize,
         parts: Parts<W::State, W::Leaf>,
-    ) -> Result<Claim<W::State>, NoMemory>
+    ) -> Result<(Claim<W::State>, Option<W::State>), NoMemory>
         requires there { node < length self.old.tree.story.nodes }
         requires held { status self.old.tree.story node ≡ Held by }
         requires worked { IsResult
             (W.rules self.old.tree.worker) W.State.place W.Leaf.place self.old.tree.story node
             parts }
         ensures worker { self.new.tree.worker ≡ self.old.tree.worker }
-        ensures ok { IfOk result (IsNextClaim
-            (W.rules self.old.tree.worker).IsWell by node self.old.tree.story self.new.tree.story) }
+        ensures ok { IfOk result (λ entered. IsNextClaim
+            (W.rules self.old.tree.worker).IsWell by node self.old.tree.story self.new.tree.story
+            entered.0) }
         ensures err { OnErr result ((released : Bool)
             × IsClaimEnded released by node self.old.tree.story self.new.tree.story) }
         ensures grows { GrowsBy by self.old.tree.story self.new.tree.story }
     {
-        self.enter(by, node, parts)?;
-        self.claim(by)
+        let run = self.enter(alloc, by, node, parts)?;
+        Ok((self.claim(by)?, run))
     }
 
-    // Enters what came of a node that the worker holds. Where there is no memory for its kids, it is free again.
+    // Enters what came of a node that the worker holds. Where there is no memory for what comes in its place, it is free again.
     fn enter(
         &mut self,
+        alloc: Global,
         by: u32,
         node: usize,
         parts: Parts<W::State, W::Leaf>,
-    ) -> Result<(), NoMemory>
+    ) -> Result<Option<W::State>, NoMemory>
         requires there { node < length self.old.tree.story.nodes }
         requires held { status self.old.tree.story node ≡ Held by }
         requires worked { IsResult
@@ -97,17 +101,16 @@ impl<W: Work> TurnTree<W> {
         ensures grows { GrowsBy by self.old.tree.story self.new.tree.story }
     {
         match parts {
-            Parts::Finished(leaf) => self.tree.finish(by, node, leaf),
-            Parts::CutSteps(leaf) => self.tree.cut(by, node, leaf),
-            Parts::Kids(kids) => {
-                if self.tree.reserve(kids.len()).is_err() {
-                    self.tree.release(by, node);
-                    return Err(NoMemory);
-                }
-                self.tree.split(by, node, kids);
+            Parts::Finished(leaf) => {
+                self.tree.finish(by, node, leaf);
+                Ok(None)
             }
+            Parts::CutSteps(leaf) => {
+                self.tree.cut(by, node, Cause::Steps, leaf);
+                Ok(None)
+            }
+            Parts::Kids(kids, run) => self.tree.part(alloc, by, node, kids, run),
         }
-        Ok(())
     }
 
     /// Frees a node that the worker holds.

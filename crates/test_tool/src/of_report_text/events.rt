@@ -3,7 +3,8 @@
 ghost use Rattle.std.specs.Prelude.{◌≡◌, length};
 ghost use Rattle.fork_tree.specs.Written.{nodes_after};
 
-use report_text::{Marked, events_name, write_events};
+use fork_spec::Placed;
+use report_text::{events_name, write_events};
 use std::alloc::{AllocError as NoMemory, Global};
 use std::test::Fail;
 use tree_core::{Cause, Choice, Deed, Event, Node, Noted, Origin};
@@ -26,12 +27,19 @@ claim 0 4
 finish 0 4
 ";
 
+/// A root that is cut where there may be one node.
+static WITHOUT_NODES: &str = "claim 0 0
+cut 0 0 nodes
+";
+
 /// A content that says no more than why it was cut.
 #[derive(Clone, Copy)]
 struct Mark(Option<Cause>);
 
-impl Marked for Mark {
-    ghost cut = { λ m. m.0 };
+impl Placed for Mark {
+    ghost use Rattle.std.specs.Prelude.{[], false};
+
+    ghost place = { λ m. record { choices = []; covers = λ input. false; cut = m.0 } };
 
     fn cut(&self) -> Option<Cause> {
         self.0
@@ -49,6 +57,20 @@ const TWO_EVENTS: [Noted<Mark>; 2] = [
         by: 0,
         node: 0,
         deed: Deed::Finish(Mark(None)),
+    },
+];
+
+/// What one worker does to a root that would be parted.
+const CUT_EVENTS: [Noted<Mark>; 2] = [
+    Event {
+        by: 0,
+        node: 0,
+        deed: Deed::Claim,
+    },
+    Event {
+        by: 0,
+        node: 0,
+        deed: Deed::Cut(Mark(Some(Cause::Nodes))),
     },
 ];
 
@@ -138,6 +160,13 @@ fn are_written(
 #[tactic(auto, unfolding(fork_tree::specs::Written::nodes_after))]
 fn a_program_with_one_path_is_claimed_and_finished(rt: HostRuntime) -> Result<(), Fail> {
     assert!(rt; are_written(rt.alloc(), &[root()], &TWO_EVENTS, ONE_LEAF)?);
+    Ok(())
+}
+
+#[test]
+#[tactic(auto, unfolding(fork_tree::specs::Written::nodes_after))]
+fn a_root_may_be_cut_for_want_of_nodes(rt: HostRuntime) -> Result<(), Fail> {
+    assert!(rt; are_written(rt.alloc(), &[root()], &CUT_EVENTS, WITHOUT_NODES)?);
     Ok(())
 }
 

@@ -12,18 +12,19 @@ use std::test::Fail;
 use tree_core::{Budgets, Cause, Choice};
 
 static ONE_LEAF: &str =
-    "{\"budgets\":{\"conflicts\":2000,\"steps\":10000,\"targets\":16,\"workers\":1},\"leaves\":[{\"choices\":\"\",\"end\":\"exit\",\"kind\":\"finished\",\"node\":0,\"steps\":3}],\"regions\":[\"00011000:1\"],\"summary\":{\"cut\":0,\"finished\":1,\"leaves\":1,\"steps\":3,\"tests\":1}}\n";
+    "{\"budgets\":{\"conflicts\":2000,\"nodes\":1000000,\"steps\":10000,\"targets\":16,\"workers\":1},\"leaves\":[{\"choices\":\"\",\"end\":\"exit\",\"kind\":\"finished\",\"node\":0,\"steps\":3}],\"regions\":[\"00011000:1\"],\"summary\":{\"cut\":0,\"finished\":1,\"leaves\":1,\"steps\":3,\"tests\":1}}\n";
 
 static TWO_LEAVES: &str =
-    "{\"budgets\":{\"conflicts\":2000,\"steps\":10000,\"targets\":16,\"workers\":1},\"leaves\":[{\"choices\":\"N\",\"end\":\"exit\",\"kind\":\"finished\",\"node\":1,\"steps\":6},{\"choices\":\"Y\",\"end\":\"exit\",\"kind\":\"finished\",\"node\":2,\"steps\":7}],\"regions\":[\"00011000:1\"],\"summary\":{\"cut\":0,\"finished\":2,\"leaves\":2,\"steps\":13,\"tests\":2}}\n";
+    "{\"budgets\":{\"conflicts\":2000,\"nodes\":1000000,\"steps\":10000,\"targets\":16,\"workers\":1},\"leaves\":[{\"choices\":\"N\",\"end\":\"exit\",\"kind\":\"finished\",\"node\":1,\"steps\":6},{\"choices\":\"Y\",\"end\":\"exit\",\"kind\":\"finished\",\"node\":2,\"steps\":7}],\"regions\":[\"00011000:1\"],\"summary\":{\"cut\":0,\"finished\":2,\"leaves\":2,\"steps\":13,\"tests\":2}}\n";
 
 static CUT: &str =
-    "{\"budgets\":{\"conflicts\":2000,\"steps\":10000,\"targets\":16,\"workers\":1},\"leaves\":[{\"choices\":\"N\",\"end\":\"LoadAccess\",\"kind\":\"finished\",\"node\":1,\"steps\":4},{\"choices\":\"Y=0001002a\",\"end\":\"running\",\"kind\":\"steps\",\"node\":3,\"steps\":10000},{\"choices\":\"YR\",\"end\":\"running\",\"kind\":\"conflicts\",\"node\":4,\"steps\":9}],\"regions\":[\"00011000:1\"],\"summary\":{\"cut\":2,\"finished\":1,\"leaves\":3,\"steps\":4,\"tests\":2}}\n";
+    "{\"budgets\":{\"conflicts\":2000,\"nodes\":1000000,\"steps\":10000,\"targets\":16,\"workers\":1},\"leaves\":[{\"choices\":\"N\",\"end\":\"LoadAccess\",\"kind\":\"finished\",\"node\":1,\"steps\":4},{\"choices\":\"Y=0001002a\",\"end\":\"running\",\"kind\":\"steps\",\"node\":3,\"steps\":10000},{\"choices\":\"Y=0001002c\",\"end\":\"running\",\"kind\":\"nodes\",\"node\":4,\"steps\":8},{\"choices\":\"YR\",\"end\":\"running\",\"kind\":\"conflicts\",\"node\":5,\"steps\":9}],\"regions\":[\"00011000:1\"],\"summary\":{\"cut\":3,\"finished\":1,\"leaves\":4,\"steps\":4,\"tests\":2}}\n";
 
 static BUDGETS: Budgets = Budgets {
     steps: 10_000,
     targets: 16,
     conflicts: 2_000,
+    nodes: 1_000_000,
 };
 
 /// What a report says of a leaf.
@@ -89,7 +90,7 @@ static TWO: [Shown; 2] = [
     },
 ];
 
-static SOME_CUT: [Shown; 3] = [
+static SOME_CUT: [Shown; 4] = [
     Shown {
         choices: &[Choice::No],
         steps: 4,
@@ -103,10 +104,16 @@ static SOME_CUT: [Shown; 3] = [
         node: 3,
     },
     Shown {
+        choices: &[Choice::Yes, Choice::Value(0x0001_002c)],
+        steps: 8,
+        end: LeafEnd::Cut(Cause::Nodes),
+        node: 4,
+    },
+    Shown {
         choices: &[Choice::Yes, Choice::Rest],
         steps: 9,
         end: LeafEnd::Cut(Cause::Conflicts),
-        node: 4,
+        node: 5,
     },
 ];
 
@@ -170,7 +177,7 @@ fn a_report_of_leaves_that_were_cut(rt: HostRuntime) -> Result<(), Fail> {
         is_said(
             rt.alloc(),
             &SOME_CUT,
-            "leaves 3 finished 1 cut 2 tests 2 steps 4\n"
+            "leaves 4 finished 1 cut 3 tests 2 steps 4\n"
         )?
     );
     Ok(())

@@ -2,7 +2,7 @@
 
 use byte_list::Bytes;
 use leaf_part::{Found, Spent};
-use report_text::{leaf_name, spent_name, test_name, write_targets};
+use report_text::{leaf_name, spent_name, test_name, write_nodes, write_targets};
 use std::alloc::{AllocError as NoMemory, Global};
 use std::test::Fail;
 
@@ -41,6 +41,13 @@ fn is_written(alloc: Global, spent: &Spent, want: &str) -> Result<bool, NoMemory
 fn values_are_written(rt: HostRuntime) -> Result<(), Fail> {
     let spent = two_values(rt.alloc())?;
     assert!(rt; is_written(rt.alloc(), &spent, TWO)?);
+    Ok(())
+}
+
+#[test]
+fn a_number_of_nodes_is_written(rt: HostRuntime) -> Result<(), Fail> {
+    let text = write_nodes(rt.alloc(), 1_000_015)?;
+    assert!(rt; text.as_slice() == "; spent nodes 1000015\n".as_bytes());
     Ok(())
 }
 

@@ -1,10 +1,12 @@
 //! Which texts are read, and at which line others are refused.
 
 use crate::of_smt_text::leaves::{CUT, FINISHED};
+use fork_spec::LeafEnd;
 use leaf_reader::read_leaf;
 use smt_text::print_leaf;
 use std::alloc::{AllocError as NoMemory, Global};
 use std::test::Fail;
+use tree_core::Cause;
 
 /// The example of docs/FORMATS.md.
 static EXAMPLE: &str = "; rvklee leaf 1
@@ -29,6 +31,30 @@ static EXAMPLE: &str = "; rvklee leaf 1
 (check-sat)
 (exit)
 ";
+
+/// A leaf that was cut for want of nodes: the root of a tree that may have one.
+static WITHOUT_NODES: &str = "; rvklee leaf 1
+; kind nodes
+; choices .
+; path .
+; steps 4
+; end running
+; inputs 1
+; nodes 0
+; outputs 0
+(set-logic QF_ABV)
+(declare-fun b0 () (_ BitVec 8))
+(declare-fun base () (Array (_ BitVec 8) (_ BitVec 8)))
+(check-sat)
+(exit)
+";
+
+/// What is put in place of what in its text, and the line at which it is then refused.
+static CHANGES_OF_A_CUT: [(&str, &str, usize); 3] = [
+    ("kind nodes", "kind node", 2),
+    ("kind nodes", "kind nodes 1", 2),
+    ("end running", "end exit", 6),
+];
 
 /// What is put in place of what in the text of a leaf, and the line at which it is then refused.
 static CHANGES: [(&str, &str, usize); 31] = [
@@ -87,6 +113,12 @@ fn first_wrong(
     Ok(None)
 }
 
+/// How the runs of the leaf that the text is end.
+fn end_of(alloc: Global, text: &str) -> Result<Option<LeafEnd>, NoMemory> {
+    let read = read_leaf(alloc, text.as_bytes())?;
+    Ok(read.ok().map(|leaf| leaf.end))
+}
+
 /// Whether the leaf that the text is has this text.
 fn is_written_back(alloc: Global, text: &str) -> Result<bool, NoMemory> {
     match read_leaf(alloc, text.as_bytes())? {
@@ -102,6 +134,10 @@ fn is_written_back(alloc: Global, text: &str) -> Result<bool, NoMemory> {
 fn a_change_is_refused_at_its_line(rt: HostRuntime) -> Result<(), Fail> {
     assert_eq!(rt; refused_line(rt.alloc(), FINISHED)?, None);
     assert_eq!(rt; first_wrong(rt.alloc(), FINISHED, &CHANGES)?, None);
+    assert_eq!(rt;
+        first_wrong(rt.alloc(), WITHOUT_NODES, &CHANGES_OF_A_CUT)?,
+        None
+    );
     Ok(())
 }
 
@@ -136,5 +172,19 @@ fn what_was_written_is_read_back(rt: HostRuntime) -> Result<(), Fail> {
     assert!(rt; is_written_back(rt.alloc(), EXAMPLE)?);
     assert!(rt; is_written_back(rt.alloc(), FINISHED)?);
     assert!(rt; is_written_back(rt.alloc(), CUT)?);
+    assert!(rt; is_written_back(rt.alloc(), WITHOUT_NODES)?);
+    Ok(())
+}
+
+#[test]
+fn a_kind_is_the_budget_that_was_spent(rt: HostRuntime) -> Result<(), Fail> {
+    assert_eq!(rt;
+        end_of(rt.alloc(), CUT)?,
+        Some(LeafEnd::Cut(Cause::Targets))
+    );
+    assert_eq!(rt;
+        end_of(rt.alloc(), WITHOUT_NODES)?,
+        Some(LeafEnd::Cut(Cause::Nodes))
+    );
     Ok(())
 }

@@ -80,6 +80,7 @@ const ROWS: &[Row] = &[
         words: MOST_BYTES,
         said: "leaves 1 finished 1 cut 0 tests 1 steps 3\n",
         puts: 4,
+        tests: 1,
         files: &[],
     },
     // The sum and the difference of two numbers are both even or both odd.
@@ -88,6 +89,7 @@ const ROWS: &[Row] = &[
         words: TWO_BYTES,
         said: "leaves 1 finished 1 cut 0 tests 1 steps 11\n",
         puts: 4,
+        tests: 1,
         files: &[(
             1,
             "out/leaf-000000.smt2",
@@ -100,6 +102,7 @@ const ROWS: &[Row] = &[
         words: ONE_CONFLICT,
         said: "leaves 2 finished 1 cut 1 tests 1 steps 11\n",
         puts: 6,
+        tests: 1,
         files: &[
             (
                 0,
@@ -129,6 +132,7 @@ const ROWS: &[Row] = &[
         words: TWO_BYTES,
         said: "leaves 4 finished 4 cut 0 tests 4 steps 36\n",
         puts: 10,
+        tests: 4,
         files: &[
             (
                 1,

@@ -112,6 +112,7 @@ const ROWS: &[Row] = &[
         words: EXPLORE,
         said: "leaves 1 finished 1 cut 0 tests 1 steps 6\n",
         puts: 4,
+        tests: 1,
         files: &[
             (0, "out/events.txt", "claim 0 0\nfinish 0 0\n"),
             (
@@ -132,6 +133,7 @@ const ROWS: &[Row] = &[
         words: EXPLORE,
         said: "leaves 2 finished 2 cut 0 tests 2 steps 17\n",
         puts: 6,
+        tests: 2,
         files: &[
             (
                 1,
@@ -161,6 +163,7 @@ const ROWS: &[Row] = &[
         words: EXPLORE,
         said: "leaves 1 finished 1 cut 0 tests 1 steps 8\n",
         puts: 4,
+        tests: 1,
         files: &[(
             1,
             "out/leaf-000000.smt2",
@@ -172,6 +175,7 @@ const ROWS: &[Row] = &[
         words: EXPLORE,
         said: "leaves 2 finished 2 cut 0 tests 2 steps 17\n",
         puts: 6,
+        tests: 2,
         files: &[
             (
                 1,
@@ -191,6 +195,7 @@ const ROWS: &[Row] = &[
         words: SIX_TARGETS,
         said: "leaves 6 finished 6 cut 0 tests 6 steps 72\n",
         puts: 14,
+        tests: 6,
         files: &[
             (
                 1,
@@ -211,6 +216,7 @@ const ROWS: &[Row] = &[
         words: FOUR_TARGETS,
         said: "leaves 5 finished 4 cut 1 tests 4 steps 48\n",
         puts: 12,
+        tests: 4,
         files: &[
             (
                 1,
@@ -231,6 +237,7 @@ const ROWS: &[Row] = &[
         words: EXPLORE,
         said: "leaves 2 finished 2 cut 0 tests 2 steps 15\n",
         puts: 6,
+        tests: 2,
         files: &[
             (
                 1,
@@ -256,6 +263,7 @@ const ROWS: &[Row] = &[
         words: CODE_BYTE,
         said: "leaves 5 finished 4 cut 1 tests 4 steps 12\n",
         puts: 12,
+        tests: 4,
         files: &[
             (
                 1,

@@ -17,6 +17,8 @@ pub(crate) struct Row {
     pub words: &'static [&'static str],
     pub said: &'static str,
     pub puts: usize,
+    /// How many of the files that are put are tests.
+    pub tests: usize,
     /// Some of the files by their places among those put, with their names and how they begin.
     pub files: &'static [(usize, &'static str, &'static str)],
 }
@@ -57,12 +59,37 @@ pub(crate) const FOUR_TARGETS: &[&str] = &[
     "00011000:1",
 ];
 
+const ONE_NODE: &[&str] = &[
+    "rvklee",
+    "explore",
+    "--workers",
+    "1",
+    "--nodes",
+    "1",
+    "p.elf",
+    "out",
+    "00011000:1",
+];
+
+const THREE_NODES: &[&str] = &[
+    "rvklee",
+    "explore",
+    "--workers",
+    "1",
+    "--nodes",
+    "3",
+    "p.elf",
+    "out",
+    "00011000:1",
+];
+
 const ROWS: &[Row] = &[
     Row {
         program: &STRAIGHT,
         words: EXPLORE,
         said: "leaves 1 finished 1 cut 0 tests 1 steps 3\n",
         puts: 4,
+        tests: 1,
         files: &[
             (0, "out/events.txt", "claim 0 0\nfinish 0 0\n"),
             (
@@ -78,7 +105,7 @@ const ROWS: &[Row] = &[
             (
                 3,
                 "out/report.json",
-                "{\"budgets\":{\"conflicts\":2000,\"steps\":10000,\"targets\":16,\"workers\":1},\"leaves\":[{\"choices\":\"\",\"end\":\"exit\",\"kind\":\"finished\",\"node\":0,\"steps\":3}],\"regions\":[\"00011000:1\"],\"summary\":{\"cut\":0,\"finished\":1,\"leaves\":1,\"steps\":3,\"tests\":1}}\n",
+                "{\"budgets\":{\"conflicts\":2000,\"nodes\":1000000,\"steps\":10000,\"targets\":16,\"workers\":1},\"leaves\":[{\"choices\":\"\",\"end\":\"exit\",\"kind\":\"finished\",\"node\":0,\"steps\":3}],\"regions\":[\"00011000:1\"],\"summary\":{\"cut\":0,\"finished\":1,\"leaves\":1,\"steps\":3,\"tests\":1}}\n",
             ),
         ],
     },
@@ -87,6 +114,7 @@ const ROWS: &[Row] = &[
         words: EXPLORE,
         said: "leaves 2 finished 2 cut 0 tests 2 steps 13\n",
         puts: 6,
+        tests: 2,
         files: &[
             (
                 0,
@@ -120,6 +148,7 @@ const ROWS: &[Row] = &[
         words: EXPLORE,
         said: "leaves 3 finished 3 cut 0 tests 3 steps 26\n",
         puts: 8,
+        tests: 3,
         files: &[
             (
                 1,
@@ -150,6 +179,7 @@ const ROWS: &[Row] = &[
         words: FIFTY_STEPS,
         said: "leaves 17 finished 16 cut 1 tests 17 steps 440\n",
         puts: 36,
+        tests: 17,
         files: &[
             (
                 1,
@@ -178,6 +208,7 @@ const ROWS: &[Row] = &[
         words: FEWER_STEPS,
         said: "leaves 17 finished 15 cut 2 tests 17 steps 390\n",
         puts: 36,
+        tests: 17,
         files: &[
             (
                 1,
@@ -196,6 +227,7 @@ const ROWS: &[Row] = &[
         words: FOUR_TARGETS,
         said: "leaves 5 finished 4 cut 1 tests 4 steps 12\n",
         puts: 12,
+        tests: 4,
         files: &[
             (
                 1,
@@ -213,6 +245,52 @@ const ROWS: &[Row] = &[
                 "; rvklee leaf 1\n; kind targets\n; choices R.\n",
             ),
             (10, "out/spent-000004.txt", "; spent targets 4\n; term n"),
+        ],
+    },
+    Row {
+        program: &FORKED,
+        words: ONE_NODE,
+        said: "leaves 1 finished 0 cut 1 tests 0 steps 0\n",
+        puts: 4,
+        tests: 0,
+        files: &[
+            (0, "out/events.txt", "claim 0 0\ncut 0 0 nodes\n"),
+            (
+                1,
+                "out/leaf-000000.smt2",
+                "; rvklee leaf 1\n; kind nodes\n; choices .\n; path .\n; steps 3\n; end running\n",
+            ),
+            (2, "out/spent-000000.txt", "; spent nodes 1\n"),
+            (
+                3,
+                "out/report.json",
+                "{\"budgets\":{\"conflicts\":2000,\"nodes\":1,\"steps\":10000,\"targets\":16,\"workers\":1},\"leaves\":[{\"choices\":\"\",\"end\":\"running\",\"kind\":\"nodes\",\"node\":0,\"steps\":3}],\"regions\":[\"00011000:1\"],\"summary\":{\"cut\":1,\"finished\":0,\"leaves\":1,\"steps\":0,\"tests\":0}}\n",
+            ),
+        ],
+    },
+    Row {
+        program: &COMPARED,
+        words: THREE_NODES,
+        said: "leaves 2 finished 1 cut 1 tests 1 steps 9\n",
+        puts: 6,
+        tests: 1,
+        files: &[
+            (
+                0,
+                "out/events.txt",
+                "claim 0 0\nsplit 0 0 1 N Y\nclaim 0 1\nfinish 0 1\nclaim 0 2\ncut 0 2 nodes\n",
+            ),
+            (
+                1,
+                "out/leaf-000000.smt2",
+                "; rvklee leaf 1\n; kind finished\n; choices N.\n; path NT.\n; steps 9\n; end exit\n",
+            ),
+            (
+                3,
+                "out/leaf-000001.smt2",
+                "; rvklee leaf 1\n; kind nodes\n; choices Y.\n; path T.\n; steps 5\n; end running\n",
+            ),
+            (4, "out/spent-000001.txt", "; spent nodes 3\n"),
         ],
     },
 ];
@@ -325,14 +403,15 @@ fn replay_each<R: Threads + Wait + Sync + AllocGlobal + Abort>(
     Ok(())
 }
 
-// Each test that was put is replayed, and is as its run.
+// So many tests were put. Each is replayed, and is as its run.
 fn replay_tests<R: Threads + Wait + Sync + AllocGlobal + Abort>(
     rt: &R,
     held: &mut MemFiles,
+    tests: usize,
     row: usize,
 ) -> Result<(), NoMemory> {
     let names = test_names(rt.alloc(), held.puts())?;
-    check(rt, !names.is_empty(), row, "whether it has tests");
+    check(rt, names.len() == tests, row, "how many tests are put");
     replay_each(rt, held, names.as_slice(), row)
 }
 
@@ -345,7 +424,7 @@ fn explores<R: Threads + Wait + Sync + AllocGlobal + Abort>(
     check_said(rt, &held, row, at);
     check_files(rt, held.puts(), row.files, at);
     read_back(rt, held.puts(), at)?;
-    replay_tests(rt, &mut held, at)
+    replay_tests(rt, &mut held, row.tests, at)
 }
 
 // How many workers there are changes neither the leaves nor their number.

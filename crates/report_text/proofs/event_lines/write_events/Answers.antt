@@ -1,6 +1,7 @@
 use Rattle.std.proofs.Common.{◌≡◌, ◌∙◌, ◌+◌, ◌≤◌, ◌++◌, Vec, Global, ap, arith, drop, get_or, length, string_bytes, sym, ℕ}
 use Rattle.tree_core.specs.declared.event.Event.{Event}
 use Rattle.fork_tree.specs.Written.{born_by, lines_from, nodes_after, written_deed}
+use Rattle.report_text.specs.Entries.{cut_by_place}
 use Rattle.report_text.specs.Events.{deed_text, events_text}
 use Rattle.text_parts.proofs.Made.{pushed}
 use Rattle.report_text.proofs.EventTexts.{events_end, events_next, fits_in, nodes_next}
@@ -8,17 +9,17 @@ use Rattle.report_text.proofs.event_lines.write_events.Goals as goal
 
 pub event_line-requires : goal.event_line-requires
 event_line-requires g c =
-    fits_in g.R.Marked.cut c.args.nodes.now c.loop-event.first c.loop-event.event-index c.args.events.now c.event-item.result _ c.loop-event-test.true c.event-item.is c.loop-event.invariant.counted
+    fits_in (cut_by_place g.R.Placed.place) c.args.nodes.now c.loop-event.first c.loop-event.event-index c.args.events.now c.event-item.result _ c.loop-event-test.true c.event-item.is c.loop-event.invariant.counted
 
 pub overflow_add-first : goal.overflow_add-first
 overflow_add-first g c =
     let within : c.loop-event.first + born_by c.event-item.result.deed ≤ length c.args.nodes.now =
-    fits_in g.R.Marked.cut c.args.nodes.now c.loop-event.first c.loop-event.event-index c.args.events.now c.event-item.result _ c.loop-event-test.true c.event-item.is c.loop-event.invariant.counted in
+    fits_in (cut_by_place g.R.Placed.place) c.args.nodes.now c.loop-event.first c.loop-event.event-index c.args.events.now c.event-item.result _ c.loop-event-test.true c.event-item.is c.loop-event.invariant.counted in
     omega (arith, within, c.born-first.ensures)
 
 pub loop-event-preserved : goal.loop-event-preserved
 loop-event-preserved g c =
-    let cut = g.R.Marked.cut in
+    let cut = cut_by_place g.R.Placed.place in
     let nodes = c.args.nodes.now in
     let events = c.args.events.now in
     let first = c.loop-event.first in
@@ -45,5 +46,5 @@ loop-event-preserved g c =
 pub returns : goal.returns
 returns g c =
     c.from_vec.ensures ∙ ap (λ (v : Vec ℕ Global). v.items) c.into_bytes.ensures.value
-    ∙ events_end g.R.Marked.cut c.args.nodes.now c.loop-event.first c.loop-event.event-index c.args.events.now _ c.loop-event-test.false
+    ∙ events_end (cut_by_place g.R.Placed.place) c.args.nodes.now c.loop-event.first c.loop-event.event-index c.args.events.now _ c.loop-event-test.false
     ∙ c.loop-event.invariant.written

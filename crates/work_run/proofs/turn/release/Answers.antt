@@ -2,6 +2,7 @@ use Rattle.std.proofs.Common.{true, refl}
 use Rattle.turn_lock.specs.Passes.{known}
 use Rattle.fork_tree.specs.Calls.{release_event}
 use Rattle.fork_tree.specs.Trees.{covers_at}
+use Rattle.fork_tree.proofs.Noting.{by_nodes}
 use Rattle.work_run.proofs.Handing.{gives-events, handed-by, held-by, turn-ends, turn-later, turned}
 use Rattle.work_run.proofs.turn.release.Goals as goal
 
@@ -11,7 +12,9 @@ release-requires-clause-held g c =
     let s = c.take-tree.result.tree.story in
     let follows = c.take-tree.ensures.follows in
     let handed = handed-by v s c.requires.rest.1 follows.nodes follows.events follows.own in
-    held-by (covers_at g.W.State.Placed.place g.W.Leaf.Placed.place) v s c.number-by.result
+    let rules = g.W.Work.rules c.take-tree.result.tree.worker in
+    held-by (covers_at g.W.State.Placed.place g.W.Leaf.Placed.place)
+    (by_nodes rules g.W.State.Placed.place g.W.Leaf.Placed.place) rules.nodes v s c.number-by.result
     c.args.node c.number-by.ensures c.is_whole.ensures.replays handed c.requires.holds
 
 pub give-requires-clause-events : goal.give-requires-clause-events

@@ -5,8 +5,9 @@ use Rattle.fork_tree.specs.Nodes.{StateIs}
 use Rattle.fork_tree.specs.Trees.{TreeValue, stands_free}
 use Rattle.fork_tree.specs.Calls.{IsClaim, claim_event}
 use Rattle.fork_tree.specs.declared.tree.Claim.TheVariants.{Claimed}
+use Rattle.tree_core.proofs.Guards.{may-all}
 use Rattle.fork_tree.proofs.Listing.{allowed-claim, listed-free, free-within, free-status}
-use Rattle.fork_tree.proofs.Noting.{any_state, free-state, such_state, tended-back, tended-claim}
+use Rattle.fork_tree.proofs.Noting.{any_state, by_nodes, free-state, such_state, tended-back, tended-claim}
 use Rattle.fork_tree.proofs.tree.Tree.claim.Goals as goal
 
 pub state_of-requires-clause-there : goal.state_of-requires-clause-there
@@ -42,26 +43,29 @@ note-requires-clause-fit g c =
       tt,
     )
 
-pub note-requires-clause-allowed : goal.note-requires-clause-allowed
-note-requires-clause-allowed g c =
+pub note-requires-clause-may : goal.note-requires-clause-may
+note-requires-clause-may g c =
     let i = c.self.inside in let s = i.core.story in let m = c.in-Some.node in
-    allowed-claim s (claim_event c.args.by m) refl (free-status s m
-    (listed-free s i.free.nodes c.pop.new.self.nodes m c.in-Some.ensures.some c.self.invariant.1))
+    may-all (by_nodes (g.W.Work.rules i.worker) g.W.State.Placed.place g.W.Leaf.Placed.place) i.core.most s
+    (claim_event c.args.by m) (allowed-claim s (claim_event c.args.by m) refl (free-status s m
+    (listed-free s i.free.nodes c.pop.new.self.nodes m c.in-Some.ensures.some c.self.invariant.1))) refl refl
 
 pub invariant_of-self-in_default-state_of : goal.invariant_of-self-in_default-state_of
 invariant_of-self-in_default-state_of g c =
     let i = c.self.inside in let m = c.in-Some.node in
-    tended-back (g.W.Work.rules i.worker) g.W.State.Placed.place g.W.Leaf.Placed.place i.core.story
-    m i.free c.pop.new.self c.push.new.self c.self.invariant c.in-Some.ensures.some
+    let tended = tended-back (g.W.Work.rules i.worker) g.W.State.Placed.place g.W.Leaf.Placed.place i.core.story
+    m i.free c.pop.new.self c.push.new.self (c.self.invariant.0, c.self.invariant.1, c.self.invariant.2) c.in-Some.ensures.some
     c.push.ensures.nodes c.in-Some.ensures.len c.push.ensures.len
-    (c.push.ensures.capacity ∙ c.pop.ensures.capacity)
+    (c.push.ensures.capacity ∙ c.pop.ensures.capacity) in
+    (tended.0, tended.1, tended.2, c.self.invariant.3)
 
 pub invariant_of-self-2 : goal.invariant_of-self-2
 invariant_of-self-2 g c = let i = c.self.inside in let s = i.core.story in let m = c.in-Some.node in
-    tended-claim (g.W.Work.rules i.worker) g.W.State.Placed.place g.W.Leaf.Placed.place s
+    let tended = tended-claim (g.W.Work.rules i.worker) g.W.State.Placed.place g.W.Leaf.Placed.place s
     c.note.new.core.story c.args.by m i.free c.pop.new.self
-    c.self.invariant c.note.ensures.story c.note.ensures.named c.in-Some.ensures.some
-    c.in-Some.ensures.len c.pop.ensures.capacity
+    (c.self.invariant.0, c.self.invariant.1, c.self.invariant.2) c.note.ensures.story c.note.ensures.named c.in-Some.ensures.some
+    c.in-Some.ensures.len c.pop.ensures.capacity in
+    (tended.0, tended.1, tended.2, c.note.ensures.most ∙ c.self.invariant.3)
 
 pub returns-clause-ok : goal.returns-clause-ok
 returns-clause-ok g c =

@@ -1,4 +1,4 @@
-use Rattle.std.proofs.Common.{None, sym, subst}
+use Rattle.std.proofs.Common.{None, sym, subst, ◌∙◌}
 use Rattle.fork_tree.specs.Trees.{TreeValue}
 use Rattle.fork_tree.specs.Calls.{IsEndFit}
 use Rattle.fork_tree.proofs.Noting.{tended-finish}
@@ -10,6 +10,7 @@ invariant_of-self g c = let i = c.self.inside in
     subst (λ (k : TreeValue g.row.W.Denot g.row.W-State.Denot g.row.W-Leaf.Denot). IsEndFit
     (g.W.Work.rules k.worker) g.W.State.Placed.place g.W.Leaf.Placed.place None k.story
     c.args.by c.args.node c.args.leaf) (sym c.self.view_is) c.requires.fit in
-    tended-finish (g.W.Work.rules i.worker) g.W.State.Placed.place g.W.Leaf.Placed.place
+    let tended = tended-finish (g.W.Work.rules i.worker) g.W.State.Placed.place g.W.Leaf.Placed.place
     i.core.story c.note.new.core.story c.args.by c.args.node c.args.leaf i.free
-    c.self.invariant c.note.ensures.story c.note.ensures.named fit
+    (c.self.invariant.0, c.self.invariant.1, c.self.invariant.2) c.note.ensures.story c.note.ensures.named fit in
+    (tended.0, tended.1, tended.2, c.note.ensures.most ∙ c.self.invariant.3)

@@ -1,4 +1,4 @@
-use Rattle.std.proofs.Common.{◌≡◌, ◌≤◌, ◌<◌, length, sym, subst, arith}
+use Rattle.std.proofs.Common.{◌≡◌, ◌≤◌, ◌<◌, length, sym, subst, ◌∙◌, arith}
 use Rattle.tree_core.specs.declared.node.Status.TheVariants.{Held}
 use Rattle.tree_core.specs.Cores.{held_count}
 use Rattle.tree_core.specs.Stories.{status}
@@ -24,7 +24,8 @@ invariant_of-self g c =
     let held : status s c.args.node ≡ Held c.args.by =
     subst (λ k. status k.story c.args.node ≡ Held c.args.by) (sym c.self.view_is)
     c.requires.held in
-    tended-release rules g.W.State.Placed.place g.W.Leaf.Placed.place s c.note.new.core.story
-    c.args.by c.args.node i.free c.push.new.self c.self.invariant
+    let tended = tended-release rules g.W.State.Placed.place g.W.Leaf.Placed.place s c.note.new.core.story
+    c.args.by c.args.node i.free c.push.new.self (c.self.invariant.0, c.self.invariant.1, c.self.invariant.2)
     c.note.ensures.story c.note.ensures.named there held c.push.ensures.nodes c.push.ensures.len
-    c.push.ensures.capacity
+    c.push.ensures.capacity in
+    (tended.0, tended.1, tended.2, c.note.ensures.most ∙ c.self.invariant.3)

@@ -6,7 +6,7 @@ use Rattle.node_split.proofs.worker.Worker.follow.Goals.{in-Branch+in_ok-forked-
 
 pub loop-stop-init : goal.loop-stop-init
 loop-stop-init g c = record {
-  onward = onward_self c.args.self.now.program c.args.self.now.budgets.steps c.args.run.now c.args.stop c.requires.stopped;
+  onward = onward_self c.args.self.now.program c.args.self.now.budgets.steps c.args.run c.args.stop c.requires.stopped;
 }
 
 pub cut_steps-requires : goal.cut_steps-requires
@@ -22,7 +22,7 @@ returns-in-Steps g c =
     let on = rw (← c.self.view_is) at c.loop-stop.invariant.onward in
     let at = rw c.in-Steps.is at on.stopped in
     rw (← c.self.view_is)
-    (worked_since p budgets c.args.run.now c.loop-stop.run (CutSteps c.in_ok-cut_steps-in-Steps.field-0) on.same on.less
+    (worked_since p budgets c.args.run c.loop-stop.run (CutSteps c.in_ok-cut_steps-in-Steps.field-0) on.same on.less
     (c.in_ok-cut_steps-in-Steps.ensures p budgets (sym at.1) at.0))
 
 pub finish-requires : goal.finish-requires
@@ -38,7 +38,7 @@ returns-in-Ended g c =
     let on = rw (← c.self.view_is) at c.loop-stop.invariant.onward in
     let at = rw c.in-Ended.is at on.stopped in
     rw (← c.self.view_is)
-    (worked_since p budgets c.args.run.now c.loop-stop.run (Finished c.in_ok-finish-in-Ended.field-0) on.same on.less
+    (worked_since p budgets c.args.run c.loop-stop.run (Finished c.in_ok-finish-in-Ended.field-0) on.same on.less
     (c.in_ok-finish-in-Ended.ensures p budgets at.0 at.1))
 
 pub know-requires : goal.know-requires
@@ -127,7 +127,7 @@ loop-stop-preserved g c =
     ] in
     rw (← c.self.view_is) (record {
       onward = fork_goes p budgets c.loop-stop.run c.match-stop.forked at c.in-One.place c.in-One.decided c.in-One.is
-          (rw c.know.ensures.value at c.know.ensures.formed) c.args.run.now c.resume.new.run c.loop-stop.stop c.in_ok-stop-in-One.stop on (rw (c.know.ensures.value, ← c.self.view_is) at c.in_ok-stop-in-One.ensures);
+          (rw c.know.ensures.value at c.know.ensures.formed) c.args.run c.resume.new.run c.loop-stop.stop c.in_ok-stop-in-One.stop on (rw (c.know.ensures.value, ← c.self.view_is) at c.in_ok-stop-in-One.ensures);
     })
 
 pub returns-in-Split : goal.returns-in-Split
@@ -146,5 +146,5 @@ returns-in-Split g c =
       })
     ] in
     rw (← c.self.view_is)
-    (worked_since p budgets c.args.run.now c.loop-stop.run (Kids c.in-Split.kids) on.same on.less
+    (worked_since p budgets c.args.run c.loop-stop.run (Kids c.in-Split.kids c.loop-stop.run) on.same on.less
     (fork_parts p budgets c.loop-stop.run c.match-stop.forked c.in-Split.kids at c.in-Split.is))

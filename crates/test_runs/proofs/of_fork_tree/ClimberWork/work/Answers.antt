@@ -30,22 +30,23 @@ rung_place r =
       choices = replicate r.from Yes ++ (if r.just then No ∷ [] else []);
       covers = λ input.
           if r.just then length input == r.from else nat_le r.from (length input);
+      cut = None;
     }
 
 abbrev end_place : End → Place
-end_place e = rung_place e.rung
+end_place e = record (rung_place e.rung) { cut = e.cut }
 
 abbrev decides : List ℕ → List Decision
 decides input = replicate (length input) (Side true) ++ Side false ∷ []
 
-abbrev rules : ℕ → Rules Rung End
-rules top = record {
+abbrev rules : (top nodes : ℕ) → Rules Rung End
+rules top nodes = record {
   left = λ r. if r.just then 0 else top + 1 - r.from;
   targets = 2;
+  nodes = nodes;
   decides = decides;
   IsWell = λ r. r.from ≤ top;
-  IsRight = λ sides e. e.cut ≡ Some Conflicts → sides ≡ No ∷ Yes ∷ [];
-  cut = λ e. e.cut;
+  IsRight = λ sides nodes e. e.cut ≡ Some Conflicts → sides ≡ No ∷ Yes ∷ [];
 }
 
 abbrev ends_here : ℕ → Rung
@@ -143,6 +144,12 @@ apart_down f = record {
   };
 }
 
+-- why a place was cut has no part in it
+uncut : (p q : Place) →
+    ArePlacesApart decides (record p { cut = None }) (record q { cut = None }) →
+    ArePlacesApart decides p q
+uncut p q there = record { c = there.c; d = there.d; first = there.first; part = there.part }
+
 -- the second side, by what its content is
 open_place : (c : Content Rung End) (r : Rung) → StateIs (Some c) r →
     place_in rung_place end_place c ≡ rung_place r
@@ -152,17 +159,17 @@ open_place (Shut e) r is = absurd is
 less_left : (top f : ℕ) → f < top → top + 1 - (f + 1) < top + 1 - f
 less_left top f lt = omega arith
 
-open_part : (top f : ℕ) (choices : List Choice) (kid : Kid (Content Rung End))
+open_part : (top nodes f : ℕ) (choices : List Choice) (kid : Kid (Content Rung End))
     (c : Content Rung End) →
     f < top → kid.is_leaf ≡ false → StateIs (Some c) (climbs_on (f + 1)) →
-    IsPart (rules top) (top + 1 - f) choices kid c
-open_part top f choices kid (Open a) lt open' is = (
+    IsPart (rules top nodes) end_place (top + 1 - f) choices kid c
+open_part top nodes f choices kid (Open a) lt open' is = (
   open',
   subst (λ (r : Rung). r.from ≤ top) (sym is) (omega arith),
   subst (λ (r : Rung). (if r.just then 0 else top + 1 - r.from) < top + 1 - f) (sym is)
       (less_left top f lt),
 )
-open_part top f choices kid (Shut e) lt open' is = absurd is
+open_part top nodes f choices kid (Shut e) lt open' is = absurd is
 
 two_apart : (p q : Kid (Content Rung End)) →
     ArePlacesApart decides (place_in rung_place end_place p.content)
@@ -194,16 +201,16 @@ first_holds false b h = absurd (none_is_true h)
 -- the two sides as they are written
 abbrev written_sides : Kid (Content Rung End) → List BranchSide
 written_sides low =
-    record { choice = No; cut = (side_of_kid (cut_in (λ (e : End). e.cut)) low).cut } ∷ record
+    record { choice = No; cut = (side_of_kid (cut_in rung_place end_place) low).cut } ∷ record
     { choice = Yes; cut = None } ∷ []
 
-two_sides : (top f : ℕ) (low high : Kid (Content Rung End)) → f < top → low.choice ≡ No →
-    place_in rung_place end_place low.content ≡ rung_place (ends_here f) →
-    IsTrue (is_one_cut_at_most (side_of_kid (cut_in (λ e. e.cut)) low).cut None) →
-    ((limit : ℕ) → 0 < limit → IsPart (rules top) limit (No ∷ Yes ∷ []) low low.content) →
+two_sides : (top nodes f : ℕ) (low high : Kid (Content Rung End)) → f < top → low.choice ≡ No →
+    record (place_in rung_place end_place low.content) { cut = None } ≡ rung_place (ends_here f) →
+    IsTrue (is_one_cut_at_most (side_of_kid (cut_in rung_place end_place) low).cut None) →
+    ((limit : ℕ) → 0 < limit → IsPart (rules top nodes) end_place limit (No ∷ Yes ∷ []) low low.content) →
     high.choice ≡ Yes → high.is_leaf ≡ false → StateIs (Some high.content) (climbs_on (f + 1)) →
-    IsSplit (rules top) rung_place end_place (climbs_on f) (low ∷ high ∷ [])
-two_sides top f low high lt low_choice low_place low_cut low_part high_choice high_open high_state =
+    IsSplit (rules top nodes) rung_place end_place (climbs_on f) (low ∷ high ∷ [])
+two_sides top nodes f low high lt low_choice low_place low_cut low_part high_choice high_open high_state =
     let high_place : place_in rung_place end_place high.content ≡ rung_place (climbs_on (f + 1)) =
     open_place high.content (climbs_on (f + 1)) high_state in
     let pair : choices_in (low ∷ high ∷ []) ≡ No ∷ Yes ∷ [] =
@@ -231,50 +238,57 @@ two_sides top f low high lt low_choice low_place low_cut low_part high_choice hi
           (place_in rung_place end_place kid.content).choices ≡ (replicate f Yes ++ []) ++
           kid.choice ∷ [])));
       parts = subst (λ (cs : List Choice). All
-          (λ (kid : Kid (Content Rung End)). IsPart (rules top) (top + 1 - f) cs kid kid.content)
+          (λ (kid : Kid (Content Rung End)). IsPart (rules top nodes) end_place (top + 1 - f) cs kid kid.content)
           (low ∷ high ∷ [])) (sym pair)
-          (All-cons (λ (kid : Kid (Content Rung End)). IsPart (rules top) (top + 1 - f)
+          (All-cons (λ (kid : Kid (Content Rung End)). IsPart (rules top nodes) end_place (top + 1 - f)
           (No ∷ Yes ∷ []) kid kid.content) low (high ∷ [])
           (low_part (top + 1 - f) (omega arith))
-          (All-cons (λ (kid : Kid (Content Rung End)). IsPart (rules top) (top + 1 - f)
+          (All-cons (λ (kid : Kid (Content Rung End)). IsPart (rules top nodes) end_place (top + 1 - f)
           (No ∷ Yes ∷ []) kid kid.content) high []
-          (open_part top f (No ∷ Yes ∷ []) high high.content lt high_open high_state)
-          (All-nil (λ (kid : Kid (Content Rung End)). IsPart (rules top) (top + 1 - f)
+          (open_part top nodes f (No ∷ Yes ∷ []) high high.content lt high_open high_state)
+          (All-nil (λ (kid : Kid (Content Rung End)). IsPart (rules top nodes) end_place (top + 1 - f)
           (No ∷ Yes ∷ []) kid kid.content))));
       sides = subst (λ (b : Bool). IsTrue
-          (are_sides 2 (side_of_kid (cut_in (λ (e : End). e.cut)) low ∷ record {
+          (are_sides 2 (side_of_kid (cut_in rung_place end_place) low ∷ record {
             choice = high.choice;
-            cut = if b then cut_in (λ (e : End). e.cut) high.content else None;
+            cut = if b then cut_in rung_place end_place high.content else None;
           } ∷ []))) (sym high_open)
           (subst (λ (p : Choice × Choice). IsTrue
           (are_sides 2 (record {
             choice = p.0;
-            cut = (side_of_kid (cut_in (λ (e : End). e.cut)) low).cut;
+            cut = (side_of_kid (cut_in rung_place end_place) low).cut;
           } ∷ record
           { choice = p.1; cut = None } ∷ []))) (λ i. (sym low_choice i, sym high_choice i))
           (first_holds (are_branch_sides (written_sides low)) (are_values 2 (written_sides low))
           low_cut));
       few = omega arith;
       apart = two_apart low high
-          (subst (λ (p : Place × Place). ArePlacesApart decides p.0 p.1)
-          (λ i. (sym low_place i, sym high_place i)) (apart_up f))
-          (subst (λ (p : Place × Place). ArePlacesApart decides p.0 p.1)
-          (λ i. (sym high_place i, sym low_place i)) (apart_down f));
+          (uncut (place_in rung_place end_place low.content)
+          (place_in rung_place end_place high.content)
+          (subst (λ (p : Place × Place). ArePlacesApart decides p.0 (record p.1 { cut = None }))
+          (λ i. (sym low_place i, sym high_place i)) (apart_up f)))
+          (uncut (place_in rung_place end_place high.content)
+          (place_in rung_place end_place low.content)
+          (subst (λ (p : Place × Place). ArePlacesApart decides (record p.0 { cut = None }) p.1)
+          (λ i. (sym high_place i, sym low_place i)) (apart_down f)));
     }
 
 pub returns : goal.returns
 returns g c = let r = c.args.state.now in let top = c.args.self.now.top in
-    subst (λ (kids : List (Kid (Content Rung End))). IsSplit (rules top) rung_place end_place r
-    kids)
-    (sym (c.push_reserved-2.ensures.items
-    ∙ ap (λ kids. kids ++ c.in_ok-second.second ∷ [])
-    (c.push_reserved.ensures.items
-    ∙ ap (λ kids. kids ++ c.in_ok-first.first ∷ []) c.in_ok-kids.ensures.items)))
-    (subst (λ (b : Bool). IsSplit (rules top) rung_place end_place
-    (record { from = r.from; just = b }) (c.in_ok-first.first ∷ c.in_ok-second.second ∷ []))
-    (sym c.if-rung.false)
-    (two_sides top r.from c.in_ok-first.first c.in_ok-second.second
-    (omega (arith, c.requires.well, c.if-rung-self.false))
-    c.in_ok-first.ensures.choice c.in_ok-first.ensures.place c.in_ok-first.ensures.cut
-    (λ limit some. c.in_ok-first.ensures.part top limit c.requires.well some)
-    c.in_ok-second.ensures.choice c.in_ok-second.ensures.open c.in_ok-second.ensures.state))
+    let nodes = c.args.self.now.nodes in (
+      subst (λ (kids : List (Kid (Content Rung End))). IsSplit (rules top nodes) rung_place end_place r
+          kids)
+          (sym (c.push_reserved-2.ensures.items
+          ∙ ap (λ kids. kids ++ c.in_ok-second.second ∷ [])
+          (c.push_reserved.ensures.items
+          ∙ ap (λ kids. kids ++ c.in_ok-first.first ∷ []) c.in_ok-kids.ensures.items)))
+          (subst (λ (b : Bool). IsSplit (rules top nodes) rung_place end_place
+          (record { from = r.from; just = b }) (c.in_ok-first.first ∷ c.in_ok-second.second ∷ []))
+          (sym c.if-rung.false)
+          (two_sides top nodes r.from c.in_ok-first.first c.in_ok-second.second
+          (omega (arith, c.requires.well, c.if-rung-self.false))
+          c.in_ok-first.ensures.choice c.in_ok-first.ensures.place c.in_ok-first.ensures.cut
+          (λ limit some. c.in_ok-first.ensures.part top nodes limit c.requires.well some)
+          c.in_ok-second.ensures.choice c.in_ok-second.ensures.open c.in_ok-second.ensures.state)),
+      record { same_choices = refl; same_cover = λ input. refl; well = c.requires.well },
+    )

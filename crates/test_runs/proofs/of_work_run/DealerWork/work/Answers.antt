@@ -25,6 +25,7 @@ abbrev draw_place : Draw → Place
 draw_place d = record {
   choices = if d.drawn then Value d.card ∷ [] else [];
   covers = λ input. if d.drawn then min 2 (length input) == d.card else true;
+  cut = None;
 }
 
 abbrev decides : List ℕ → List Decision
@@ -34,10 +35,10 @@ abbrev rules : Rules Draw Draw
 rules = record {
   left = λ d. if d.drawn then 0 else 1;
   targets = 3;
+  nodes = 100;
   decides = decides;
   IsWell = λ d. Unit {0};
-  IsRight = λ sides d. Unit {0};
-  cut = λ d. None;
+  IsRight = λ sides nodes d. Unit {0};
 }
 
 abbrev side : ℕ → Draw
@@ -131,7 +132,7 @@ open_place (Shut l) d is = absurd is
 
 open_part : (card : ℕ) (choices : List Choice) (kid : Kid (Content Draw Draw))
     (c : Content Draw Draw) → kid.is_leaf ≡ false → StateIs (Some c) (side card) →
-    IsPart rules 1 choices kid c
+    IsPart rules draw_place 1 choices kid c
 open_part card choices kid (Open a) open' is =
     (open', tt, subst (λ (d : Draw). (if d.drawn then 0 else 1) < 1) (sym is) (omega arith))
 open_part card choices kid (Shut l) open' is = absurd is
@@ -155,7 +156,7 @@ three_sides none one more n o m card =
     let Leads : Kid (Content Draw Draw) → Type 0 = λ kid.
     (place_in draw_place draw_place kid.content).choices ≡ [] ++ kid.choice ∷ [] in
     let Part : List Choice → Kid (Content Draw Draw) → Type 0 = λ choices kid.
-    IsPart rules 1 choices kid kid.content in
+    IsPart rules draw_place 1 choices kid kid.content in
     let choices = choices_in (none ∷ one ∷ more ∷ []) in
     record {
       shared = λ input. sum_by-cons (count input) none (one ∷ more ∷ [])
@@ -181,13 +182,13 @@ three_sides none one more n o m card =
       sides = subst (λ (p : Choice × Bool × Choice × Bool × Choice × Bool). IsTrue
           (are_sides 3 (record {
             choice = p.0;
-            cut = if p.1 then cut_in (λ (d : Draw). None) none.content else None;
+            cut = if p.1 then cut_in draw_place draw_place none.content else None;
           } ∷ record {
             choice = p.2;
-            cut = if p.3 then cut_in (λ (d : Draw). None) one.content else None;
+            cut = if p.3 then cut_in draw_place draw_place one.content else None;
           } ∷ record {
             choice = p.4;
-            cut = if p.5 then cut_in (λ (d : Draw). None) more.content else None;
+            cut = if p.5 then cut_in draw_place draw_place more.content else None;
           } ∷ [])))
           (λ i. (sym n.choice i, sym n.open' i, sym o.choice i, sym o.open' i, sym m.choice i, sym m.open' i))
           (part_into_values 3 (0 ∷ 1 ∷ 2 ∷ []) refl refl (omega arith) (omega arith));
@@ -196,31 +197,33 @@ three_sides none one more n o m card =
     }
 
 pub returns : goal.returns
-returns g c = let d = c.args.state.now in
-    subst (λ (kids : List (Kid (Content Draw Draw))). IsSplit rules draw_place draw_place d kids)
-    (sym (c.push_reserved-3.ensures.items
-    ∙ ap (λ kids. kids ++ c.in_ok-more.more ∷ [])
-    (c.push_reserved-2.ensures.items
-    ∙ ap (λ kids. kids ++ c.in_ok-one.one ∷ [])
-    (c.push_reserved.ensures.items
-    ∙ ap (λ kids. kids ++ c.in_ok-none.none ∷ []) c.in_ok-kids.ensures.items))))
-    (subst (λ (b : Bool). IsSplit rules draw_place draw_place
-    (record { drawn = b; card = d.card })
-    (c.in_ok-none.none ∷ c.in_ok-one.one ∷ c.in_ok-more.more ∷ []))
-    (sym c.if-draw.false)
-    (three_sides c.in_ok-none.none c.in_ok-one.one c.in_ok-more.more
-    (record {
-      choice = c.in_ok-none.ensures.choice;
-      open' = c.in_ok-none.ensures.open;
-      state = c.in_ok-none.ensures.state;
-    })
-    (record {
-      choice = c.in_ok-one.ensures.choice;
-      open' = c.in_ok-one.ensures.open;
-      state = c.in_ok-one.ensures.state;
-    })
-    (record {
-      choice = c.in_ok-more.ensures.choice;
-      open' = c.in_ok-more.ensures.open;
-      state = c.in_ok-more.ensures.state;
-    }) d.card))
+returns g c = let d = c.args.state.now in (
+  subst (λ (kids : List (Kid (Content Draw Draw))). IsSplit rules draw_place draw_place d kids)
+      (sym (c.push_reserved-3.ensures.items
+      ∙ ap (λ kids. kids ++ c.in_ok-more.more ∷ [])
+      (c.push_reserved-2.ensures.items
+      ∙ ap (λ kids. kids ++ c.in_ok-one.one ∷ [])
+      (c.push_reserved.ensures.items
+      ∙ ap (λ kids. kids ++ c.in_ok-none.none ∷ []) c.in_ok-kids.ensures.items))))
+      (subst (λ (b : Bool). IsSplit rules draw_place draw_place
+      (record { drawn = b; card = d.card })
+      (c.in_ok-none.none ∷ c.in_ok-one.one ∷ c.in_ok-more.more ∷ []))
+      (sym c.if-draw.false)
+      (three_sides c.in_ok-none.none c.in_ok-one.one c.in_ok-more.more
+      (record {
+        choice = c.in_ok-none.ensures.choice;
+        open' = c.in_ok-none.ensures.open;
+        state = c.in_ok-none.ensures.state;
+      })
+      (record {
+        choice = c.in_ok-one.ensures.choice;
+        open' = c.in_ok-one.ensures.open;
+        state = c.in_ok-one.ensures.state;
+      })
+      (record {
+        choice = c.in_ok-more.ensures.choice;
+        open' = c.in_ok-more.ensures.open;
+        state = c.in_ok-more.ensures.state;
+      }) d.card)),
+  record { same_choices = refl; same_cover = λ input. refl; well = tt },
+)

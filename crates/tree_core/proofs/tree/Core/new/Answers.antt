@@ -13,7 +13,7 @@ invariant_of-result g c = let R : Type 0 = g.row.R.Denot in
     let contents : c.push_reserved-3.new.self.items ≡ unworked_of c.args.is_leaf c.args.root ∷ [] = search rules in
     let events : c.new.result.items ≡ [] = search rules in
     let empty : length c.new.result.items ≡ 0 = ap length events in (
-      subst (λ (t : List (Node R) × List (Event R ℕ) × List (Option ℕ) × List (Option R)). IsCore g.R.Cover.covers (record { nodes = t.0; events = t.1 }) t.2 t.3 0) (λ k. (sym nodes k, sym events k, sym latest k, sym contents k)) (core-opened g.R.Cover.covers c.args.root c.args.is_leaf),
+      subst (λ (t : List (Node R) × List (Event R ℕ) × List (Option ℕ) × List (Option R)). IsCore g.R.Cover.covers g.R.Cover.by_nodes c.args.most (record { nodes = t.0; events = t.1 }) t.2 t.3 0) (λ k. (sym nodes k, sym events k, sym latest k, sym contents k)) (core-opened g.R.Cover.covers g.R.Cover.by_nodes c.args.most c.args.root c.args.is_leaf),
       omega arith,
       omega arith,
     )
