@@ -12,7 +12,7 @@ import time
 sys.path[:0] = [str(pathlib.Path(__file__).resolve().parent.parent / folder) for folder in ("tools", "bench/routines")]
 
 import elf  # noqa: E402, F401
-from report_files import read_report  # noqa: E402, F401
+from report_files import CUTS, read_report  # noqa: E402, F401
 from scratch import scratch  # noqa: E402, F401
 from tool import PROGRAM, TOP, built  # noqa: E402, F401
 

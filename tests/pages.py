@@ -1,5 +1,6 @@
 """What the page of tools/report says, on reports whose truth is known without the tool: by the source of a routine, read by hand,
 or by the bytes of a program that is written here. tests/launcher runs these checks, in a folder of their own."""
+import json
 import math
 import os
 import pathlib
@@ -11,6 +12,7 @@ import sys
 
 TOP = pathlib.Path(__file__).resolve().parent.parent
 TRAPS, LTV, LOCK = TOP / "bench/routines/traps.elf", TOP / "examples/ltv.elf", TOP / "examples/lock.elf"
+PATCH = TOP / "bench/routines/patch.elf"
 # By traps.s, the address of each ECALL that stands behind an instruction which always traps or branches.
 DEAD = ("1017c", "10194", "101a4")
 # By traps.s, which inputs trap at which instruction: the lowest four bits of an input say where.
@@ -110,6 +112,32 @@ class Pages:
         places = "2 leaves before lhu t3, 0(s2) 0x10164", "1 leaf before ecall 0x1015c", "1 leaf before bltu t0, t2, 0x10170"
         self.has("cut", page.section("cuts"), "Budget of steps, 12: 4 leaves", *places)
 
+    def full(self):
+        """From three nodes on no run is forked. The first branch makes three of one; on one side of it the next branch would fork,
+        on the other the address of a load. Neither leaf has a test, so their paths say where that is. Runs of the other program
+        write to its code, so there a path says nothing."""
+        page = self.page(TRAPS, "full", "--nodes", "3", "00011000:1")
+        self.has("full", page.head(), "Of 2 leaves 2 were cut (2 by nodes)", "0 of 49 instructions", "nodes 3,")
+        places = "1 leaf before beq t0, t2, 0x10160 0x10128 leaf 0", "1 leaf before lw t3, 0(s2) 0x10154 leaf 1"
+        self.has("full", page.section("cuts"), "Budget of nodes, 3: 2 leaves", *places)
+        self.has("full", page.section("leaves"), "cut by nodes: 2 leaves", "0 no test 10 beq", "1 no test 10 lw")
+        self.has("full", page.section("forks"), "0x10124 bltu t0, t2, 0x10154 2 leaves")
+        page = self.page(PATCH, "patch", "--nodes", "1", "00011000:1")
+        self.has("patch", page.section("cuts"), "1 leaf before a place that isn't known", "Still stands for all inputs")
+        self.has("patch", page.section("forks"), "all inputs take one path, as far as it was followed.")
+
+    def earlier(self):
+        """A report of before there was a budget of nodes has the same page, but for that budget."""
+        shutil.copytree("traps", "earlier")
+        file, page = pathlib.Path("earlier/report.json"), pathlib.Path("traps/report.html").read_text()
+        said = json.loads(file.read_text())
+        del said["budgets"]["nodes"]
+        file.write_text(json.dumps(said))
+        done = report(TRAPS, "earlier")
+        self.check("an earlier report", done == (0, "earlier/report.html\n", ""), done)
+        without = page.replace("nodes 1000000, ", "")
+        self.check("the page of an earlier report", without != page and pathlib.Path("earlier/report.html").read_text() == without)
+
     def lines(self):
         """The lines of source, by a tool that is found on the path. By ltv.c, counted by hand: of five bytes a LEVEL passes the
         end in two ways and a LIMIT in three, and the first test of the loop never ends it, so what it would go to is dead."""
@@ -180,7 +208,7 @@ class Pages:
             self.check(f"report {words}", (status, out) == (1, "") and is_sentence, (status, out, err))
 
     def all(self):
-        for part in (self.whole, self.cut, self.lines, self.many, self.doubts):
+        for part in (self.whole, self.cut, self.full, self.earlier, self.lines, self.many, self.doubts):
             part()
 
 

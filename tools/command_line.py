@@ -11,10 +11,10 @@ from own_options import NAMES
 Limit = collections.namedtuple("Limit", "most default")
 COMMANDS = {"explore": ("PROGRAM", "OUT", "INPUT"), "replay": ("PROGRAM", "TEST"), "bench": ("NUMBER", "WORKERS", "OUT")}
 OPTIONS = {"--steps": Limit(1_000_000, 10_000), "--targets": Limit(64, 16), "--conflicts": Limit(100_000, 2_000),
-           "--workers": Limit(64, 4)}
+           "--workers": Limit(64, 4), "--nodes": Limit(1_000_000, 1_000_000)}
 # Of the words of `bench`.
 NUMBERS = {"NUMBER": 12, "WORKERS": 64}
-USAGE = """usage: rvklee explore [--steps N] [--targets N] [--conflicts N] [--workers N] PROGRAM OUT INPUT..
+USAGE = """usage: rvklee explore [--steps N] [--targets N] [--conflicts N] [--workers N] [--nodes N] PROGRAM OUT INPUT..
        rvklee replay PROGRAM TEST
        rvklee bench NUMBER WORKERS OUT
 """

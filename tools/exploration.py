@@ -5,7 +5,9 @@ import disassembly
 from coverage import Coverage, Site, TracedRun
 from forks import Forks
 from functions import Functions
+from path_walk import Paths
 from regions import addresses
+from report_files import TESTED
 from unreached import Unreached
 
 # Where a run trapped: the site, the site of the step before it (None of a first step), and the address that a load or a store
@@ -28,6 +30,7 @@ class Exploration:
         self.traps, self.cut_sites, self.passes = {}, {}, collections.Counter()
         self.doubted = {leaf.rank for leaf in files.differing()}
         self.find_regions()
+        self.paths = Paths(program, self.report["regions"])
         for leaf in self.leaves:
             self.add(leaf)
         self.cut_sites |= self.forks.cut_sites
@@ -43,7 +46,7 @@ class Exploration:
 
     def add(self, leaf):
         run = self.run_of(leaf)
-        self.forks.add(leaf, run)
+        self.forks.add(leaf, run, None if leaf.kind in TESTED else self.paths.walk(leaf))
         if run is None:
             return
         self.passes.update(self.functions.starts_of(self.coverage.add(run)))

@@ -2,9 +2,11 @@
 
 No file says where. But the runs of two sides of a fork decide alike up to it and differ there (docs/FORKING.md), so the runs of
 a test of each show the place; of a side that was cut there, the leaf's number of steps does. Leaves come by rank, so each fork is
-where two neighbours part that have a test, or a cut leaf and its neighbour: one run is kept at a time.
+where two neighbours part that have a test, or a cut leaf and its neighbour: one run is kept at a time. Of a leaf without a test
+the walk of its path may show where it was cut, and at which branch it parts from its neighbours.
 """
 from coverage import next_site
+from report_files import TESTED
 
 
 class Fork:
@@ -33,18 +35,19 @@ class Forks:
 
     def __init__(self):
         self.root, self.cut_sites = Fork(), {}
-        self.before, self.waiting = None, []
+        self.before, self.last, self.waiting = None, None, []
 
-    def add(self, leaf, run):
-        """Adds a leaf with the run of its test, or None."""
+    def add(self, leaf, run, walk):
+        """Adds a leaf with the run of its test, or None, and where it should have no test with the walk of its path."""
         choices, path = leaf.choices, [self.root]
         for choice in choices:
             path.append(path[-1].sides.setdefault(choice, Fork()))
         for place in path:
             place.add(leaf)
         path[-1].leaf = leaf
-        if leaf.kind in ("targets", "conflicts"):
-            self.waiting.append((leaf, choices))
+        self.part_by_path(leaf, walk, path)
+        if leaf.kind not in TESTED:
+            self.stop(leaf, choices, walk)
         elif run:
             self.part(choices, run, path)
             self.before = choices, run
@@ -58,6 +61,24 @@ class Forks:
         fork, step = path[shared(choices, other)], first_difference(run, other_run)
         if fork.site is None and step is not None:
             fork.site = run.site(step)
+
+    def part_by_path(self, leaf, walk, path):
+        """Finds the branch at which a leaf parts from the one before it, where the path of one was walked: the entries of both are
+        alike up to that one."""
+        (other, other_walk), self.last = self.last or (leaf, None), (leaf, walk)
+        walk = walk or other_walk
+        if walk is None:
+            return
+        fork, entry = path[shared(leaf.choices, other.choices)], shared(leaf.entries, other.entries)
+        if fork.site is None and "Y" in fork.sides and entry < len(walk.decided):
+            fork.site = walk.decided[entry]
+
+    def stop(self, leaf, choices, walk):
+        """Notes where a leaf was cut that has no test: by nodes behind its fork, and else at it."""
+        self.cut_sites[leaf.rank] = walk.site
+        if leaf.kind != "nodes":
+            self.waiting.append((leaf, choices))
+            self.fork_of(choices).site = self.fork_of(choices).site or walk.site
 
     def settle(self):
         """Finds where leaves were cut that are on a side of a fork which the last run passes."""

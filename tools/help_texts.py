@@ -23,6 +23,7 @@ rvklee explore runs PROGRAM with the INPUT bytes symbolic. For each path OUT get
   --targets N    the most values followed of a number that a run depends on, mostly an address{targets}
   --conflicts N  the most clauses that the solver learns for one answer{conflicts}
   --workers N    how many work at it side by side{workers}
+  --nodes N      once the tree has so many forks and leaves, no run forks any more{nodes}
 
 example: ./rvklee explore --make-out examples/ltv.elf out/ltv input
 """

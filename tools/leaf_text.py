@@ -5,6 +5,8 @@ import re
 HEAD = ["rvklee leaf", "kind", "choices", "path", "steps", "end", "inputs", "nodes", "outputs"]
 HEAD_LINE = re.compile(rf"^; ({'|'.join(HEAD)}) (.*)$", re.MULTILINE)
 CHOICE = re.compile(r"[NYR]|=[0-9a-f]{8}")
+# Of a path.
+ENTRY = re.compile(r"[NT]|@[0-9a-f]{8}")
 TERM = re.compile(r"\(define-fun n(\d+) \(\) \(_ BitVec (\d+)\) (.*)\)")
 OPERAND = re.compile(r"\bn(\d+)")
 BYTE = re.compile(r"\(define-fun (status|out\d+) \(\) \(_ BitVec 8\) n(\d+)\)")

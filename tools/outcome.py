@@ -26,8 +26,8 @@ def lines(path, folder):
     leaves = report["leaves"]
     yield from traps(path, folder, leaves)
     yield from cuts(leaves, report["budgets"])
-    # Of several leaves the conditions differ, so they rest on the input.
-    if len(leaves) == 1 and not rests_on_input((folder / "leaf-000000.smt2").read_text()):
+    # Of several leaves the conditions differ, so they rest on the input; and so does where a run would fork.
+    if len(leaves) == 1 and leaves[0]["kind"] != "nodes" and not rests_on_input((folder / "leaf-000000.smt2").read_text()):
         yield "note: no condition and no output rests on an input byte: is the address right, and is the input read at all?"
 
 

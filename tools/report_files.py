@@ -13,6 +13,8 @@ from regions import is_region
 REPORT = {"budgets": dict, "leaves": list, "regions": list, "summary": dict}
 SUMMARY = ("leaves", "finished", "cut", "tests", "steps")
 BUDGETS = ("steps", "targets", "conflicts", "workers")
+# Why a leaf may be cut; and of which kinds a leaf has a test, where all others have what was spent.
+CUTS, TESTED = ("steps", "targets", "conflicts", "nodes"), ("finished", "steps")
 # How the runs of a leaf end that exit, but not all with one status.
 BY_INPUT = "exit, with a status by the input"
 TEST = {"end": str, "input": str, "output": str, "path": str, "regions": list, "steps": int}
@@ -61,6 +63,9 @@ def read_report(folder):
     for key, names in (("summary", SUMMARY), ("budgets", BUDGETS)):
         if not all(isinstance(report[key].get(name), int) for name in names):
             refuse(file, f"its key `{key}`")
+    # Reports of before there was a budget of nodes are read too.
+    if not isinstance(report["budgets"].get("nodes", 0), int):
+        refuse(file, "its key `budgets`")
     if not all(isinstance(leaf, dict) for leaf in report["leaves"]) or not all(map(is_region, report["regions"])):
         refuse(file, "its leaves or its regions")
     return report
@@ -120,6 +125,11 @@ class Leaf:
     def choices(self):
         return leaf_text.CHOICE.findall(self.choice_text)
 
+    @property
+    def entries(self):
+        """Those of its path."""
+        return leaf_text.ENTRY.findall(self.path)
+
     @functools.cached_property
     def condition(self):
         try:
@@ -145,8 +155,8 @@ class Leaf:
 
     def fits_test(self):
         """Whether it has a test where it should, and that is one of its runs by steps and path."""
-        if self.test is None or self.kind not in ("finished", "steps"):
-            return self.test is None and self.kind not in ("finished", "steps")
+        if self.test is None or self.kind not in TESTED:
+            return self.test is None and self.kind not in TESTED
         return (self.test["steps"], self.test["path"]) == (self.steps, self.path)
 
     @functools.cached_property

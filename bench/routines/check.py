@@ -14,7 +14,7 @@ import shutil
 import subprocess
 import sys
 
-from exploring import LAUNCHER, Leaf, compare_replay, compare_report, end_of, explore, kind_of, leaf_files, scratch
+from exploring import LAUNCHER, TESTED, Leaf, compare_replay, compare_report, end_of, explore, kind_of, leaf_files, scratch
 from runs import WIDE
 from tables import HERE, ByteTable, names
 
@@ -59,6 +59,8 @@ def ask_z3(asked, say):
 def compare_run(leaf, table, say):
     """Compares a leaf that has a test, and gives the table's leaf that it is."""
     test, name = leaf.test, leaf.name
+    if leaf.kind not in TESTED:
+        return say(f"{name}: cut by {leaf.kind}, which brute force doesn't foresee")
     if test is None or leaf.spent is not None:
         return say(f"{name}: of kind {leaf.kind}, but has no test, or has spent values")
     value = int(test["input"], 16)

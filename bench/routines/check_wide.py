@@ -1,18 +1,19 @@
 #!/usr/bin/python3
 """Explores each routine of more than one input byte by rvklee, and compares the report with runs by interpreter.py and with z3.
 
-    check_wide.py [--tool PATH] [--conflicts N] [--seconds N] [--keep FOLDER] [WORD ..]
+    check_wide.py [--tool PATH] [--conflicts N] [--nodes N] [--seconds N] [--keep FOLDER] [WORD ..]
 
 A WORD is the name of a table of wide.py without `.expected`; where there is none, all are checked. --tool is ./rvklee at the top
-where it isn't given, --conflicts the tool's budget (2000), and --seconds says how long z3 may look for one answer (20). --keep
-keeps the reports. z3 is Debian's `python3-z3`, which its own python3 finds.
+where it isn't given, --conflicts and --nodes are the tool's budgets (2000 and 1000000), and --seconds says how long z3 may look for
+one answer (20). --keep keeps the reports. z3 is Debian's `python3-z3`, which its own python3 finds.
 
 Each test is replayed by the tool, and run here. Of two input bytes each leaf's text is evaluated on all inputs, of more on the
 inputs of the table, on some that differ from one of them or from a test in one byte, and on random ones: just one leaf has to
 hold, and the run has to have its steps, path, end and output, and the decisions of the leaf's other runs. z3 is asked of each
 text whether it is sat, also on its test's input, where status and output have to be the test's; of each two neighbours whether
 both hold; and whether none holds. Of a leaf that was cut by conflicts the clauses that were learnt are counted, and the question
-has to be a part of its condition, with the last assertion in it; whether the clauses follow isn't looked at. A line is said for each disagreement, and one for each routine: its leaves, those that were
+has to be a part of its condition, with the last assertion in it; whether the clauses follow isn't looked at. One that was cut by
+nodes has to say how many the tree has. A line is said for each disagreement, and one for each routine: its leaves, those that were
 cut by the budget that was spent, those that z3 shows to be empty, and the questions that z3 left. The status is 1 where
 there is a disagreement.
 """
@@ -25,7 +26,8 @@ import sys
 
 import z3
 
-from exploring import END, LAUNCHER, Leaf, LeafValues, NoLeaf, compare_replay, compare_report, explore, leaf_files, scratch
+from exploring import CUTS, END, LAUNCHER, TESTED, Leaf, LeafValues, NoLeaf, compare_full, compare_replay, compare_report, explore
+from exploring import leaf_files, scratch
 from interpreter import Machine, load
 from runs import STEPS
 from tables import HERE, WideTable
@@ -50,7 +52,8 @@ class Routine:
     """A table, the report on its routine, and what was found out so far."""
 
     def __init__(self, word, count, asked):
-        self.word, self.count, self.conflicts, self.seconds = word, count, asked.conflicts, asked.seconds
+        self.word, self.count, self.seconds = word, count, asked.seconds
+        self.conflicts, self.nodes = asked.conflicts, asked.nodes
         self.table = WideTable(HERE / f"{word}.expected")
         self.image = load(self.table.program)
         self.wrong = self.asked = self.left = self.empty = 0
@@ -67,7 +70,7 @@ class Routine:
 
 def explored(routine, tool, folder):
     """Explores the routine. Gives what is said, or None where there is no report."""
-    done = explore(tool, routine.table, folder, "--conflicts", routine.conflicts)
+    done = explore(tool, routine.table, folder, "--conflicts", routine.conflicts, "--nodes", routine.nodes)
     if done.returncode != 0:
         return routine.say(f"status {done.returncode}: {done.stdout.strip()}")
     for file in leaf_files(folder):
@@ -81,13 +84,13 @@ def explored(routine, tool, folder):
 
 def compare_files(routine, leaf):
     """Which files stand beside a leaf, and its test with a run of its input."""
-    is_shown = leaf.kind in ("targets", "conflicts")
+    is_shown = leaf.kind not in TESTED
     if (leaf.test is None, leaf.spent is not None) != (is_shown, is_shown):
         routine.say(f"{leaf.name}: of kind {leaf.kind}, but test and spent values aren't as they have to be")
     if leaf.read.inputs != routine.count:
         routine.say(f"{leaf.name}: has {leaf.read.inputs} inputs")
     if is_shown and leaf.spent:
-        (compare_values if leaf.kind == "targets" else compare_learnt)(routine, leaf)
+        {"targets": compare_values, "conflicts": compare_learnt, "nodes": compare_nodes}[leaf.kind](routine, leaf)
     if leaf.test:
         test, run = leaf.test, routine.run(leaf.input())
         here = [test[key] for key in ("end", "output", "path", "steps", "regions")]
@@ -122,6 +125,10 @@ def compare_learnt(routine, leaf):
     asserted, asked = (list(z3.parse_smt2_string(text)) for text in (leaf.text, "\n".join(question)))
     if not all(any(one.eq(other) for other in asserted) for one in asked) or not any(asserted[-1].eq(one) for one in asked):
         routine.say(f"{leaf.name}: the question isn't a part of its condition, or its last assertion isn't in it")
+
+
+def compare_nodes(routine, leaf):
+    compare_full(leaf, routine.leaves, int(routine.nodes), int(routine.table.options[3]), routine.say)
 
 
 def compare_run(routine, leaf, worth, values):
@@ -161,7 +168,7 @@ def compare_inputs(routine):
 
 def compare_table(routine, said):
     """The summary, and that no two leaves decide alike. Where a question was left open, the table may have other leaves."""
-    decided = [leaf.decided for leaf in routine.leaves if leaf.kind in ("finished", "steps")]
+    decided = [leaf.decided for leaf in routine.leaves if leaf.kind in TESTED]
     if len(set(decided)) != len(decided):
         routine.say("two leaves decide alike")
     if all(leaf.kind == "finished" for leaf in routine.leaves) and said != routine.table.summary + "\n":
@@ -231,7 +238,7 @@ def compare(routine, tool, folder):
     compare_table(routine, said)
     ask(routine)
     kinds = [leaf.kind for leaf in routine.leaves]
-    cuts = " ".join(f"{kind} {kinds.count(kind)}" for kind in ("steps", "targets", "conflicts"))
+    cuts = " ".join(f"{kind} {kinds.count(kind)}" for kind in CUTS)
     print(f"{routine.word} {routine.table.region}: leaves {len(kinds)} finished {kinds.count('finished')} cut by {cuts}, empty {routine.empty}; "
           f"z3 left {routine.left} of {routine.asked} questions; {routine.wrong} disagreements", flush=True)
 
@@ -240,6 +247,7 @@ def main():
     asked = argparse.ArgumentParser()
     asked.add_argument("--tool", default=LAUNCHER)
     asked.add_argument("--conflicts", default="2000")
+    asked.add_argument("--nodes", default="1000000")
     asked.add_argument("--seconds", type=int, default=20)
     asked.add_argument("--keep", type=pathlib.Path)
     asked.add_argument("words", nargs="*")

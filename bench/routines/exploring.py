@@ -6,7 +6,7 @@ sys.path.insert(0, str(pathlib.Path(__file__).resolve().parent.parent.parent / "
 
 from leaf_text import END  # noqa: E402, F401
 from leaf_values import LeafValues, NoLeaf  # noqa: E402, F401
-from report_files import Leaf, leaf_files, read_report, read_tests  # noqa: E402, F401
+from report_files import CUTS, TESTED, Leaf, leaf_files, read_report, read_tests  # noqa: E402, F401
 from scratch import scratch  # noqa: E402, F401
 from tool import LAUNCHER, PROGRAM, TOP, run, run_quietly, said, wrong_replays  # noqa: E402, F401
 
@@ -37,6 +37,14 @@ def compare_report(leaves, folder, say):
     places = [order(leaf.choices) for leaf in leaves]
     if places != sorted(places) or len({str(place) for place in places}) != len(places):
         say("the leaves aren't in the order of their choices")
+
+
+def compare_full(leaf, leaves, nodes, targets, say):
+    """Compares what stands beside a leaf that was cut by nodes, how many there were, with the tree: later none was forked, so it
+    has just as many, and its last fork may have passed the budget."""
+    count = len({tuple(one.choices[:depth]) for one in leaves for depth in range(len(one.choices) + 1)})
+    if leaf.spent != [f"; spent nodes {count}"] or not nodes <= count <= nodes + targets:
+        say(f"{leaf.name}: cut by nodes, of which the tree has {count} and may have {nodes}, but says {leaf.spent}")
 
 
 def compare_replay(tool, program, test, say):

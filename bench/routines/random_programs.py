@@ -5,9 +5,10 @@
 
 A program is named by its seed, from FIRST to LAST - 1. It computes on the input and on edge cases, branches on and back, loads
 and stores at addresses that depend on the input, stores into the instructions that come next, jumps, and writes. The input
-stands at 00011000, elsewhere in the data, or in the code. Steps and targets are few in some runs. Programs that part
+stands at 00011000, elsewhere in the data, or in the code. Steps, targets and nodes are few in some runs. Programs that part
 fewer than three ways are skipped, most of them. A disagreement is printed, and its program is kept in FOLDER as SEED.elf.
 """
+import os
 import pathlib
 import random
 import shutil
@@ -17,7 +18,7 @@ import sys
 import elf
 import interpreter
 from check import ask_z3
-from exploring import Leaf, compare_report, end_of, kind_of, leaf_files, run, scratch
+from exploring import Leaf, LeafValues, compare_full, compare_report, end_of, kind_of, leaf_files, run, scratch
 
 CODE, DATA = 0x10100, 0x11000
 REGISTERS = [5, 6, 7, 9, 12, 13, 14, 15, 16, 28, 29, 30, 31]
@@ -152,6 +153,22 @@ def leaf_runs(leaf, runs, decisions, say):
     return {other: (runs[other].end, runs[other].output.hex()) for other in range(256) if decisions[other] == decisions[value]}
 
 
+def full_runs(leaf, runs, decisions, say):
+    """The inputs that a leaf which was cut by nodes should have: all that decide as those of its text do, up to where these part, in
+    the leaf's next step."""
+    read, made = LeafValues(leaf.text), leaf.steps
+    inside = [value for value in range(256) if read.holds(read.values([value]))]
+    alike, log = os.path.commonprefix([decisions[value] for value in inside]), runs[inside[0]].log if inside else []
+    start = sum(len(decided) for decided, _, _ in log[:made])
+    if made >= len(log) or not start <= len(alike) < start + len(log[made][0]):
+        say(f"{leaf.name}: the runs of {inside} don't part behind {made} steps")
+        return {}
+    found = [value for value in range(256) if decisions[value][:len(alike)] == alike]
+    if leaf.test or leaf.end != "running" or any(runs[value].log[made][1] != leaf.path for value in found):
+        say(f"{leaf.name}: has a test, or says end {leaf.end}, path {leaf.path}")
+    return {value: ("running", runs[value].log[made][2].hex()) for value in found}
+
+
 def try_seed(seed, tool, folder):
     r, wrong = random.Random(seed), []
 
@@ -169,12 +186,19 @@ def try_seed(seed, tool, folder):
         path.unlink()
         return None
     out.mkdir()
-    options = ["--steps", str(steps), "--targets", str(targets)]
+    nodes = r.choice([1_000_000, 1_000_000, 60, 20, 9, 5, 3, 2])
+    options = ["--steps", str(steps), "--targets", str(targets), "--nodes", str(nodes)]
     done = run(tool, "explore", *options, path, out, f"{interpreter.INPUT:08x}:1")
     leaves, asked = [Leaf(file) for file in leaf_files(out)], []
     for leaf in leaves:
-        is_rest = leaf.kind == "targets"
-        asked.append((leaf, rest_runs(leaf, runs, decisions, targets, say) if is_rest else leaf_runs(leaf, runs, decisions, say)))
+        if leaf.kind == "targets":
+            should = rest_runs(leaf, runs, decisions, targets, say)
+        elif leaf.kind == "nodes":
+            compare_full(leaf, leaves, nodes, targets, say)
+            should = full_runs(leaf, runs, decisions, say)
+        else:
+            should = leaf_runs(leaf, runs, decisions, say)
+        asked.append((leaf, should))
     if done.returncode != 0:
         say(f"status {done.returncode}: {done.stdout}")
     elif sorted(value for _, should in asked for value in should) != list(range(256)):

@@ -10,6 +10,8 @@ BUDGETS = {
                 code("--targets"), " (64 at most)."),
     "conflicts": ("The solver's budget was spent before it was known whether any input goes this way. Raise ",
                   code("--conflicts"), "."),
+    "nodes": ("The tree had so many forks and leaves that no run was forked any more, and here one would fork. Raise ",
+              code("--nodes"), " (1,000,000 at most)."),
 }
 # So many places are listed of a budget, and so many values of a leaf.
 MOST_PLACES, MOST_VALUES = 40, 16
@@ -30,7 +32,8 @@ def budget(view, kind, leaves):
         places.setdefault(view.explored.cut_sites.get(leaf.rank), []).append(leaf)
     shown = sorted(places.items(), key=lambda place: -len(place[1]))
     more = [element("p", f"and at {len(shown) - MOST_PLACES} more places", class_="faint")] if len(shown) > MOST_PLACES else []
-    head = f"Budget of {kind}, {view.explored.report['budgets'][kind]:,}: {leaves_of(len(leaves))}"
+    given = view.explored.report["budgets"].get(kind)
+    head = f"Budget of {kind}{'' if given is None else f', {given:,}'}: {leaves_of(len(leaves))}"
     parts = (place(view, site, some) for site, some in shown[:MOST_PLACES])
     return join(element("h3", head), element("p", *BUDGETS[kind]), *parts, *more)
 
@@ -41,7 +44,7 @@ def place(view, site, leaves):
     rest = f"; also {file_names([other.rank for other in leaves[1:]])}" if len(leaves) > 1 else ""
     head = element("p", element("b", leaves_of(len(leaves))), " before ", view.site(site))
     first = element("p", view.link(leaf.rank), f", {leaf.name}, after {leaf.steps:,} steps", rest)
-    stands = element("p", "Still stands for the inputs with")
+    stands = element("p", "Still stands for " + ("the inputs with" if leaf.condition.asserted else "all inputs"))
     return element("div", head, first, values(leaf), stands, view.assertions(leaf), class_="note")
 
 

@@ -16,7 +16,8 @@ SAID = ("Each fork with its instruction, and its sides in the order of the leave
 def part(view):
     root = view.explored.forks.root
     if not root.sides:
-        return join(element("h2", "Forks", id="forks"), element("p", "None: all inputs take one path."))
+        said = "None: all inputs take one path" + (", as far as it was followed." if view.unreached.cut else ".")
+        return join(element("h2", "Forks", id="forks"), element("p", said))
     tree = Tree(view)
     return join(element("h2", "Forks", id="forks"), places(view), element("p", SAID, tree.limit(), class_="faint"),
                 element("div", tree.chain(root, 0), class_="forks wide"))

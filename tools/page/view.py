@@ -136,7 +136,7 @@ class View:
     def site(self, site):
         """An instruction with its place, and its line of source."""
         if site is None:
-            return element("span", "some place", class_="faint")
+            return element("span", "a place that isn't known", class_="faint")
         line = self.line_of(site.address)
         parts = [code(site_text(site)), element("br"), code(self.program.where(site.address))]
         return join(*parts, *([" ", element("span", line, class_="faint")] if line else []))
