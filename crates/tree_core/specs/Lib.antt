@@ -1,4 +1,6 @@
 pub mod Choices
+pub mod Orders
+pub mod WorkedOrders
 pub mod Nodes
 pub mod Stories
 pub mod Covers

@@ -1,6 +1,9 @@
-//! What an exploration may spend.
+//! What an exploration may spend, and in which order.
 
-/// What the exploration of a program may spend: in a job of words, each from 1 to the most of its limit.
+use crate::order::Order;
+
+/// What the exploration of a program may spend: in a job of words, each number from 1 to the most of its limit. And the order in
+/// which it takes up what is left to do.
 #[derive(Clone, Copy, Debug, PartialEq, Eq)]
 pub struct Budgets {
     /// The most steps of a run; one that hasn't ended by then is cut.
@@ -11,4 +14,6 @@ pub struct Budgets {
     pub conflicts: u32,
     /// The nodes of the tree from which on no node is parted; what would be is cut. The last split may pass it by its kids.
     pub nodes: u32,
+    /// Which free node is claimed next.
+    pub order: Order,
 }

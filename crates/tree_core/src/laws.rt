@@ -8,6 +8,9 @@ ghost use Rattle.tree_core.specs.Replays.{AreFit, Replays, after_event, after_al
 ghost use Rattle.tree_core.specs.declared.event.Event.{Event};
 ghost use Rattle.tree_core.specs.declared.event.Kid.{Kid};
 ghost use Rattle.tree_core.specs.Nodes.{Node};
+ghost use Rattle.tree_core.specs.Orders.{is_named};
+ghost use Rattle.tree_core.specs.WorkedOrders.{five_free, six_free, three_free};
+ghost use Rattle.tree_core.specs.declared.order.Order.TheVariants.{Deepest, Oldest, Mixed};
 ghost use Rattle.tree_core.specs.declared.node.Status.TheVariants.{Held};
 
 use crate::cover::Cover;
@@ -43,4 +46,18 @@ pub fn a_claim_survives<R: Cover>()
         → Replays R.covers R.by_nodes most t → t.nodes ≡ s.nodes ++ nodes → t.events ≡ s.events ++ events
         → All (λ (e : Event R ℕ). e.by ≢ by) events → node < length s.nodes
         → status s node ≡ Held by → (status t node ≡ Held by) × (content t node ≡ content s node) }
+{}
+
+/// Orders, followed by hand.
+#[tactic(auto, unfolding(crate::specs::Orders::drawn, crate::specs::Orders::is_named))]
+pub fn worked_orders()
+    ensures deepest { IsTrue (is_named Deepest 0 three_free 3) }
+    ensures no_less_number { IsFalse (is_named Deepest 0 three_free 4) }
+    ensures not_so_deep { IsFalse (is_named Deepest 0 three_free 1) }
+    ensures oldest { IsTrue (is_named Oldest 0 three_free 1) }
+    ensures not_free { IsFalse (is_named Oldest 0 three_free 0) }
+    ensures not_there { IsFalse (is_named Oldest 0 three_free 5) }
+    ensures mixed { IsTrue (is_named Mixed 2 six_free 5) }
+    ensures mixed_again { IsTrue (is_named Mixed 4 five_free 3) }
+    ensures not_drawn { IsFalse (is_named Mixed 4 five_free 4) }
 {}
