@@ -1,0 +1,5 @@
+pub mod Joining
+pub mod Leaves
+pub mod Ways
+pub mod Counts
+pub mod Naming
