@@ -5,20 +5,28 @@ use Rattle.tree_core.specs.declared.cause.Cause.{Cause}
 use Rattle.fork_spec.specs.Walks.{Bounds, Line, Side, Standing, are_branch_sides, are_sides, are_small, are_values, is_increasing, is_rest, is_rest_cut, rest_side, walk_step, value_side, values_first, walk_from}
 
 -- a walk that goes on, from where the first line leads if it leads anywhere
-after_step : (bounds : Bounds) (more : List Line) (first : List Line) →
-    ((nodes : List Standing) → walk_from bounds nodes (first ++ more) ≡ option_and_then (λ reached. walk_from bounds reached more) (walk_from bounds nodes first)) →
+after_step : (bounds : Bounds) (events count : ℕ) (more : List Line) (first : List Line) →
+    ((nodes : List Standing) → walk_from bounds events nodes (first ++ more) ≡ option_and_then (λ reached. walk_from bounds count reached more) (walk_from bounds events nodes first)) →
     (next : Option (List Standing)) →
-    option_and_then (λ nodes. walk_from bounds nodes (first ++ more)) next
-    ≡ option_and_then (λ reached. walk_from bounds reached more) (option_and_then (λ nodes. walk_from bounds nodes first) next)
-after_step bounds more first goes_on None = refl
-after_step bounds more first goes_on (Some nodes) = goes_on nodes
+    option_and_then (λ nodes. walk_from bounds events nodes (first ++ more)) next
+    ≡ option_and_then (λ reached. walk_from bounds count reached more) (option_and_then (λ nodes. walk_from bounds events nodes first) next)
+after_step bounds events count more first goes_on None = refl
+after_step bounds events count more first goes_on (Some nodes) = goes_on nodes
 
-pub walk_goes_on : (bounds : Bounds) (nodes : List Standing) (first more : List Line) →
-    walk_from bounds nodes (first ++ more) ≡ option_and_then (λ reached. walk_from bounds reached more) (walk_from bounds nodes first)
+pub walk_goes_on : (bounds : Bounds) (events : ℕ) (nodes : List Standing) (first more : List Line) →
+    walk_from bounds events nodes (first ++ more) ≡ option_and_then (λ reached. walk_from bounds (events + length first) reached more) (walk_from bounds events nodes first)
 unfolding walk_from
-walk_goes_on bounds nodes [] more = refl
-walk_goes_on bounds nodes (event ∷ first) more =
-    after_step bounds more first (λ next. walk_goes_on bounds next first more) (walk_step bounds nodes event)
+walk_goes_on bounds events nodes [] more = ap (λ n. walk_from bounds n nodes more) none_more
+  where
+    none_more : events ≡ events + 0
+    none_more = omega arith
+walk_goes_on bounds events nodes (event ∷ first) more =
+    after_step bounds (events + 1) (events + length (event ∷ first)) more first
+    (λ next. walk_goes_on bounds (events + 1) next first more ∙ ap (λ n. option_and_then (λ reached. walk_from bounds n reached more) (walk_from bounds (events + 1) next first)) one_more)
+    (walk_step bounds events nodes event)
+  where
+    one_more : (events + 1) + length first ≡ events + length (event ∷ first)
+    one_more = omega arith
 
 -- the values come first, whatever else comes behind them
 values_then : (values : List ℕ) (behind : List Side) → values_first behind ≡ [] → values_first (map value_side values ++ behind) ≡ values

@@ -1,8 +1,9 @@
 -- The walk of written events: how the nodes of a fork tree stand after them, with nothing known of what the nodes hold.
-use Rattle.std.specs.Prelude.{ℕ, Bool, true, false, List, [], ◌∷◌, ◌++◌, ◌==◌, ◌&&◌, ◌||◌, ◌^◌, if◌then◌else◌, nat_le, nat_lt, drop, length, map, slice_get, slice_set, Option, Some, None, option_and_then}
+use Rattle.std.specs.Prelude.{ℕ, ◌+◌, Bool, true, false, List, [], ◌∷◌, ◌++◌, ◌==◌, ◌&&◌, ◌||◌, ◌^◌, if◌then◌else◌, nat_le, nat_lt, drop, length, map, slice_get, slice_set, Option, Some, None, option_and_then}
 use Rattle.std.specs.List.{list_all}
 use Rattle.tree_core.specs.Choices.{is_same}
-use Rattle.tree_core.specs.Replays.{allows, has_room}
+use Rattle.tree_core.specs.Orders.{Candidate, is_named}
+use Rattle.tree_core.specs.Replays.{allows, has_room, is_free}
 use Rattle.tree_core.specs.Stories.{left_by}
 use Rattle.tree_core.specs.declared.cause.Cause.{Cause}
 use Rattle.tree_core.specs.declared.cause.Cause.TheVariants.{Steps, Targets, Conflicts, Nodes}
@@ -13,6 +14,7 @@ use Rattle.tree_core.specs.declared.event.Deed.{Deed}
 use Rattle.tree_core.specs.declared.event.Deed.TheVariants.{Claim, Split, Finish, Cut, Release}
 use Rattle.tree_core.specs.declared.node.Status.{Status}
 use Rattle.tree_core.specs.declared.node.Status.TheVariants.{Free, Held, Parted, Leaf}
+use Rattle.tree_core.specs.declared.order.Order.{Order}
 
 -- a side of a fork: its choice, and why it is a leaf at once, if it is
 pub record Side : Type 0 where
@@ -34,11 +36,13 @@ pub record Standing : Type 0 where
   pub status : Status
   pub cut : Option Cause
 
--- what a walk is held to: so many workers, so many values of a term as sides, and so many nodes, from which on none is parted
+-- what a walk is held to: so many workers, so many values of a term as sides, so many nodes, from which on none is parted, and an
+-- order of claims
 pub record Bounds : Type 0 where
   pub workers : ℕ
   pub targets : ℕ
   pub nodes : ℕ
+  pub order : Order
 
 -- before any event
 abbrev pub root : Standing
@@ -133,6 +137,16 @@ is_in_form targets nodes (Finish (Some cause)) = false
 is_in_form targets nodes (Cut cut) = is_end_cut cut
 is_in_form targets nodes Release = true
 
+-- a node as an order of claims sees it
+abbrev pub candidate : Standing → Candidate
+candidate node = record { depth = length node.choices; is_free = is_free node.status }
+
+-- a claim is of the node that the order names, where there were so many events
+abbrev pub is_in_turn : Order → (events : ℕ) → List Candidate → (node : ℕ)
+    → Deed (Option Cause) Sides → Bool
+is_in_turn order events nodes node Claim = is_named order events nodes node
+is_in_turn order events nodes node _ = true
+
 -- why a deed leaves a leaf that was cut, if it does
 abbrev pub cut_by : Deed (Option Cause) Sides → Option Cause
 cut_by (Finish cut) = cut
@@ -164,29 +178,32 @@ done_on nodes line node =
     (record node { status = left_by line.by line.deed; cut = cut_by line.deed })
     ++ side_births node.choices line.deed
 
--- whether the event may come, on this one of the nodes: its worker is one of so many and may do it, there are few enough nodes for it,
--- or enough, and it is in form
-abbrev pub may_come : Bounds → List Standing → Line → Standing → Bool
-may_come bounds nodes line node =
+-- whether the event may come behind so many, on this one of the nodes: its worker is one of so many and may do it, a claim is in
+-- turn, there are few enough nodes for it, or enough, and it is in form
+abbrev pub may_come : Bounds → (events : ℕ) → List Standing → Line → Standing → Bool
+may_come bounds events nodes line node =
     nat_lt line.by bounds.workers && allows node.status line.by line.deed
+    && is_in_turn bounds.order events (map candidate nodes) line.node line.deed
     && has_room is_by_nodes bounds.nodes (length nodes) line.deed
     && is_in_form bounds.targets (length nodes) line.deed
 
--- the nodes after an event, and none where it may not come
-unfoldable pub walk_step : Bounds → List Standing → Line → Option (List Standing)
-walk_step bounds nodes line =
-    option_and_then (λ node. if may_come bounds nodes line node
+-- the nodes after an event behind so many, and none where it may not come
+unfoldable pub walk_step : Bounds → (events : ℕ) → List Standing → Line → Option (List Standing)
+walk_step bounds events nodes line =
+    option_and_then (λ node. if may_come bounds events nodes line node
     then Some (done_on nodes line node) else None) (slice_get nodes line.node)
 
--- the nodes after more events, and none from the first on that may not come
-unfoldable pub walk_from : Bounds → List Standing → List Line → Option (List Standing)
-walk_from bounds nodes [] = Some nodes
-walk_from bounds nodes (line ∷ lines) =
-    option_and_then (λ next. walk_from bounds next lines) (walk_step bounds nodes line)
+-- the nodes after more events behind so many, and none from the first on that may not come
+unfoldable pub walk_from : Bounds → (events : ℕ) → List Standing → List Line
+    → Option (List Standing)
+walk_from bounds events nodes [] = Some nodes
+walk_from bounds events nodes (line ∷ lines) =
+    option_and_then (λ next. walk_from bounds (events + 1) next lines)
+    (walk_step bounds events nodes line)
 
 -- the nodes after all events, from the root on
 abbrev pub walk : Bounds → List Line → Option (List Standing)
-walk bounds lines = walk_from bounds (root ∷ []) lines
+walk bounds lines = walk_from bounds 0 (root ∷ []) lines
 
 -- parted, or a leaf
 abbrev pub is_settled : Status → Bool

@@ -1,19 +1,20 @@
 //! What holds of every walk, and walks that can be followed by hand.
 
-ghost use Rattle.std.specs.Prelude.{◌^◌, ◌≡◌, ◌≤◌, ◌++◌, ℕ, List, [], ◌∷◌, Option, Some, None, IsFalse, IsTrue, length, map, option_and_then, option_map, true};
+ghost use Rattle.std.specs.Prelude.{◌^◌, ◌≡◌, ◌≤◌, ◌+◌, ◌++◌, ℕ, List, [], ◌∷◌, Option, Some, None, IsFalse, IsTrue, false, length, map, option_and_then, option_map, true};
 ghost use Rattle.tree_core.specs.declared.cause.Cause.{Cause};
 ghost use Rattle.tree_core.specs.declared.cause.Cause.TheVariants.{Conflicts, Nodes, Targets};
 ghost use Rattle.tree_core.specs.declared.event.Deed.TheVariants.{Claim, Cut, Finish};
 ghost use Rattle.tree_core.specs.declared.node.Status.TheVariants.{Leaf};
+ghost use Rattle.tree_core.specs.declared.order.Order.TheVariants.{Deepest, Oldest, Mixed};
 ghost use Rattle.fork_spec.specs.Walks.{Bounds, Line, Standing, are_sides, are_small, is_increasing, is_quiet, is_rest_cut, rest_side, value_side, walk, walk_from};
-ghost use Rattle.fork_spec.specs.WorkedWalks.{branch_lines, branch_nodes, branch_then_cut, claimed_and, line, one_node, parts, two, value_lines, value_nodes};
+ghost use Rattle.fork_spec.specs.WorkedWalks.{branch_lines, branch_nodes, branch_then_cut, claimed_and, four_by, line, one_node, parts, then_claims, two, value_lines, value_nodes};
 
 /// A walk goes on from where its first events lead.
 pub fn a_walk_goes_on_from_its_first_events()
-    ensures { (bounds : Bounds) (nodes : List Standing) (first more : List Line)
-        → walk_from bounds nodes (first ++ more)
-        ≡ option_and_then (λ reached. walk_from bounds reached more)
-        (walk_from bounds nodes first) }
+    ensures { (bounds : Bounds) (events : ℕ) (nodes : List Standing) (first more : List Line)
+        → walk_from bounds events nodes (first ++ more)
+        ≡ option_and_then (λ reached. walk_from bounds (events + length first) reached more)
+        (walk_from bounds events nodes first) }
 {}
 
 /// A node may part into the values of a term, two at least and no more than there may be, by increasing value.
@@ -32,7 +33,7 @@ pub fn a_node_may_part_into_values_and_the_rest()
 {}
 
 /// Walks, followed by hand: with two workers and budgets of two values and of two nodes, or of one.
-#[tactic(auto, unfolding(crate::specs::Walks::walk_from, crate::specs::Walks::walk_step, crate::specs::Walks::are_values, crate::specs::Walks::values_first))]
+#[tactic(auto, unfolding(tree_core::specs::Orders::drawn, tree_core::specs::Orders::is_named, crate::specs::Walks::walk_from, crate::specs::Walks::walk_step, crate::specs::Walks::are_values, crate::specs::Walks::values_first))]
 pub fn worked_walks()
     ensures branch { walk two branch_lines ≡ Some branch_nodes }
     ensures branch_is_quiet { IsTrue (is_quiet branch_nodes) }
@@ -40,11 +41,14 @@ pub fn worked_walks()
     ensures values_are_not_quiet { IsFalse (is_quiet value_nodes) }
     ensures root_cut { walk one_node (claimed_and 0 (Cut (Some Nodes)))
         ≡ Some (record { choices = []; status = Leaf; cut = Some Nodes } ∷ []) }
+    ensures deepest { option_map is_quiet (walk (four_by Deepest) (then_claims 3)) ≡ Some false }
+    ensures oldest { option_map is_quiet (walk (four_by Oldest) (then_claims 2)) ≡ Some false }
+    ensures mixed { option_map is_quiet (walk (four_by Mixed) (then_claims 4)) ≡ Some false }
     ensures side_cut { option_map is_quiet (walk two (branch_then_cut Nodes)) ≡ Some true }
 {}
 
 /// Events that may not come, first of all or once worker 0 has claimed the root.
-#[tactic(auto, unfolding(crate::specs::Walks::walk_from, crate::specs::Walks::walk_step, crate::specs::Walks::are_values, crate::specs::Walks::values_first))]
+#[tactic(auto, unfolding(tree_core::specs::Orders::drawn, tree_core::specs::Orders::is_named, crate::specs::Walks::walk_from, crate::specs::Walks::walk_step, crate::specs::Walks::are_values, crate::specs::Walks::values_first))]
 pub fn worked_refusals()
     ensures third_worker { walk two (line 2 0 Claim ∷ []) ≡ None }
     ensures no_such_node { walk two (line 0 1 Claim ∷ []) ≡ None }
@@ -68,6 +72,9 @@ pub fn worked_refusals()
         (claimed_and 0 (parts 1 (value_side 7 ∷ value_side 8 ∷ value_side 9 ∷ []))) ≡ None }
     ensures too_few { walk two
         (claimed_and 0 (parts 1 (value_side 7 ∷ rest_side (Some Targets) ∷ []))) ≡ None }
+    ensures not_deepest { walk (four_by Deepest) (then_claims 2) ≡ None }
+    ensures not_oldest { walk (four_by Oldest) (then_claims 3) ≡ None }
+    ensures not_drawn { walk (four_by Mixed) (then_claims 2) ≡ None }
     ensures open_rest { walk two (claimed_and 0 (parts 1 (value_side 7 ∷ rest_side None ∷ [])))
         ≡ None }
 {}
