@@ -1,8 +1,14 @@
 -- Lists of which one item is changed, and others come behind.
-use Rattle.std.proofs.Common.{◌≡◌, ◌≢◌, ℕ, ◌+◌, ◌<◌, cond, List, ◌++◌, set, length, refl, sym, ap, subst, ◌∙◌, eq-eqb, ne_eqb, Some}
+use Rattle.std.proofs.Common.{◌≡◌, ◌≢◌, ℕ, zero, suc, ◌+◌, ◌<◌, cond, List, [], ◌∷◌, ◌++◌, set, length, refl, sym, ap, subst, ◌∙◌, arith, eq-eqb, ne_eqb, Some}
 use Rattle.std.specs.Prelude.{slice_get}
 use Rattle.std.proofs.lemmas.List.{length-append, length-set}
 use Rattle.tree_core.proofs.Places.{get_set, get_before, get_behind}
+
+-- an item that is there
+pub get_some : {X : Type 0} (xs : List X) (k : ℕ) → k < length xs → (x : X) × (slice_get xs k ≡ Some x)
+get_some [] k lt = absurd (omega arith)
+get_some (x ∷ xs) zero lt = (x, refl)
+get_some (x ∷ xs) (suc k) lt = get_some xs k (omega arith)
 
 abbrev pub changed : {X : Type 0} → List X → ℕ → X → List X → List X
 changed xs n y more = set xs n y ++ more

@@ -1,6 +1,5 @@
 -- A tree that is quiet.
-use Rattle.std.proofs.Common.{◌≡◌, ◌≢◌, ℕ, ◌+◌, ◌^◌, ◌<◌, ◌≤◌, ◌&&◌, Bool, true, false, Option, List, [], ◌∷◌, length, sym, refl, ap, ◌∙◌, subst, arith, eqb, cond, eq-eqb}
-use Rattle.std.proofs.lemmas.List.Sums.{sum_by-cons}
+use Rattle.std.proofs.Common.{◌≡◌, ◌≢◌, ℕ, ◌+◌, ◌^◌, ◌<◌, ◌≤◌, ◌&&◌, Bool, true, false, Option, List, length, sym, refl, ap, ◌∙◌, subst, arith}
 use Rattle.tree_core.specs.declared.cause.Cause.{Cause}
 use Rattle.tree_core.specs.declared.choice.Choice.{Choice}
 use Rattle.tree_core.specs.declared.node.Status.{Status}
@@ -14,15 +13,13 @@ use Rattle.fork_spec.specs.Partings.{Place}
 use Rattle.fork_spec.specs.Walks.{Standing, is_quiet, is_settled}
 use Rattle.fork_tree.specs.Written.{AreNodesOf}
 use Rattle.fork_tree.proofs.Quiet.{quiet-walked}
-use Rattle.fork_tree.specs.Calls.{IsQuiet, NoneFree}
+use Rattle.fork_tree.specs.Calls.{IsQuiet}
 use Rattle.fork_tree.specs.Contents.{place_in}
 use Rattle.fork_tree.specs.Drains.{IsDrained}
 use Rattle.fork_tree.specs.Nodes.{HoldsFor, IsLeafRight}
-use Rattle.fork_tree.specs.Trees.{FollowsRules, IsListOfFree, stands_free}
+use Rattle.fork_tree.specs.Trees.{FollowsRules}
 use Rattle.fork_tree.specs.Works.{Rules}
-use Rattle.fork_tree.specs.Worklists.{times_listed}
 use Rattle.fork_tree.specs.declared.content.Content.{Content}
-use Rattle.fork_tree.proofs.Listing.{one_some, free-within, free-status}
 
 live_leaf : (st : Status) → st ≢ Free → is_held st ≡ false → is_live st ≡ is_leaf_status st
 live_leaf Free not_free not_held = absurd (not_free refl)
@@ -41,22 +38,6 @@ module _ {R : Type 0} where
       off (is_held (status s m))
       (subst (λ (k : ℕ). one_if (is_held (status s m)) ≤ k) none
       (count_at (λ k. is_held (status s k)) (length s.nodes) m lt))
-
-  -- nothing is listed where no node is free
-  pub none_listed : (s : Story R) (free : List ℕ) → NoneFree s → IsListOfFree s free → free ≡ []
-  none_listed s [] none listed = refl
-  none_listed s (m ∷ ms) none listed =
-      let twice : times_listed m (m ∷ ms) ≡ one_if (eqb m m) + times_listed m ms =
-      sum_by-cons (λ (x : ℕ). cond (eqb x m) 1 0) m ms in
-      let one : one_if (eqb m m) ≡ 1 = ap one_if (eq-eqb m m refl) in
-      let stands : stands_free s m ≡ true =
-      one_some (times_listed m ms) (stands_free s m)
-      (turned (times_listed m (m ∷ ms)) (one_if (eqb m m)) (times_listed m ms)
-      (one_if (stands_free s m)) twice one (listed m)) in
-      absurd (none m (free-within s m stands) (free-status s m stands))
-    where
-      turned : (a b c d : ℕ) → a ≡ b + c → b ≡ 1 → a ≡ d → c + 1 ≡ d
-      turned a b c d x y z = omega arith
 
 settled : (st : Status) → st ≢ Free → is_held st ≡ false → is_settled st ≡ true
 settled Free not_free not_held = absurd (not_free refl)

@@ -23,7 +23,7 @@ use Rattle.fork_tree.specs.Works.{IsPart, Rules}
 use Rattle.fork_tree.specs.Drains.{heft, fuel, GrowsBy}
 use Rattle.fork_tree.specs.declared.content.Content.{Content}
 use Rattle.fork_tree.proofs.Standings.{AreThere, Coming, content-here, status-here}
-use Rattle.fork_tree.proofs.Listing.{held-allows, allowed-claim}
+use Rattle.fork_tree.proofs.Allowing.{held-allows, allowed-claim}
 use Rattle.fork_tree.proofs.Fuel.{kid_heft, fuel-end, fuel-claim, kids_light}
 
 -- what holds in any case holds where there is an error

@@ -29,7 +29,7 @@ use Rattle.fork_tree.specs.declared.content.Content.{Content}
 use Rattle.fork_tree.specs.declared.content.Content.TheVariants.{Open, Shut}
 use Rattle.fork_tree.proofs.Lines.{line_now, lines-noted}
 use Rattle.fork_tree.proofs.Standings.{AreThere, Coming, content-here, content-other, length-noted, status-here, status-other}
-use Rattle.fork_tree.proofs.Free.{get_some}
+use Rattle.fork_tree.proofs.Changing.{get_some}
 
 pub all_get : {X : Type 0} (P : X → Type 0) (xs : List X) (i : ℕ) (x : X) → All P xs →
     slice_get xs i ≡ Some x → P x

@@ -1,13 +1,13 @@
 pub mod Changing
 pub mod Lines
+pub mod Candidates
 pub mod Walked
 pub mod Apart
 pub mod Quiet
 pub mod Releases
 pub mod Standings
-pub mod Free
-pub mod Totals
-pub mod Listing
+pub mod Allowing
+pub mod Shallow
 pub mod Holding
 pub mod Noting
 pub mod Fuel
@@ -15,4 +15,5 @@ pub mod Entering
 pub mod PartingNodes
 pub mod Drained
 pub mod Fitting
+pub mod Claiming
 pub mod Recorded

@@ -111,6 +111,15 @@ module _ {R : Type 0} (cut : R → Option Cause) where
       ∙ ap (λ n. length s.nodes + n) (born_kept e.node e.deed)
       ∙ sym (length-append s.nodes (births e.node e.deed))
 
+  -- each event is one line
+  as-many : (nodes : List (Node R)) (first : ℕ) (es : List (Event R ℕ)) → length (lines_from cut nodes first es) ≡ length es
+  unfolding lines_from
+  as-many nodes first [] = refl
+  as-many nodes first (e ∷ es) = ap suc (as-many nodes (first + born_by e.deed) es)
+
+  pub as-many-lines : (s : Story R) → length (lines_of cut s) ≡ length s.events
+  as-many-lines s = as-many s.nodes 1 s.events
+
   -- as many nodes are made as are written
   count-push : (lines : List Line) (line : Line) → node_count (lines ++ line ∷ []) ≡ node_count lines + sides_made line.deed
   count-push [] line = swap (sides_made line.deed)

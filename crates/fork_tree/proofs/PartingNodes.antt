@@ -1,5 +1,5 @@
 -- What comes of a node in whose place kids have come, or a leaf.
-use Rattle.std.proofs.Common.{◌≡◌, ℕ, ◌+◌, ◌^◌, ◌<◌, ◌⊎◌, inl, inr, length, refl}
+use Rattle.std.proofs.Common.{◌≡◌, ℕ, ◌+◌, ◌^◌, ◌<◌, inl, inr, length, refl}
 use Rattle.std.specs.Global.{Vec}
 use Rattle.tree_core.specs.declared.event.Kid.{Kid}
 use Rattle.tree_core.specs.declared.node.Status.TheVariants.{Held}

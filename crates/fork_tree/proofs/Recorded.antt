@@ -39,7 +39,7 @@ module _ {S L : Type 0} (rules : Rules S L) (state_place : S → Place) (leaf_pl
       IsDrained rules state_place leaf_place s →
       All (λ (e : Event (Content S L) ℕ). e.by < workers) s.events →
       All (IsLeafOf leaf_of s) entries → length entries ≡ leaf_nodes s →
-      IsHistory (record { workers = workers; targets = rules.targets; nodes = rules.nodes }) (lines_of (cut_in state_place leaf_place) s) entries
+      IsHistory (record { workers = workers; targets = rules.targets; nodes = rules.nodes; order = rules.order }) (lines_of (cut_in state_place leaf_place) s) entries
   recorded workers entries drained among are all =
       let leads = drained.walked.leads workers among in record {
         nodes = leads.nodes;

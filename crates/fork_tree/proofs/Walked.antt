@@ -1,12 +1,12 @@
 -- What is written of a story is still a walk that leads to its nodes where one event more is noted.
-use Rattle.std.proofs.Common.{◌≡◌, ◌≢◌, ℕ, zero, suc, ◌+◌, ◌-◌, ◌<◌, ◌≤◌, ◌==◌, ◌&&◌, Bool, true, false, cond, eqb, inl, inr, ◌⊎◌, IsTrue, List, [], ◌∷◌, ◌++◌, Option, Some, None, if◌then◌else◌, length, map, nat_lt, option_map, option_and_then, refl, sym, ap, subst, ◌∙◌, arith, eq-eqb, ne_eqb}
+use Rattle.std.proofs.Common.{◌≡◌, ◌≢◌, ℕ, zero, suc, ◌+◌, ◌-◌, ◌<◌, ◌≤◌, ◌==◌, ◌&&◌, Bool, true, false, cond, eqb, inl, inr, ◌⊎◌, IsTrue, List, [], ◌∷◌, ◌++◌, Option, Some, None, if◌then◌else◌, length, map, set, nat_lt, option_map, option_and_then, refl, sym, ap, subst, ◌∙◌, arith, eq-eqb, ne_eqb}
 use mathlib.Core.Logic.{dite}
 use native.Mathlib.Decide.{ℕ_discrete}
 use Rattle.std.specs.Prelude.{All, slice_get}
 use Rattle.std.specs.Global.{Vec}
 use Rattle.std.proofs.lemmas.Bool.{and_parts, cases_lt}
 use Rattle.std.proofs.lemmas.Bool.Decides.{nat_tests}
-use Rattle.std.proofs.lemmas.List.{length-append, length-map}
+use Rattle.std.proofs.lemmas.List.{length-append, length-map, map-append, map-set}
 use Rattle.std.proofs.lemmas.List.Elements.{All-nil, All-cons, All-head, All-tail}
 use Rattle.std.proofs.lemmas.Option.{get_or_from_slice_get, slice_get_within, slice_get-map}
 use Rattle.tree_core.specs.declared.cause.Cause.{Cause}
@@ -24,10 +24,14 @@ use Rattle.tree_core.specs.Stories as stories
 use Rattle.tree_core.proofs.Guards.{allowed-may}
 use Rattle.tree_core.proofs.Standing.{content-kid, content-noted, kid_unnamed, open_content, status-kid, status-noted}
 use Rattle.tree_core.proofs.Places.{get_behind}
-use Rattle.fork_spec.specs.Walks.{Bounds, Line, Standing, is_by_nodes, side_births, side_status, cut_by, done_on, is_in_form, may_come, root, side_at, walk_step, walk, walk_from}
-use Rattle.fork_tree.specs.Written.{IsCutOr, IsInForm, IsKidOf, IsWalked, LeadsTo, StandsAs, cut_where, lines_from, lines_of, nodes_after, side_of_kid, written_now}
+use Rattle.tree_core.specs.Orders.{Candidate}
+use Rattle.tree_core.specs.declared.order.Order.{Order}
+use Rattle.fork_spec.specs.Walks.{Bounds, Line, Standing, candidate, is_by_nodes, is_in_turn, side_births, side_status, cut_by, done_on, is_in_form, may_come, root, side_at, walk_step, walk, walk_from}
+use Rattle.fork_tree.specs.Candidates.{AreCandidates, IsInTurn}
+use Rattle.fork_tree.specs.Written.{AreNodesOf, IsCutOr, IsInForm, IsKidOf, IsWalked, LeadsTo, StandsAs, cut_where, lines_from, lines_of, nodes_after, side_of_kid, written_now}
 use Rattle.fork_tree.proofs.Changing.{changed, get_new, get_other, get_same, length-changed}
-use Rattle.fork_tree.proofs.Lines.{counted-noted, line_now, lines-noted, written-noted}
+use Rattle.fork_tree.proofs.Candidates.{turn_line}
+use Rattle.fork_tree.proofs.Lines.{as-many-lines, counted-noted, line_now, lines-noted, written-noted}
 use Rattle.fork_spec.proofs.Walking.{walk_goes_on}
 
 both : (a b : Bool) → a ≡ true → b ≡ true → (a && b) ≡ true
@@ -37,19 +41,23 @@ both false b ha hb = ha
 below : (a b : ℕ) → a < b → nat_lt a b ≡ true
 below a b lt = grind (arith, nat_tests)
 
-one_more : (bounds : Bounds) (lines : List Line) (e : Line) (nodes next : List Standing) → walk bounds lines ≡ Some nodes → walk_step bounds nodes e ≡ Some next
+one_more : (bounds : Bounds) (lines : List Line) (e : Line) (nodes next : List Standing) → walk bounds lines ≡ Some nodes → walk_step bounds (length lines) nodes e ≡ Some next
     → walk bounds (lines ++ e ∷ []) ≡ Some next
 unfolding walk_from
 one_more bounds lines e nodes next walked stepped =
-    walk_goes_on bounds (root ∷ []) lines (e ∷ [])
-    ∙ ap (option_and_then (λ reached. walk_from bounds reached (e ∷ []))) walked
-    ∙ ap (option_and_then (λ reached. walk_from bounds reached [])) stepped
+    walk_goes_on bounds 0 (root ∷ []) lines (e ∷ [])
+    ∙ ap (λ n. option_and_then (λ reached. walk_from bounds n reached (e ∷ [])) (walk bounds lines)) none
+    ∙ ap (option_and_then (λ reached. walk_from bounds (length lines) reached (e ∷ []))) walked
+    ∙ ap (option_and_then (λ reached. walk_from bounds (length lines + 1) reached [])) stepped
+  where
+    none : 0 + length lines ≡ length lines
+    none = omega arith
 
-stepped : (bounds : Bounds) (nodes : List Standing) (e : Line) (node : Standing) → slice_get nodes e.node ≡ Some node → may_come bounds nodes e node ≡ true
-    → walk_step bounds nodes e ≡ Some (done_on nodes e node)
+stepped : (bounds : Bounds) (events : ℕ) (nodes : List Standing) (e : Line) (node : Standing) → slice_get nodes e.node ≡ Some node → may_come bounds events nodes e node ≡ true
+    → walk_step bounds events nodes e ≡ Some (done_on nodes e node)
 unfolding walk_step
-stepped bounds nodes e node at may =
-    ap (option_and_then (λ n. if may_come bounds nodes e n then Some (done_on nodes e n) else None)) at
+stepped bounds events nodes e node at may =
+    ap (option_and_then (λ n. if may_come bounds events nodes e n then Some (done_on nodes e n) else None)) at
     ∙ ap (λ (b : Bool). if b then Some (done_on nodes e node) else None) may
 
 -- all of a list, of its front and of what comes behind
@@ -82,7 +90,7 @@ module _ {R : Type 0} where
       → slice_get (kids_of e.deed) i ≡ None → content (with_event s e) (length s.nodes + i) ≡ None
   no_kid_content s e i named there none = λ k. content_after (option_map (λ n. n.content) (no_kid s e i none k)) (kid_unnamed s e i named there k)
 
-module _ {R : Type 0} (choices : R → List Choice) (cut : R → Option Cause) (targets most : ℕ) where
+module _ {R : Type 0} (choices : R → List Choice) (cut : R → Option Cause) (targets most : ℕ) (order : Order) where
   -- how a node of the story stands that has this content
   abbrev stands : Story R → ℕ → R → Standing
   stands s m r = record { choices = choices r; status = status s m; cut = cut_where cut (status s m) r }
@@ -238,58 +246,69 @@ module _ {R : Type 0} (choices : R → List Choice) (cut : R → Option Cause) (
         by_place (inr ge) = let i : ℕ = m - length s.nodes in let sum : length s.nodes + i ≡ m = omega (arith, ge) in
             subst (Stands nodes q) sum (λ h. kid_node nodes i q as_many h (slice_get (kids_of e.deed) i) refl) has
 
-    abbrev bounds : ℕ → Bounds
-    bounds workers = record { workers = workers; targets = targets; nodes = most }
+    abbrev old_each : (nodes : List Standing) → AreNodesOf choices cut s nodes → (m : ℕ) (q : R) → content s m ≡ Some q → slice_get nodes m ≡ Some (stands s m q)
+    old_each nodes same m q has = let found : (standing : Standing) × (slice_get nodes m ≡ Some standing) × StandsAs choices cut s m q standing = same.each m q has in
+        found.1 ∙ ap Some found.2
 
-    leads_on : (workers : ℕ) → e.by < workers → nodes_after 1 s.events ≡ length s.nodes → LeadsTo choices cut (bounds workers) s → LeadsTo choices cut (bounds workers) (with_event s e)
-    leads_on workers by counted old = record {
-      nodes = changed old.nodes e.node turned more;
-      walked = ap (walk (bounds workers)) (lines-noted cut s e counted)
-          ∙ one_more (bounds workers) (lines_of cut s) line old.nodes (done_on old.nodes line (stands s e.node r)) old.walked (stepped (bounds workers) old.nodes line (stands s e.node r) at came);
-      same = record {
-        as_many = length-changed old.nodes e.node turned more ∙ sum (length old.nodes) (length s.nodes) (length more) (length (tree.births e.node e.deed)) old.same.as_many (length-births (length s.nodes) e.node r e.deed) ∙ sym (length-append s.nodes (tree.births e.node e.deed));
-        each = λ m q has. (stands (with_event s e) m q, each_node old.nodes old.same.as_many old_each m q has, refl);
-      };
+    -- the nodes behind the event
+    pub nodes-noted : (nodes : List Standing) → AreNodesOf choices cut s nodes → AreNodesOf choices cut (with_event s e) (changed nodes e.node turned more)
+    nodes-noted nodes same = record {
+      as_many = length-changed nodes e.node turned more ∙ sum (length nodes) (length s.nodes) (length more) (length (tree.births e.node e.deed)) same.as_many (length-births (length s.nodes) e.node r e.deed) ∙ sym (length-append s.nodes (tree.births e.node e.deed));
+      each = λ m q has. (stands (with_event s e) m q, each_node nodes same.as_many (old_each nodes same) m q has, refl);
     }
       where
-        old_each : (m : ℕ) (q : R) → content s m ≡ Some q → slice_get old.nodes m ≡ Some (stands s m q)
-        old_each m q has = let found : (standing : Standing) × (slice_get old.nodes m ≡ Some standing) × StandsAs choices cut s m q standing = old.same.each m q has in
-            found.1 ∙ ap Some found.2
-
-        at : slice_get old.nodes e.node ≡ Some (stands s e.node r)
-        at = old_each e.node r is
-
-        came : may_come (bounds workers) old.nodes line (stands s e.node r) ≡ true
-        came = both (nat_lt e.by workers && allows (status s e.node) e.by line.deed && has_room is_by_nodes most (length old.nodes) line.deed) _
-            (both (nat_lt e.by workers && allows (status s e.node) e.by line.deed) _
-            (both (nat_lt e.by workers) _ (below e.by workers by) (allows_line (status s e.node) e.by (length s.nodes) e.deed ∙ may))
-            (ap (λ n. has_room is_by_nodes most n line.deed) old.same.as_many ∙ (full_line (length s.nodes) (length s.nodes) e.deed ∙ room)))
-            (ap (λ n. is_in_form targets n line.deed) old.same.as_many ∙ form_line (length s.nodes) r e.deed form)
-
         sum : (a b c d : ℕ) → a ≡ b → c ≡ d → a + c ≡ b + d
         sum a b c d p q = λ i. p i + q i
 
-    pub walked-noted : IsWalked choices cut targets most s → IsWalked choices cut targets most (with_event s e)
-    walked-noted old = record {
+    -- and as an order of claims sees them
+    pub candidates-noted : (all : List Candidate) → AreCandidates choices cut s all
+        → AreCandidates choices cut (with_event s e) (changed all e.node (candidate turned) (map candidate more))
+    candidates-noted all are = record {
+      nodes = changed are.nodes e.node turned more;
+      same = nodes-noted are.nodes are.same;
+      seen = ap (λ cs. changed cs e.node (candidate turned) (map candidate more)) are.seen
+          ∙ sym (map-append candidate (set are.nodes e.node turned) more
+          ∙ ap (λ cs. cs ++ map candidate more) (map-set candidate are.nodes e.node turned));
+    }
+
+    abbrev bounds : ℕ → Bounds
+    bounds workers = record { workers = workers; targets = targets; nodes = most; order = order }
+
+    leads_on : (workers : ℕ) → e.by < workers → IsInTurn choices cut order s e.node e.deed → nodes_after 1 s.events ≡ length s.nodes → LeadsTo choices cut (bounds workers) s → LeadsTo choices cut (bounds workers) (with_event s e)
+    leads_on workers by turn counted old = record {
+      nodes = changed old.nodes e.node turned more;
+      walked = ap (walk (bounds workers)) (lines-noted cut s e counted)
+          ∙ one_more (bounds workers) (lines_of cut s) line old.nodes (done_on old.nodes line (stands s e.node r)) old.walked (stepped (bounds workers) (length (lines_of cut s)) old.nodes line (stands s e.node r) at came);
+      same = nodes-noted old.nodes old.same;
+    }
+      where
+        at : slice_get old.nodes e.node ≡ Some (stands s e.node r)
+        at = old_each old.nodes old.same e.node r is
+
+        in_turn : ℕ → Bool
+        in_turn events = is_in_turn order events (map candidate old.nodes) e.node line.deed
+
+        came : may_come (bounds workers) (length (lines_of cut s)) old.nodes line (stands s e.node r) ≡ true
+        came = both (nat_lt e.by workers && allows (status s e.node) e.by line.deed && in_turn (length (lines_of cut s)) && has_room is_by_nodes most (length old.nodes) line.deed) _
+            (both (nat_lt e.by workers && allows (status s e.node) e.by line.deed && in_turn (length (lines_of cut s))) _
+            (both (nat_lt e.by workers && allows (status s e.node) e.by line.deed) _
+            (both (nat_lt e.by workers) _ (below e.by workers by) (allows_line (status s e.node) e.by (length s.nodes) e.deed ∙ may))
+            (ap in_turn (as-many-lines cut s) ∙ turn_line choices cut s order (length s.nodes) e.node e.deed old.nodes old.same turn))
+            (ap (λ n. has_room is_by_nodes most n line.deed) old.same.as_many ∙ (full_line (length s.nodes) (length s.nodes) e.deed ∙ room)))
+            (ap (λ n. is_in_form targets n line.deed) old.same.as_many ∙ form_line (length s.nodes) r e.deed form)
+
+    pub walked-noted : IsInTurn choices cut order s e.node e.deed → IsWalked choices cut targets most order s → IsWalked choices cut targets most order (with_event s e)
+    walked-noted turn old = record {
       counted = counted-noted cut s e old.counted;
       written = written-noted cut s e old.counted old.written;
       leads = λ workers all. leads_on workers
           (All-head (λ (x : Event R ℕ). x.by < workers) (kept e) [] (all_back (λ (x : Event R ℕ). x.by < workers) s.events (kept e ∷ []) all))
-          old.counted (old.leads workers (all_front (λ (x : Event R ℕ). x.by < workers) s.events (kept e ∷ []) all));
+          turn old.counted (old.leads workers (all_front (λ (x : Event R ℕ). x.by < workers) s.events (kept e ∷ []) all));
     }
 
-  -- the root alone
-  pub walked-opening : (root_content : R) → choices root_content ≡ [] → IsWalked choices cut targets most (opening root_content false)
-  unfolding walk_from lines_from nodes_after
-  walked-opening root_content none = record {
-    counted = refl;
-    written = refl;
-    leads = λ workers all. record {
-      nodes = root ∷ [];
-      walked = refl;
-      same = record { as_many = refl; each = λ m q has. (root, first m q has, of_root m q has) };
-    };
-  }
+  -- the root stands free
+  pub nodes-opening : (root_content : R) → choices root_content ≡ [] → AreNodesOf choices cut (opening root_content false) (root ∷ [])
+  nodes-opening root_content none = record { as_many = refl; each = λ m q has. (root, first m q has, of_root m q has) }
     where
       first : (m : ℕ) (q : R) → content (opening root_content false) m ≡ Some q → slice_get (root ∷ []) m ≡ Some root
       first zero q has = refl
@@ -298,3 +317,16 @@ module _ {R : Type 0} (choices : R → List Choice) (cut : R → Option Cause) (
       of_root : (m : ℕ) (q : R) → content (opening root_content false) m ≡ Some q → StandsAs choices cut (opening root_content false) m q root
       of_root zero q has = ap (λ c. record { choices = c; status = Free; cut = None }) (sym none ∙ ap choices (same_held root_content q has))
       of_root (suc m) q has = absurd (none_is_some q has)
+
+  -- the root alone
+  pub walked-opening : (root_content : R) → choices root_content ≡ [] → IsWalked choices cut targets most order (opening root_content false)
+  unfolding walk_from lines_from nodes_after
+  walked-opening root_content none = record {
+    counted = refl;
+    written = refl;
+    leads = λ workers all. record {
+      nodes = root ∷ [];
+      walked = refl;
+      same = nodes-opening root_content none;
+    };
+  }

@@ -71,7 +71,7 @@ pub record IsDrained {S L : Type 0} (rules : Rules S L) (state_place : S → Pla
   pub leaves : (m : ℕ) → m < length s.nodes → status s m ≡ IsLeaf →
       HasLeaf (IsLeafRight rules state_place leaf_place s m) (content s m)
   pub walked : IsWalked (choices_at state_place leaf_place) (cut_in state_place leaf_place)
-      rules.targets rules.nodes s
+      rules.targets rules.nodes rules.order s
   pub apart : AreNodesApart (place_in state_place leaf_place) rules.decides s
   pub bounded : length s.nodes ≤ rules.nodes + rules.targets
   pub few : length s.nodes < 2 ^ 32

@@ -1,9 +1,9 @@
 pub mod Contents
 pub mod Written
+pub mod Candidates
 pub mod NodesApart
 pub mod Works
 pub mod Nodes
-pub mod Worklists
 pub mod Trees
 pub mod Calls
 pub mod Drains

@@ -7,6 +7,7 @@ use Rattle.tree_core.specs.declared.cause.Cause.{Cause}
 use Rattle.tree_core.specs.declared.cause.Cause.TheVariants.{Nodes, Steps}
 use Rattle.tree_core.specs.declared.choice.Choice.{Choice}
 use Rattle.tree_core.specs.declared.event.Kid.{Kid}
+use Rattle.tree_core.specs.declared.order.Order.{Order}
 use Rattle.fork_spec.specs.Partings.{Place}
 use Rattle.fork_tree.specs.NodesApart.{AreKidsApart}
 use Rattle.fork_spec.specs.Walks.{are_sides}
@@ -25,6 +26,8 @@ pub record Rules (S L : Type 0) : Type 1 where
   pub targets : ℕ
   -- from so many nodes on none is parted
   pub nodes : ℕ
+  -- which free node is claimed next
+  pub order : Order
   -- what the run of an assignment decides, as far as runs go
   pub decides : List ℕ → List Decision
   pub IsWell : S → Type 0

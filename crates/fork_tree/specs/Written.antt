@@ -11,6 +11,7 @@ use Rattle.tree_core.specs.Nodes.{Node}
 use Rattle.tree_core.specs.declared.node.Origin.{Origin}
 use Rattle.tree_core.specs.declared.node.Status.{Status}
 use Rattle.tree_core.specs.declared.node.Status.TheVariants.{Leaf}
+use Rattle.tree_core.specs.declared.order.Order.{Order}
 use Rattle.tree_core.specs.Stories.{Story, content, status}
 use Rattle.std.specs.Global.{Vec}
 use Rattle.fork_spec.specs.Histories.{node_count}
@@ -100,11 +101,16 @@ pub record LeadsTo {R : Type 0} (choices : R → List Choice) (cut : R → Optio
 
 -- What is written of the story is a walk that leads to its nodes, for any number of workers that all of its workers are among.
 pub record IsWalked {R : Type 0} (choices : R → List Choice) (cut : R → Option Cause)
-    (targets most : ℕ) (s : Story R) : Type 0 where
+    (targets most : ℕ) (order : Order) (s : Story R) : Type 0 where
   pub counted : nodes_after 1 s.events ≡ length s.nodes
   pub written : node_count (lines_of cut s) ≡ length s.nodes
   pub leads : (workers : ℕ) → All (λ (e : Event R ℕ). e.by < workers) s.events
-      → LeadsTo choices cut (record { workers = workers; targets = targets; nodes = most }) s
+      → LeadsTo choices cut (record {
+        workers = workers;
+        targets = targets;
+        nodes = most;
+        order = order;
+      }) s
 
 -- a deed as it is written where there are so many nodes so far
 abbrev pub written_now : {R : Type 0} → (cut : R → Option Cause) → (first : ℕ)

@@ -10,11 +10,13 @@ ghost use Rattle.tree_core.specs.declared.cause.Cause.{Cause};
 ghost use Rattle.tree_core.specs.declared.choice.Choice.{Choice};
 ghost use Rattle.tree_core.specs.declared.event.Event.{Event};
 ghost use Rattle.tree_core.specs.declared.event.Kid.{Kid};
+ghost use Rattle.tree_core.specs.declared.order.Order.{Order};
 ghost use Rattle.fork_spec.specs.Histories.{IsHistory, LeafNode, is_leaf, is_leaf_status};
 ghost use Rattle.fork_spec.specs.Leaves.{Leaf};
 ghost use Rattle.fork_spec.specs.Partings.{Place};
 ghost use Rattle.fork_spec.specs.Walks.{Standing, is_by_nodes, is_quiet, is_settled};
 ghost use Rattle.fork_tree.specs.Calls.{IsQuiet};
+ghost use Rattle.fork_tree.specs.Candidates.{IsInTurn};
 ghost use Rattle.fork_tree.specs.Contents.{cut_in};
 ghost use Rattle.fork_tree.specs.Drains.{IsDrained, IsLeafOf, Reads, leaf_nodes};
 ghost use Rattle.fork_tree.specs.NodesApart.{AreNodesApart, KeepsApart};
@@ -26,15 +28,17 @@ use crate::work::Work;
 /// What is written of the story of a tree is a walk that leads to its nodes: of one free root, and where an event that may come is noted.
 pub fn what_is_written_of_a_story_is_a_walk<R: Drop>()
     ensures opening { (choices : R → List Choice) (cut : R → Option Cause) (targets most : ℕ)
-        (root : R) → choices root ≡ [] → IsWalked choices cut targets most (opening root false) }
+        (order : Order) (root : R) → choices root ≡ []
+        → IsWalked choices cut targets most order (opening root false) }
     ensures noted { (choices : R → List Choice) (cut : R → Option Cause) (targets most : ℕ)
-        (s : Story R) (e : Event R (Vec (Kid R))) (r : R)
+        (order : Order) (s : Story R) (e : Event R (Vec (Kid R))) (r : R)
         → All (λ (x : Event R ℕ). x.node < length s.nodes) s.events
         → e.node < length s.nodes → content s e.node ≡ Some r
         → IsTrue (may_come (λ leaf. is_by_nodes (cut leaf)) most s e)
         → IsInForm choices cut targets r e.deed
-        → IsWalked choices cut targets most s
-        → IsWalked choices cut targets most (with_event s e) }
+        → IsInTurn choices cut order s e.node e.deed
+        → IsWalked choices cut targets most order s
+        → IsWalked choices cut targets most order (with_event s e) }
     ensures lines { (cut : R → Option Cause) (s : Story R) (e : Event R (Vec (Kid R)))
         → nodes_after 1 s.events ≡ length s.nodes
         → lines_of cut (with_event s e)
@@ -91,5 +95,6 @@ pub fn a_drained_tree_is_a_history<W: Work>()
           workers = workers;
           targets = (W.rules worker).targets;
           nodes = (W.rules worker).nodes;
+          order = (W.rules worker).order;
         }) (lines_of (cut_in W.State.place W.Leaf.place) s) entries }
 {}

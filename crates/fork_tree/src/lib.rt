@@ -6,7 +6,6 @@ mod draining;
 pub mod laws;
 mod tree;
 mod work;
-mod worklists;
 
 pub use content::Content;
 pub use draining::drain;

@@ -1,6 +1,6 @@
 //! The tree, and the calls by which workers take nodes and enter what came of them.
 
-ghost use Rattle.std.specs.Prelude.{◌≡◌, ◌↔◌, ◌<◌, ◌≤◌, ◌+◌, ◌^◌, IfOk, nat_le, OnOk, OnErr, IsTrue, Some, None, All, [], length, vec_len};
+ghost use Rattle.std.specs.Prelude.{◌≡◌, ◌↔◌, ◌<◌, ◌≤◌, ◌+◌, ◌++◌, ◌^◌, IfOk, nat_le, OnOk, OnErr, IsTrue, Some, None, All, [], length, map, vec_len};
 ghost use Rattle.std.specs.Arc.{arc_value};
 ghost use Rattle.tree_core.specs.declared.node.Status.TheVariants.{Free, Held, Leaf};
 ghost use Rattle.tree_core.specs.Cores.{LacksRoom, held_count};
@@ -10,16 +10,18 @@ ghost use Rattle.tree_core.specs.Stories.{content, status};
 ghost use Rattle.fork_tree.specs.declared.content.Content.TheVariants.{Shut};
 ghost use Rattle.fork_tree.specs.Calls.{IsClaim, IsEndFit, IsOpening, IsPartFit, IsParted, IsQuiet, IsSplitFit, MayCut, cut_event, finish_event, release_event, split_event};
 ghost use Rattle.fork_tree.specs.Nodes.{HasState, IsLeafRight, StateIs};
-ghost use Rattle.fork_tree.specs.Trees.{FollowsRules, HasBorn};
+ghost use Rattle.fork_tree.specs.Candidates.{IsNext, kid_candidate};
+ghost use Rattle.fork_tree.specs.Contents.{cut_in};
+ghost use Rattle.fork_tree.specs.Trees.{FollowsRules, choices_at};
 
 use crate::content::Content;
 use crate::work::Work;
-use crate::worklists::Worklists;
 use fork_spec::Placed;
+use free_nodes::FreeNodes;
 use std::alloc::{AllocError as NoMemory, Global};
 use std::marker::Model;
 use std::sync::Arc;
-use tree_core::{Cause, Core, Cover, Deed, Event, Kid, Node, Noted, Status};
+use tree_core::{Cause, Core, Cover, Deed, Event, Kid, Node, Noted, Order, Status};
 
 /// What a claim gives.
 #[derive(Drop)]
@@ -34,12 +36,15 @@ pub enum Claim<S: Drop> {
 
 /// A fork tree: nodes that hold states or leaves of a worker's program, and the events that made them.
 ///
-/// From so many nodes on as the worker's rules have it none is parted: a run that would part is cut.
+/// From so many nodes on as the worker's rules have it none is parted: a run that would part is cut. A claim is of the free node
+/// that the order of these rules names.
 pub struct Tree<W: Work> {
     worker: W,
     core: Core<Content<W::State, W::Leaf>>,
-    // The nodes that are free, with room for those that are held.
-    free: Worklists,
+    // Which nodes are free, and which of them an order names.
+    free: FreeNodes,
+    // In which order they are claimed.
+    order: Order,
 }
 
 impl<W: Work> Drop for Tree<W> {
@@ -48,36 +53,38 @@ impl<W: Work> Drop for Tree<W> {
             worker: _worker,
             core: _core,
             free: _free,
+            order: _order,
         } = self;
     }
 }
 
 impl<W: Work> Model for Tree<W> {
-    ghost use Rattle.std.specs.Prelude.{◌≡◌, ◌+◌, ◌-◌, min, length};
-    ghost use Rattle.tree_core.specs.Cores.{held_count};
-    ghost use Rattle.fork_tree.specs.Trees.{FollowsRules, HasPlaces, IsListOfFree, TreeValue};
+    ghost use Rattle.std.specs.Prelude.{◌≡◌, ◌-◌, min, length};
+    ghost use Rattle.fork_tree.specs.Candidates.{AreCandidates, AreShallow};
+    ghost use Rattle.fork_tree.specs.Contents.{cut_in};
+    ghost use Rattle.fork_tree.specs.Trees.{FollowsRules, TreeValue, choices_at};
 
     ghost Value = { TreeValue W W.State W.Leaf };
 
-    ghost view = { λ t. record { worker = t.worker; story = t.core.story; node_room = min t.core.node_room (t.free.capacity - (length t.free.nodes + held_count t.core.story)); event_room = t.core.event_room } };
+    ghost view = { λ t. record { worker = t.worker; story = t.core.story; node_room = min t.core.node_room (t.free.capacity - length t.free.nodes); event_room = t.core.event_room } };
 
-    ghost invariant = { λ t. FollowsRules (W.rules t.worker) W.State.place W.Leaf.place t.core.story × IsListOfFree t.core.story t.free.nodes × HasPlaces t.core.story t.free × (t.core.most ≡ (W.rules t.worker).nodes) };
+    ghost invariant = { λ t. FollowsRules (W.rules t.worker) W.State.place W.Leaf.place t.core.story × AreCandidates (choices_at W.State.place W.Leaf.place) (cut_in W.State.place W.Leaf.place) t.core.story t.free.nodes × AreShallow t.free.nodes × (t.core.most ≡ (W.rules t.worker).nodes) × (t.order ≡ (W.rules t.worker).order) };
 }
 
 impl<W: Work> Tree<W> {
-    /// A tree of one node, which is free, to be worked by so many workers: each has a list of the nodes that it made free, and
-    /// claims the last of these first. Where there are more workers, some share a list. It may have so many nodes, and the
-    /// further kids of its last split.
+    /// A tree of one node, which is free. It may have so many nodes, and the further kids of its last split. Free nodes are claimed
+    /// in this order.
     pub fn new(
         alloc: Global,
         worker: W,
         root: W::State,
-        workers: u32,
         nodes: u32,
+        order: Order,
     ) -> Result<Tree<W>, NoMemory>
         requires well { (W.rules worker).IsWell root }
         requires first { (W.State.place root).choices ≡ [] }
         requires nodes { nodes ≡ (W.rules worker).nodes }
+        requires order { order ≡ (W.rules worker).order }
         requires some { 1 ≤ nodes }
         requires few { nodes + (W.rules worker).targets < 2 ^ 32 }
         ensures worker { IfOk result (λ t. t.worker ≡ worker) }
@@ -85,10 +92,15 @@ impl<W: Work> Tree<W> {
     {
         let root = Content::Open(Arc::new(alloc, root)?);
         let core = Core::new(alloc, root, false, nodes as usize)?;
-        let mut free = Worklists::new(alloc, workers)?;
+        let mut free = FreeNodes::new(alloc);
         free.reserve(1)?;
-        free.push(0, 0);
-        Ok(Tree { worker, core, free })
+        free.push(0, true);
+        Ok(Tree {
+            worker,
+            core,
+            free,
+            order,
+        })
     }
 
     /// Finds room for so many kids, for a claim and for the event that ends it.
@@ -99,28 +111,30 @@ impl<W: Work> Tree<W> {
         ensures events { OnOk result (2 ≤ self.new.event_room) }
     {
         self.core.reserve(kids)?;
-        self.free.reserve(self.core.held() + kids)
+        self.free.reserve(kids)
     }
 
-    /// Claims a free node, and hands out its state.
+    /// Claims the free node that the order names, and hands out its state.
     pub fn claim(&mut self, by: u32) -> Result<Claim<W::State>, NoMemory>
         requires room { 2 ≤ self.old.event_room }
         ensures worker { self.new.worker ≡ self.old.worker }
         ensures ok { IfOk result (λ claim. IsClaim
             (W.rules self.old.worker).IsWell self.old.story by claim self.new.story) }
+        ensures next { IfOk result (λ claim. IsNext
+            (choices_at W.State.place W.Leaf.place) (cut_in W.State.place W.Leaf.place)
+            (W.rules self.old.worker).order self.old.story claim) }
         ensures err { OnErr result (self.new.story ≡ self.old.story) }
     {
-        let Some(node) = self.free.pop(by) else {
+        let events = self.core.events().len();
+        let Some(node) = self.free.next(self.order, events) else {
             return Ok(if self.core.held() == 0 {
                 Claim::Quiet
             } else {
                 Claim::Nothing
             });
         };
-        let Ok(state) = state_of(&self.core, node) else {
-            self.free.push(by, node);
-            return Err(NoMemory);
-        };
+        let state = state_of(&self.core, node)?;
+        self.free.set_free(node, false);
         let deed = Deed::Claim;
         note(&mut self.core, Event { by, node, deed });
         Ok(Claim::Claimed(node, state))
@@ -134,8 +148,8 @@ impl<W: Work> Tree<W> {
         ensures worker { self.new.worker ≡ self.old.worker }
         ensures story { self.new.story ≡ with_event self.old.story (split_event by node kids) }
     {
-        let first = self.core.len();
-        list_kids(&mut self.free, by, first, kids.as_slice());
+        let depth = self.free.depth(node);
+        list_kids(&mut self.free, depth + 1, kids.as_slice());
         let deed = Deed::Split(kids);
         note(&mut self.core, Event { by, node, deed });
     }
@@ -232,14 +246,14 @@ impl<W: Work> Tree<W> {
     {
         let deed = Deed::Release;
         note(&mut self.core, Event { by, node, deed });
-        self.free.push(by, node);
+        self.free.set_free(node, true);
     }
 
     /// Whether no node is free or held.
     pub fn quiet(&self) -> bool
         ensures { IsTrue result ↔ IsQuiet self.now.story }
     {
-        self.free.is_empty() && self.core.held() == 0
+        self.free.next(self.order, 0).is_none() && self.core.held() == 0
     }
 
     /// At every moment the story follows the worker's rules, and is that of a core.
@@ -343,17 +357,13 @@ fn note<R: Cover>(core: &mut Core<R>, event: Event<R>)
     }
 }
 
-// Lists the kids that are free, so that the worker claims the first of them first, which gets this number.
-fn list_kids<R>(free: &mut Worklists, by: u32, first: usize, kids: &[Kid<R>])
+// Lists kids that so many choices lead to.
+fn list_kids<R>(free: &mut FreeNodes, depth: usize, kids: &[Kid<R>])
     requires room { length free.old.nodes + length kids.now ≤ free.old.capacity }
-    requires fits { first + length kids.now < 2 ^ 64 }
-    ensures nodes { HasBorn first kids.now free.old.nodes free.new.nodes }
-    ensures long { length free.new.nodes ≤ length free.old.nodes + length kids.now }
+    ensures nodes { free.new.nodes ≡ free.old.nodes ++ map (kid_candidate depth) kids.now }
     ensures capacity { free.new.capacity ≡ free.old.capacity }
 {
-    for i in (0..kids.len()).rev() {
-        if !kids[i].is_leaf {
-            free.push(by, first + i);
-        }
+    for kid in kids {
+        free.push(depth, !kid.is_leaf);
     }
 }

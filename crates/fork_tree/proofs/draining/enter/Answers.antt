@@ -1,4 +1,4 @@
-use Rattle.std.proofs.Common.{None, Some, refl, sym, subst, ap, ◌∙◌}
+use Rattle.std.proofs.Common.{None, Some, refl}
 use Rattle.tree_core.specs.declared.cause.Cause.TheVariants.{Steps}
 use Rattle.fork_tree.specs.declared.work.Parts.TheVariants.{CutSteps, Finished, Kids}
 use Rattle.fork_tree.proofs.Releases.{releases_kept, releases_more}

@@ -1,10 +1,9 @@
-use Rattle.std.proofs.Common.{◌≡◌, ◌≤◌, ◌+◌, drop, length}
-use Rattle.fork_tree.specs.Trees.{HasBorn}
+use Rattle.std.proofs.Common.{◌≡◌, ◌++◌, map, take}
+use Rattle.fork_tree.specs.Candidates.{kid_candidate}
 use Rattle.fork_tree.proofs.tree.list_kids.Given as goal
 
-abbrev pub invariant-loop-i : goal.invariant-loop-i
-invariant-loop-i g l = record {
-  listed : HasBorn (l.fn.first + l.i) (drop l.i l.kids) l.fn.free.nodes l.free.nodes;
-  long : length l.free.nodes + l.i ≤ length l.fn.free.nodes + length l.kids;
+abbrev pub invariant-loop-kid : goal.invariant-loop-kid
+invariant-loop-kid g l = record {
+  listed : l.free.nodes ≡ l.fn.free.nodes ++ map (kid_candidate l.fn.depth) (take l.kid-index l.kids);
   capacity : l.free.capacity ≡ l.fn.free.capacity;
 }
