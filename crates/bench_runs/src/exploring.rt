@@ -46,8 +46,8 @@ fn explored<R: Threads + Wait + Clock + Sync>(
 {
     let root = State::first(alloc, worker.program())?;
     let start = Instant::now(rt)?;
-    let nodes = worker.budgets().nodes;
-    let tree = explore(rt, alloc, worker, root, workers, nodes, &OpenGate)?;
+    let Budgets { nodes, order, .. } = worker.budgets();
+    let tree = explore(rt, alloc, worker, root, workers, nodes, order, &OpenGate)?;
     let time = start.elapsed(rt)?;
     Ok((ends_of(alloc, &tree)?, time))
 }

@@ -1,9 +1,11 @@
 -- What is asked of the runs and leaves of a program, within its budgets.
-use Rattle.std.specs.Prelude.{ℕ, ◌<◌, refl}
+use Rattle.std.specs.Prelude.{◌≡◌, ℕ, ◌<◌, refl}
 use Rattle.std.specs.Coded.{Coded, code_by, coded×, coded_ℕ}
 use Rattle.rv_spec.specs.Decisions.{decisions}
 use Rattle.tree_core.specs.declared.budgets.Budgets.{Budgets}
 use Rattle.tree_core.specs.declared.event.Kid.{Kid}
+use Rattle.tree_core.specs.declared.order.Order.{Order}
+use Rattle.tree_core.specs.declared.order.Order.TheVariants.{Deepest, Oldest, Mixed}
 use Rattle.fork_spec.specs.Partings.{Place, place_of}
 use Rattle.fork_spec.specs.Parts.{IsRight, Part}
 use Rattle.fork_tree.specs.Contents.{place_in}
@@ -19,13 +21,36 @@ pub record Worker : Type 0 where
   pub program : Program
   pub budgets : Budgets
 
+-- the code of orders
+abbrev pub order_number : Order → ℕ
+order_number Deepest = 0
+order_number Oldest = 1
+order_number Mixed = 2
+
+abbrev pub order_numbered : ℕ → Order
+order_numbered 0 = Deepest
+order_numbered 1 = Oldest
+order_numbered _ = Mixed
+
+pub order_again : (order : Order) → order_numbered (order_number order) ≡ order
+order_again Deepest = refl
+order_again Oldest = refl
+order_again Mixed = refl
+
+abbrev pub order_code : Coded Order
+order_code = code_by ℕ coded_ℕ order_number order_numbered order_again
+
 -- the code of workers, by which they are told apart
 abbrev pub worker_code : Coded Worker
-worker_code = code_by (Program × (ℕ × (ℕ × (ℕ × ℕ))))
-    (coded× program_code (coded× coded_ℕ (coded× coded_ℕ (coded× coded_ℕ coded_ℕ))))
+worker_code = code_by (Program × (ℕ × (ℕ × (ℕ × (ℕ × Order)))))
+    (coded× program_code
+    (coded× coded_ℕ (coded× coded_ℕ (coded× coded_ℕ (coded× coded_ℕ order_code)))))
     (λ w. (
       w.program,
-      (w.budgets.steps, (w.budgets.targets, (w.budgets.conflicts, w.budgets.nodes))),
+      (
+        w.budgets.steps,
+        (w.budgets.targets, (w.budgets.conflicts, (w.budgets.nodes, w.budgets.order))),
+      ),
     ))
     (λ c. record {
       program = c.0;
@@ -33,7 +58,8 @@ worker_code = code_by (Program × (ℕ × (ℕ × (ℕ × ℕ))))
         steps = c.1.0;
         targets = c.1.1.0;
         conflicts = c.1.1.1.0;
-        nodes = c.1.1.1.1;
+        nodes = c.1.1.1.1.0;
+        order = c.1.1.1.1.1;
       };
     }) (λ _. refl)
 
@@ -43,6 +69,7 @@ rules_of p budgets = record {
   left = left_to_do;
   targets = budgets.targets;
   nodes = budgets.nodes;
+  order = budgets.order;
   decides = λ input. decisions p.image p.regions input budgets.steps;
   IsWell = λ s. IsOpen p s × (s.steps < budgets.steps);
   IsRight = λ sides nodes part. IsRight p.image p.regions budgets sides nodes part;

@@ -402,10 +402,10 @@ module _ {S L : Type 0} (part_of : L → Part) (rules : Rules S L) (state_place 
   })
     where
       bounds : Bounds
-      bounds = record { workers = workers; targets = rules.targets; nodes = rules.nodes }
+      bounds = record { workers = workers; targets = rules.targets; nodes = rules.nodes; order = rules.order }
 
       same_bounds : bounds ≡ bounds_of (report workers)
-      same_bounds k = record { workers = workers; targets = asks.targets k; nodes = asks.nodes k }
+      same_bounds k = record { workers = workers; targets = asks.targets k; nodes = asks.nodes k; order = asks.order k }
 
       led : LeadsTo (choices_at state_place leaf_place) (cut_in state_place leaf_place) bounds s
       led = drained.walked.leads workers all

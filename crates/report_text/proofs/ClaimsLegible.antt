@@ -107,7 +107,7 @@ module _ (r : Report) (claims : IsReport r) (counts : HasSmallCounts r) where
   few_nodes = counts.few_nodes claims.history.nodes claims.history.walked
 
   pub lines_legible : AreLegible r.lines
-  lines_legible = (legible_from (bounds_of r) (root ∷ []) claims.history.nodes r.lines counts.few_workers claims.history.walked few_nodes).0
+  lines_legible = (legible_from (bounds_of r) 0 (root ∷ []) claims.history.nodes r.lines counts.few_workers claims.history.walked few_nodes).0
 
   few_entries : IsSmall (length r.entries)
   few_entries =

@@ -1,5 +1,5 @@
 -- The lines of a walk are told by their text, where there are few workers and few nodes.
-use Rattle.std.proofs.Common.{◌≡◌, ℕ, ◌<◌, ◌≤◌, ◌^◌, Bool, true, false, ◌&&◌, ◌||◌, ◌==◌, nat_le, nat_lt, List, [], ◌∷◌, Option, None, Some, ap, arith, drop, length, length-append, refl, subst, sym}
+use Rattle.std.proofs.Common.{◌≡◌, ℕ, ◌<◌, ◌≤◌, ◌^◌, Bool, true, false, ◌&&◌, ◌||◌, ◌==◌, nat_le, nat_lt, List, [], ◌∷◌, Option, None, Some, ap, arith, drop, length, length-append, map, refl, subst, sym}
 use Rattle.std.specs.Prelude.{All, if◌then◌else◌, slice_get, slice_set}
 use Rattle.std.proofs.lemmas.Bool.{and_parts, eqb-true}
 use Rattle.std.proofs.lemmas.List.{length-set}
@@ -14,7 +14,7 @@ use Rattle.tree_core.specs.declared.event.Deed.{Deed}
 use Rattle.tree_core.specs.declared.event.Deed.TheVariants.{Claim, Split, Finish, Cut, Release}
 use Rattle.tree_core.specs.Stories.{left_by}
 use Rattle.fork_spec.specs.Leaves.{IsSmall, IsSmallChoice}
-use Rattle.fork_spec.specs.Walks.{Bounds, Line, Side, Sides, Standing, are_branch_sides, are_sides, are_small, are_values, side_births, cut_by, done_on, is_in_form, is_by_nodes, is_increasing, is_one_cut_at_most, is_rest, is_rest_cut, may_come, open_value, walk_step, value_before, values_first, walk_from}
+use Rattle.fork_spec.specs.Walks.{Bounds, Line, Side, Sides, Standing, are_branch_sides, are_sides, are_small, are_values, candidate, side_births, cut_by, done_on, is_in_form, is_in_turn, is_by_nodes, is_increasing, is_one_cut_at_most, is_rest, is_rest_cut, may_come, open_value, walk_step, value_before, values_first, walk_from}
 use Rattle.text_parts.proofs.Options.{then_from}
 use Rattle.text_parts.proofs.Tests.{lt_from}
 use Rattle.report_text.specs.Legible.{AreLegible, IsLegibleDeed, IsLegibleLine}
@@ -110,12 +110,12 @@ record Came (bounds : Bounds) (nodes next : List Standing) (line : Line) : Type 
   grows : length nodes ≤ length next
 
 module _ (bounds : Bounds) where
-  came : (nodes next : List Standing) (line : Line) → walk_step bounds nodes line ≡ Some next → Came bounds nodes next line
+  came : (events : ℕ) (nodes next : List Standing) (line : Line) → walk_step bounds events nodes line ≡ Some next → Came bounds nodes next line
   unfolding walk_step
-  came nodes next line h = go (may_come bounds nodes line node) refl at.2
+  came events nodes next line h = go (may_come bounds events nodes line node) refl at.2
     where
-      at : (node : Standing) × (slice_get nodes line.node ≡ Some node) × ((if may_come bounds nodes line node then Some (done_on nodes line node) else None) ≡ Some next)
-      at = then_from (λ (node : Standing). if may_come bounds nodes line node then Some (done_on nodes line node) else None) (slice_get nodes line.node) next h
+      at : (node : Standing) × (slice_get nodes line.node ≡ Some node) × ((if may_come bounds events nodes line node then Some (done_on nodes line node) else None) ≡ Some next)
+      at = then_from (λ (node : Standing). if may_come bounds events nodes line node then Some (done_on nodes line node) else None) (slice_get nodes line.node) next h
 
       node : Standing
       node = at.0
@@ -126,12 +126,14 @@ module _ (bounds : Bounds) where
       longer : done_on nodes line node ≡ next → length nodes ≤ length next
       longer same = omega (arith, ap length same, length-append (slice_set nodes line.node left) (side_births node.choices line.deed), length-set nodes line.node left)
 
-      go : (b : Bool) → may_come bounds nodes line node ≡ b → (if b then Some (done_on nodes line node) else None) ≡ Some next → Came bounds nodes next line
+      go : (b : Bool) → may_come bounds events nodes line node ≡ b → (if b then Some (done_on nodes line node) else None) ≡ Some next → Came bounds nodes next line
       go true may is =
-          let parts = and_parts (nat_lt line.by bounds.workers && allows node.status line.by line.deed && has_room is_by_nodes bounds.nodes (length nodes) line.deed)
+          let turn : Bool = is_in_turn bounds.order events (map candidate nodes) line.node line.deed in
+          let parts = and_parts (nat_lt line.by bounds.workers && allows node.status line.by line.deed && turn && has_room is_by_nodes bounds.nodes (length nodes) line.deed)
           (is_in_form bounds.targets (length nodes) line.deed) may in
-          let guards = and_parts (nat_lt line.by bounds.workers && allows node.status line.by line.deed) (has_room is_by_nodes bounds.nodes (length nodes) line.deed) parts.0 in
-          let worker = and_parts (nat_lt line.by bounds.workers) (allows node.status line.by line.deed) guards.0 in
+          let guards = and_parts (nat_lt line.by bounds.workers && allows node.status line.by line.deed && turn) (has_room is_by_nodes bounds.nodes (length nodes) line.deed) parts.0 in
+          let allowed = and_parts (nat_lt line.by bounds.workers && allows node.status line.by line.deed) turn guards.0 in
+          let worker = and_parts (nat_lt line.by bounds.workers) (allows node.status line.by line.deed) allowed.0 in
           record {
             by = lt_from line.by bounds.workers worker.0;
             within = slice_get_within nodes line.node node at.1;
@@ -142,14 +144,14 @@ module _ (bounds : Bounds) where
 
   -- ---- the walk
 
-  pub legible_from : (nodes reached : List Standing) (lines : List Line) → IsSmall bounds.workers → walk_from bounds nodes lines ≡ Some reached → IsSmall (length reached) →
+  pub legible_from : (events : ℕ) (nodes reached : List Standing) (lines : List Line) → IsSmall bounds.workers → walk_from bounds events nodes lines ≡ Some reached → IsSmall (length reached) →
       AreLegible lines × (length nodes ≤ length reached)
   unfolding walk_from
-  legible_from nodes reached [] few h small = (All-nil IsLegibleLine, omega (arith, ap length (same_Some nodes reached h)))
-  legible_from nodes reached (line ∷ lines) few h small =
-      let at = then_from (λ (next : List Standing). walk_from bounds next lines) (walk_step bounds nodes line) reached h in
-      let here = came nodes at.0 line at.1 in
-      let later : AreLegible lines × (length at.0 ≤ length reached) = legible_from at.0 reached lines few at.2 small in
+  legible_from events nodes reached [] few h small = (All-nil IsLegibleLine, omega (arith, ap length (same_Some nodes reached h)))
+  legible_from events nodes reached (line ∷ lines) few h small =
+      let at = then_from (λ (next : List Standing). walk_from bounds (events + 1) next lines) (walk_step bounds events nodes line) reached h in
+      let here = came events nodes at.0 line at.1 in
+      let later : AreLegible lines × (length at.0 ≤ length reached) = legible_from (events + 1) at.0 reached lines few at.2 small in
       let low : IsSmall (length nodes) = omega (arith, here.grows, later.1, small) in
       let legible : IsLegibleLine line =
       (omega (arith, here.by, few), omega (arith, here.within, low), deed_legible bounds.targets (length nodes) line.deed here.form low) in

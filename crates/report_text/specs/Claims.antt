@@ -133,7 +133,12 @@ ShowBudgets r = All (λ (e : Entry).
 
 -- what its events are held to: its workers, and its budgets of values and of nodes
 abbrev pub bounds_of : Report → Bounds
-bounds_of r = record { workers = r.workers; targets = r.budgets.targets; nodes = r.budgets.nodes }
+bounds_of r = record {
+  workers = r.workers;
+  targets = r.budgets.targets;
+  nodes = r.budgets.nodes;
+  order = r.budgets.order;
+}
 
 -- the events are one run of so many workers through the fork tree that leaves nothing to be done, and the leaves of its tree are those that are written
 abbrev pub HasHistory : Report → Type 0

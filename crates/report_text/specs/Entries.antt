@@ -129,6 +129,7 @@ module _ {S L : Type 0} (part_of : L → Part) where
         → rules.decides input ≡ decisions image regions input budgets.steps
     pub targets : rules.targets ≡ budgets.targets
     pub nodes : rules.nodes ≡ budgets.nodes
+    pub order : rules.order ≡ budgets.order
 
 -- there is what stands beside a leaf: its evidence, or a byte for each place
 abbrev pub HasBeside : (places : ℕ) → Option (List ℕ) → Option Evidence → Type 0

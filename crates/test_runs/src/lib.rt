@@ -8,6 +8,8 @@ mod of_elf_load;
 #[cfg(test)]
 mod of_fork_tree;
 #[cfg(test)]
+mod of_free_nodes;
+#[cfg(test)]
 mod of_node_split;
 #[cfg(test)]
 mod of_prog_gen;

@@ -4,6 +4,7 @@ ghost use Rattle.std.specs.Prelude.{◌≡◌, ℕ, ◌+◌, ◌-◌, ◌^◌, �
 ghost use Rattle.rv_spec.specs.Decisions.{Side};
 ghost use Rattle.tree_core.specs.declared.cause.Cause.TheVariants.{Conflicts};
 ghost use Rattle.tree_core.specs.declared.choice.Choice.TheVariants.{No, Yes};
+ghost use Rattle.tree_core.specs.declared.order.Order.TheVariants.{Deepest};
 ghost use Rattle.tree_core.specs.Cores.{held_count};
 ghost use Rattle.fork_spec.specs.Walks.{is_one_cut_at_most};
 ghost use Rattle.fork_tree.specs.Written.{side_of_kid};
@@ -18,7 +19,7 @@ use std::alloc::{AllocError as NoMemory, Global};
 use std::process::Abort;
 use std::sync::{Arc, Wait};
 use std::test::Fail;
-use tree_core::{Cause, Choice, Kid, Status};
+use tree_core::{Cause, Choice, Kid, Order, Status};
 use work_gate::Gate;
 
 /// The assignments of just so many numbers, or of so many or more. Runs take the branch once for each number.
@@ -68,6 +69,7 @@ impl Work for Climber {
       left = λ r. if r.just then 0 else w.top + 1 - r.from;
       targets = 2;
       nodes = w.nodes;
+      order = Deepest;
       decides = λ input. replicate (length input) (Side true) ++ Side false ∷ [];
       IsWell = λ r. r.from ≤ w.top;
       IsRight = λ sides nodes e. e.cut ≡ Some Conflicts → sides ≡ No ∷ Yes ∷ [];
@@ -187,7 +189,7 @@ fn comes_to_rest(rt: &impl Wait, alloc: Global, tree: &mut Tree<Climber>) -> Res
 
 #[test]
 fn drains(rt: HostRuntime) -> Result<(), Fail> {
-    let mut tree = Tree::new(rt.alloc(), CLIMBER, GROUND, 1, 100)?;
+    let mut tree = Tree::new(rt.alloc(), CLIMBER, GROUND, 100, Order::Deepest)?;
     let rests = comes_to_rest(&rt, rt.alloc(), &mut tree)?;
     assert!(rt; rests && has_three_rungs(&tree));
     Ok(())
@@ -197,7 +199,7 @@ fn drains(rt: HostRuntime) -> Result<(), Fail> {
 #[test]
 fn a_full_tree_cuts_what_would_part(rt: HostRuntime) -> Result<(), Fail> {
     let climber = Climber { top: 3, nodes: 3 };
-    let mut tree = Tree::new(rt.alloc(), climber, GROUND, 1, 3)?;
+    let mut tree = Tree::new(rt.alloc(), climber, GROUND, 3, Order::Deepest)?;
     assert!(rt; !tree.full());
     let rests = comes_to_rest(&rt, rt.alloc(), &mut tree)?;
     assert!(rt; rests && tree.full() && tree.len() == 3 && tree.events().len() == 6);
@@ -208,7 +210,7 @@ fn a_full_tree_cuts_what_would_part(rt: HostRuntime) -> Result<(), Fail> {
 // A fork has a side for each of 64 values, and one for the rest.
 #[test]
 fn a_fork_into_65_sides_has_room(rt: HostRuntime) -> Result<(), Fail> {
-    let mut tree = Tree::new(rt.alloc(), CLIMBER, GROUND, 1, 100)?;
+    let mut tree = Tree::new(rt.alloc(), CLIMBER, GROUND, 100, Order::Deepest)?;
     tree.reserve(65)?;
     Ok(())
 }
@@ -262,7 +264,7 @@ fn are_turns_taken(
 
 #[test]
 fn two_workers_take_turns(rt: HostRuntime) -> Result<(), Fail> {
-    let mut tree = Tree::new(rt.alloc(), CLIMBER, GROUND, 2, 100)?;
+    let mut tree = Tree::new(rt.alloc(), CLIMBER, GROUND, 100, Order::Deepest)?;
     assert!(rt; are_turns_taken(&rt, rt.alloc(), &mut tree)?);
     Ok(())
 }
@@ -308,23 +310,23 @@ fn claimed(tree: &mut Tree<Beginner>, by: u32) -> Result<Option<usize>, NoMemory
     }
 }
 
-// The first worker frees both sides of the ground, and gives the first of them back.
+// The first worker frees both sides of the ground, and gives the first of them back, which then comes first again.
 fn goes_on(rt: &impl Wait, alloc: Global, tree: &mut Tree<Beginner>) -> Result<bool, NoMemory>
     requires opening { IsOpening (record { from = 0; just = false }) tree.old.story }
 {
     let failed = drain(rt, alloc, tree, 0).is_err();
     Ok(
         failed
-            && claimed(tree, 1)? == Some(2)
-            && claimed(tree, 0)? == Some(1)
+            && claimed(tree, 1)? == Some(1)
+            && claimed(tree, 0)? == Some(2)
             && claimed(tree, 1)? == None,
     )
 }
 
 #[test]
-fn a_worker_goes_on_with_its_own(rt: HostRuntime) -> Result<(), Fail> {
+fn what_was_given_back_comes_first(rt: HostRuntime) -> Result<(), Fail> {
     let climber = CLIMBER;
-    let mut tree = Tree::new(rt.alloc(), Beginner { climber }, GROUND, 2, 100)?;
+    let mut tree = Tree::new(rt.alloc(), Beginner { climber }, GROUND, 100, Order::Deepest)?;
     assert!(rt; goes_on(&rt, rt.alloc(), &mut tree)?);
     Ok(())
 }

@@ -3,6 +3,7 @@
 ghost use Rattle.std.specs.Prelude.{◌≡◌, ◌≤◌, ◌==◌, ◌∷◌, [], IfOk, None, Some, false, if◌then◌else◌, length, min, true};
 ghost use Rattle.rv_spec.specs.Decisions.{Number};
 ghost use Rattle.tree_core.specs.declared.choice.Choice.TheVariants.{Value};
+ghost use Rattle.tree_core.specs.declared.order.Order.TheVariants.{Deepest};
 ghost use Rattle.fork_tree.specs.Nodes.{StateIs};
 
 use fork_spec::Placed;
@@ -11,7 +12,7 @@ use std::alloc::{AllocError as NoMemory, Global};
 use std::sync::{Arc, Wait};
 use std::test::Fail;
 use std::thread::Threads;
-use tree_core::{Cause, Choice, Deed, Kid, Status};
+use tree_core::{Cause, Choice, Deed, Kid, Order, Status};
 use work_gate::{DropGate, Gate, MeetGate, Next, OpenGate, Point};
 use work_run::{Lent, explore};
 
@@ -47,6 +48,7 @@ impl Work for Dealer {
       left = λ d. if d.drawn then 0 else 1;
       targets = 3;
       nodes = 100;
+      order = Deepest;
       decides = λ input. Number (min 2 (length input)) ∷ [];
       IsWell = λ d. Unit {0};
       IsRight = λ sides nodes d. Unit {0};
@@ -147,7 +149,7 @@ fn has_each_leaf(tree: &Tree<Lent<'_, Dealer>>) -> bool {
 
 #[test]
 fn four_workers_make_each_leaf(rt: HostRuntime) -> Result<(), Fail> {
-    let tree = explore(&rt, rt.alloc(), &Dealer, WHOLE, 4, 100, &OpenGate)?;
+    let tree = explore(&rt, rt.alloc(), &Dealer, WHOLE, 4, 100, Order::Deepest, &OpenGate)?;
     // A claim and its end for each node.
     let events = tree.events().len();
     assert!(rt; has_each_leaf(&tree) && events == 8 && releases(&tree) == 0);
@@ -158,7 +160,7 @@ fn four_workers_make_each_leaf(rt: HostRuntime) -> Result<(), Fail> {
 #[test]
 fn two_workers_work_at_once(rt: HostRuntime) -> Result<(), Fail> {
     let gate = MeetGate::new();
-    let tree = explore(&rt, rt.alloc(), &Dealer, WHOLE, 2, 100, &gate)?;
+    let tree = explore(&rt, rt.alloc(), &Dealer, WHOLE, 2, 100, Order::Deepest, &gate)?;
     assert!(rt; has_each_leaf(&tree) && gate.have_met() && !gate.was_limit_reached());
     Ok(())
 }
@@ -188,7 +190,7 @@ fn a_worker_may_leave_behind_its_claim(rt: HostRuntime) -> Result<(), Fail> {
         worker: 0,
         point: Point::AfterClaim,
     };
-    let tree = explore(&rt, rt.alloc(), &Dealer, WHOLE, 1, 100, &gate)?;
+    let tree = explore(&rt, rt.alloc(), &Dealer, WHOLE, 1, 100, Order::Deepest, &gate)?;
     assert!(rt; has_each_leaf(&tree) && releases(&tree) == 1);
     Ok(())
 }
@@ -199,7 +201,7 @@ fn a_worker_may_leave_behind_a_give(rt: HostRuntime) -> Result<(), Fail> {
         worker: 0,
         point: Point::AfterGive,
     };
-    let tree = explore(&rt, rt.alloc(), &Dealer, WHOLE, 1, 100, &gate)?;
+    let tree = explore(&rt, rt.alloc(), &Dealer, WHOLE, 1, 100, Order::Deepest, &gate)?;
     // The card that it claimed in the same turn is released.
     assert!(rt; has_each_leaf(&tree) && releases(&tree) == 1);
     Ok(())

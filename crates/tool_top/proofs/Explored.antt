@@ -63,6 +63,7 @@ module _ (p : Program) (budgets : Budgets) where
     decides = λ input. refl;
     targets = refl;
     nodes = refl;
+    order = refl;
   }
 
   -- the report of a tree that grew from the program's first run, by the events of so many workers, is one of the program

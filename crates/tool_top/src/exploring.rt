@@ -39,7 +39,16 @@ pub(crate) fn plan_report<R: Threads + Wait + Sync, G: Gate + Sync>(
 {
     let root = State::first(alloc, worker.program())?;
     let budgets = worker.budgets();
-    let tree = explore(rt, alloc, worker, root, workers, budgets.nodes, gate)?;
+    let tree = explore(
+        rt,
+        alloc,
+        worker,
+        root,
+        workers,
+        budgets.nodes,
+        budgets.order,
+        gate,
+    )?;
     let regions = worker.program().regions();
     let report = make_report(alloc, out, regions, &budgets, workers, &tree)?;
     let (files, text) = report.into_parts();

@@ -1,5 +1,5 @@
 -- Nodes of which an order names one, as can be followed by hand.
-use Rattle.std.specs.Prelude.{ℕ, Bool, true, false, List, [], ◌∷◌}
+use Rattle.std.specs.Prelude.{ℕ, true, false, List, [], ◌∷◌}
 use Rattle.tree_core.specs.Orders.{Candidate}
 
 abbrev pub free : (depth : ℕ) → Candidate

@@ -18,6 +18,7 @@ use fork_tree::{Tree, Work, drain};
 use std::alloc::{AllocError as NoMemory, Global};
 use std::sync::Wait;
 use std::thread::{Threads, join};
+use tree_core::Order;
 use turn_lock::{Pass, TurnLock};
 use work_gate::Gate;
 
@@ -159,6 +160,7 @@ pub fn explore<'a, W, R, G>(
     root: W::State,
     workers: u32,
     nodes: u32,
+    order: Order,
     gate: &G,
 ) -> Result<Tree<Lent<'a, W>>, NoMemory>
 where
@@ -171,6 +173,7 @@ where
     requires first { (W.State.place root).choices ≡ [] }
     requires some { 1 ≤ workers }
     requires nodes { nodes ≡ (W.rules worker.now).nodes }
+    requires order { order ≡ (W.rules worker.now).order }
     requires some_nodes { 1 ≤ nodes }
     requires few_nodes { nodes + (W.rules worker.now).targets < 2 ^ 32 }
     ensures worker { IfOk result (λ t. t.worker.worker.now ≡ worker.now) }
@@ -181,6 +184,6 @@ where
     ensures few { IfOk result (λ t. All (λ e. e.by < workers) t.story.events) }
     ensures releases { IfOk result (λ t. ReleaseOnce t.story.events) }
 {
-    let tree = Tree::new(alloc, Lent { worker }, root, workers, nodes)?;
+    let tree = Tree::new(alloc, Lent { worker }, root, nodes, order)?;
     run_to_end(rt, alloc, tree, &Lent { worker }, workers, gate)
 }

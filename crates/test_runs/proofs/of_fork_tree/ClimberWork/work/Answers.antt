@@ -8,6 +8,7 @@ use Rattle.rv_spec.specs.Decisions.{Decision, Side}
 use Rattle.tree_core.specs.declared.cause.Cause.TheVariants.{Conflicts}
 use Rattle.tree_core.specs.declared.choice.Choice.{Choice}
 use Rattle.tree_core.specs.declared.choice.Choice.TheVariants.{No, Yes}
+use Rattle.tree_core.specs.declared.order.Order.TheVariants.{Deepest}
 use Rattle.tree_core.specs.declared.event.Kid.{Kid}
 use Rattle.tree_core.specs.Covers.{one_if}
 use Rattle.fork_spec.specs.Partings.{ArePlacesApart, Place}
@@ -44,6 +45,7 @@ rules top nodes = record {
   left = λ r. if r.just then 0 else top + 1 - r.from;
   targets = 2;
   nodes = nodes;
+  order = Deepest;
   decides = decides;
   IsWell = λ r. r.from ≤ top;
   IsRight = λ sides nodes e. e.cut ≡ Some Conflicts → sides ≡ No ∷ Yes ∷ [];
