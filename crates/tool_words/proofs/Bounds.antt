@@ -9,11 +9,13 @@ use Rattle.tool_words.specs.Command.{rvklee_command}
 use Rattle.tool_words.specs.Job as spec
 use Rattle.tool_words.specs.Job.{Bench, Explore, IsWithinLimits, Replay, bench_job, bench_with, command_job, explore_job, explore_with, job_of, replay_job, replay_with, without_fault}
 use Rattle.tool_words.specs.Limits.{IsBudgets, IsWithin, budgets_found, budgets_with, conflicts_limit, is_within, nodes_limit, number_found, number_given, number_said, number_within, numbers_limit, plain_number, steps_limit, targets_limit, within, workers_found, workers_limit}
+use Rattle.tool_words.specs.Orders.{order_found}
 use Rattle.tool_words.specs.Region.{regions_said}
 use Rattle.tool_words.specs.Seen.{IsRead, job_seen}
 use Rattle.tool_words.specs.declared.job.Job.{Job}
 use Rattle.tool_words.specs.declared.job.WordsError.{WordsError}
 use Rattle.tree_core.specs.declared.budgets.Budgets.{Budgets}
+use Rattle.tree_core.specs.declared.order.Order.{Order}
 use Rattle.tool_words.specs.declared.limit.Limit.{Limit}
 
 -- ---- numbers
@@ -47,20 +49,21 @@ given_bounds limit None n default is =
     rw (← same) default
 given_bounds limit (Some value) n default is = number_bounds limit value n is
 
-budgets_bounds : (steps targets conflicts nodes : Option ℕ) (budgets : Budgets) → ((n : ℕ) → steps ≡ Some n → IsWithin steps_limit n)
+budgets_bounds : (steps targets conflicts nodes : Option ℕ) (order : Option Order) (budgets : Budgets) → ((n : ℕ) → steps ≡ Some n → IsWithin steps_limit n)
     → ((n : ℕ) → targets ≡ Some n → IsWithin targets_limit n) → ((n : ℕ) → conflicts ≡ Some n → IsWithin conflicts_limit n)
-    → ((n : ℕ) → nodes ≡ Some n → IsWithin nodes_limit n) → budgets_with steps targets conflicts nodes ≡ Some budgets → IsBudgets budgets
-budgets_bounds None targets conflicts nodes budgets s t c k is = cc
-budgets_bounds (Some steps) None conflicts nodes budgets s t c k is = cc
-budgets_bounds (Some steps) (Some targets) None nodes budgets s t c k is = cc
-budgets_bounds (Some steps) (Some targets) (Some conflicts) None budgets s t c k is = cc
-budgets_bounds (Some steps) (Some targets) (Some conflicts) (Some nodes) budgets s t c k is =
-    let same : record { steps = steps; targets = targets; conflicts = conflicts; nodes = nodes } ≡ budgets = cc in
+    → ((n : ℕ) → nodes ≡ Some n → IsWithin nodes_limit n) → budgets_with steps targets conflicts nodes order ≡ Some budgets → IsBudgets budgets
+budgets_bounds None targets conflicts nodes order budgets s t c k is = cc
+budgets_bounds (Some steps) None conflicts nodes order budgets s t c k is = cc
+budgets_bounds (Some steps) (Some targets) None nodes order budgets s t c k is = cc
+budgets_bounds (Some steps) (Some targets) (Some conflicts) None order budgets s t c k is = cc
+budgets_bounds (Some steps) (Some targets) (Some conflicts) (Some nodes) None budgets s t c k is = cc
+budgets_bounds (Some steps) (Some targets) (Some conflicts) (Some nodes) (Some order) budgets s t c k is =
+    let same : record { steps = steps; targets = targets; conflicts = conflicts; nodes = nodes; order = order } ≡ budgets = cc in
     rw (← same) (record { steps_within = s steps refl; targets_within = t targets refl; conflicts_within = c conflicts refl; nodes_within = k nodes refl })
 
 found_budgets : (rows : List Row) (budgets : Budgets) → budgets_found rows ≡ Some budgets → IsBudgets budgets
 found_budgets rows budgets = budgets_bounds (number_found steps_limit (codes "steps") rows) (number_found targets_limit (codes "targets") rows)
-    (number_found conflicts_limit (codes "conflicts") rows) (number_found nodes_limit (codes "nodes") rows) budgets
+    (number_found conflicts_limit (codes "conflicts") rows) (number_found nodes_limit (codes "nodes") rows) (order_found rows) budgets
     (λ n. given_bounds steps_limit (first_of (codes "steps") rows) n (omega arith, omega arith))
     (λ n. given_bounds targets_limit (first_of (codes "targets") rows) n (omega arith, omega arith))
     (λ n. given_bounds conflicts_limit (first_of (codes "conflicts") rows) n (omega arith, omega arith))

@@ -4,9 +4,9 @@ use Rattle.clap.specs.Lexer.{usize_max}
 use Rattle.clap.specs.Simple.{on_top}
 use Rattle.clap.specs.Words.{App, Rule, new_app, new_rule, with_rule, with_subcommand}
 
--- an option with a value, `--name N`
-abbrev pub number_option : List ℕ → Rule
-number_option name = record (new_rule name) { long = Some name }
+-- an option with a value, `--name VALUE`
+abbrev pub value_option : List ℕ → Rule
+value_option name = record (new_rule name) { long = Some name }
 
 -- a word that has to be given, by its place
 abbrev pub required_word : List ℕ → Rule
@@ -19,15 +19,16 @@ required_words id = record (required_word id) {
 }
 
 -- the options of explore
-abbrev pub with_numbers : App → App
-with_numbers app = with_rule (with_rule (with_rule (with_rule (with_rule app
-    (number_option (codes "steps"))) (number_option (codes "targets")))
-    (number_option (codes "conflicts"))) (number_option (codes "workers")))
-    (number_option (codes "nodes"))
+abbrev pub with_options : App → App
+with_options app = with_rule (with_rule (with_rule (with_rule (with_rule (with_rule app
+    (value_option (codes "steps"))) (value_option (codes "targets")))
+    (value_option (codes "conflicts"))) (value_option (codes "workers")))
+    (value_option (codes "nodes"))) (value_option (codes "order"))
 
--- explore [--steps N] [--targets N] [--conflicts N] [--workers N] [--nodes N] PROGRAM OUT INPUT..
+-- explore [--steps N] [--targets N] [--conflicts N] [--workers N] [--nodes N]
+-- [--order O] PROGRAM OUT INPUT..
 unfoldable pub explore_command : App
-explore_command = with_rule (with_rule (with_rule (with_numbers (new_app (codes "explore")))
+explore_command = with_rule (with_rule (with_rule (with_options (new_app (codes "explore")))
     (required_word (codes "PROGRAM"))) (required_word (codes "OUT")))
     (required_words (codes "INPUT"))
 

@@ -63,7 +63,8 @@ without_fault [] job = job
 without_fault (fault ∷ faults) job = None
 
 -- the job of these words, of which the first is the tool's name: there is one where `clap` finds no
--- fault in them, each INPUT names a region, and each option, NUMBER and WORKERS a number within its limit
+-- fault in them, each INPUT names a region, --order an order, and each other option, NUMBER and WORKERS a
+-- number within its limit
 unfoldable pub job_of : List (List ℕ) → Option Job
 job_of words = without_fault (fault_of rvklee_command words)
     (command_job (subcommand_of rvklee_command words))

@@ -1,8 +1,10 @@
 -- The numbers that options and words say, and their limits.
 use Rattle.std.specs.Prelude.{ℕ, Bool, false, List, [], ◌∷◌, ◌==◌, ◌&&◌, ◌≤◌, nat_le, Option, None, Some, if◌then◌else◌, codes, option_and_then}
 use Rattle.clap.specs.Words.{Row, first_of}
+use Rattle.tool_words.specs.Orders.{default_order, order_found}
 use Rattle.tool_words.specs.Region.{digits_number}
 use Rattle.tree_core.specs.declared.budgets.Budgets.{Budgets}
+use Rattle.tree_core.specs.declared.order.Order.{Order}
 use Rattle.tool_words.specs.declared.limit.Limit.{Limit}
 
 abbrev pub steps_limit : Limit
@@ -31,6 +33,7 @@ default_budgets = record {
   targets = targets_limit.default;
   conflicts = conflicts_limit.default;
   nodes = nodes_limit.default;
+  order = default_order;
 }
 
 -- a zero (48) stands before other digits
@@ -68,18 +71,24 @@ number_found limit name rows = number_given limit (first_of name rows)
 abbrev pub number_said : Limit → List ℕ → List Row → Option ℕ
 number_said limit name rows = option_and_then (number_within limit) (first_of name rows)
 
--- where all are there, the budgets of these numbers
-abbrev pub budgets_with : Option ℕ → Option ℕ → Option ℕ → Option ℕ → Option Budgets
-budgets_with (Some steps) (Some targets) (Some conflicts) (Some nodes) =
-    Some (record { steps = steps; targets = targets; conflicts = conflicts; nodes = nodes })
-budgets_with _ _ _ _ = None
+-- where all are there, the budgets of these numbers and this order
+abbrev pub budgets_with : Option ℕ → Option ℕ → Option ℕ → Option ℕ → Option Order
+    → Option Budgets
+budgets_with (Some steps) (Some targets) (Some conflicts) (Some nodes) (Some order) = Some (record {
+  steps = steps;
+  targets = targets;
+  conflicts = conflicts;
+  nodes = nodes;
+  order = order;
+})
+budgets_with _ _ _ _ _ = None
 
--- --steps, --targets, --conflicts and --nodes
+-- --steps, --targets, --conflicts, --nodes and --order
 abbrev pub budgets_found : List Row → Option Budgets
 budgets_found rows = budgets_with (number_found steps_limit (codes "steps") rows)
     (number_found targets_limit (codes "targets") rows)
     (number_found conflicts_limit (codes "conflicts") rows)
-    (number_found nodes_limit (codes "nodes") rows)
+    (number_found nodes_limit (codes "nodes") rows) (order_found rows)
 
 -- --workers
 abbrev pub workers_found : List Row → Option ℕ

@@ -3,7 +3,7 @@
 ghost use Rattle.std.specs.Prelude.{◌≡◌, IfOk, false};
 ghost use Rattle.clap.specs.Words.{app_of, rule_of};
 ghost use Rattle.clap.specs.declared.builder.command.Command.TheViews.{out-Command as fields_of};
-ghost use Rattle.tool_words.specs.Command.{bench_command, explore_command, number_option, replay_command, required_word, required_words, rvklee_command};
+ghost use Rattle.tool_words.specs.Command.{bench_command, explore_command, value_option, replay_command, required_word, required_words, rvklee_command};
 
 use clap::{Arg, Command};
 use std::alloc::{AllocError as NoMemory, Global};
@@ -19,17 +19,18 @@ pub(crate) fn rvklee<'a>(alloc: Global) -> Result<Command<'a>, NoMemory>
         .subcommand(bench(alloc)?)
 }
 
-/// `explore [--steps N] [--targets N] [--conflicts N] [--workers N] [--nodes N] PROGRAM OUT INPUT..`.
+/// `explore [--steps N] [--targets N] [--conflicts N] [--workers N] [--nodes N] [--order O] PROGRAM OUT INPUT..`.
 fn explore<'a>(alloc: Global) -> Result<Command<'a>, NoMemory>
     ensures app { IfOk result (λ command. app_of command ≡ explore_command) }
     ensures local { IfOk result (λ command. (fields_of command).has_globals ≡ false) }
 {
     Command::new(alloc, "explore")
-        .arg(number_option(alloc, "steps"))?
-        .arg(number_option(alloc, "targets"))?
-        .arg(number_option(alloc, "conflicts"))?
-        .arg(number_option(alloc, "workers"))?
-        .arg(number_option(alloc, "nodes"))?
+        .arg(value_option(alloc, "steps"))?
+        .arg(value_option(alloc, "targets"))?
+        .arg(value_option(alloc, "conflicts"))?
+        .arg(value_option(alloc, "workers"))?
+        .arg(value_option(alloc, "nodes"))?
+        .arg(value_option(alloc, "order"))?
         .arg(required_word(alloc, "PROGRAM"))?
         .arg(required_word(alloc, "OUT"))?
         .arg(required_words(alloc, "INPUT"))
@@ -56,9 +57,9 @@ fn bench<'a>(alloc: Global) -> Result<Command<'a>, NoMemory>
         .arg(required_word(alloc, "OUT"))
 }
 
-/// An option with a value, `--name N`, that may be given once.
-fn number_option<'a>(alloc: Global, name: &'a str) -> Arg<'a>
-    ensures rule { rule_of result ≡ number_option name.entry.now }
+/// An option with a value, `--name VALUE`, that may be given once.
+fn value_option<'a>(alloc: Global, name: &'a str) -> Arg<'a>
+    ensures rule { rule_of result ≡ value_option name.entry.now }
     ensures local { result.global ≡ false }
 {
     Arg::new(alloc, name).long(name)

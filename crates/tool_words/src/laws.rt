@@ -9,7 +9,7 @@ ghost use Rattle.tool_words.specs.Plain.{has_no_hyphen};
 ghost use Rattle.tool_words.specs.Region.{regions_said};
 
 /// `explore` with a program, a folder and inputs has the job that these words name, with the default
-/// numbers, where none of them begins with a hyphen.
+/// budgets and workers, where none of them begins with a hyphen.
 pub fn plain_words_name_their_job()
     ensures { (tool program out input : List ℕ) (inputs : List (List ℕ))
         → list_all has_no_hyphen (program ∷ out ∷ input ∷ inputs) ≡ true

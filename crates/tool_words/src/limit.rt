@@ -4,6 +4,7 @@ ghost use Rattle.std.specs.Prelude.{◌≡◌};
 ghost use Rattle.clap.specs.Words.{found_of, rows_of};
 ghost use Rattle.tool_words.specs.Limits.{budgets_found, number_found, number_said, number_within, workers_found};
 
+use crate::order::read_order;
 use clap::ArgMatches;
 use tree_core::Budgets;
 
@@ -59,6 +60,7 @@ pub(crate) fn read_budgets(found: &ArgMatches<'_>) -> Option<Budgets>
         targets: read_given(found, "targets", TARGETS)?,
         conflicts: read_given(found, "conflicts", CONFLICTS)?,
         nodes: read_given(found, "nodes", NODES)?,
+        order: read_order(found)?,
     })
 }
 
