@@ -11,7 +11,7 @@ use Rattle.tree_core.specs.declared.budgets.Budgets.{Budgets}
 use Rattle.report_text.specs.declared.summary.Summary.{Summary}
 use Rattle.report_text.specs.ReportData.{budgets_data, leaf_node_data, report_data, totals_data}
 use Rattle.fork_spec.specs.Histories.{LeafNode}
-use Rattle.report_text.specs.Reports.{budgets_text, leaf_node_text, leaves_in, report_text, totals_text, with_commas}
+use Rattle.report_text.specs.Reports.{budgets_text, leaf_node_text, leaves_in, order_text, report_text, totals_text, with_commas}
 use Rattle.report_text.specs.Summaries.{count}
 
 five : (a v b w c x d y e z last : List ℕ) → a
@@ -19,12 +19,17 @@ five : (a v b w c x d y e z last : List ℕ) → a
     ≡ a ++ v ++ b ++ w ++ c ++ x ++ d ++ y ++ e ++ z ++ last
 five a v b w c x d y e z last = simp append_assoc
 
+six : (a v b w c x d y e z f u last : List ℕ) → a
+    ++ (v ++ (b ++ (w ++ (c ++ (x ++ (d ++ (y ++ (e ++ (z ++ (f ++ (u ++ last)))))))))))
+    ≡ a ++ v ++ b ++ w ++ c ++ x ++ d ++ y ++ e ++ z ++ f ++ u ++ last
+six a v b w c x d y e z f u last = simp append_assoc
+
 text_of_budgets : (budgets : Budgets) (workers : ℕ) →
     compact_text (budgets_data budgets workers) ≡ budgets_text budgets workers
 unfolding serde_json_on_literals
 text_of_budgets budgets workers =
-    five (codes "{\"conflicts\":") (decimal budgets.conflicts) (codes ",\"nodes\":") (decimal budgets.nodes) (codes ",\"steps\":") (decimal budgets.steps)
-    (codes ",\"targets\":") (decimal budgets.targets) (codes ",\"workers\":") (decimal workers) (codes "}")
+    six (codes "{\"conflicts\":") (decimal budgets.conflicts) (codes ",\"nodes\":") (decimal budgets.nodes) (codes ",\"order\":") (quoted (order_text budgets.order))
+    (codes ",\"steps\":") (decimal budgets.steps) (codes ",\"targets\":") (decimal budgets.targets) (codes ",\"workers\":") (decimal workers) (codes "}")
 
 text_of_totals : (summary : Summary) → compact_text (totals_data summary) ≡ totals_text summary
 unfolding serde_json_on_literals

@@ -7,7 +7,7 @@ use Rattle.text_parts.specs.Names.{choices_text, end_name, kind_name}
 use Rattle.test_files.specs.TestData.{regions_data}
 use Rattle.tree_core.specs.declared.budgets.Budgets.{Budgets}
 use Rattle.fork_spec.specs.Histories.{LeafNode}
-use Rattle.report_text.specs.Reports.{leaves_in}
+use Rattle.report_text.specs.Reports.{leaves_in, order_text}
 use Rattle.report_text.specs.Summaries.{count}
 use Rattle.report_text.specs.declared.summary.Summary.{Summary}
 
@@ -15,9 +15,10 @@ abbrev pub budgets_data : Budgets → (workers : ℕ) → Data
 budgets_data budgets workers = object (
     member (codes "conflicts") (number (unsigned budgets.conflicts)) (
     member (codes "nodes") (number (unsigned budgets.nodes)) (
+    member (codes "order") (string (order_text budgets.order)) (
     member (codes "steps") (number (unsigned budgets.steps)) (
     member (codes "targets") (number (unsigned budgets.targets)) (
-    member (codes "workers") (number (unsigned workers)) no_members)))))
+    member (codes "workers") (number (unsigned workers)) no_members))))))
 
 abbrev pub leaf_node_data : LeafNode → Data
 leaf_node_data l = object (

@@ -7,6 +7,8 @@ use Rattle.fork_spec.specs.Leaves.{Leaf}
 use Rattle.text_parts.specs.Names.{choices_text, end_name, kind_name}
 use Rattle.test_files.specs.Tests.{quoted_all, region_text}
 use Rattle.tree_core.specs.declared.budgets.Budgets.{Budgets}
+use Rattle.tree_core.specs.declared.order.Order.{Order}
+use Rattle.tree_core.specs.declared.order.Order.TheVariants.{Deepest, Oldest, Mixed}
 use Rattle.report_text.specs.Summaries.{count}
 use Rattle.report_text.specs.declared.summary.Summary.{Summary}
 
@@ -19,11 +21,18 @@ with_commas [] = []
 with_commas (text ∷ []) = text
 with_commas (text ∷ next ∷ texts) = text ++ codes "," ++ with_commas (next ∷ texts)
 
+-- the name of an order of claims
+abbrev pub order_text : Order → List ℕ
+order_text Deepest = codes "deepest"
+order_text Oldest = codes "oldest"
+order_text Mixed = codes "mixed"
+
 -- the object of the budgets
 abbrev pub budgets_text : Budgets → (workers : ℕ) → List ℕ
 budgets_text budgets workers =
     codes "{\"conflicts\":" ++ decimal budgets.conflicts
     ++ codes ",\"nodes\":" ++ decimal budgets.nodes
+    ++ codes ",\"order\":" ++ quoted (order_text budgets.order)
     ++ codes ",\"steps\":" ++ decimal budgets.steps
     ++ codes ",\"targets\":" ++ decimal budgets.targets
     ++ codes ",\"workers\":" ++ decimal workers

@@ -4,7 +4,7 @@ ghost use Rattle.std.specs.Prelude.{◌≡◌, ◌<◌, ◌^◌, IfOk, length, m
 ghost use Rattle.serde_json.specs.View.{view};
 ghost use Rattle.text_parts.specs.Names.{choices_text};
 ghost use Rattle.report_text.specs.ReportData.{budgets_data, leaf_node_data, leaf_nodes_data, object_data, report_data, totals_data};
-ghost use Rattle.report_text.specs.Reports.{report_text};
+ghost use Rattle.report_text.specs.Reports.{order_text, report_text};
 
 use crate::reported::Reported;
 use crate::summary::{Summary, summarize};
@@ -14,7 +14,7 @@ use serde_json::{Value, json};
 use std::alloc::{AllocError as NoMemory, Global};
 use test_files::region_list;
 use text_parts::{end_name, kind_name, write_choices};
-use tree_core::{Budgets, Choice};
+use tree_core::{Budgets, Choice, Order};
 
 /// The choices, with nothing between.
 fn choices_string(alloc: Global, choices: &[Choice]) -> Result<String, NoMemory>
@@ -51,6 +51,17 @@ fn leaf_values<E: Reported>(alloc: Global, leaves: &[E]) -> Result<Vec<Value>, N
     Ok(values)
 }
 
+/// The name of an order of claims.
+fn order_name(order: Order) -> &'static str
+    ensures { result.now ≡ order_text order }
+{
+    match order {
+        Order::Deepest => "deepest",
+        Order::Oldest => "oldest",
+        Order::Mixed => "mixed",
+    }
+}
+
 /// The object of the budgets.
 fn budgets_value(alloc: Global, budgets: &Budgets, workers: u32) -> Result<Value, NoMemory>
     ensures { IfOk result (λ value. view value ≡ budgets_data budgets.now workers) }
@@ -58,6 +69,7 @@ fn budgets_value(alloc: Global, budgets: &Budgets, workers: u32) -> Result<Value
     json!(in alloc; {
         "conflicts": budgets.conflicts,
         "nodes": budgets.nodes,
+        "order": order_name(budgets.order),
         "steps": budgets.steps,
         "targets": budgets.targets,
         "workers": workers
