@@ -4,7 +4,7 @@ ghost use Rattle.std.specs.Prelude.{IfSome};
 ghost use Rattle.tool_words.specs.Limits.{IsBudgets, IsWithin, workers_limit};
 
 use elf_load::Region;
-use tool_words::{CONFLICTS, Limit, NODES, STEPS, TARGETS, WORKERS};
+use tool_words::{CONFLICTS, Limit, NODES, ORDER, STEPS, TARGETS, WORKERS};
 use tree_core::Budgets;
 
 /// What is to be explored.
@@ -47,6 +47,7 @@ fn read_budgets(steps: &str, targets: &str, conflicts: &str) -> Option<Budgets>
         targets: read_number(TARGETS, targets)?,
         conflicts: read_number(CONFLICTS, conflicts)?,
         nodes: NODES.default,
+        order: ORDER,
     })
 }
 

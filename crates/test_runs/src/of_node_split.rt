@@ -14,7 +14,7 @@ use std::process::Abort;
 use std::sync::Wait;
 use std::test::Fail;
 use sym_state::State;
-use tree_core::{Budgets, Cause, Choice, Kid};
+use tree_core::{Budgets, Cause, Choice, Kid, Order};
 use work_gate::OpenGate;
 
 // It loads from an address to which it adds the low bit of twice its input byte, and exits: LUI x5, 0x11; LBU x7, 0(x5);
@@ -130,6 +130,7 @@ fn runs_go_on_until_they_fork_or_end(rt: HostRuntime) -> Result<(), Fail> {
             targets,
             conflicts: 0,
             nodes: 1,
+            order: Order::Deepest,
         };
         let are = words_come_so(&rt, rt.alloc(), words, budgets, comes)?;
         assert!(rt; are, "row {at}");
@@ -153,6 +154,7 @@ fn a_question_that_comes_again_is_counted_so(rt: HostRuntime) -> Result<(), Fail
         targets: 4,
         conflicts: 0,
         nodes: 1,
+        order: Order::Deepest,
     };
     let worker = made(&rt, rt.alloc(), &FORKED, budgets)?;
     let counts = Counts {
@@ -198,6 +200,7 @@ fn a_run_that_may_not_part_is_cut(rt: HostRuntime) -> Result<(), Fail> {
         targets: 4,
         conflicts: 0,
         nodes: 5,
+        order: Order::Deepest,
     };
     let worker = made(&rt, rt.alloc(), &FORKED, budgets)?;
     assert!(rt; worker.budgets().nodes <= 7);

@@ -3,14 +3,15 @@
 use elf_load::Region;
 use std::alloc::{AllocError as NoMemory, Global};
 use tool_words::{Job, WordsError, read_words};
+use tree_core::Order;
 
-/// Steps, targets, conflicts, nodes and workers.
-type Numbers = (u32, u32, u32, u32, u32);
+/// Steps, targets, conflicts, nodes, workers and the order.
+type Options = (u32, u32, u32, u32, u32, Order);
 
 /// What a command line asks for.
 enum Wanted {
-    /// The program, the folder, the regions and the numbers.
-    Explore(&'static str, &'static str, &'static [(u32, u32)], Numbers),
+    /// The program, the folder, the regions and the options.
+    Explore(&'static str, &'static str, &'static [(u32, u32)], Options),
     /// The program and the test.
     Replay(&'static str, &'static str),
     /// The number, the workers and the folder.
@@ -18,10 +19,14 @@ enum Wanted {
 }
 
 // Where no option is given.
-const DEFAULTS: Numbers = (10_000, 16, 2_000, 1_000_000, 4);
+const DEFAULTS: Options = (10_000, 16, 2_000, 1_000_000, 4, Order::Deepest);
+
+const BY_OLDEST: Options = (10_000, 16, 2_000, 1_000_000, 4, Order::Oldest);
+
+const BY_MIXED: Options = (10_000, 16, 2_000, 50, 4, Order::Mixed);
 
 /// Command lines, and what they ask for.
-static TAKEN: [(&[&str], Wanted); 16] = [
+static TAKEN: [(&[&str], Wanted); 19] = [
     (
         &["rvklee", "explore", "a.elf", "out", "00011000:1"],
         Wanted::Explore("a.elf", "out", &[(0x11000, 1)], DEFAULTS),
@@ -69,7 +74,7 @@ static TAKEN: [(&[&str], Wanted); 16] = [
             "a.elf",
             "out",
             &[(0x11000, 1)],
-            (50, 4, 2_000, 1_000_000, 4),
+            (50, 4, 2_000, 1_000_000, 4, Order::Deepest),
         ),
     ),
     (
@@ -85,7 +90,12 @@ static TAKEN: [(&[&str], Wanted); 16] = [
             "out",
             "00011000:1",
         ],
-        Wanted::Explore("a.elf", "out", &[(0x11000, 1)], (1, 1, 1, 1, 1)),
+        Wanted::Explore(
+            "a.elf",
+            "out",
+            &[(0x11000, 1)],
+            (1, 1, 1, 1, 1, Order::Deepest),
+        ),
     ),
     (
         &[
@@ -118,7 +128,7 @@ static TAKEN: [(&[&str], Wanted); 16] = [
             "a.elf",
             "out",
             &[(0x11000, 1)],
-            (1_000_000, 64, 100_000, 999_999, 64),
+            (1_000_000, 64, 100_000, 999_999, 64, Order::Deepest),
         ),
     ),
     (
@@ -136,8 +146,45 @@ static TAKEN: [(&[&str], Wanted); 16] = [
             "--steps",
             "4",
             &[(0x11000, 1)],
-            (3, 16, 2_000, 1_000_000, 4),
+            (3, 16, 2_000, 1_000_000, 4, Order::Deepest),
         ),
+    ),
+    (
+        &[
+            "rvklee",
+            "explore",
+            "--order",
+            "deepest",
+            "a.elf",
+            "out",
+            "00011000:1",
+        ],
+        Wanted::Explore("a.elf", "out", &[(0x11000, 1)], DEFAULTS),
+    ),
+    (
+        &[
+            "rvklee",
+            "explore",
+            "--order",
+            "oldest",
+            "a.elf",
+            "out",
+            "00011000:1",
+        ],
+        Wanted::Explore("a.elf", "out", &[(0x11000, 1)], BY_OLDEST),
+    ),
+    (
+        &[
+            "rvklee",
+            "explore",
+            "a.elf",
+            "--nodes",
+            "50",
+            "out",
+            "00011000:1",
+            "--order=mixed",
+        ],
+        Wanted::Explore("a.elf", "out", &[(0x11000, 1)], BY_MIXED),
     ),
     (
         &["rvklee", "replay", "a.elf", "t.json"],
@@ -161,8 +208,8 @@ static TAKEN: [(&[&str], Wanted); 16] = [
     ),
 ];
 
-/// Command lines that say too little, too much, or a number out of its form or its limit.
-static REFUSED: [&[&str]; 39] = [
+/// Command lines that say too little, too much, a number out of its form or its limit, or an order that is none.
+static REFUSED: [&[&str]; 46] = [
     &[],
     &["rvklee"],
     &["rvklee", "explore", "a.elf", "out"],
@@ -313,7 +360,54 @@ static REFUSED: [&[&str]; 39] = [
         "out",
         "00011000:1",
     ],
+    &[
+        "rvklee",
+        "explore",
+        "--order",
+        "newest",
+        "a.elf",
+        "out",
+        "00011000:1",
+    ],
+    &[
+        "rvklee",
+        "explore",
+        "--order",
+        "Oldest",
+        "a.elf",
+        "out",
+        "00011000:1",
+    ],
+    &[
+        "rvklee",
+        "explore",
+        "--order",
+        "old",
+        "a.elf",
+        "out",
+        "00011000:1",
+    ],
+    &[
+        "rvklee",
+        "explore",
+        "--order=",
+        "a.elf",
+        "out",
+        "00011000:1",
+    ],
+    &[
+        "rvklee",
+        "explore",
+        "--order",
+        "mixed",
+        "--order",
+        "mixed",
+        "a.elf",
+        "out",
+        "00011000:1",
+    ],
     &["rvklee", "explore", "a.elf", "out", "00011000:1", "--steps"],
+    &["rvklee", "explore", "a.elf", "out", "00011000:1", "--order"],
     &[
         "rvklee",
         "--steps",
@@ -328,6 +422,7 @@ static REFUSED: [&[&str]; 39] = [
     &["rvklee", "replay", "a.elf", "t.json", "00011000:1"],
     &["rvklee", "replay", "--steps", "5", "a.elf", "t.json"],
     &["rvklee", "bench", "--nodes", "5", "8", "2", "out"],
+    &["rvklee", "bench", "--order", "oldest", "8", "2", "out"],
     &["rvklee", "bench", "0", "1", "out"],
     &["rvklee", "bench", "13", "1", "out"],
     &["rvklee", "bench", "8", "0", "out"],
@@ -367,7 +462,7 @@ fn are_regions(regions: &[Region], wanted: &[(u32, u32)]) -> bool {
 /// Whether this is the job that is wanted.
 fn is_wanted(job: &Job, wanted: &Wanted) -> bool {
     match (job, wanted) {
-        (Job::Explore(asked), Wanted::Explore(file, folder, places, numbers)) => {
+        (Job::Explore(asked), Wanted::Explore(file, folder, places, options)) => {
             let budgets = &asked.budgets;
             asked.program.as_str() == *file
                 && asked.out.as_str() == *folder
@@ -378,7 +473,8 @@ fn is_wanted(job: &Job, wanted: &Wanted) -> bool {
                     budgets.conflicts,
                     budgets.nodes,
                     asked.workers,
-                ) == *numbers
+                    budgets.order,
+                ) == *options
         }
         (Job::Replay { program, test }, Wanted::Replay(file, said)) => {
             program.as_str() == *file && test.as_str() == *said

@@ -8,7 +8,7 @@ use Rattle.test_files.specs.declared.refused.TestRefused.{TestRefused as WhyNoTe
 
 abbrev pub usage : List ℕ
 usage =
-    codes "usage: rvklee explore [--steps N] [--targets N] [--conflicts N] [--workers N] [--nodes N] PROGRAM OUT INPUT..\n"
+    codes "usage: rvklee explore [--steps N] [--targets N] [--conflicts N] [--workers N] [--nodes N] [--order O] PROGRAM OUT INPUT..\n"
     ++ codes "       rvklee replay PROGRAM TEST\n"
     ++ codes "       rvklee bench NUMBER WORKERS OUT\n"
 

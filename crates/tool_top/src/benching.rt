@@ -18,7 +18,7 @@ use std::alloc::{AllocError as NoMemory, Global};
 use std::sync::Wait;
 use std::thread::Threads;
 use sym_state::Program;
-use tool_words::{CONFLICTS, NODES, STEPS, TARGETS};
+use tool_words::{CONFLICTS, NODES, ORDER, STEPS, TARGETS};
 use tree_core::Budgets;
 use work_gate::Gate;
 
@@ -65,6 +65,7 @@ pub(crate) fn plan_bench<R: Threads + Wait + Sync, G: Gate + Sync>(
         targets: TARGETS.default,
         conflicts: CONFLICTS.default,
         nodes: NODES.default,
+        order: ORDER,
     };
     let worker = Worker::new(alloc, Program::new(image, regions), budgets)?;
     let mut plan = plan_report(rt, alloc, out, &worker, workers, gate)?;

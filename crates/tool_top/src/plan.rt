@@ -23,7 +23,7 @@ use work_gate::Gate;
 pub(crate) const MOST_BYTES: usize = 1_048_577;
 
 const USAGE: &[u8] =
-    b"usage: rvklee explore [--steps N] [--targets N] [--conflicts N] [--workers N] [--nodes N] PROGRAM OUT INPUT..
+    b"usage: rvklee explore [--steps N] [--targets N] [--conflicts N] [--workers N] [--nodes N] [--order O] PROGRAM OUT INPUT..
        rvklee replay PROGRAM TEST
        rvklee bench NUMBER WORKERS OUT
 ";

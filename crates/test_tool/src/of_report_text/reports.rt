@@ -9,22 +9,23 @@ use report_text::{Reported, report_name, summarize, summary_line, write_report};
 use rv_decode::Trap;
 use std::alloc::{AllocError as NoMemory, Global};
 use std::test::Fail;
-use tree_core::{Budgets, Cause, Choice};
+use tree_core::{Budgets, Cause, Choice, Order};
 
 static ONE_LEAF: &str =
-    "{\"budgets\":{\"conflicts\":2000,\"nodes\":1000000,\"steps\":10000,\"targets\":16,\"workers\":1},\"leaves\":[{\"choices\":\"\",\"end\":\"exit\",\"kind\":\"finished\",\"node\":0,\"steps\":3}],\"regions\":[\"00011000:1\"],\"summary\":{\"cut\":0,\"finished\":1,\"leaves\":1,\"steps\":3,\"tests\":1}}\n";
+    "{\"budgets\":{\"conflicts\":2000,\"nodes\":1000000,\"order\":\"deepest\",\"steps\":10000,\"targets\":16,\"workers\":1},\"leaves\":[{\"choices\":\"\",\"end\":\"exit\",\"kind\":\"finished\",\"node\":0,\"steps\":3}],\"regions\":[\"00011000:1\"],\"summary\":{\"cut\":0,\"finished\":1,\"leaves\":1,\"steps\":3,\"tests\":1}}\n";
 
 static TWO_LEAVES: &str =
-    "{\"budgets\":{\"conflicts\":2000,\"nodes\":1000000,\"steps\":10000,\"targets\":16,\"workers\":1},\"leaves\":[{\"choices\":\"N\",\"end\":\"exit\",\"kind\":\"finished\",\"node\":1,\"steps\":6},{\"choices\":\"Y\",\"end\":\"exit\",\"kind\":\"finished\",\"node\":2,\"steps\":7}],\"regions\":[\"00011000:1\"],\"summary\":{\"cut\":0,\"finished\":2,\"leaves\":2,\"steps\":13,\"tests\":2}}\n";
+    "{\"budgets\":{\"conflicts\":2000,\"nodes\":1000000,\"order\":\"deepest\",\"steps\":10000,\"targets\":16,\"workers\":1},\"leaves\":[{\"choices\":\"N\",\"end\":\"exit\",\"kind\":\"finished\",\"node\":1,\"steps\":6},{\"choices\":\"Y\",\"end\":\"exit\",\"kind\":\"finished\",\"node\":2,\"steps\":7}],\"regions\":[\"00011000:1\"],\"summary\":{\"cut\":0,\"finished\":2,\"leaves\":2,\"steps\":13,\"tests\":2}}\n";
 
 static CUT: &str =
-    "{\"budgets\":{\"conflicts\":2000,\"nodes\":1000000,\"steps\":10000,\"targets\":16,\"workers\":1},\"leaves\":[{\"choices\":\"N\",\"end\":\"LoadAccess\",\"kind\":\"finished\",\"node\":1,\"steps\":4},{\"choices\":\"Y=0001002a\",\"end\":\"running\",\"kind\":\"steps\",\"node\":3,\"steps\":10000},{\"choices\":\"Y=0001002c\",\"end\":\"running\",\"kind\":\"nodes\",\"node\":4,\"steps\":8},{\"choices\":\"YR\",\"end\":\"running\",\"kind\":\"conflicts\",\"node\":5,\"steps\":9}],\"regions\":[\"00011000:1\"],\"summary\":{\"cut\":3,\"finished\":1,\"leaves\":4,\"steps\":4,\"tests\":2}}\n";
+    "{\"budgets\":{\"conflicts\":2000,\"nodes\":1000000,\"order\":\"deepest\",\"steps\":10000,\"targets\":16,\"workers\":1},\"leaves\":[{\"choices\":\"N\",\"end\":\"LoadAccess\",\"kind\":\"finished\",\"node\":1,\"steps\":4},{\"choices\":\"Y=0001002a\",\"end\":\"running\",\"kind\":\"steps\",\"node\":3,\"steps\":10000},{\"choices\":\"Y=0001002c\",\"end\":\"running\",\"kind\":\"nodes\",\"node\":4,\"steps\":8},{\"choices\":\"YR\",\"end\":\"running\",\"kind\":\"conflicts\",\"node\":5,\"steps\":9}],\"regions\":[\"00011000:1\"],\"summary\":{\"cut\":3,\"finished\":1,\"leaves\":4,\"steps\":4,\"tests\":2}}\n";
 
 static BUDGETS: Budgets = Budgets {
     steps: 10_000,
     targets: 16,
     conflicts: 2_000,
     nodes: 1_000_000,
+    order: Order::Deepest,
 };
 
 /// What a report says of a leaf.

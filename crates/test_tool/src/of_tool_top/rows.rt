@@ -105,7 +105,7 @@ const ROWS: &[Row] = &[
             (
                 3,
                 "out/report.json",
-                "{\"budgets\":{\"conflicts\":2000,\"nodes\":1000000,\"steps\":10000,\"targets\":16,\"workers\":1},\"leaves\":[{\"choices\":\"\",\"end\":\"exit\",\"kind\":\"finished\",\"node\":0,\"steps\":3}],\"regions\":[\"00011000:1\"],\"summary\":{\"cut\":0,\"finished\":1,\"leaves\":1,\"steps\":3,\"tests\":1}}\n",
+                "{\"budgets\":{\"conflicts\":2000,\"nodes\":1000000,\"order\":\"deepest\",\"steps\":10000,\"targets\":16,\"workers\":1},\"leaves\":[{\"choices\":\"\",\"end\":\"exit\",\"kind\":\"finished\",\"node\":0,\"steps\":3}],\"regions\":[\"00011000:1\"],\"summary\":{\"cut\":0,\"finished\":1,\"leaves\":1,\"steps\":3,\"tests\":1}}\n",
             ),
         ],
     },
@@ -264,7 +264,7 @@ const ROWS: &[Row] = &[
             (
                 3,
                 "out/report.json",
-                "{\"budgets\":{\"conflicts\":2000,\"nodes\":1,\"steps\":10000,\"targets\":16,\"workers\":1},\"leaves\":[{\"choices\":\"\",\"end\":\"running\",\"kind\":\"nodes\",\"node\":0,\"steps\":3}],\"regions\":[\"00011000:1\"],\"summary\":{\"cut\":1,\"finished\":0,\"leaves\":1,\"steps\":0,\"tests\":0}}\n",
+                "{\"budgets\":{\"conflicts\":2000,\"nodes\":1,\"order\":\"deepest\",\"steps\":10000,\"targets\":16,\"workers\":1},\"leaves\":[{\"choices\":\"\",\"end\":\"running\",\"kind\":\"nodes\",\"node\":0,\"steps\":3}],\"regions\":[\"00011000:1\"],\"summary\":{\"cut\":1,\"finished\":0,\"leaves\":1,\"steps\":0,\"tests\":0}}\n",
             ),
         ],
     },

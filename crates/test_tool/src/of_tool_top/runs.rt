@@ -15,7 +15,7 @@ use work_gate::{Gate, OpenGate};
 const SUMMARY: &str = "leaves 2 finished 2 cut 0 tests 2 steps 13\n";
 
 const USAGE: &str =
-    "usage: rvklee explore [--steps N] [--targets N] [--conflicts N] [--workers N] [--nodes N] PROGRAM OUT INPUT..\n       rvklee replay PROGRAM TEST\n       rvklee bench NUMBER WORKERS OUT\n";
+    "usage: rvklee explore [--steps N] [--targets N] [--conflicts N] [--workers N] [--nodes N] [--order O] PROGRAM OUT INPUT..\n       rvklee replay PROGRAM TEST\n       rvklee bench NUMBER WORKERS OUT\n";
 
 const UNFIT: &str = "inputs refused 4 Unmapped\n";
 
