@@ -117,7 +117,7 @@ class Pages:
         on the other the address of a load. Neither leaf has a test, so their paths say where that is. Runs of the other program
         write to its code, so there a path says nothing."""
         page = self.page(TRAPS, "full", "--nodes", "3", "00011000:1")
-        self.has("full", page.head(), "Of 2 leaves 2 were cut (2 by nodes)", "0 of 49 instructions", "nodes 3,")
+        self.has("full", page.head(), "Of 2 leaves 2 were cut (2 by nodes)", "0 of 49 instructions", "nodes 3, order deepest,")
         places = "1 leaf before beq t0, t2, 0x10160 0x10128 leaf 0", "1 leaf before lw t3, 0(s2) 0x10154 leaf 1"
         self.has("full", page.section("cuts"), "Budget of nodes, 3: 2 leaves", *places)
         self.has("full", page.section("leaves"), "cut by nodes: 2 leaves", "0 no test 10 beq", "1 no test 10 lw")
@@ -127,15 +127,15 @@ class Pages:
         self.has("patch", page.section("forks"), "all inputs take one path, as far as it was followed.")
 
     def earlier(self):
-        """A report of before there was a budget of nodes has the same page, but for that budget."""
+        """A report of before there was a budget of nodes, or an order, has the same page, but for these."""
         shutil.copytree("traps", "earlier")
         file, page = pathlib.Path("earlier/report.json"), pathlib.Path("traps/report.html").read_text()
         said = json.loads(file.read_text())
-        del said["budgets"]["nodes"]
+        del said["budgets"]["nodes"], said["budgets"]["order"]
         file.write_text(json.dumps(said))
         done = report(TRAPS, "earlier")
         self.check("an earlier report", done == (0, "earlier/report.html\n", ""), done)
-        without = page.replace("nodes 1000000, ", "")
+        without = page.replace("nodes 1000000, order deepest, ", "")
         self.check("the page of an earlier report", without != page and pathlib.Path("earlier/report.html").read_text() == without)
 
     def lines(self):

@@ -10,11 +10,15 @@ from own_options import NAMES
 
 Limit = collections.namedtuple("Limit", "most default")
 COMMANDS = {"explore": ("PROGRAM", "OUT", "INPUT"), "replay": ("PROGRAM", "TEST"), "bench": ("NUMBER", "WORKERS", "OUT")}
-OPTIONS = {"--steps": Limit(1_000_000, 10_000), "--targets": Limit(64, 16), "--conflicts": Limit(100_000, 2_000),
-           "--workers": Limit(64, 4), "--nodes": Limit(1_000_000, 1_000_000)}
+# Of the options of `explore` that take a number.
+LIMITS = {"--steps": Limit(1_000_000, 10_000), "--targets": Limit(64, 16), "--conflicts": Limit(100_000, 2_000),
+          "--workers": Limit(64, 4), "--nodes": Limit(1_000_000, 1_000_000)}
+# What --order takes, the default first.
+ORDERS = ("deepest", "oldest", "mixed")
+OPTIONS = (*LIMITS, "--order")
 # Of the words of `bench`.
 NUMBERS = {"NUMBER": 12, "WORKERS": 64}
-USAGE = """usage: rvklee explore [--steps N] [--targets N] [--conflicts N] [--workers N] [--nodes N] PROGRAM OUT INPUT..
+USAGE = """usage: rvklee explore [--steps N] [--targets N] [--conflicts N] [--workers N] [--nodes N] [--order O] PROGRAM OUT INPUT..
        rvklee replay PROGRAM TEST
        rvklee bench NUMBER WORKERS OUT
 """
@@ -34,6 +38,18 @@ def number_fault(word, most):
     if re.fullmatch("0[0-9]+", word):
         return "a number has no leading zero"
     return f"from 1 to {most}" if re.fullmatch("[0-9]+", word) else f"a number is decimal digits alone, from 1 to {most}"
+
+
+def sort_of(option):
+    """What an option takes."""
+    return "number" if option in LIMITS else "order"
+
+
+def option_fault(name, value):
+    """Why an option doesn't take a value, or None where it does."""
+    if name in LIMITS:
+        return number_fault(value, LIMITS[name].most)
+    return None if value in ORDERS else f"an order is deepest, oldest or mixed{near(value, ORDERS)}"
 
 
 def region_fault(word):
@@ -102,17 +118,17 @@ class Reading:
             elif word.split("=")[0] == "--help" or word.startswith("-h"):
                 return self.help()
             elif pending:
-                return self.refuse(f"{pending}: its number is missing before {word}")
+                return self.refuse(f"{pending}: its {sort_of(pending)} is missing before {word}")
             else:
                 name, equals, value = word.partition("=")
                 if not self.takes_option(name):
                     return False
                 self.options[name] = value
                 pending = None if equals else name
-        return not pending or self.refuse(f"{pending}: its number is missing")
+        return not pending or self.refuse(f"{pending}: its {sort_of(pending)} is missing")
 
     def takes_option(self, name):
-        options = OPTIONS if self.command == "explore" else {}
+        options = OPTIONS if self.command == "explore" else ()
         if name not in options:
             return self.refuse(f"{name}: no such option of {self.command}" + near(name, [*options, *NAMES]))
         return name not in self.options or self.refuse(f"{name}: it may be given once")
@@ -123,10 +139,9 @@ class Reading:
         self.faults += [f"{name} is missing" for name in names[len(self.plain):]]
         if names[-1] != "INPUT":
             self.faults += [f"{self.words[place]}: one word too many" for place in self.plain[len(names):]]
-        numbers = [(f"{name} {value}", value, OPTIONS[name].most) for name, value in self.options.items()]
-        said = [(name, self.word(name), most) for name, most in NUMBERS.items()]
-        numbers += [(f"{name} {value}", value, most) for name, value, most in said if value is not None]
-        faults = [(said, number_fault(value, most)) for said, value, most in numbers]
+        faults = [(f"{name} {value}", option_fault(name, value)) for name, value in self.options.items()]
+        numbers = [(name, self.word(name), most) for name, most in NUMBERS.items()]
+        faults += [(f"{name} {value}", number_fault(value, most)) for name, value, most in numbers if value is not None]
         faults += [(self.words[place], self.input_fault(place)) for place in self.inputs()]
         self.faults += [f"{said}: {fault}" for said, fault in faults if fault]
         out = self.word("OUT")

@@ -1,5 +1,5 @@
 """What `--help` says: what each command does, its options with their ranges, an example, and the statuses."""
-from command_line import OPTIONS
+from command_line import LIMITS, ORDERS
 
 ALL = """
 rvklee finds the paths of RV32IM firmware: for each a condition on the input bytes, and a test that takes it.
@@ -24,6 +24,7 @@ rvklee explore runs PROGRAM with the INPUT bytes symbolic. For each path OUT get
   --conflicts N  the most clauses that the solver learns for one answer{conflicts}
   --workers N    how many work at it side by side{workers}
   --nodes N      once the tree has so many forks and leaves, no run forks any more{nodes}
+  --order O      which run a worker takes up next{order}
 
 example: ./rvklee explore --make-out examples/ltv.elf out/ltv input
 """
@@ -56,5 +57,6 @@ TEXTS = {"explore": EXPLORE, "replay": REPLAY, "bench": BENCH}
 
 def text(command):
     """The help of a command, or where there is none of all."""
-    ranges = {name[2:]: f"; 1 to {limit.most:,}, default {limit.default:,}" for name, limit in OPTIONS.items()}
+    ranges = {name[2:]: f"; 1 to {limit.most:,}, default {limit.default:,}" for name, limit in LIMITS.items()}
+    ranges["order"] = f"; {', '.join(ORDERS[:-1])} or {ORDERS[-1]}, default {ORDERS[0]}"
     return TEXTS.get(command, ALL).format_map(ranges) + LAUNCHER + STATUSES

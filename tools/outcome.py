@@ -6,7 +6,7 @@ import pathlib
 import re
 import shlex
 
-from command_line import OPTIONS
+from command_line import LIMITS
 from coverage import TracedRun
 from program import Program
 from program_file import read
@@ -63,7 +63,7 @@ def cuts(leaves, budgets):
     """A line for each budget that ran out."""
     cut = collections.Counter(leaf["kind"] for leaf in leaves if leaf["kind"] != "finished")
     for kind, count in cut.items():
-        given, most = budgets[kind], OPTIONS[f"--{kind}"].most
+        given, most = budgets[kind], LIMITS[f"--{kind}"].most
         more = f"; raise --{kind}, which was {given} and may be {most}" if given < most else f", and --{kind} may be no more"
         yield f"{count} of {len(leaves)} leaves {'is' if count == 1 else 'are'} cut by {kind}{more}"
 

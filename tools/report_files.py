@@ -6,6 +6,7 @@ import json
 import pathlib
 
 import leaf_text
+from command_line import ORDERS
 from conditions import Condition
 from regions import is_region
 
@@ -63,8 +64,8 @@ def read_report(folder):
     for key, names in (("summary", SUMMARY), ("budgets", BUDGETS)):
         if not all(isinstance(report[key].get(name), int) for name in names):
             refuse(file, f"its key `{key}`")
-    # Reports of before there was a budget of nodes are read too.
-    if not isinstance(report["budgets"].get("nodes", 0), int):
+    # Reports of before there was a budget of nodes, or an order, are read too.
+    if not isinstance(report["budgets"].get("nodes", 0), int) or report["budgets"].get("order", ORDERS[0]) not in ORDERS:
         refuse(file, "its key `budgets`")
     if not all(isinstance(leaf, dict) for leaf in report["leaves"]) or not all(map(is_region, report["regions"])):
         refuse(file, "its leaves or its regions")
