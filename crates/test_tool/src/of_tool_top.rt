@@ -2,6 +2,7 @@
 
 mod inputs;
 mod instructions;
+mod nodes;
 mod refusals;
 mod replays;
 mod rows;

@@ -105,6 +105,20 @@ const SIX_TARGETS: &[&str] = &[
     "00011000:1",
 ];
 
+const SIX_TARGETS_MIXED: &[&str] = &[
+    "rvklee",
+    "explore",
+    "--workers",
+    "1",
+    "--targets",
+    "6",
+    "--order",
+    "mixed",
+    "p.elf",
+    "out",
+    "00011000:1",
+];
+
 const ROWS: &[Row] = &[
     // Nothing is decided by the input, so there is one leaf; its sample is zeros.
     Row {
@@ -209,6 +223,21 @@ const ROWS: &[Row] = &[
                 "; rvklee leaf 1\n; kind finished\n; choices =00010048.\n; path @00010048.\n; steps 12\n; end exit\n",
             ),
             (12, "out/test-000005.json", "{\"end\":\"exit 5\","),
+        ],
+    },
+    // The order draws node 5 of the six that are free, and then node 3 of five.
+    Row {
+        program: &TABLE,
+        words: SIX_TARGETS_MIXED,
+        said: "leaves 6 finished 6 cut 0 tests 6 steps 72\n",
+        puts: 14,
+        tests: 6,
+        files: &[
+            (
+                0,
+                "out/events.txt",
+                "claim 0 0\nsplit 0 0 1 =00010020 =00010028 =00010030 =00010038 =00010040 =00010048\nclaim 0 5\nfinish 0 5\nclaim 0 3\n",
+            ),
         ],
     },
     Row {

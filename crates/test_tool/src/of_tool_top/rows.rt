@@ -59,30 +59,6 @@ pub(crate) const FOUR_TARGETS: &[&str] = &[
     "00011000:1",
 ];
 
-const ONE_NODE: &[&str] = &[
-    "rvklee",
-    "explore",
-    "--workers",
-    "1",
-    "--nodes",
-    "1",
-    "p.elf",
-    "out",
-    "00011000:1",
-];
-
-const THREE_NODES: &[&str] = &[
-    "rvklee",
-    "explore",
-    "--workers",
-    "1",
-    "--nodes",
-    "3",
-    "p.elf",
-    "out",
-    "00011000:1",
-];
-
 const ROWS: &[Row] = &[
     Row {
         program: &STRAIGHT,
@@ -245,52 +221,6 @@ const ROWS: &[Row] = &[
                 "; rvklee leaf 1\n; kind targets\n; choices R.\n",
             ),
             (10, "out/spent-000004.txt", "; spent targets 4\n; term n"),
-        ],
-    },
-    Row {
-        program: &FORKED,
-        words: ONE_NODE,
-        said: "leaves 1 finished 0 cut 1 tests 0 steps 0\n",
-        puts: 4,
-        tests: 0,
-        files: &[
-            (0, "out/events.txt", "claim 0 0\ncut 0 0 nodes\n"),
-            (
-                1,
-                "out/leaf-000000.smt2",
-                "; rvklee leaf 1\n; kind nodes\n; choices .\n; path .\n; steps 3\n; end running\n",
-            ),
-            (2, "out/spent-000000.txt", "; spent nodes 1\n"),
-            (
-                3,
-                "out/report.json",
-                "{\"budgets\":{\"conflicts\":2000,\"nodes\":1,\"order\":\"deepest\",\"steps\":10000,\"targets\":16,\"workers\":1},\"leaves\":[{\"choices\":\"\",\"end\":\"running\",\"kind\":\"nodes\",\"node\":0,\"steps\":3}],\"regions\":[\"00011000:1\"],\"summary\":{\"cut\":1,\"finished\":0,\"leaves\":1,\"steps\":0,\"tests\":0}}\n",
-            ),
-        ],
-    },
-    Row {
-        program: &COMPARED,
-        words: THREE_NODES,
-        said: "leaves 2 finished 1 cut 1 tests 1 steps 9\n",
-        puts: 6,
-        tests: 1,
-        files: &[
-            (
-                0,
-                "out/events.txt",
-                "claim 0 0\nsplit 0 0 1 N Y\nclaim 0 1\nfinish 0 1\nclaim 0 2\ncut 0 2 nodes\n",
-            ),
-            (
-                1,
-                "out/leaf-000000.smt2",
-                "; rvklee leaf 1\n; kind finished\n; choices N.\n; path NT.\n; steps 9\n; end exit\n",
-            ),
-            (
-                3,
-                "out/leaf-000001.smt2",
-                "; rvklee leaf 1\n; kind nodes\n; choices Y.\n; path T.\n; steps 5\n; end running\n",
-            ),
-            (4, "out/spent-000001.txt", "; spent nodes 3\n"),
         ],
     },
 ];
