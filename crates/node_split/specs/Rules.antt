@@ -1,5 +1,5 @@
 -- What is asked of the runs and leaves of a program, within its budgets.
-use Rattle.std.specs.Prelude.{◌≡◌, ℕ, ◌<◌, refl}
+use Rattle.std.specs.Prelude.{◌≡◌, ℕ, zero, suc, ◌<◌, refl}
 use Rattle.std.specs.Coded.{Coded, code_by, coded×, coded_ℕ}
 use Rattle.rv_spec.specs.Decisions.{decisions}
 use Rattle.tree_core.specs.declared.budgets.Budgets.{Budgets}
@@ -28,9 +28,9 @@ order_number Oldest = 1
 order_number Mixed = 2
 
 abbrev pub order_numbered : ℕ → Order
-order_numbered 0 = Deepest
-order_numbered 1 = Oldest
-order_numbered _ = Mixed
+order_numbered zero = Deepest
+order_numbered (suc zero) = Oldest
+order_numbered (suc (suc n)) = Mixed
 
 pub order_again : (order : Order) → order_numbered (order_number order) ≡ order
 order_again Deepest = refl

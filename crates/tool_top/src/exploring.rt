@@ -18,6 +18,7 @@ use std::thread::Threads;
 use sym_state::{Program, State};
 use tool_io::{Fault, Files};
 use tool_words::Exploration;
+use tree_core::Budgets;
 use work_gate::Gate;
 use work_run::explore;
 
@@ -39,16 +40,8 @@ pub(crate) fn plan_report<R: Threads + Wait + Sync, G: Gate + Sync>(
 {
     let root = State::first(alloc, worker.program())?;
     let budgets = worker.budgets();
-    let tree = explore(
-        rt,
-        alloc,
-        worker,
-        root,
-        workers,
-        budgets.nodes,
-        budgets.order,
-        gate,
-    )?;
+    let Budgets { nodes, order, .. } = budgets;
+    let tree = explore(rt, alloc, worker, root, workers, nodes, order, gate)?;
     let regions = worker.program().regions();
     let report = make_report(alloc, out, regions, &budgets, workers, &tree)?;
     let (files, text) = report.into_parts();
