@@ -1,6 +1,7 @@
 //! Any number of workers on one fork tree, which is handed out in turns.
 #![tactic(auto)]
 
+mod ended;
 mod lent;
 mod round;
 mod run;

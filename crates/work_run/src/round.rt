@@ -1,6 +1,7 @@
 //! A round of work: the end of a claim, and the next claim, in one turn.
 
 ghost use Rattle.std.specs.Prelude.{◌≡◌, ℕ, IfErr, IfOk, List, OnErr, true};
+ghost use Rattle.std.specs.Arc.{arc_value};
 ghost use Rattle.tree_core.specs.declared.event.Event.{Event};
 ghost use Rattle.fork_tree.specs.declared.content.Content.{Content};
 ghost use Rattle.turn_lock.specs.Passes.{IsPassOf, known};
@@ -12,7 +13,7 @@ use crate::turn::{claim, enter_and_claim, release};
 use crate::turn_tree::TurnTree;
 use fork_tree::{Claim, Parts, Work};
 use std::alloc::Global;
-use std::sync::Wait;
+use std::sync::{Arc, Wait};
 use turn_lock::{Pass, TurnLock};
 use work_gate::{Gate, Next, Point};
 
@@ -50,10 +51,7 @@ pub(crate) fn work_once<W: Work, R: Wait, G: Gate>(
     match last {
         Claim::Quiet => Err(Stopped::Quiet),
         Claim::Nothing => claim_later(rt, lock, pass, gate),
-        // This share of the state is let go of here, once the turn is given back.
-        Claim::Claimed(node, state) => {
-            work_claim(rt, alloc, lock, pass, worker, gate, node, &state)
-        }
+        Claim::Claimed(node, state) => work_claim(rt, alloc, lock, pass, worker, gate, node, state),
     }
 }
 
@@ -89,12 +87,13 @@ fn work_claim<W: Work, R: Wait, G: Gate>(
     worker: &W,
     gate: &G,
     node: usize,
-    state: &W::State,
+    state: Arc<W::State, Global>,
 ) -> Result<Claim<W::State>, Stopped>
     requires lock { IsPassOf lock.now pass.old }
     requires rest { IsAtRest (known pass.old) }
     requires worker { (known pass.old).fixed ≡ worker.now }
-    requires claim { HasClaim (W.rules (known pass.old).fixed) (known pass.old) node state.now }
+    requires claim { HasClaim (W.rules (known pass.old).fixed) (known pass.old) node
+        (arc_value state) }
     ensures lock { IsPassOf lock.now pass.new }
     ensures later { IsLater (known pass.old) (known pass.new) }
     ensures next { IfOk result (EndsAndClaims (W.rules (known pass.old).fixed) node
@@ -107,8 +106,8 @@ fn work_claim<W: Work, R: Wait, G: Gate>(
         release(rt, lock, pass, node);
         return Err(Stopped::Left);
     }
-    match worker.work(rt, alloc, gate, by, state) {
-        Ok(parts) => hand_in(rt, alloc, lock, pass, gate, node, parts),
+    match worker.work(rt, alloc, gate, by, &state) {
+        Ok(parts) => hand_in(rt, alloc, lock, pass, gate, node, parts, state),
         Err(_) => {
             release(rt, lock, pass, node);
             Err(Stopped::NoMemory)
@@ -125,6 +124,7 @@ fn hand_in<W: Work, R: Wait, G: Gate>(
     gate: &G,
     node: usize,
     parts: Parts<W::State, W::Leaf>,
+    state: Arc<W::State, Global>,
 ) -> Result<Claim<W::State>, Stopped>
     requires lock { IsPassOf lock.now pass.old }
     requires rest { IsAtRest (known pass.old) }
@@ -142,7 +142,7 @@ fn hand_in<W: Work, R: Wait, G: Gate>(
         release(rt, lock, pass, node);
         return Err(Stopped::Left);
     }
-    let next = enter_and_claim(rt, alloc, lock, pass, node, parts)?;
+    let next = enter_and_claim(rt, alloc, lock, pass, node, parts, state)?;
     if leaves(gate, by, Point::AfterGive) {
         give_up(rt, lock, pass, &next);
         return Err(Stopped::Left);

@@ -11,6 +11,7 @@ ghost use Rattle.fork_tree.specs.declared.content.Content.{Content};
 ghost use Rattle.turn_lock.specs.Passes.{IsPassOf, known};
 ghost use Rattle.work_run.specs.Runs.{GoesOn, HasRun, HasWorked, MayRun, MayWork};
 
+use crate::ended::Ended;
 use crate::lent::Lent;
 use crate::turn_tree::TurnTree;
 use crate::worker::work;
@@ -113,9 +114,13 @@ where
     ensures releases { IfOk result (λ t. ReleaseOnce t.story.events) }
     ensures none_held { IfOk result (λ t. held_count t.story ≡ 0) }
 {
-    let (lock, first) = TurnLock::new(alloc, TurnTree { tree })?;
+    let ended = Ended::new(alloc, workers)?;
+    let (lock, first) = TurnLock::new(alloc, TurnTree { tree, ended })?;
     let first = run_workers(rt, alloc, &lock, first, worker, gate, 1, workers - 1);
-    let TurnTree { tree } = lock.close(first);
+    let TurnTree {
+        tree,
+        ended: _ended,
+    } = lock.close(first);
     Ok(tree)
 }
 

@@ -6,10 +6,10 @@ ghost use Rattle.turn_lock.specs.Passes.{IsPassOf, known};
 ghost use Rattle.work_run.specs.Entering.{claim_in};
 ghost use Rattle.work_run.specs.Seen.{EndsAndClaims, EndsClaim, HasResult, HoldsNode, IsAtRest, IsClaimed, IsLater, story_of};
 
-use crate::turn_tree::TurnTree;
+use crate::turn_tree::{Behind, TurnTree};
 use fork_tree::{Claim, Parts, Work};
 use std::alloc::{AllocError as NoMemory, Global};
-use std::sync::Wait;
+use std::sync::{Arc, Wait};
 use turn_lock::{Pass, TurnLock};
 
 // How many of the kids are free.
@@ -34,9 +34,9 @@ fn wake<W: Work>(
     }
 }
 
-// The claim of what was entered. A run that parted is freed here.
+// The claim of what was entered. What isn't needed any more is let go of here.
 fn claim_of<W: Work>(
-    entered: Result<(Claim<W::State>, Option<W::State>), NoMemory>,
+    entered: Result<(Claim<W::State>, Behind<W::State>), NoMemory>,
 ) -> Result<Claim<W::State>, NoMemory>
     ensures { result ≡ claim_in entered }
 {
@@ -68,7 +68,7 @@ pub(crate) fn claim<W: Work, R: Wait>(
     claimed
 }
 
-/// Enters what came of a node that the worker holds, and claims a free node. Where memory is refused the worker holds no node:
+/// Enters what came of a node that the worker holds, of this state, and claims a free node. Where memory is refused the worker holds no node:
 /// either there was none for what comes in its place, and the node is free again, or there was none for a claim.
 pub(crate) fn enter_and_claim<W: Work, R: Wait>(
     rt: &R,
@@ -77,6 +77,7 @@ pub(crate) fn enter_and_claim<W: Work, R: Wait>(
     pass: &mut Pass<TurnTree<W>>,
     node: usize,
     parts: Parts<W::State, W::Leaf>,
+    state: Arc<W::State, Global>,
 ) -> Result<Claim<W::State>, NoMemory>
     requires lock { IsPassOf lock.now pass.old }
     requires rest { IsAtRest (known pass.old) }
@@ -94,7 +95,7 @@ pub(crate) fn enter_and_claim<W: Work, R: Wait>(
     let mut tree = lock.take(rt, pass);
     tree.tree.is_whole();
     let freed = if tree.tree.full() { 0 } else { kids };
-    let entered = tree.enter_and_claim(alloc, by, node, parts);
+    let entered = tree.enter_and_claim(alloc, by, node, parts, state);
     lock.give(pass, tree);
     let claimed = claim_of::<W>(entered);
     wake(lock, freed, &claimed);

@@ -8,15 +8,26 @@ ghost use Rattle.fork_tree.specs.Calls.{IsClaim, release_event};
 ghost use Rattle.fork_tree.specs.Drains.{GrowsBy};
 ghost use Rattle.work_run.specs.Entering.{IsClaimEnded, IsNextClaim, IsResult};
 
+use crate::ended::Ended;
 use fork_tree::{Claim, Content, Parts, Tree, Work};
 use std::alloc::{AllocError as NoMemory, Global};
+use std::sync::Arc;
 use tree_core::{Cause, Node, Noted};
 use turn_lock::Growing;
 
-/// A tree as a lock hands it out. Its nodes and events grow, and its worker stays.
+/// A tree as a lock hands it out, with the states that were ended and not let go of yet. Its nodes and events grow, and its worker
+/// stays.
 #[derive(Drop)]
 pub struct TurnTree<W: Work> {
     pub tree: Tree<W>,
+    pub(crate) ended: Ended<W::State>,
+}
+
+/// What is let go of behind a turn: a run that parted, and a state that ended.
+#[derive(Drop)]
+pub(crate) struct Behind<S: Drop> {
+    pub(crate) run: Option<S>,
+    pub(crate) state: Option<Arc<S, Global>>,
 }
 
 impl<W: Work> Growing for TurnTree<W> {
@@ -53,16 +64,17 @@ impl<W: Work> TurnTree<W> {
         self.tree.claim(by)
     }
 
-    /// Enters what came of a node that the worker holds, and claims a free node. Where there is no memory for what comes in the
-    /// place of the one it is free again, and where there is none for a claim nothing is claimed. A run that parted is handed
-    /// back, so that its memory is freed behind the turn.
+    /// Enters what came of a node that the worker holds, of this state, and claims a free node. Where there is no memory for what
+    /// comes in the place of the one it is free again, and where there is none for a claim nothing is claimed. What isn't needed
+    /// any more is handed back, so that its memory is freed behind the turn.
     pub(crate) fn enter_and_claim(
         &mut self,
         alloc: Global,
         by: u32,
         node: usize,
         parts: Parts<W::State, W::Leaf>,
-    ) -> Result<(Claim<W::State>, Option<W::State>), NoMemory>
+        state: Arc<W::State, Global>,
+    ) -> Result<(Claim<W::State>, Behind<W::State>), NoMemory>
         requires there { node < length self.old.tree.story.nodes }
         requires held { status self.old.tree.story node ≡ Held by }
         requires worked { IsResult
@@ -77,7 +89,9 @@ impl<W: Work> TurnTree<W> {
         ensures grows { GrowsBy by self.old.tree.story self.new.tree.story }
     {
         let run = self.enter(alloc, by, node, parts)?;
-        Ok((self.claim(by)?, run))
+        self.ended.note(self.tree.len(), by);
+        let state = self.ended.exchange(by, node, state);
+        Ok((self.claim(by)?, Behind { run, state }))
     }
 
     // Enters what came of a node that the worker holds. Where there is no memory for what comes in its place, it is free again.
