@@ -326,7 +326,13 @@ fn goes_on(rt: &impl Wait, alloc: Global, tree: &mut Tree<Beginner>) -> Result<b
 #[test]
 fn what_was_given_back_comes_first(rt: HostRuntime) -> Result<(), Fail> {
     let climber = CLIMBER;
-    let mut tree = Tree::new(rt.alloc(), Beginner { climber }, GROUND, 100, Order::Deepest)?;
+    let mut tree = Tree::new(
+        rt.alloc(),
+        Beginner { climber },
+        GROUND,
+        100,
+        Order::Deepest,
+    )?;
     assert!(rt; goes_on(&rt, rt.alloc(), &mut tree)?);
     Ok(())
 }

@@ -149,7 +149,16 @@ fn has_each_leaf(tree: &Tree<Lent<'_, Dealer>>) -> bool {
 
 #[test]
 fn four_workers_make_each_leaf(rt: HostRuntime) -> Result<(), Fail> {
-    let tree = explore(&rt, rt.alloc(), &Dealer, WHOLE, 4, 100, Order::Deepest, &OpenGate)?;
+    let tree = explore(
+        &rt,
+        rt.alloc(),
+        &Dealer,
+        WHOLE,
+        4,
+        100,
+        Order::Deepest,
+        &OpenGate,
+    )?;
     // A claim and its end for each node.
     let events = tree.events().len();
     assert!(rt; has_each_leaf(&tree) && events == 8 && releases(&tree) == 0);
@@ -160,7 +169,16 @@ fn four_workers_make_each_leaf(rt: HostRuntime) -> Result<(), Fail> {
 #[test]
 fn two_workers_work_at_once(rt: HostRuntime) -> Result<(), Fail> {
     let gate = MeetGate::new();
-    let tree = explore(&rt, rt.alloc(), &Dealer, WHOLE, 2, 100, Order::Deepest, &gate)?;
+    let tree = explore(
+        &rt,
+        rt.alloc(),
+        &Dealer,
+        WHOLE,
+        2,
+        100,
+        Order::Deepest,
+        &gate,
+    )?;
     assert!(rt; has_each_leaf(&tree) && gate.have_met() && !gate.was_limit_reached());
     Ok(())
 }
@@ -190,7 +208,16 @@ fn a_worker_may_leave_behind_its_claim(rt: HostRuntime) -> Result<(), Fail> {
         worker: 0,
         point: Point::AfterClaim,
     };
-    let tree = explore(&rt, rt.alloc(), &Dealer, WHOLE, 1, 100, Order::Deepest, &gate)?;
+    let tree = explore(
+        &rt,
+        rt.alloc(),
+        &Dealer,
+        WHOLE,
+        1,
+        100,
+        Order::Deepest,
+        &gate,
+    )?;
     assert!(rt; has_each_leaf(&tree) && releases(&tree) == 1);
     Ok(())
 }
@@ -201,7 +228,16 @@ fn a_worker_may_leave_behind_a_give(rt: HostRuntime) -> Result<(), Fail> {
         worker: 0,
         point: Point::AfterGive,
     };
-    let tree = explore(&rt, rt.alloc(), &Dealer, WHOLE, 1, 100, Order::Deepest, &gate)?;
+    let tree = explore(
+        &rt,
+        rt.alloc(),
+        &Dealer,
+        WHOLE,
+        1,
+        100,
+        Order::Deepest,
+        &gate,
+    )?;
     // The card that it claimed in the same turn is released.
     assert!(rt; has_each_leaf(&tree) && releases(&tree) == 1);
     Ok(())

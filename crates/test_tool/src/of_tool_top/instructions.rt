@@ -232,13 +232,11 @@ const ROWS: &[Row] = &[
         said: "leaves 6 finished 6 cut 0 tests 6 steps 72\n",
         puts: 14,
         tests: 6,
-        files: &[
-            (
-                0,
-                "out/events.txt",
-                "claim 0 0\nsplit 0 0 1 =00010020 =00010028 =00010030 =00010038 =00010040 =00010048\nclaim 0 5\nfinish 0 5\nclaim 0 3\n",
-            ),
-        ],
+        files: &[(
+            0,
+            "out/events.txt",
+            "claim 0 0\nsplit 0 0 1 =00010020 =00010028 =00010030 =00010038 =00010040 =00010048\nclaim 0 5\nfinish 0 5\nclaim 0 3\n",
+        )],
     },
     Row {
         program: &TABLE,
