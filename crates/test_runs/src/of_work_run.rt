@@ -191,7 +191,16 @@ fn is_left_worked<R: Threads + Wait + Sync>(
 ) -> Result<bool, NoMemory>
     requires { 1 ≤ workers }
 {
-    let tree = explore(rt, alloc, &Dealer, WHOLE, workers, 100, &Leaving)?;
+    let tree = explore(
+        rt,
+        alloc,
+        &Dealer,
+        WHOLE,
+        workers,
+        100,
+        Order::Deepest,
+        &Leaving,
+    )?;
     Ok(has_each_leaf(&tree) && releases(&tree) == workers as usize)
 }
 
