@@ -7,6 +7,7 @@ use Rattle.rv_spec.specs.Decisions.{Decision, Number, Side}
 use Rattle.tree_core.specs.Covers.{one_if}
 use Rattle.tree_core.specs.declared.choice.Choice.{Choice}
 use Rattle.tree_core.specs.declared.choice.Choice.TheVariants.{Value}
+use Rattle.tree_core.specs.declared.order.Order.TheVariants.{Deepest}
 use Rattle.tree_core.specs.declared.event.Kid.{Kid}
 use Rattle.fork_spec.specs.Partings.{ArePlacesApart, Place}
 use Rattle.fork_tree.specs.NodesApart.{AreKidsApart}
@@ -36,6 +37,7 @@ rules = record {
   left = λ d. if d.drawn then 0 else 1;
   targets = 3;
   nodes = 100;
+  order = Deepest;
   decides = decides;
   IsWell = λ d. Unit {0};
   IsRight = λ sides nodes d. Unit {0};
