@@ -29,9 +29,9 @@ unfit_too_many rs = nat_lt 8 (length rs)
 abbrev pub unfit_empty : List Region → Bool
 unfit_empty rs = list_any (λ r. r.count == 0) rs
 
--- more than 256 bytes in all
+-- more than 1,024 bytes in all
 abbrev pub unfit_too_long : List Region → Bool
-unfit_too_long rs = nat_lt 256 (sum_by (λ r. r.count) rs)
+unfit_too_long rs = nat_lt 1024 (sum_by (λ r. r.count) rs)
 
 -- one with a byte on no mapped page
 abbrev pub unfit_unmapped : Image → List Region → Bool

@@ -13,7 +13,7 @@ use crate::unfit::Unfit;
 const MOST_REGIONS: usize = 8;
 
 /// The most bytes of all regions.
-const MOST_BYTES: u64 = 256;
+const MOST_BYTES: u64 = 1_024;
 
 fn any_empty(regions: &[Region]) -> bool
     ensures { result ≡ unfit_empty regions.now }

@@ -11,7 +11,7 @@ pub enum Unfit {
     TooMany,
     #[error("a region has no bytes")]
     Empty,
-    #[error("the regions have more than 256 bytes")]
+    #[error("the regions have more than 1,024 bytes")]
     TooLong,
     #[error("a byte is on no page of the program")]
     Unmapped,

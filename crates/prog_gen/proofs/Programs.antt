@@ -143,6 +143,6 @@ input_fits number image some most loads =
     let counted : sum_by (λ (r : Region). r.count) (generated_regions number) ≡ number =
     sum_by-cons (λ (r : Region). r.count) (record { start = 69632; count = number }) [] ∙ omega arith in
     let not_empty : (number == 0) ≡ false = grind (arith, nat_tests, some) in
-    let not_long : nat_lt 256 (sum_by (λ (r : Region). r.count) (generated_regions number)) ≡ false =
-    ap (nat_lt 256) counted ∙ grind (arith, nat_tests, most) in
+    let not_long : nat_lt 1024 (sum_by (λ (r : Region). r.count) (generated_regions number)) ≡ false =
+    ap (nat_lt 1024) counted ∙ grind (arith, nat_tests, most) in
     rw (not_empty, not_long, mapped) refl

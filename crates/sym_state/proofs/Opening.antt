@@ -47,11 +47,11 @@ not_too_long false true c d e is = cc
 not_too_long false false true d e is = cc
 not_too_long false false false d e is = refl
 
--- regions that fit an image have 256 bytes at most
-pub fitting_few : (image : Image) (rs : List Region) → unfit image rs ≡ None → count_of rs ≤ 256
+-- regions that fit an image have 1,024 bytes at most
+pub fitting_few : (image : Image) (rs : List Region) → unfit image rs ≡ None → count_of rs ≤ 1024
 unfolding unfit
 fitting_few image rs fit =
-    let short : nat_lt 256 (sum_by (λ r. r.count) rs) ≡ false =
+    let short : nat_lt 1024 (sum_by (λ r. r.count) rs) ≡ false =
     not_too_long (unfit_too_many rs) (unfit_empty rs) (unfit_too_long rs) (unfit_unmapped image rs) (unfit_overlap rs) fit in
     let same = counted rs in
     grind (arith, nat_tests, short, same)

@@ -33,7 +33,7 @@ fn first_registers() -> [Value; 32]
 
 /// How many bytes regions have.
 fn count_bytes(regions: &[Region]) -> usize
-    requires few { count_of regions.now ≤ 256 }
+    requires few { count_of regions.now ≤ 1024 }
     ensures { result ≡ count_of regions.now }
 {
     let mut count = 0;
@@ -67,7 +67,7 @@ fn fill(
     requires mapped { IsMapped (memory_flags memory.old) region.now }
     requires has_bytes { HasBytes terms.old memory.old }
     requires inputs { first + region.now.count ≤ terms.old.inputs }
-    requires few { terms.old.inputs ≤ 256 }
+    requires few { terms.old.inputs ≤ 1024 }
     ensures { OnOk result (PutsBytes terms.old terms.new memory.old memory.new
         (inputs_filled region.now.start region.now.count first
         (bytes_expressed terms.old memory.old))
@@ -86,7 +86,7 @@ fn place_inputs(memory: &mut Pages, terms: &mut Builder, regions: &[Region]) -> 
     requires mapped { AreMapped (memory_flags memory.old) regions.now }
     requires has_bytes { HasBytes terms.old memory.old }
     requires inputs { count_of regions.now ≡ terms.old.inputs }
-    requires few { terms.old.inputs ≤ 256 }
+    requires few { terms.old.inputs ≤ 1024 }
     ensures { OnOk result (PutsBytes terms.old terms.new memory.old memory.new
         (inputs_placed regions.now 0 (bytes_expressed terms.old memory.old))
         (λ input. placed regions.now input (bytes_worth terms.old memory.old input))) }

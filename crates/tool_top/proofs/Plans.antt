@@ -106,7 +106,7 @@ unfolding unfit
 few_bytes image asked fits =
     let few = passed (unfit_too_many asked) TooMany _ fits in
     let some = passed (unfit_empty asked) Empty _ few.1 in
-    let short : nat_lt 256 (sum_by (λ (r : Region). r.count) asked) ≡ false = (passed (unfit_too_long asked) TooLong _ some.1).0 in
+    let short : nat_lt 1024 (sum_by (λ (r : Region). r.count) asked) ≡ false = (passed (unfit_too_long asked) TooLong _ some.1).0 in
     let same = sum_count asked in
     grind (arith, nat_tests, short, same)
 
@@ -116,7 +116,7 @@ unfolding unfit
 short_regions image asked fits k d within =
     let few = passed (unfit_too_many asked) TooMany _ fits in
     let some = passed (unfit_empty asked) Empty _ few.1 in
-    let short : nat_lt 256 (sum_by (λ (r : Region). r.count) asked) ≡ false = (passed (unfit_too_long asked) TooLong _ some.1).0 in
+    let short : nat_lt 1024 (sum_by (λ (r : Region). r.count) asked) ≡ false = (passed (unfit_too_long asked) TooLong _ some.1).0 in
     let part = get_or-le-sum_by (λ (r : Region). r.count) asked k d within in
     grind (arith, nat_tests, short, part)
 
