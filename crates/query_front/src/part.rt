@@ -6,7 +6,6 @@ ghost use Rattle.bv_dag.specs.Queries.{AreBits};
 ghost use Rattle.query_front.specs.Parts.{IsPartOfQuery};
 
 use bv_dag::{Query, Table};
-use query_pick::pick;
 use query_slice::slice;
 use std::alloc::{AllocError as NoMemory, Global};
 
@@ -25,10 +24,5 @@ pub fn part_of<T: Table>(
 {
     let mut all = condition;
     all.push(new)?;
-    let whole = pick(alloc, terms, &all)?;
-    let last = match whole.asserted().last() {
-        Some(last) => *last,
-        None => unreachable!(),
-    };
-    slice(alloc, whole, last)
+    slice(alloc, terms, &all, new)
 }

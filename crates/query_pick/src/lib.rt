@@ -10,4 +10,5 @@ mod operands;
 mod picking;
 
 pub use finding::cone;
+pub use operands::number_of;
 pub use picking::{Picked, pick, pick_terms};

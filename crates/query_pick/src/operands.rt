@@ -56,7 +56,7 @@ pub(crate) fn add_operands(places: &mut BinaryHeap<usize>, node: Node) -> Result
 }
 
 /// The number that a place has among these, which increase.
-pub(crate) fn number_of(places: &[usize], id: usize) -> usize
+pub fn number_of(places: &[usize], id: usize) -> usize
     requires increasing { IsStrictlyIncreasing places.now }
     requires there { Contains places.now id }
     ensures { slice_get places.now result ≡ Some id }

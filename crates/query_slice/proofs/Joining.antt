@@ -1,8 +1,9 @@
 -- A byte joined with one under each of some operands.
-use Rattle.std.proofs.Common.{◌≡◌, ℕ, ◌<◌, inl, inr, List, [], ◌∷◌, length, get_or, Option, Some, None, refl, sym, subst, ◌∙◌, slice_index, arith}
+use Rattle.std.proofs.Common.{◌≡◌, ℕ, ◌<◌, inl, inr, List, [], ◌∷◌, length, Option, Some, None, refl, sym, subst, ◌∙◌, slice_index, arith}
 use Rattle.std.specs.Prelude.{Contains}
 use Rattle.query_pick.proofs.Lists.{Contains-here, Contains-later, Contains-none, Contains-uncons}
-use Rattle.query_slice.specs.Classes.{joined, joined_all}
+use Rattle.bv_dag.specs.Graphs.{Graph}
+use Rattle.query_slice.specs.Classes.{first_under, joined, joined_all}
 use Rattle.query_slice.proofs.Labels.{length-joined, joined_none, none_joined, kept_joined, one_joined, only_joined}
 
 -- a byte, where there is one, is one of so many
@@ -58,36 +59,36 @@ related-kept n old new (Some i) None p q keep e = tt
 related-kept n old new None b p q keep e = tt
 
 -- all in turn
-module _ (firsts : List (Option ℕ)) (first : Option ℕ) (n : ℕ) (first_below : IsBelow n first) (below : (a : ℕ) → IsBelow n (get_or firsts a None)) where
-  pub length-joined_all : (labels operands : List ℕ) → length (joined_all firsts first labels operands) ≡ length labels
+module _ (graph : Graph) (first : Option ℕ) (n : ℕ) (first_below : IsBelow n first) (below : (a : ℕ) → IsBelow n (first_under graph a)) where
+  pub length-joined_all : (labels operands : List ℕ) → length (joined_all graph first labels operands) ≡ length labels
   length-joined_all labels [] = refl
-  length-joined_all labels (a ∷ operands) = length-joined_all (joined labels first (get_or firsts a None)) operands ∙ length-joined labels first (get_or firsts a None)
+  length-joined_all labels (a ∷ operands) = length-joined_all (joined labels first (first_under graph a)) operands ∙ length-joined labels first (first_under graph a)
 
-  next : (labels : List ℕ) (a : ℕ) → length labels ≡ n → length (joined labels first (get_or firsts a None)) ≡ n
-  next labels a each = length-joined labels first (get_or firsts a None) ∙ each
+  next : (labels : List ℕ) (a : ℕ) → length labels ≡ n → length (joined labels first (first_under graph a)) ≡ n
+  next labels a each = length-joined labels first (first_under graph a) ∙ each
 
-  pub keeps_all : (labels operands : List ℕ) → length labels ≡ n → Keeps n labels (joined_all firsts first labels operands)
+  pub keeps_all : (labels operands : List ℕ) → length labels ≡ n → Keeps n labels (joined_all graph first labels operands)
   keeps_all labels [] each x y x_there y_there e = e
   keeps_all labels (a ∷ operands) each x y x_there y_there e =
-      keeps_all (joined labels first (get_or firsts a None)) operands (next labels a each) x y x_there y_there
-      (keeps labels n each first (get_or firsts a None) first_below (below a) x y x_there y_there e)
+      keeps_all (joined labels first (first_under graph a)) operands (next labels a each) x y x_there y_there
+      (keeps labels n each first (first_under graph a) first_below (below a) x y x_there y_there e)
 
-  pub makes_all : (labels operands : List ℕ) → length labels ≡ n → (a : ℕ) → Contains operands a → AreRelated (HaveOne (joined_all firsts first labels operands)) first (get_or firsts a None)
+  pub makes_all : (labels operands : List ℕ) → length labels ≡ n → (a : ℕ) → Contains operands a → AreRelated (HaveOne (joined_all graph first labels operands)) first (first_under graph a)
   makes_all labels [] each a h = Contains-none a h _
   makes_all labels (b ∷ operands) each a h =
       elim (Contains-uncons b operands a h) [
         | inl e ↦
-            subst (λ (k : ℕ). AreRelated (HaveOne (joined_all firsts first labels (b ∷ operands))) first (get_or firsts k None)) (sym e)
-            (related-kept n (joined labels first (get_or firsts b None)) (joined_all firsts first labels (b ∷ operands)) first (get_or firsts b None) first_below (below b)
-            (keeps_all (joined labels first (get_or firsts b None)) operands (next labels b each))
-            (makes_one labels n each first (get_or firsts b None) first_below (below b)))
-        | inr rest ↦ makes_all (joined labels first (get_or firsts b None)) operands (next labels b each) a rest
+            subst (λ (k : ℕ). AreRelated (HaveOne (joined_all graph first labels (b ∷ operands))) first (first_under graph k)) (sym e)
+            (related-kept n (joined labels first (first_under graph b)) (joined_all graph first labels (b ∷ operands)) first (first_under graph b) first_below (below b)
+            (keeps_all (joined labels first (first_under graph b)) operands (next labels b each))
+            (makes_one labels n each first (first_under graph b) first_below (below b)))
+        | inr rest ↦ makes_all (joined labels first (first_under graph b)) operands (next labels b each) a rest
       ]
 
   module _ (R : ℕ → ℕ → Type 0) (turned : (x y : ℕ) → R x y → R y x) (in_row : (x y z : ℕ) → R x y → R y z → R x z) where
-    pub only_all : (labels operands : List ℕ) → length labels ≡ n → OnlyRelated R n labels → ((a : ℕ) → Contains operands a → AreRelated R first (get_or firsts a None)) → OnlyRelated R n (joined_all firsts first labels operands)
+    pub only_all : (labels operands : List ℕ) → length labels ≡ n → OnlyRelated R n labels → ((a : ℕ) → Contains operands a → AreRelated R first (first_under graph a)) → OnlyRelated R n (joined_all graph first labels operands)
     only_all labels [] each before related = before
     only_all labels (a ∷ operands) each before related =
-        only_all (joined labels first (get_or firsts a None)) operands (next labels a each)
-        (only labels n each R turned in_row before first (get_or firsts a None) first_below (below a) (related a (Contains-here a operands a refl)))
+        only_all (joined labels first (first_under graph a)) operands (next labels a each)
+        (only labels n each R turned in_row before first (first_under graph a) first_below (below a) (related a (Contains-here a operands a refl)))
         (λ b h. related b (Contains-later a operands b h))

@@ -1,4 +1,5 @@
 pub mod Firsts
+pub mod Found
 pub mod Labels
 pub mod Joining
 pub mod Under

@@ -1,12 +1,10 @@
 -- A slice, unfolded: its trees are those that are reached from the new one.
-use Rattle.std.proofs.Common.{◌≡◌, ◌<◌, ℕ, Bool, List, length, map, filter, get_or, refl, sym, ap, subst, ◌∙◌, arith}
+use Rattle.std.proofs.Common.{◌≡◌, ◌<◌, ℕ, List, length, map, get_or, refl, sym, ap, subst, ◌∙◌, arith}
 use Rattle.std.specs.Prelude.{Contains}
 use Rattle.std.proofs.lemmas.List.{get_or-map, length-map}
 use Rattle.std.proofs.lemmas.List.Elements.{Contains-get_or}
 use Rattle.bv_dag.specs.Graphs.{Graph}
-use Rattle.bv_dag.specs.Inputs.{inputs_under}
 use Rattle.bv_dag.specs.Queries.{Condition}
-use Rattle.term_trees.specs.TreeInputs.{tree_inputs}
 use Rattle.term_trees.specs.Trees.{Tree, tree_of}
 use Rattle.term_trees.proofs.InputLaws.{inputs-tree_of}
 use Rattle.query_slice.specs.Reaching.{IsReached, SharesByte, itself, sharing}

@@ -1,9 +1,9 @@
 -- How far the walk over the terms under asserted ones has come.
-use Rattle.std.proofs.Common.{◌≡◌, ℕ, zero, suc, ◌<◌, ◌≤◌, inl, inr, List, [], ◌∷◌, ◌++◌, length, map, take, get_or, Option, Some, None, sym, ap, subst, ◌∙◌, slice_index, arith}
+use Rattle.std.proofs.Common.{◌≡◌, ℕ, zero, suc, ◌<◌, inl, inr, List, [], ◌∷◌, ◌++◌, length, take, Some, refl, sym, ap, subst, ◌∙◌, slice_index, arith}
 use Rattle.std.specs.Prelude.{Contains}
 use Rattle.std.specs.List.{range_with_len, slice_get}
 use Rattle.std.proofs.lemmas.Bool.{cases_lt}
-use Rattle.std.proofs.lemmas.List.{get_or_past, take_all}
+use Rattle.std.proofs.lemmas.List.{get_or_past}
 use Rattle.std.proofs.lemmas.List.Elements.{All-contains, Contains-push_cases}
 use Rattle.std.proofs.lemmas.List.FromFn.{length-range_with_len, get_or-range_with_len}
 use Rattle.bv_dag.specs.Graphs.{Graph, IsDag}
@@ -19,8 +19,8 @@ use Rattle.query_pick.specs.Cones.{IsUnder, IsCone, HasOperands}
 use Rattle.query_pick.specs.Operands.{operands}
 use Rattle.query_pick.proofs.Lists.{Contains-none}
 use Rattle.query_pick.proofs.Searching.{operand_before}
-use Rattle.query_slice.specs.Classes.{AreClasses, IsLinked, here, over, first_of, joined_all}
-use Rattle.query_slice.proofs.Firsts.{first_there, first_under}
+use Rattle.query_slice.specs.Classes.{AreClasses, IsLinked, here, over, first_of, first_under, joined_all}
+use Rattle.query_slice.proofs.Firsts.{first_there}
 use Rattle.query_slice.proofs.Joining.{AreRelated, HaveOne, IsBelow, OnlyRelated, Keeps, related-kept, length-joined_all, keeps_all, makes_all, only_all}
 use Rattle.query_slice.proofs.Links.{first_below, linked_in_row, linked_turned, related_at, related_firsts}
 use Rattle.query_slice.proofs.Under.{under_by_cases, under_operand, under_top}
@@ -52,60 +52,57 @@ pub inputs_below : (graph : Graph) (id i : ℕ) → IsDag graph → Contains (in
 inputs_below graph id i dag h = below_by_bound graph dag (suc id) id i (omega arith) h
 
 -- the terms of the operands of those that were passed have the labels of these
-pub record IsWalked (q : Condition) (firsts : List (Option ℕ)) (labels done : List ℕ) : Type 0 where
+pub record IsWalked (q : Condition) (labels done : List ℕ) : Type 0 where
   pub each : length labels ≡ q.graph.inputs
-  pub joined : (id a : ℕ) (n : Node) → Contains done id → slice_get q.graph.nodes id ≡ Some n → Contains (operands n) a → AreRelated (HaveOne labels) (get_or firsts id None) (get_or firsts a None)
+  pub joined : (id a : ℕ) (n : Node) → Contains done id → slice_get q.graph.nodes id ≡ Some n → Contains (operands n) a → AreRelated (HaveOne labels) (first_under q.graph id) (first_under q.graph a)
   pub linked : OnlyRelated (IsLinked q) q.graph.inputs labels
 
-module _ (q : Condition) (firsts : List (Option ℕ)) (dag : IsDag q.graph) (are : firsts ≡ map first_of (inputs_of q.graph.nodes)) where
-  first_is : (id : ℕ) → get_or firsts id None ≡ first_of (inputs_under q.graph id)
-  first_is id = first_under firsts (inputs_of q.graph.nodes) id are
+pub walked_first : (q : Condition) (labels : List ℕ) → labels ≡ range_with_len 0 q.graph.inputs → IsWalked q labels []
+walked_first q labels own = record {
+  each = ap length own ∙ length-range_with_len 0 q.graph.inputs;
+  joined = λ id a n h is o. Contains-none id h _;
+  linked = λ x y x_there y_there e.
+      let at_x : slice_index labels x ≡ x = ap (λ (ls : List ℕ). slice_index ls x) own ∙ get_or-range_with_len 0 q.graph.inputs x 0 x_there ∙ omega arith in
+      let at_y : slice_index labels y ≡ y = ap (λ (ls : List ℕ). slice_index ls y) own ∙ get_or-range_with_len 0 q.graph.inputs y 0 y_there ∙ omega arith in
+      subst (λ (z : ℕ). IsLinked q x z) (sym at_x ∙ e ∙ at_y) here;
+}
 
-  below : (id : ℕ) → IsBelow q.graph.inputs (get_or firsts id None)
-  below id = first_below q.graph.inputs (inputs_under q.graph id) (get_or firsts id None) (first_is id) (λ i h. inputs_below q.graph id i dag h)
-
-  pub walked_first : (labels : List ℕ) → labels ≡ range_with_len 0 q.graph.inputs → IsWalked q firsts labels []
-  walked_first labels own = record {
-    each = ap length own ∙ length-range_with_len 0 q.graph.inputs;
-    joined = λ id a n h is o. Contains-none id h _;
-    linked = λ x y x_there y_there e.
-        let at_x : slice_index labels x ≡ x = ap (λ (ls : List ℕ). slice_index ls x) own ∙ get_or-range_with_len 0 q.graph.inputs x 0 x_there ∙ omega arith in
-        let at_y : slice_index labels y ≡ y = ap (λ (ls : List ℕ). slice_index ls y) own ∙ get_or-range_with_len 0 q.graph.inputs y 0 y_there ∙ omega arith in
-        subst (λ (z : ℕ). IsLinked q x z) (sym at_x ∙ e ∙ at_y) here;
-  }
+module _ (q : Condition) (dag : IsDag q.graph) where
+  below : (id : ℕ) → IsBelow q.graph.inputs (first_under q.graph id)
+  below id = first_below q.graph.inputs (inputs_under q.graph id) (first_under q.graph id) refl (λ i h. inputs_below q.graph id i dag h)
 
   -- one term more
   module _ (labels new done : List ℕ) (id : ℕ) (n : Node) (is : slice_get q.graph.nodes id ≡ Some n) (under : IsUnder q.graph q.asserted id)
-      (made : new ≡ joined_all firsts (get_or firsts id None) labels (operands n)) (so_far : IsWalked q firsts labels done) where
+      (made : new ≡ joined_all q.graph (first_under q.graph id) labels (operands n)) (so_far : IsWalked q labels done) where
     both_under : (a : ℕ) → Contains (operands n) a → (i k : ℕ) → Contains (inputs_under q.graph id) i → Contains (inputs_under q.graph a) k → IsLinked q i k
     both_under a o i k i_under k_under =
         let above = under_top q.graph dag q.asserted id under in
         over above.0 here above.1 (above.2 i i_under) (above.2 k (under_operand q.graph dag id a k n is o k_under))
 
     keeps : Keeps q.graph.inputs labels new
-    keeps = subst (Keeps q.graph.inputs labels) (sym made) (keeps_all firsts (get_or firsts id None) q.graph.inputs (below id) below labels (operands n) so_far.each)
+    keeps = subst (Keeps q.graph.inputs labels) (sym made) (keeps_all q.graph (first_under q.graph id) q.graph.inputs (below id) below labels (operands n) so_far.each)
 
-    pub walked_more : IsWalked q firsts new (done ++ id ∷ [])
+    pub walked_more : IsWalked q new (done ++ id ∷ [])
     walked_more = record {
-      each = ap length made ∙ length-joined_all firsts (get_or firsts id None) q.graph.inputs (below id) below labels (operands n) ∙ so_far.each;
+      each = ap length made ∙ length-joined_all q.graph (first_under q.graph id) q.graph.inputs (below id) below labels (operands n) ∙ so_far.each;
       joined = λ j a m h m_is o.
           elim (Contains-push_cases done id j h) [
-            | inl before ↦ related-kept q.graph.inputs labels new (get_or firsts j None) (get_or firsts a None) (below j) (below a) keeps (so_far.joined j a m before m_is o)
+            | inl before ↦ related-kept q.graph.inputs labels new (first_under q.graph j) (first_under q.graph a) (below j) (below a) keeps (so_far.joined j a m before m_is o)
             | inr e ↦
                 let same : Some m ≡ Some n = sym m_is ∙ ap (slice_get q.graph.nodes) (sym e) ∙ is in
                 let node : m ≡ n = cc in
-                subst (λ (k : ℕ). AreRelated (HaveOne new) (get_or firsts k None) (get_or firsts a None)) e
-                (subst (λ (ls : List ℕ). AreRelated (HaveOne ls) (get_or firsts id None) (get_or firsts a None)) (sym made)
-                (makes_all firsts (get_or firsts id None) q.graph.inputs (below id) below labels (operands n) so_far.each a (subst (λ (x : Node). Contains (operands x) a) node o)))
+                subst (λ (k : ℕ). AreRelated (HaveOne new) (first_under q.graph k) (first_under q.graph a)) e
+                (subst (λ (ls : List ℕ). AreRelated (HaveOne ls) (first_under q.graph id) (first_under q.graph a)) (sym made)
+                (makes_all q.graph (first_under q.graph id) q.graph.inputs (below id) below labels (operands n) so_far.each a (subst (λ (x : Node). Contains (operands x) a) node o)))
           ];
       linked =
           subst (OnlyRelated (IsLinked q) q.graph.inputs) (sym made)
-          (only_all firsts (get_or firsts id None) q.graph.inputs (below id) below (IsLinked q) (linked_turned q) (linked_in_row q) labels (operands n) so_far.each so_far.linked
-          (λ a o. related_firsts (IsLinked q) (inputs_under q.graph id) (inputs_under q.graph a) (get_or firsts id None) (get_or firsts a None) (first_is id) (first_is a) (both_under a o)));
+          (only_all q.graph (first_under q.graph id) q.graph.inputs (below id) below (IsLinked q) (linked_turned q) (linked_in_row q) labels (operands n) so_far.each so_far.linked
+          (λ a o. related_firsts (IsLinked q) (inputs_under q.graph id) (inputs_under q.graph a) (first_under q.graph id) (first_under q.graph a) refl refl (both_under a o)));
     }
 
   -- when all were passed, the labels tell which bytes are linked
-  module _ (labels places : List ℕ) (cone : IsCone q.graph q.asserted places) (all : IsWalked q firsts labels places) where
+  module _ (labels places : List ℕ) (cone : IsCone q.graph q.asserted places) (all : IsWalked q labels places) where
     as_first : (bound id i f : ℕ) → id < bound → Contains places id → Contains (inputs_under q.graph id) i → first_of (inputs_under q.graph id) ≡ Some f → slice_index labels i ≡ slice_index labels f
     as_first zero id i f l there h e = absurd (omega (arith, l))
     as_first (suc bound) id i f l there h e =
@@ -120,7 +117,7 @@ module _ (q : Condition) (firsts : List (Option ℕ)) (dag : IsDag q.graph) (are
               let a_there : Contains places o.0 = All-contains (Contains places) (operands node.0) o.0 (All-contains (HasOperands q.graph places) places id cone.operands_in there node.0 node.1) o.1 in
               let first = first_there (inputs_under q.graph o.0) i o.2 in
               as_first bound o.0 i first.0 (omega (arith, l, operand_before q.graph id o.0 node.0 dag node.1 o.1)) a_there o.2 first.1
-              ∙ sym (related_at (HaveOne labels) (get_or firsts id None) (get_or firsts o.0 None) f first.0 (first_is id ∙ e) (first_is o.0 ∙ first.1) (all.joined id o.0 node.0 there node.1 o.1))
+              ∙ sym (related_at (HaveOne labels) (first_under q.graph id) (first_under q.graph o.0) f first.0 e first.1 (all.joined id o.0 node.0 there node.1 o.1))
         ]
 
     pub walked_all : AreClasses q labels
@@ -133,6 +130,11 @@ module _ (q : Condition) (firsts : List (Option ℕ)) (dag : IsDag q.graph) (are
       linked = all.linked;
     }
 
-  -- so it is where the walk has come to the end
-  pub walked_end : (labels places : List ℕ) (i : ℕ) → length places ≤ i → IsCone q.graph q.asserted places → IsWalked q firsts labels (take i places) → AreClasses q labels
-  walked_end labels places i past cone so_far = walked_all labels places cone (subst (IsWalked q firsts labels) (take_all i places past) so_far)
+-- so it is where the walk has come to the end
+pub walked_end : (q : Condition) (labels places : List ℕ) → (0 < length places → IsDag q.graph) → IsCone q.graph q.asserted places → IsWalked q labels places → AreClasses q labels
+walked_end q labels [] fit cone all = record {
+  each = all.each;
+  one = λ term i k asserted i_under k_under. Contains-none term (All-contains (Contains []) q.asserted term cone.tops_in asserted) _;
+  linked = all.linked;
+}
+walked_end q labels (p ∷ places) fit cone all = walked_all q (fit (omega arith)) labels (p ∷ places) cone all

@@ -1,12 +1,18 @@
 -- Input bytes in classes: bytes have one label where asserted terms lead from one to the other. These are no part of what a
 -- slice is.
-use Rattle.std.specs.Prelude.{◌≡◌, ◌<◌, ℕ, ◌==◌, ◌||◌, Bool, false, List, Contains, Option, None, Some, fold, length, map, if◌then◌else◌, option_and_then, slice_get, slice_index, slice_index_or}
+use Rattle.std.specs.Prelude.{◌≡◌, ◌<◌, ℕ, ◌==◌, ◌||◌, Bool, false, List, Contains, Option, None, Some, fold, length, map, if◌then◌else◌, option_and_then, slice_get, slice_index}
+use Rattle.bv_dag.specs.Graphs.{Graph, IsDag}
 use Rattle.bv_dag.specs.Inputs.{inputs_under}
 use Rattle.bv_dag.specs.Queries.{Condition}
+use Rattle.query_pick.specs.Cones.{IsCone}
 
 -- an input byte under a term, if there is one, from all that are under it
 abbrev pub first_of : List ℕ → Option ℕ
 first_of under = slice_get under 0
+
+-- that under the term at a place
+abbrev pub first_under : Graph → ℕ → Option ℕ
+first_under graph id = first_of (inputs_under graph id)
 
 -- the label of an input byte
 abbrev pub label_of : List ℕ → Option ℕ → Option ℕ
@@ -30,16 +36,15 @@ are_same (Some one) None = false
 are_same None other = false
 
 -- whether a term is the new one, or stands on a byte of the class of one under the new one
-abbrev pub is_reached : (labels : List ℕ) → (firsts : List (Option ℕ)) → (new id : ℕ) → Bool
-is_reached labels firsts new id =
-    (id == new) || are_same (label_of labels (slice_index_or firsts id None))
-    (label_of labels (slice_index_or firsts new None))
+abbrev pub is_reached : Graph → (labels : List ℕ) → (new id : ℕ) → Bool
+is_reached graph labels new id =
+    (id == new) || are_same (label_of labels (first_under graph id))
+    (label_of labels (first_under graph new))
 
 -- a byte joined with one under each of these operands
-abbrev pub joined_all : (firsts : List (Option ℕ)) → (first : Option ℕ) → List ℕ
-    → (operands : List ℕ) → List ℕ
-joined_all firsts first labels operands =
-    fold (λ before a. joined before first (slice_index_or firsts a None)) labels operands
+abbrev pub joined_all : Graph → (first : Option ℕ) → List ℕ → (operands : List ℕ) → List ℕ
+joined_all graph first labels operands =
+    fold (λ before a. joined before first (first_under graph a)) labels operands
 
 -- an input byte that a chain of asserted terms leads to, of which each stands on two bytes in a row
 pub data IsLinked (q : Condition) (start : ℕ) : ℕ → Type 0 where
@@ -59,3 +64,11 @@ pub record AreClasses (q : Condition) (labels : List ℕ) : Type 0 where
   pub one : (term i k : ℕ) → Contains q.asserted term → Contains (inputs_under q.graph term) i
       → Contains (inputs_under q.graph term) k → slice_index labels i ≡ slice_index labels k
   pub linked : AreLinked q labels
+
+-- all places under some terms, in order, an input byte under each, and the labels of those under these terms
+pub record AreLinks (graph : Graph) (tops places : List ℕ) (firsts : List (Option ℕ))
+    (labels : List ℕ) : Type 0 where
+  pub cone : IsCone graph tops places
+  pub fit : 0 < length places → IsDag graph
+  pub each : firsts ≡ map (first_under graph) places
+  pub classes : AreClasses (record { graph = graph; asserted = tops }) labels

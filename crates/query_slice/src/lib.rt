@@ -1,15 +1,13 @@
-//! A question cut to the part that matters for one of its terms: the asserted terms that share input bytes with it,
+//! A condition cut to the part that matters for one of its terms: the asserted terms that share input bytes with it,
 //! directly or through others; and the answer to that part, merged into bytes that meet the rest.
 //!
-//! - `first_inputs`: an input byte under each term
 //! - `classes`: input bytes in classes
-//! - `linking`: the classes of the bytes that a question rests on
+//! - `linking`: an input byte under each term, and the classes of those under asserted ones
 //! - `slicing`: `slice`
 //! - `merging`: `merge`
 #![tactic(auto)]
 
 mod classes;
-mod first_inputs;
 pub mod laws;
 mod linking;
 mod merging;

@@ -1,56 +1,69 @@
-//! The slice of a question.
+//! The slice of a condition.
 
-ghost use Rattle.std.specs.Prelude.{◌≡◌, ◌⊎◌, Contains, IfOk, filter};
-ghost use Rattle.query_slice.specs.Classes.{is_reached};
-ghost use Rattle.query_slice.specs.Slices.{IsCut, IsSlice};
+ghost use Rattle.std.specs.Prelude.{◌≡◌, All, Contains, IfOk, filter, length, map};
+ghost use Rattle.std.specs.List.Sorted.{IsStrictlyIncreasing};
+ghost use Rattle.bv_dag.specs.Graphs.{Graph};
+ghost use Rattle.bv_dag.specs.Queries.{AreBits};
+ghost use Rattle.query_slice.specs.Classes.{first_under, is_reached};
+ghost use Rattle.query_slice.specs.Slices.{IsCut};
 
-use crate::classes::Classes;
-use crate::first_inputs::{first_at, first_inputs};
-use crate::linking::classes_of;
-use bv_dag::Query;
-use query_pick::pick_terms;
+use crate::linking::{Links, links_of};
+use bv_dag::{Query, Table};
+use query_pick::pick;
 use std::alloc::{AllocError as NoMemory, Global};
 
 // Whether a term is the new one, or stands on a byte of the class of one under the new one.
-fn is_reached(classes: &Classes, firsts: &[Option<usize>], new: usize, id: usize) -> bool
-    ensures { result ≡ is_reached classes.now firsts.now new id }
+fn is_reached(links: &Links, new: usize, id: usize) -> bool
+    requires increasing { IsStrictlyIncreasing links.now.places.items }
+    requires each { length links.now.firsts.items ≡ length links.now.places.items }
+    requires new { Contains links.now.places.items new }
+    requires there { Contains links.now.places.items id }
+    ensures { (graph : Graph)
+        → links.now.firsts.items ≡ map (first_under graph) links.now.places.items
+        → result ≡ is_reached graph links.now.classes new id }
 {
-    id == new || classes.are_one(first_at(firsts, id), first_at(firsts, new))
+    id == new || links.are_one(id, new)
 }
 
 // Those of some terms that are reached from the new one.
 fn reached(
     alloc: Global,
-    classes: &Classes,
-    firsts: &[Option<usize>],
+    links: &Links,
     new: usize,
     asserted: &[usize],
 ) -> Result<Vec<usize>, NoMemory>
-    ensures { IfOk result (λ kept. kept.items
-        ≡ filter (is_reached classes.now firsts.now new) asserted.now) }
+    requires increasing { IsStrictlyIncreasing links.now.places.items }
+    requires each { length links.now.firsts.items ≡ length links.now.places.items }
+    requires new { Contains links.now.places.items new }
+    requires there { All (Contains links.now.places.items) asserted.now }
+    ensures { (graph : Graph)
+        → links.now.firsts.items ≡ map (first_under graph) links.now.places.items
+        → IfOk result (λ kept. kept.items
+        ≡ filter (is_reached graph links.now.classes new) asserted.now) }
 {
     let mut kept = Vec::new(alloc);
     for id in asserted {
-        if is_reached(classes, firsts, new, *id) {
+        if is_reached(links, new, *id) {
             kept.push(*id)?;
         }
     }
     Ok(kept)
 }
 
-/// The part of a question that matters for one of its terms: the asserted terms that share input bytes with it, directly
-/// or through others, in a graph of only what they stand on. Where these are all of its terms, it is the question itself.
-pub fn slice(alloc: Global, query: Query, new: usize) -> Result<Query, NoMemory>
-    requires { Contains query.asserted new }
-    ensures slice { IfOk result (IsSlice query new) }
-    ensures cut { IfOk result (λ part. (part ≡ query) ⊎ IsCut query new part) }
+/// The part of a condition that matters for one of its terms: the asserted terms of a table that share input bytes with it,
+/// directly or through others, in a graph of only what they stand on.
+pub fn slice<T: Table>(
+    alloc: Global,
+    terms: &T,
+    asserted: &[usize],
+    new: usize,
+) -> Result<Query, NoMemory>
+    requires bits { AreBits (T.graph terms.now) asserted.now }
+    requires there { Contains asserted.now new }
+    ensures { IfOk result (IsCut
+        (record { graph = T.graph terms.now; asserted = asserted.now }) new) }
 {
-    let firsts = first_inputs(alloc, query.dag().nodes())?;
-    let classes = classes_of(alloc, &query, &firsts)?;
-    let kept = reached(alloc, &classes, &firsts, new, query.asserted())?;
-    if kept.len() == query.asserted().len() {
-        return Ok(query);
-    }
-    let picked = pick_terms(alloc, query.dag(), &kept)?;
-    Ok(Query::new(picked.graph, picked.ids))
+    let links = links_of(alloc, terms, asserted)?;
+    let kept = reached(alloc, &links, new, asserted)?;
+    pick(alloc, terms, &kept)
 }

@@ -67,7 +67,8 @@ fn question(rt: &impl Abort, alloc: Global, pairs: &[Pair]) -> Result<Query, NoM
 // The slice for the asserted term at a place of the list.
 fn sliced(rt: &impl Abort, alloc: Global, query: &Query, index: usize) -> Result<Query, NoMemory> {
     assert!(rt; index < query.asserted().len());
-    slice(alloc, query.clone()?, query.asserted()[index])
+    let asserted = query.asserted();
+    slice(alloc, query.dag(), asserted, asserted[index])
 }
 
 // How many terms the slice asserts, and how many there are in its graph.
