@@ -60,7 +60,7 @@ impl Fingerprinted {
     }
 
     /// An equal copy.
-    pub(crate) fn copy(&self) -> Result<Fingerprinted, NoMemory>
+    pub fn copy(&self) -> Result<Fingerprinted, NoMemory>
         ensures { IfOk result (λ f. f ≡ self.now) }
     {
         let query = self.query.clone()?;

@@ -3,6 +3,7 @@
 ghost use Rattle.std.specs.Prelude.{◌≡◌, ℕ, true, IfOk, IfSome, length};
 ghost use Rattle.bv_dag.specs.Graphs.{width_of};
 ghost use Rattle.bv_dag.specs.Queries.{AreBits, Condition, holds};
+ghost use Rattle.circuit_spec.specs.Budgets.{IsSpent};
 ghost use Rattle.query_cache.specs.Answers.{IsAnswer};
 ghost use Rattle.query_front.specs.Asks.{IsAsked};
 ghost use Rattle.query_front.specs.Parts.{IsPartOfQuery};
@@ -12,6 +13,7 @@ use crate::part::part_of;
 use crate::shared::Shared;
 use bv_dag::{Query, Table};
 use byte_list::Bytes;
+use cnf_form::Log;
 use query_cache::{Fingerprinted, Satisfiability, Solved};
 use query_decide::{Decision, Occurrence, decide, occurring};
 use query_slice::merge;
@@ -45,6 +47,18 @@ fn known(
     }
 }
 
+// That the budget was spent on a part, with what was learnt.
+fn spent_on(part: Fingerprinted, log: Log) -> Asked
+    ensures { (q : Condition) (new budget : ℕ) → IsPartOfQuery q new part
+        → IsSpent part budget log → IsAsked q new budget result }
+{
+    // That its graph fits and its assertions are bits is known of its parts.
+    let part = part.into_query();
+    let _ = part.dag().nodes();
+    let _ = part.asserted();
+    Asked::Spent(part, log)
+}
+
 // Decides a question that is the part of a condition which a sample meets, and keeps the answer.
 fn decided(
     rt: &impl Wait,
@@ -58,6 +72,9 @@ fn decided(
     ensures { IfOk result (λ asked. (q : Condition) (new : ℕ) → IsPartOfQuery q new part
         → holds q sample.now ≡ true → IsAsked q new budget asked) }
 {
+    if let Some(log) = shared.look_spent(rt, &part, budget)? {
+        return Ok(spent_on(part, log));
+    }
     shared.count_decided();
     match decide(alloc, part.query(), sample.as_slice(), budget)? {
         Decision::Sat(input) => {
@@ -71,12 +88,8 @@ fn decided(
             Ok(Asked::Unsat)
         }
         Decision::Spent(log) => {
-            shared.count_spent();
-            // That its graph fits and its assertions are bits is known of its parts.
-            let part = part.into_query();
-            let _ = part.dag().nodes();
-            let _ = part.asserted();
-            Ok(Asked::Spent(part, log))
+            shared.keep_spent(rt, &part, &log);
+            Ok(spent_on(part, log))
         }
     }
 }

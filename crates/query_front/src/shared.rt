@@ -1,21 +1,24 @@
-//! What workers share: the questions that were answered, and samples that met one.
+//! What workers share: the questions that were answered, those on which a budget was spent, and samples that met one.
 
-ghost use Rattle.std.specs.Prelude.{◌≡◌, true, IfOk, IfSome};
+ghost use Rattle.std.specs.Prelude.{◌≡◌, true, IfOk, IfSome, length};
 ghost use Rattle.bv_dag.specs.Queries.{holds};
+ghost use Rattle.circuit_spec.specs.Budgets.{IsSpent};
 ghost use Rattle.query_cache.specs.Answers.{IsAnswer};
 
+use crate::spents::{SpentQuestions, copy_of};
 use bv_dag::Query;
 use byte_list::Bytes;
+use cnf_form::Log;
 use model_pool::Pool;
 use query_cache::{Cache, Fingerprinted, Satisfiability, Solved};
 use std::alloc::{AllocError as NoMemory, Global};
-use std::sync::Wait;
 use std::sync::atomic::{AtomicU64, Ordering};
+use std::sync::{Mutex, Wait};
 
 /// How many questions were answered by each means.
 #[derive(Clone, Copy, Debug, PartialEq, Eq)]
 pub struct Counts {
-    /// They had been answered before, or others had whose answers serve.
+    /// They had been answered before, or others had whose answers serve; or the same budget was spent on them before.
     pub cached: u64,
     /// A sample met them.
     pub sampled: u64,
@@ -28,6 +31,7 @@ pub struct Counts {
 /// Answers, each true of its question, and samples. Threads look through them and add to them behind a `&`.
 pub struct Shared {
     answers: Cache,
+    spents: Mutex<SpentQuestions>,
     samples: Pool,
     cached: AtomicU64,
     sampled: AtomicU64,
@@ -39,6 +43,7 @@ impl Drop for Shared {
     fn drop(self) {
         let Self {
             answers: _answers,
+            spents: _spents,
             samples: _samples,
             cached: _cached,
             sampled: _sampled,
@@ -58,6 +63,7 @@ impl Shared {
     pub fn new(alloc: Global) -> Result<Shared, NoMemory> {
         Ok(Shared {
             answers: Cache::new(alloc)?,
+            spents: Mutex::new(SpentQuestions::new(alloc)?),
             samples: Pool::new(alloc)?,
             cached: AtomicU64::new(0),
             sampled: AtomicU64::new(0),
@@ -112,14 +118,54 @@ impl Shared {
         Ok(found)
     }
 
+    /// What was learnt for a question when this budget was spent on it before.
+    pub(crate) fn look_spent(
+        &self,
+        rt: &impl Wait,
+        question: &Fingerprinted,
+        budget: u32,
+    ) -> Result<Option<Log>, NoMemory>
+        ensures { IfOk result (λ found. IfSome found (IsSpent question.now budget)) }
+    {
+        if self.spent.load(Ordering::SeqCst) == 0 {
+            return Ok(None);
+        }
+        let Some(log) = self.spents.lock(rt).look(question)? else {
+            return Ok(None);
+        };
+        if log.steps().len() != budget as usize {
+            return Ok(None);
+        }
+        count(&self.cached);
+        Ok(Some(log))
+    }
+
     /// Counts a question that has to be decided.
     pub(crate) fn count_decided(&self) {
         count(&self.decided);
     }
 
-    /// Counts a question on which the budget was spent, beside counting it as one that has to be decided.
-    pub(crate) fn count_spent(&self) {
+    // Keeps copies of a question and of what was learnt for it.
+    fn keep_copies(
+        &self,
+        rt: &impl Wait,
+        question: &Fingerprinted,
+        log: &Log,
+    ) -> Result<(), NoMemory>
+        requires { IsSpent question.now (length log.now) log.now }
+    {
+        let question = question.copy()?;
+        let log = copy_of(log)?;
+        self.spents.lock(rt).keep(question, log)
+    }
+
+    /// Counts a question on which the budget was spent, beside counting it as one that has to be decided, and keeps it with what
+    /// was learnt for it, unless there is no memory for that.
+    pub(crate) fn keep_spent(&self, rt: &impl Wait, question: &Fingerprinted, log: &Log)
+        requires { IsSpent question.now (length log.now) log.now }
+    {
         count(&self.spent);
+        let _ = self.keep_copies(rt, question, log);
     }
 
     /// Keeps an answer for when its question is asked again, or one that it answers too, unless there is no memory for it.

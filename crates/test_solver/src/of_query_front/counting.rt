@@ -150,3 +150,22 @@ fn what_no_bytes_meet_is_kept(rt: HostRuntime) -> Result<(), Fail> {
     assert_eq!(rt; counted(&rt, rt.alloc(), REFUTED)?, counts);
     Ok(())
 }
+
+/// The same budget isn't spent twice on a question.
+const SPENT: &[Question] = &[
+    (SUM_IS_511, [0; 4], 0, Reply::Spent),
+    (SUM_IS_511, [0; 4], 0, Reply::Spent),
+    (SUM_IS_511, [1; 4], 0, Reply::Spent),
+];
+
+#[test]
+fn what_a_budget_was_spent_on_is_kept(rt: HostRuntime) -> Result<(), Fail> {
+    let counts = Counts {
+        cached: 2,
+        sampled: 0,
+        decided: 1,
+        spent: 1,
+    };
+    assert_eq!(rt; counted(&rt, rt.alloc(), SPENT)?, counts);
+    Ok(())
+}
