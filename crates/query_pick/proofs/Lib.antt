@@ -1,5 +1,5 @@
 pub mod Lists
-pub mod Heaps
+pub mod Pending
 pub mod Naming
 pub mod Searching
 pub mod Copying

@@ -1,5 +1,5 @@
 -- Nodes whose operands have other names.
-use Rattle.std.proofs.Common.{◌≡◌, ℕ, ◌<◌, ◌≤◌, List, [], ◌∷◌, length, get_or, map, refl, sym, ap, ◌∙◌, arith, inl, inr}
+use Rattle.std.proofs.Common.{◌≡◌, ℕ, ◌<◌, List, [], ◌∷◌, get_or, map, refl, sym, ap, ◌∙◌, arith, inl, inr}
 use Rattle.std.specs.Prelude.{Contains}
 use Rattle.bv_dag.specs.Nodes.{Fits}
 use Rattle.bv_dag.specs.declared.nodes.Node.{Node}
@@ -88,19 +88,6 @@ operand_wide inputs ws (Ite c a b) k fits h =
 operand_wide inputs ws (Extract high low a) k fits h = one_of ws a k (omega (arith, fits.1)) h
 operand_wide inputs ws (Extend by signed a) k fits h = one_of ws a k fits.0 h
 operand_wide inputs ws (Concat a b) k fits h = two_of ws a b k fits.0 fits.1 h
-
--- they are three at most
-pub length-operands : (n : Node) → length (operands n) ≤ 3
-length-operands (Num w v) = omega arith
-length-operands (Input i) = omega arith
-length-operands (Not a) = omega arith
-length-operands (Neg a) = omega arith
-length-operands (Binary op a b) = omega arith
-length-operands (Compare op a b) = omega arith
-length-operands (Ite c a b) = omega arith
-length-operands (Extract high low a) = omega arith
-length-operands (Extend by signed a) = omega arith
-length-operands (Concat a b) = omega arith
 
 -- the operands of a renamed node
 operands-renamed : (f : ℕ → ℕ) (n : Node) → operands (renamed f n) ≡ map f (operands n)

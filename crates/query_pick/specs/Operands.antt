@@ -1,5 +1,5 @@
 -- The operands of a term.
-use Rattle.std.specs.Prelude.{ℕ, List, [], ◌∷◌, ◌++◌, IsPermutation}
+use Rattle.std.specs.Prelude.{◌↔◌, ◌⊎◌, ℕ, List, [], ◌∷◌, Contains}
 use Rattle.bv_dag.specs.declared.nodes.Node.{Node}
 use Rattle.bv_dag.specs.declared.nodes.Node.TheVariants.{Num, Input, Not, Neg, Binary, Compare, Ite, Extract, Extend, Concat}
 
@@ -29,6 +29,6 @@ renamed f (Extract high low a) = Extract high low (f a)
 renamed f (Extend by signed a) = Extend by signed (f a)
 renamed f (Concat a b) = Concat (f a) (f b)
 
--- the new list has what the old one has, and these, in some order
+-- the new list has what the old one has, and these, and no other
 abbrev pub Adds : (old new more : List ℕ) → Type 0
-Adds old new more = IsPermutation (more ++ old) new
+Adds old new more = (k : ℕ) → Contains new k ↔ (Contains more k ⊎ Contains old k)

@@ -1,42 +1,54 @@
 //! The operands of a term.
 
-ghost use Rattle.std.specs.Prelude.{◌≡◌, ◌<◌, ◌∷◌, [], All, Contains, OnOk, length, slice_get, slice_index};
+ghost use Rattle.std.specs.Prelude.{◌≡◌, ◌<◌, ◌∷◌, [], All, Contains, IsTrue, OnOk, length, slice_get, slice_index};
 ghost use Rattle.std.specs.List.Sorted.{IsStrictlyIncreasing};
-ghost use Rattle.std.specs.BinaryHeap.{KeepsHeap, heap_items};
-ghost use Rattle.std.specs.Ordering.{nat_cmp};
 ghost use Rattle.query_pick.specs.Operands.{operands, renamed, Adds};
 
 use bv_dag::Node;
 use std::alloc::AllocError as NoMemory;
-use std::collections::BinaryHeap;
 
-// Adds a place to a heap.
-fn add(places: &mut BinaryHeap<usize>, id: usize) -> Result<(), NoMemory>
-    ensures adds { OnOk result (Adds (heap_items places.old) (heap_items places.new) (id ∷ [])) }
-    ensures ordered { OnOk result (KeepsHeap nat_cmp (heap_items places.old)
-        (heap_items places.new)) }
+// Whether a place is above all of these, which increase.
+fn is_above(places: &[usize], id: usize) -> bool
+    requires { IsStrictlyIncreasing places.now }
+    ensures { IsTrue result → All (λ k. k < id) places.now }
 {
-    places.push(id)?;
+    match places.last() {
+        Some(last) => *last < id,
+        None => true,
+    }
+}
+
+/// Adds a place to others that increase, unless it is one of them. Operands mostly stand right before their node, so it mostly comes
+/// behind all others, or near their end.
+pub(crate) fn add(places: &mut Vec<usize>, id: usize) -> Result<(), NoMemory>
+    requires { IsStrictlyIncreasing places.old.items }
+    ensures adds { OnOk result (Adds places.old.items places.new.items (id ∷ [])) }
+    ensures increasing { OnOk result (IsStrictlyIncreasing places.new.items) }
+{
+    if is_above(places, id) {
+        places.push(id)?;
+    } else if let Err(place) = places.binary_search(&id) {
+        places.insert(place, id)?;
+    }
     Ok(())
 }
 
-// Adds two places to a heap.
-fn add_both(places: &mut BinaryHeap<usize>, first: usize, second: usize) -> Result<(), NoMemory>
-    ensures adds { OnOk result (Adds (heap_items places.old) (heap_items places.new)
-        (first ∷ second ∷ [])) }
-    ensures ordered { OnOk result (KeepsHeap nat_cmp (heap_items places.old)
-        (heap_items places.new)) }
+// Adds two places.
+fn add_both(places: &mut Vec<usize>, first: usize, second: usize) -> Result<(), NoMemory>
+    requires { IsStrictlyIncreasing places.old.items }
+    ensures adds { OnOk result (Adds
+        places.old.items places.new.items (first ∷ second ∷ [])) }
+    ensures increasing { OnOk result (IsStrictlyIncreasing places.new.items) }
 {
     add(places, first)?;
     add(places, second)
 }
 
-/// Adds the operands of a node to a heap of places.
-pub(crate) fn add_operands(places: &mut BinaryHeap<usize>, node: Node) -> Result<(), NoMemory>
-    ensures adds { OnOk result (Adds (heap_items places.old) (heap_items places.new)
-        (operands node)) }
-    ensures ordered { OnOk result (KeepsHeap nat_cmp (heap_items places.old)
-        (heap_items places.new)) }
+/// Adds the operands of a node to places that increase.
+pub(crate) fn add_operands(places: &mut Vec<usize>, node: Node) -> Result<(), NoMemory>
+    requires { IsStrictlyIncreasing places.old.items }
+    ensures adds { OnOk result (Adds places.old.items places.new.items (operands node)) }
+    ensures increasing { OnOk result (IsStrictlyIncreasing places.new.items) }
 {
     match node {
         Node::Num { .. } => Ok(()),
