@@ -18,38 +18,13 @@ import sys
 import elf
 import interpreter
 from check import ask_z3
+from encoding import branch_word, immediate_word, load_word, number, register_word, store_word
 from exploring import Leaf, LeafValues, compare_full, compare_report, end_of, kind_of, leaf_files, run, scratch
 
 CODE, DATA = 0x10100, 0x11000
 REGISTERS = [5, 6, 7, 9, 12, 13, 14, 15, 16, 28, 29, 30, 31]
 EDGES = [0, 1, 2, 3, 5, 10, 31, 32, 33, 0x7F, 0x80, 0xFF, 0x8000, 0x7FFFFFFF, 0x80000000, 0xFFFFFFFF, 0xFFFF8000, 0xFFFFFF80, DATA, CODE]
 LOADS, STORES, BRANCHES = [0, 1, 2, 4, 5], [0, 1, 2], [0, 1, 4, 5, 6, 7]
-
-
-def register_word(f7, rs2, rs1, f3, rd):
-    return f7 << 25 | rs2 << 20 | rs1 << 15 | f3 << 12 | rd << 7 | 0x33
-
-
-def immediate_word(value, rs1, f3, rd, opcode=0x13):
-    return (value & 0xFFF) << 20 | rs1 << 15 | f3 << 12 | rd << 7 | opcode
-
-
-def load_word(value, rs1, f3, rd):
-    return immediate_word(value, rs1, f3, rd, 0x03)
-
-
-def store_word(value, rs2, rs1, f3):
-    return (value >> 5 & 127) << 25 | rs2 << 20 | rs1 << 15 | f3 << 12 | (value & 31) << 7 | 0x23
-
-
-def branch_word(value, rs2, rs1, f3):
-    upper, lower = (value >> 12 & 1) << 6 | value >> 5 & 63, (value >> 1 & 15) << 1 | value >> 11 & 1
-    return upper << 25 | rs2 << 20 | rs1 << 15 | f3 << 12 | lower << 7 | 0x63
-
-
-def number(rd, value):
-    upper = value + 0x800 & 0xFFFFF000
-    return [upper | rd << 7 | 0x37, immediate_word(value - upper, rd, 0, rd)]
 
 
 def piece(r, kind):
