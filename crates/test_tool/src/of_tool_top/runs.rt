@@ -12,7 +12,8 @@ use tool_io::{Fault, Files, HostFiles, MemFiles, NamedFile};
 use tool_top::run_tool;
 use work_gate::{Gate, OpenGate};
 
-const SUMMARY: &str = "leaves 2 finished 2 cut 0 tests 2 steps 13\n";
+/// What is said of `FORKED`, explored with its one input byte.
+pub(crate) const SUMMARY: &str = "leaves 2 finished 2 cut 0 tests 2 steps 13\n";
 
 const USAGE: &str =
     "usage: rvklee explore [--steps N] [--targets N] [--conflicts N] [--workers N] [--nodes N] [--order O] PROGRAM OUT INPUT..\n       rvklee replay PROGRAM TEST\n       rvklee bench NUMBER WORKERS OUT\n";
@@ -91,6 +92,9 @@ const ROWS: &[Row] = &[
     (EXPLORE, FORKS, 1, 5, FAULT, 1, 0),
     (EXPLORE, FORKS, 2, 6, "", 1, 0),
     (EXPLORE, FORKS, 3, 6, "", 1, 1),
+    (EXPLORE, FORKS, 4, 6, "", 1, 2),
+    (EXPLORE, FORKS, 5, 6, "", 1, 3),
+    (EXPLORE, FORKS, 6, 6, "", 1, 4),
     (EXPLORE, FORKS, 7, 6, "", 1, 5),
     (EXPLORE, FORKS, 8, 6, "", 1, 6),
     (EXPLORE, FORKS, 9, 0, SUMMARY, 1, 6),
@@ -256,6 +260,18 @@ fn three_workers_say_the_same_line(rt: HostRuntime) -> Result<(), NoMemory> {
     Ok(())
 }
 
+const PUT_THERE: [&str; 6] = [
+    "out/events.txt",
+    "out/leaf-000000.smt2",
+    "out/test-000000.json",
+    "out/leaf-000001.smt2",
+    "out/test-000001.json",
+    "out/report.json",
+];
+
+// The calls that put them: the first call of all reads the program.
+const PUTTING: [u64; 6] = [2, 3, 4, 5, 6, 7];
+
 // Whether a file that one run put at this place is of this name, and as another run put it there.
 fn is_same(all: &[NamedFile], first: &[NamedFile], at: usize, name: &str) -> bool {
     match (all.get(at), first.get(at)) {
@@ -264,31 +280,27 @@ fn is_same(all: &[NamedFile], first: &[NamedFile], at: usize, name: &str) -> boo
     }
 }
 
-fn check_first(rt: &impl Abort, all: &[NamedFile], first: &[NamedFile]) {
-    check(rt, all.len() == 6, 0, "how many files are put");
-    check(rt, first.len() == 2, 1, "how many files are put");
-    check(
-        rt,
-        is_same(all, first, 0, "out/events.txt"),
-        1,
-        "the first file",
-    );
-    check(
-        rt,
-        is_same(all, first, 1, "out/leaf-000000.smt2"),
-        1,
-        "the second file",
-    );
+// Whether one run put the first so many files, each as another run did.
+fn are_first(all: &[NamedFile], first: &[NamedFile], count: usize) -> bool {
+    for (at, name) in PUT_THERE.iter().enumerate() {
+        if at < count && !is_same(all, first, at, name) {
+            return false;
+        }
+    }
+    first.len() == count
 }
 
-// Where the third file fails, the two before stand whole.
+// Where a call that puts a file fails, those before stand whole, and no other.
 #[test]
 fn a_put_that_fails_leaves_those_before(rt: HostRuntime) -> Result<(), NoMemory> {
     let mut whole = files(&rt, &FORKED, &[])?;
     answers(&rt, EXPLORE, &mut whole, &OpenGate, (0, SUMMARY), 0)?;
-    let mut cut = files(&rt, &FORKED, &[4])?;
-    answers(&rt, EXPLORE, &mut cut, &OpenGate, (6, ""), 1)?;
-    check_first(&rt, whole.puts(), cut.puts());
+    for (count, &call) in PUTTING.iter().enumerate() {
+        let mut cut = files(&rt, &FORKED, &[call])?;
+        answers(&rt, EXPLORE, &mut cut, &OpenGate, (6, ""), count)?;
+        let are_whole = are_first(whole.puts(), cut.puts(), count);
+        check(&rt, are_whole, count, "the files");
+    }
     Ok(())
 }
 
