@@ -1,53 +1,21 @@
--- Regions, ends and paths that were written are read back.
-use Rattle.std.proofs.Common.{ℕ, suc, true, List, [], ◌∷◌, ◌++◌, ◌≡◌, ◌∙◌, ◌<◌, ◌≤◌, ◌^◌, length, nat_lt, map, Option, Some, None, option_map, refl, ap, ap₂, append_assoc, decimal, arith}
+-- Ends and paths that were written are read back.
+use Rattle.std.proofs.Common.{ℕ, suc, true, List, [], ◌∷◌, ◌++◌, ◌≡◌, ◌∙◌, ◌<◌, length, nat_lt, Option, Some, None, option_map, refl, ap, ap₂, decimal, arith}
 use Rattle.std.specs.List.{All}
 use Rattle.std.proofs.lemmas.Bool.Decides.{nat_tests}
-use Rattle.elf_load.specs.declared.region.Region.{Region}
 use Rattle.rv_decode.specs.declared.ends.End.{End}
 use Rattle.rv_decode.specs.declared.ends.End.TheVariants.{Exit, Trapped}
 use Rattle.rv_decode.specs.declared.ends.PathStep.{PathStep}
 use Rattle.rv_decode.specs.declared.ends.PathStep.TheVariants.{Taken, NotTaken, Target}
 use Rattle.rv_decode.specs.declared.ends.Trap.TheVariants.{Illegal, FetchMisaligned, FetchAccess, LoadMisaligned, LoadAccess, StoreMisaligned, StoreAccess, Break, Call}
-use Rattle.serde_json.specs.Data.{string}
-use Rattle.serde_json.specs.View.{items_of}
 use Rattle.text_parts.specs.Names.{eight_digits, path_text, step_text}
 use Rattle.text_parts.specs.Digits.{hex_number}
-use Rattle.elf_load.specs.Regions.{put_first, region_with}
-use Rattle.test_files.specs.Forms.{end_said, exit_with, path_of, region_of, short_number}
-use Rattle.test_files.specs.Reading.{regions_of}
-use Rattle.test_files.specs.Tests.{end_text, region_text}
+use Rattle.elf_load.specs.Regions.{put_first}
+use Rattle.test_files.specs.Forms.{end_said, exit_with, path_of, short_number}
+use Rattle.test_files.specs.Tests.{end_text}
 use Rattle.test_files.specs.Writable.{HasStatus, HasTarget}
 use Rattle.text_parts.proofs.DigitsBack.{hex_back, length_eight}
 use Rattle.test_files.proofs.ShortNumbers.{short_back}
 use Rattle.test_files.proofs.PathForms.{branch_at}
-
--- ---- regions
-
-region_parts : (digits rest : List ℕ) → length digits ≡ 8 → region_of (digits ++ 58 ∷ rest) ≡ region_with (hex_number digits) (short_number rest)
-unfolding region_of
-region_parts [] rest is = absurd (omega (arith, is))
-region_parts (a ∷ []) rest is = absurd (omega (arith, is))
-region_parts (a ∷ b ∷ []) rest is = absurd (omega (arith, is))
-region_parts (a ∷ b ∷ c ∷ []) rest is = absurd (omega (arith, is))
-region_parts (a ∷ b ∷ c ∷ d ∷ []) rest is = absurd (omega (arith, is))
-region_parts (a ∷ b ∷ c ∷ d ∷ e ∷ []) rest is = absurd (omega (arith, is))
-region_parts (a ∷ b ∷ c ∷ d ∷ e ∷ f ∷ []) rest is = absurd (omega (arith, is))
-region_parts (a ∷ b ∷ c ∷ d ∷ e ∷ f ∷ g ∷ []) rest is = absurd (omega (arith, is))
-region_parts (a ∷ b ∷ c ∷ d ∷ e ∷ f ∷ g ∷ h ∷ []) rest is = refl
-region_parts (a ∷ b ∷ c ∷ d ∷ e ∷ f ∷ g ∷ h ∷ i ∷ more) rest is = absurd (omega (arith, is))
-
-pub region_back : (region : Region) → region.start < 2 ^ 32 → region.count ≤ 9999 → region_of (region_text region) ≡ Some region
-region_back region start count =
-    ap region_of (append_assoc (eight_digits region.start) (58 ∷ []) (decimal region.count))
-    ∙ region_parts (eight_digits region.start) (decimal region.count) (length_eight region.start)
-    ∙ ap₂ region_with (hex_back region.start start) (short_back region.count count)
-
-pub regions_back : (regions : List Region) → All (λ (region : Region). region.start < 2 ^ 32) regions → All (λ (region : Region). region.count ≤ 9999) regions
-    → regions_of (items_of (map (λ region. string (region_text region)) regions)) ≡ Some regions
-regions_back [] starts counts = refl
-regions_back (region ∷ regions) starts counts =
-    ap₂ put_first (region_back region (starts 0 region (omega arith)) (counts 0 region (omega arith)))
-    (regions_back regions (λ k d lt. starts (suc k) d (omega arith)) (λ k d lt. counts (suc k) d (omega arith)))
 
 -- ---- ends
 

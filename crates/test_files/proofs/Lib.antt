@@ -7,6 +7,11 @@ pub mod FormsBack
 pub mod LineEnds
 pub mod JsonBack
 pub mod Utf8Texts
+pub mod Filling
+pub mod InputChecks
 pub mod ReadBack
 pub mod OneTest
+pub mod Formed
+pub mod LaidOut
 pub mod Bounded
+pub mod Upgrades

@@ -1,6 +1,5 @@
 -- The texts of tests are in UTF-8.
-use Rattle.std.proofs.Common.{ℕ, suc, List, [], ◌∷◌, ◌++◌, ◌<◌, ◌≤◌, ◌^◌, map, IsUtf8, Option, Some, None, refl, nat_lt, ltb-true, codes, decimal, arith}
-use Rattle.std.specs.List.{All}
+use Rattle.std.proofs.Common.{ℕ, List, [], ◌∷◌, ◌++◌, ◌<◌, ◌^◌, map, IsUtf8, Option, Some, None, refl, nat_lt, ltb-true, codes, decimal, arith}
 use Rattle.std.specs.Str.{IsAscii}
 use Rattle.std.proofs.lemmas.Fmt.{IsAscii-decimal}
 use Rattle.std.proofs.lemmas.Str.{IsUtf8-append, IsUtf8-from_ascii, IsUtf8-nil}
@@ -10,7 +9,6 @@ use Rattle.hex.specs.Hex.{encode_lower, lower_digits}
 use Rattle.hex.proofs.HexLemmas.{IsAscii-encode_with}
 use Rattle.json.specs.Print.{quoted}
 use Rattle.json.proofs.Printed.Utf8.{IsUtf8-are_ascii, IsUtf8-quoted}
-use Rattle.elf_load.specs.declared.region.Region.{Region}
 use Rattle.rv_decode.specs.Ends.{trap_name}
 use Rattle.rv_decode.specs.declared.ends.End.{End}
 use Rattle.rv_decode.specs.declared.ends.End.TheVariants.{Exit, Trapped}
@@ -18,8 +16,8 @@ use Rattle.rv_decode.specs.declared.ends.PathStep.{PathStep}
 use Rattle.rv_decode.specs.declared.ends.PathStep.TheVariants.{Taken, NotTaken, Target}
 use Rattle.rv_decode.specs.declared.ends.Trap.{Trap}
 use Rattle.rv_decode.specs.declared.ends.Trap.TheVariants.{Illegal, FetchMisaligned, FetchAccess, LoadMisaligned, LoadAccess, StoreMisaligned, StoreAccess, Break, Call}
-use Rattle.text_parts.specs.Names.{path_text, step_text}
-use Rattle.test_files.specs.Tests.{Test, end_text, quoted_all, region_text, test_text}
+use Rattle.text_parts.specs.Names.{eight_digits, path_text, step_text}
+use Rattle.test_files.specs.Tests.{Filled, Test, end_text, filled, filled_text, test_text, with_commas}
 use Rattle.test_files.specs.Writable.{HasStatus}
 
 lower_ascii : IsAscii lower_digits
@@ -56,45 +54,48 @@ path_utf8 : (path : List PathStep) → IsUtf8 (path_text path)
 path_utf8 [] = IsUtf8-nil
 path_utf8 (step ∷ path) = IsUtf8-append (step_text step) (path_text path) (step_utf8 step) (path_utf8 path)
 
-region_utf8 : (region : Region) → region.count ≤ 9999 → IsUtf8 (region_text region)
-region_utf8 region count = IsUtf8-append _ (decimal region.count) (IsUtf8-append _ (codes ":") (digits_utf8 _) (IsUtf8-are_ascii (codes ":") refl)) (decimal_utf8 region.count (omega (arith, count)))
+-- a region with its bytes
+filled_utf8 : (region : Filled) → IsUtf8 (filled_text region)
+filled_utf8 region =
+    IsUtf8-append _ (codes "}") (
+    IsUtf8-append _ (quoted (encode_lower region.bytes)) (
+    IsUtf8-append _ (codes ",\"bytes\":") (
+    IsUtf8-append _ (quoted (eight_digits region.start)) (IsUtf8-are_ascii (codes "{\"at\":") refl) (IsUtf8-quoted _ (digits_utf8 _))
+    ) (IsUtf8-are_ascii (codes ",\"bytes\":") refl)
+    ) (IsUtf8-quoted _ (digits_utf8 region.bytes))
+    ) (IsUtf8-are_ascii (codes "}") refl)
 
--- each region's text in quotes
-regions_utf8 : (regions : List Region) → All (λ (region : Region). region.count ≤ 9999) regions → IsUtf8 (quoted_all (map region_text regions))
-regions_utf8 [] counts = IsUtf8-nil
-regions_utf8 (region ∷ []) counts = IsUtf8-quoted (region_text region) (region_utf8 region (counts 0 region (omega arith)))
-regions_utf8 (region ∷ next ∷ regions) counts =
-    IsUtf8-append (quoted (region_text region) ++ codes ",") (quoted_all (map region_text (next ∷ regions)))
-    (IsUtf8-append (quoted (region_text region)) (codes ",") (IsUtf8-quoted (region_text region) (region_utf8 region (counts 0 region (omega arith)))) (IsUtf8-are_ascii (codes ",") refl))
-    (regions_utf8 (next ∷ regions) (λ k d lt. counts (suc k) d (omega arith)))
+inputs_utf8 : (regions : List Filled) → IsUtf8 (with_commas (map filled_text regions))
+inputs_utf8 [] = IsUtf8-nil
+inputs_utf8 (region ∷ []) = filled_utf8 region
+inputs_utf8 (region ∷ next ∷ regions) =
+    IsUtf8-append (filled_text region ++ codes ",") (with_commas (map filled_text (next ∷ regions)))
+    (IsUtf8-append (filled_text region) (codes ",") (filled_utf8 region) (IsUtf8-are_ascii (codes ",") refl))
+    (inputs_utf8 (next ∷ regions))
 
-pub text_utf8 : (test : Test) → test.leaf < 2 ^ 64 → test.steps < 2 ^ 64 → HasStatus test.end → All (λ (region : Region). region.count ≤ 9999) test.regions → IsUtf8 (test_text test)
+pub text_utf8 : (test : Test) → test.leaf < 2 ^ 64 → test.steps < 2 ^ 64 → HasStatus test.end → IsUtf8 (test_text test)
 unfolding test_text
-text_utf8 test leaf steps status counts =
+text_utf8 test leaf steps status =
     IsUtf8-append _ (codes "}\n") (
     IsUtf8-append _ (decimal test.steps) (
-    IsUtf8-append _ (codes "],\"steps\":") (
-    IsUtf8-append _ (quoted_all (map region_text test.regions)) (
-    IsUtf8-append _ (codes ",\"regions\":[") (
+    IsUtf8-append _ (codes ",\"steps\":") (
     IsUtf8-append _ (quoted (path_text test.path)) (
     IsUtf8-append _ (codes ",\"path\":") (
     IsUtf8-append _ (quoted (encode_lower test.output)) (
     IsUtf8-append _ (codes ",\"output\":") (
     IsUtf8-append _ (decimal test.leaf) (
-    IsUtf8-append _ (codes ",\"leaf\":") (
-    IsUtf8-append _ (quoted (encode_lower test.input)) (
-    IsUtf8-append _ (codes ",\"format\":1,\"input\":") (
+    IsUtf8-append _ (codes "],\"leaf\":") (
+    IsUtf8-append _ (with_commas (map filled_text (filled test.regions test.input))) (
+    IsUtf8-append _ (codes ",\"format\":2,\"inputs\":[") (
     IsUtf8-append _ (quoted (end_text test.end)) (IsUtf8-are_ascii (codes "{\"end\":") refl) (IsUtf8-quoted _ (end_utf8 test.end status))
-    ) (IsUtf8-are_ascii (codes ",\"format\":1,\"input\":") refl)
-    ) (IsUtf8-quoted _ (digits_utf8 test.input))
-    ) (IsUtf8-are_ascii (codes ",\"leaf\":") refl)
+    ) (IsUtf8-are_ascii (codes ",\"format\":2,\"inputs\":[") refl)
+    ) (inputs_utf8 (filled test.regions test.input))
+    ) (IsUtf8-are_ascii (codes "],\"leaf\":") refl)
     ) (decimal_utf8 test.leaf leaf)
     ) (IsUtf8-are_ascii (codes ",\"output\":") refl)
     ) (IsUtf8-quoted _ (digits_utf8 test.output))
     ) (IsUtf8-are_ascii (codes ",\"path\":") refl)
     ) (IsUtf8-quoted _ (path_utf8 test.path))
-    ) (IsUtf8-are_ascii (codes ",\"regions\":[") refl)
-    ) (regions_utf8 test.regions counts)
-    ) (IsUtf8-are_ascii (codes "],\"steps\":") refl)
+    ) (IsUtf8-are_ascii (codes ",\"steps\":") refl)
     ) (decimal_utf8 test.steps steps)
     ) (IsUtf8-are_ascii (codes "}\n") refl)

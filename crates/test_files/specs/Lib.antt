@@ -2,6 +2,8 @@ pub mod Tests
 pub mod TestData
 pub mod Refusals
 pub mod Forms
+pub mod Inputs
 pub mod Reading
 pub mod Seen
 pub mod Writable
+pub mod Upgrading

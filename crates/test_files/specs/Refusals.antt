@@ -1,8 +1,6 @@
 -- Why a text is no test: numbers and names.
-use Rattle.std.specs.Prelude.{◌≡◌, ℕ, true, List, codes, Option, None, Result, Err, is_err}
-use Rattle.hex.specs.declared.error.FromHexError.{FromHexError}
+use Rattle.std.specs.Prelude.{◌≡◌, ℕ, List, codes, Option, None, Result, Ok, Err}
 use Rattle.serde_json.specs.Data.{Data}
-use Rattle.test_files.specs.Reading.{Said}
 use Rattle.test_files.specs.declared.refused.TestRefused.{TestRefused}
 use Rattle.test_files.specs.declared.refused.TestRefused.TheVariants.{NotJson, Missing, Kind, Hex, Length, TooBig}
 use Rattle.test_files.specs.declared.test_error.TestError.{TestError}
@@ -31,6 +29,12 @@ abbrev pub IsWhy : {A : Type 0} → Result A TestRefused → TestError → Type 
 IsWhy wanted (Refused why) = wanted ≡ Err why
 IsWhy wanted NoMemory = Unit {0}
 
+-- it is refused for this reason, or memory ran out
+abbrev pub IsRefusedAs : {A : Type 0} → TestRefused → Result A TestError → Type 0
+IsRefusedAs wanted (Ok value) = ⊥
+IsRefusedAs wanted (Err NoMemory) = Unit {0}
+IsRefusedAs wanted (Err (Refused why)) = why ≡ wanted
+
 -- ---- for private clauses
 
 -- there is no JSON value, or memory ran out
@@ -38,12 +42,7 @@ abbrev pub IsNoJson : Option Data → TestError → Type 0
 IsNoJson wanted (Refused why) = (wanted ≡ None) × (why ≡ NotJson)
 IsNoJson wanted NoMemory = Unit {0}
 
--- the digits are not hexadecimal, or memory ran out
-abbrev pub IsNoHex : Result (List ℕ) FromHexError → TestError → Type 0
-IsNoHex wanted (Refused why) = (is_err wanted ≡ true) × (why ≡ Hex)
-IsNoHex wanted NoMemory = Unit {0}
-
 -- a value is not of its form, or memory ran out
-abbrev pub IsOfNoForm : Option Said → TestError → Type 0
+abbrev pub IsOfNoForm : {A : Type 0} → Option A → TestError → Type 0
 IsOfNoForm wanted (Refused why) = (wanted ≡ None) × (why ≡ Kind)
 IsOfNoForm wanted NoMemory = Unit {0}

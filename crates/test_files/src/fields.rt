@@ -3,20 +3,22 @@
 ghost use Rattle.std.specs.Prelude.{◌≡◌, IfOk, is_some, option_and_then, option_map};
 ghost use Rattle.std.specs.List.{list_all};
 ghost use Rattle.serde_json.specs.Find.{get};
-ghost use Rattle.serde_json.specs.View.{view, items_view};
-ghost use Rattle.test_files.specs.Reading.{end_in, has_keys as has_all_keys, if_between, number_at, path_in, region_in, regions_in, regions_of, text_at};
+ghost use Rattle.serde_json.specs.View.{view};
+ghost use Rattle.test_files.specs.Reading.{end_in, format_in, has_keys as has_all_keys, if_between, number_at, path_in, text_at};
 
-use crate::forms::{read_end, read_region};
+use crate::format::Format;
+use crate::forms::read_end;
 use crate::path_form::read_path;
-use elf_load::Region;
+use crate::refused::TestRefused;
 use rv_decode::{End, PathStep};
 use serde_json::Value;
 use std::alloc::{AllocError as NoMemory, Global};
 
-/// The keys that a test has to have.
-const KEYS: [&str; 8] = [
-    "end", "format", "input", "leaf", "output", "path", "regions", "steps",
-];
+/// The keys that a test of format 1 has to have, beside its format.
+const JOINED_KEYS: [&str; 7] = ["end", "input", "leaf", "output", "path", "regions", "steps"];
+
+/// Those of format 2.
+const APART_KEYS: [&str; 6] = ["end", "inputs", "leaf", "output", "path", "steps"];
 
 /// Whether the value has each of the keys.
 fn has_all(value: &Value, keys: &[&str]) -> bool
@@ -25,11 +27,28 @@ fn has_all(value: &Value, keys: &[&str]) -> bool
     keys.iter().all(|key| value.get(*key).is_some())
 }
 
-/// Whether the value has each key of a test.
-pub(crate) fn has_keys(value: &Value) -> bool
-    ensures { result ≡ has_all_keys (view value.now) }
+/// Whether the value has each key of a test of this format.
+pub(crate) fn has_keys(format: Format, value: &Value) -> bool
+    ensures { result ≡ has_all_keys format (view value.now) }
 {
-    has_all(value, &KEYS)
+    match format {
+        Format::Joined => has_all(value, &JOINED_KEYS),
+        Format::Apart => has_all(value, &APART_KEYS),
+    }
+}
+
+/// The format that the value says.
+pub(crate) fn format_at(value: &Value) -> Result<Format, TestRefused>
+    ensures { result ≡ format_in (view value.now) }
+{
+    let Some(said) = value.get("format") else {
+        return Err(TestRefused::Missing);
+    };
+    match said.as_u64() {
+        Some(1) => Ok(Format::Joined),
+        Some(2) => Ok(Format::Apart),
+        _ => Err(TestRefused::Kind),
+    }
 }
 
 /// The string at the key.
@@ -65,39 +84,6 @@ pub(crate) fn path_at(alloc: Global, value: &Value) -> Result<Option<Vec<PathSte
 {
     match read_text(value, "path") {
         Some(text) => read_path(alloc, text.as_bytes()),
-        None => Ok(None),
-    }
-}
-
-/// The region that the value says.
-fn region_at(value: &Value) -> Option<Region>
-    ensures { result ≡ region_in (view value.now) }
-{
-    read_region(value.as_str()?.as_bytes())
-}
-
-/// The regions that the values say.
-fn read_regions(alloc: Global, values: &[Value]) -> Result<Option<Vec<Region>>, NoMemory>
-    ensures { IfOk result (λ found. option_map (λ regions. regions.items) found
-        ≡ regions_of (items_view values.now)) }
-{
-    let mut regions = Vec::with_capacity(alloc, values.len())?;
-    for value in values {
-        let Some(region) = region_at(value) else {
-            return Ok(None);
-        };
-        regions.push(region)?;
-    }
-    Ok(Some(regions))
-}
-
-/// The regions of input bytes.
-pub(crate) fn regions_at(alloc: Global, value: &Value) -> Result<Option<Vec<Region>>, NoMemory>
-    ensures { IfOk result (λ found. option_map (λ regions. regions.items) found
-        ≡ regions_in (view value.now)) }
-{
-    match value.get("regions").and_then(Value::as_array) {
-        Some(values) => read_regions(alloc, values),
         None => Ok(None),
     }
 }

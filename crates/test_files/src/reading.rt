@@ -5,7 +5,7 @@ ghost use Rattle.serde_json.specs.View.{view};
 ghost use Rattle.test_files.specs.Reading.{json_of, reading, test_in};
 ghost use Rattle.test_files.specs.Refusals.{IsNoJson, IsWhy};
 
-use crate::fields::has_keys;
+use crate::fields::{format_at, has_keys};
 use crate::refused::TestRefused;
 use crate::said::read_said;
 use crate::test::Test;
@@ -37,16 +37,19 @@ fn read_value(alloc: Global, value: &Value) -> Result<Test, TestError>
     if !value.is_object() {
         return Err(TestRefused::Kind.into());
     }
-    if !has_keys(value) {
+    let format = format_at(value)?;
+    if !has_keys(format, value) {
         return Err(TestRefused::Missing.into());
     }
-    read_said(alloc, value)?.decoded(alloc)
+    read_said(alloc, format, value)?.decoded(alloc)
 }
 
-/// Reads a test: a JSON object (RFC 8259) of at most 16 mebibytes with the keys that `write_test` writes, in
-/// any order and beside any others. The first reason in this order keeps a text from being a test:
-/// it is too big, is no JSON, is no object, has a key too few, a value not of its form, digits that
-/// are not hexadecimal, or an input that has not one byte for each place of the regions.
+/// Reads a test of format 1 or 2: a JSON object (RFC 8259) of at most 16 mebibytes with the keys of its
+/// format, in any order and beside any others. The first reason in this order keeps a text from being a
+/// test: it is too big, is no JSON, is no object, has no format, has another than 1 and 2, has a key of
+/// its format too few, a value not of its form, digits that are not hexadecimal, or an input of the wrong
+/// length. In format 1 that is one which has not a byte for each place of the regions, in format 2 that
+/// there is no region, an empty one, or more than 1,024 bytes.
 #[tactic(auto, unfolding(crate::specs::Reading::reading))]
 pub fn read_test(alloc: Global, text: &[u8]) -> Result<Test, TestError>
     ensures read { IfOk result (λ test. reading text.now ≡ Ok test) }

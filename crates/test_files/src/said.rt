@@ -1,19 +1,21 @@
 //! What the keys of a test say.
 
-ghost use Rattle.std.specs.Prelude.{◌≡◌, ◌==◌, IfErr, IfOk, Ok, Some, sum_by};
-ghost use Rattle.hex.specs.Hex.{decode_of};
+ghost use Rattle.std.specs.Prelude.{◌≡◌, IfErr, IfOk, Ok, Some};
 ghost use Rattle.serde_json.specs.View.{view};
 ghost use Rattle.test_files.specs.Reading.{said_in, test_with_bytes};
-ghost use Rattle.test_files.specs.Refusals.{IsNoHex, IsOfNoForm, IsWhy};
+ghost use Rattle.test_files.specs.Refusals.{IsOfNoForm, IsWhy};
 ghost use Rattle.test_files.specs.Seen.{said_seen};
 
-use crate::fields::{end_at, path_at, read_between, read_text, regions_at};
+use crate::digits::decode;
+use crate::fields::{end_at, path_at, read_between, read_text};
+use crate::format::Format;
+use crate::inputs::Inputs;
+use crate::places::inputs_at;
 use crate::refused::TestRefused;
 use crate::test::Test;
 use crate::test_error::TestError;
 use byte_list::Bytes;
-use elf_load::{Region, Regions};
-use hex::FromHexError;
+use elf_load::Regions;
 use rv_decode::{End, PathStep};
 use serde_json::Value;
 use std::alloc::Global;
@@ -27,11 +29,10 @@ const MOST_STEPS: u64 = 1_000_000;
 /// What the keys say. The input and the output are still in hexadecimal digits.
 pub(crate) struct Said<'a> {
     end: Option<End>,
-    input: &'a str,
+    inputs: Inputs<'a>,
     leaf: usize,
     output: &'a str,
     path: Vec<PathStep>,
-    regions: Vec<Region>,
     steps: u32,
 }
 
@@ -39,66 +40,39 @@ impl<'a> Drop for Said<'a> {
     fn drop(self) {
         let Self {
             end: _end,
-            input: _input,
+            inputs: _inputs,
             leaf: _leaf,
             output: _output,
             path: _path,
-            regions: _regions,
             steps: _steps,
         } = self;
     }
 }
 
-/// What the keys say, where each has a value of its form.
+/// What the keys say, where each has a value of its form in this format.
 #[tactic(auto, unfolding(crate::specs::Reading::said_in))]
-pub(crate) fn read_said<'a>(alloc: Global, value: &'a Value) -> Result<Said<'a>, TestError>
-    ensures read { IfOk result (λ said. said_in (view value.now) ≡ Some (said_seen said)) }
-    ensures refused { IfErr result (IsOfNoForm (said_in (view value.now))) }
+pub(crate) fn read_said<'a>(
+    alloc: Global,
+    format: Format,
+    value: &'a Value,
+) -> Result<Said<'a>, TestError>
+    ensures read { IfOk result (λ said. said_in format (view value.now) ≡ Some (said_seen said)) }
+    ensures refused { IfErr result (IsOfNoForm (said_in format (view value.now))) }
 {
-    let _format = read_between(value, "format", 1, 1).ok_or(TestRefused::Kind)?;
     let end = end_at(value).ok_or(TestRefused::Kind)?;
-    let input = read_text(value, "input").ok_or(TestRefused::Kind)?;
     let leaf = read_between(value, "leaf", 0, MOST_LEAF).ok_or(TestRefused::Kind)?;
     let output = read_text(value, "output").ok_or(TestRefused::Kind)?;
-    let path = path_at(alloc, value)?.ok_or(TestRefused::Kind)?;
-    let regions = regions_at(alloc, value)?.ok_or(TestRefused::Kind)?;
     let steps = read_between(value, "steps", 1, MOST_STEPS).ok_or(TestRefused::Kind)?;
+    let path = path_at(alloc, value)?.ok_or(TestRefused::Kind)?;
+    let inputs = inputs_at(alloc, format, value)?.ok_or(TestRefused::Kind)?;
     Ok(Said {
         end,
-        input,
+        inputs,
         leaf: leaf as usize,
         output,
         path,
-        regions,
         steps: steps as u32,
     })
-}
-
-/// The bytes that the hexadecimal digits write.
-fn decode(alloc: Global, digits: &str) -> Result<Vec<u8>, TestError>
-    ensures read { IfOk result (λ bytes. decode_of digits.now ≡ Ok bytes.items) }
-    ensures refused { IfErr result (IsNoHex (decode_of digits.now)) }
-{
-    match hex::decode(alloc, digits) {
-        Ok(bytes) => Ok(bytes),
-        Err(FromHexError::OutOfMemory) => Err(TestError::NoMemory),
-        Err(_) => Err(TestRefused::Hex.into()),
-    }
-}
-
-/// Whether the regions have so many bytes together.
-fn have_bytes(regions: &[Region], count: usize) -> bool
-    ensures { result ≡ (count == sum_by (λ region. region.count) regions.now) }
-{
-    let mut left = count;
-    for region in regions {
-        let bytes = region.count as usize;
-        if left < bytes {
-            return false;
-        }
-        left -= bytes;
-    }
-    left == 0
 }
 
 impl Said<'_> {
@@ -107,24 +81,20 @@ impl Said<'_> {
         ensures read { IfOk result (λ test. test_with_bytes (said_seen self.entry) ≡ Ok test) }
         ensures refused { IfErr result (IsWhy (test_with_bytes (said_seen self.entry))) }
     {
-        let input = decode(alloc, self.input)?;
-        let output = decode(alloc, self.output)?;
-        if !have_bytes(&self.regions, input.len()) {
-            return Err(TestRefused::Length.into());
-        }
         let Self {
             end,
-            input: _input,
+            inputs,
             leaf,
-            output: _output,
+            output,
             path,
-            regions,
             steps,
         } = self;
+        let output = decode(alloc, output)?.ok_or(TestRefused::Hex)?;
+        let laid = inputs.laid(alloc)?;
         Ok(Test {
             leaf,
-            regions: Regions::from_vec(regions),
-            input: Bytes::from_vec(input),
+            regions: Regions::from_vec(laid.regions),
+            input: Bytes::from_vec(laid.input),
             steps,
             path,
             end,

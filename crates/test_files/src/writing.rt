@@ -5,7 +5,8 @@ ghost use Rattle.serde_json.specs.View.{view};
 ghost use Rattle.test_files.specs.TestData.{test_data};
 ghost use Rattle.test_files.specs.Tests.{test_text};
 
-use crate::parts::{end_text, path_string, region_list};
+use crate::filled::filled_list;
+use crate::parts::{end_text, path_string};
 use crate::test::Test;
 use byte_list::Bytes;
 use serde_json::{Value, json};
@@ -16,23 +17,21 @@ fn test_value(alloc: Global, test: &Test) -> Result<Value, NoMemory>
     ensures { IfOk result (λ value. view value ≡ test_data test.now) }
 {
     let end = end_text(alloc, test.end)?;
-    let input = hex::encode(alloc, test.input.as_slice())?;
     let output = hex::encode(alloc, test.output.as_slice())?;
     let path = path_string(alloc, &test.path)?;
-    let regions = region_list(alloc, test.regions.as_slice())?;
+    let inputs = filled_list(alloc, test.regions.as_slice(), test.input.as_slice())?;
     json!(in alloc; {
         "end": end,
-        "format": 1u32,
-        "input": input,
+        "format": 2u32,
+        "inputs": inputs,
         "leaf": test.leaf,
         "output": output,
         "path": path,
-        "regions": regions,
         "steps": test.steps
     })
 }
 
-/// The text of a test.
+/// The text of a test, in format 2: the compact text of a JSON object, and a line feed.
 pub fn write_test(alloc: Global, test: &Test) -> Result<Bytes, NoMemory>
     ensures { IfOk result (λ text. text ≡ test_text test.now) }
 {
