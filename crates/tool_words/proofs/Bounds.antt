@@ -7,7 +7,7 @@ use Rattle.clap.specs.Words.{Kinds, Row, all_of, fault_of, first_of, subcommand_
 use Rattle.elf_load.specs.declared.region.Region.{Region}
 use Rattle.tool_words.specs.Command.{rvklee_command}
 use Rattle.tool_words.specs.Job as spec
-use Rattle.tool_words.specs.Job.{Bench, Explore, IsWithinLimits, Replay, bench_job, bench_with, command_job, explore_job, explore_with, job_of, replay_job, replay_with, without_fault}
+use Rattle.tool_words.specs.Job.{Bench, Explore, IsWithinLimits, Replay, Upgrade, bench_job, bench_with, command_job, explore_job, explore_with, job_of, replay_job, replay_with, upgrade_job, upgrade_with, without_fault}
 use Rattle.tool_words.specs.Limits.{IsBudgets, IsWithin, budgets_found, budgets_with, conflicts_limit, is_within, nodes_limit, number_found, number_given, number_said, number_within, numbers_limit, plain_number, steps_limit, targets_limit, within, workers_found, workers_limit}
 use Rattle.tool_words.specs.Orders.{order_found}
 use Rattle.tool_words.specs.Region.{regions_said}
@@ -116,18 +116,29 @@ unfolding bench_job
 bench_bounds rows job = bench_with_bounds (number_said numbers_limit (codes "NUMBER") rows) (number_said workers_limit (codes "WORKERS") rows) (first_of (codes "OUT") rows) job
     (said_bounds numbers_limit (codes "NUMBER") rows) (said_bounds workers_limit (codes "WORKERS") rows)
 
+upgrade_with_bounds : (test out : Option (List ℕ)) (job : spec.Job) → upgrade_with test out ≡ Some job → IsWithinLimits job
+upgrade_with_bounds None out job is = cc
+upgrade_with_bounds (Some test) None job is = cc
+upgrade_with_bounds (Some test) (Some out) job is =
+    let same : Upgrade test out ≡ job = cc in
+    rw (← same) tt
+
+upgrade_bounds : (rows : List Row) (job : spec.Job) → upgrade_job rows ≡ Some job → IsWithinLimits job
+unfolding upgrade_job
+upgrade_bounds rows job = upgrade_with_bounds (first_of (codes "TEST") rows) (first_of (codes "OUT") rows) job
+
 command_bounds : (found : Option (List ℕ × List Row)) (job : spec.Job) → command_job found ≡ Some job → IsWithinLimits job
 command_bounds None job is = cc
 command_bounds (Some (name, rows)) job is =
-    go (bytes_eq name (codes "explore")) (bytes_eq name (codes "replay")) (bytes_eq name (codes "bench")) (explore_bounds rows job) (replay_bounds rows job) (bench_bounds rows job) is
+    go (bytes_eq name (codes "explore")) (bytes_eq name (codes "replay")) (bytes_eq name (codes "bench")) (bytes_eq name (codes "upgrade")) is
   where
-    go : (e r b : Bool) → (explore_job rows ≡ Some job → IsWithinLimits job) → (replay_job rows ≡ Some job → IsWithinLimits job)
-        → (bench_job rows ≡ Some job → IsWithinLimits job)
-        → (if e then explore_job rows else if r then replay_job rows else if b then bench_job rows else None) ≡ Some job → IsWithinLimits job
-    go true r b explores replays benches is = explores is
-    go false true b explores replays benches is = replays is
-    go false false true explores replays benches is = benches is
-    go false false false explores replays benches is = cc
+    go : (e r b u : Bool) → (if e then explore_job rows else if r then replay_job rows else if b then bench_job rows else if u then upgrade_job rows else None) ≡ Some job
+        → IsWithinLimits job
+    go true r b u is = explore_bounds rows job is
+    go false true b u is = replay_bounds rows job is
+    go false false true u is = bench_bounds rows job is
+    go false false false true is = upgrade_bounds rows job is
+    go false false false false is = cc
 
 pub job_bounds : (words : List (List ℕ)) (job : spec.Job) → job_of words ≡ Some job → IsWithinLimits job
 unfolding job_of

@@ -11,3 +11,4 @@ pub mod Bounds
 pub mod PlainWords
 pub mod OtherWords
 pub mod PlainReplay
+pub mod PlainUpgrade

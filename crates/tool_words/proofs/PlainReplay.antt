@@ -9,7 +9,7 @@ use Rattle.clap.specs.Walk.{finished, rows_after, settled, Walk, nothing_held, w
 use Rattle.clap.specs.Words.{Kinds, Row, fault_of, subcommand_of}
 use Rattle.clap.proofs.FaultLemmas.{stopped_fault}
 use Rattle.clap.proofs.WalkLemmas.{walk_stopped}
-use Rattle.tool_words.specs.Command.{bench_command, explore_command, replay_command, rvklee_command}
+use Rattle.tool_words.specs.Command.{bench_command, explore_command, replay_command, rvklee_command, upgrade_command}
 use Rattle.tool_words.specs.Job.{Replay, command_job, job_of, replay_job, without_fault}
 use Rattle.tool_words.specs.Plain.{has_no_hyphen}
 use Rattle.tool_words.proofs.PlainWords.{at, both_plain, commands, faults_above, names, pass_one, plain_step, plain_turn, row, top, waits}
@@ -37,19 +37,19 @@ module _ (program test : List ℕ) (plain : list_all has_no_hyphen (program ∷ 
   after_test = at (waits (row (codes "PROGRAM") (program ∷ []) ∷ []) (codes "TEST") (test ∷ [])) false 3
 
   takes_program : walked replays.rules [] (walk_from nothing_held) program ≡ after_program
-  unfolding rvklee_command explore_command replay_command bench_command
+  unfolding rvklee_command explore_command replay_command bench_command upgrade_command
   takes_program = plain_step replays.rules nothing_held false 1 program plain_program
 
   takes_test : walked replays.rules [] after_program test ≡ after_test
-  unfolding rvklee_command explore_command replay_command bench_command
+  unfolding rvklee_command explore_command replay_command bench_command upgrade_command
   takes_test = plain_step replays.rules after_program.held false 2 test plain_test
 
   program_passes : turn_fault replays [] (walk_from nothing_held) program ≡ []
-  unfolding rvklee_command explore_command replay_command bench_command
+  unfolding rvklee_command explore_command replay_command bench_command upgrade_command
   program_passes = plain_turn replays nothing_held false 1 program plain_program
 
   test_passes : turn_fault replays [] after_program test ≡ []
-  unfolding rvklee_command explore_command replay_command bench_command
+  unfolding rvklee_command explore_command replay_command bench_command upgrade_command
   test_passes = plain_turn replays after_program.held false 2 test plain_test
 
   abbrev words : List (List ℕ)
@@ -69,12 +69,12 @@ module _ (program test : List ℕ) (plain : list_all has_no_hyphen (program ∷ 
   all_rows = row (codes "PROGRAM") (program ∷ []) ∷ row (codes "TEST") (test ∷ []) ∷ []
 
   finds : rows_after replays.rules [] words ≡ all_rows
-  unfolding rvklee_command explore_command replay_command bench_command
+  unfolding rvklee_command explore_command replay_command bench_command upgrade_command
   finds = ap (λ w. finished replays.rules w.held) walks
 
   -- `replay` has no fault to find in them
   level_passes : level_fault replays [] nothing_held words false [] ≡ []
-  unfolding rvklee_command explore_command replay_command bench_command defaults_fault
+  unfolding rvklee_command explore_command replay_command bench_command upgrade_command defaults_fault
   level_passes = ap₂ faults_after walk_passes walks
 
   -- ---- what `clap` makes of the words of rvklee
@@ -83,22 +83,22 @@ module _ (program test : List ℕ) (plain : list_all has_no_hyphen (program ∷ 
   entered_walk = record (walk_from nothing_held) { stopped = Some (codes "replay", []) }
 
   enters : walked top.rules names (walk_from nothing_held) (codes "replay") ≡ entered_walk
-  unfolding rvklee_command explore_command replay_command bench_command walked
+  unfolding rvklee_command explore_command replay_command bench_command upgrade_command walked
   enters = refl
 
   stops : walk top.rules names nothing_held (codes "replay" ∷ words) ≡ record (walk_from nothing_held) { stopped = Some (codes "replay", words) }
   stops = ap (λ w. fold (walked top.rules names) w words) enters ∙ sym (walk_stopped top.rules names (walk_from nothing_held) (codes "replay") [] words)
 
   top_passes : walk_fault top names (walk_from nothing_held) (codes "replay" ∷ words) ≡ []
-  unfolding rvklee_command explore_command replay_command bench_command walk_fault
+  unfolding rvklee_command explore_command replay_command bench_command upgrade_command walk_fault
   top_passes = ap (λ w. walk_fault top names w words) enters ∙ stopped_fault top names (walk_from nothing_held) (codes "replay", []) words
 
   no_fault : (tool : List ℕ) → fault_of rvklee_command (tool ∷ codes "replay" ∷ words) ≡ []
-  unfolding rvklee_command explore_command replay_command bench_command defaults_fault
+  unfolding rvklee_command explore_command replay_command bench_command upgrade_command defaults_fault
   no_fault tool = ap₂ faults_above top_passes stops ∙ ap (λ kinds. or_else kinds []) level_passes
 
   found : (tool : List ℕ) → subcommand_of rvklee_command (tool ∷ codes "replay" ∷ words) ≡ Some (codes "replay", all_rows)
-  unfolding rvklee_command explore_command replay_command bench_command
+  unfolding rvklee_command explore_command replay_command bench_command upgrade_command
   found tool = ap (λ w. entered (built rvklee_command) w.stopped) stops ∙ ap (λ rows. Some (codes "replay", rows)) finds
 
   pub plain_replay : (tool : List ℕ) → job_of (tool ∷ codes "replay" ∷ program ∷ test ∷ []) ≡ Some (Replay program test)

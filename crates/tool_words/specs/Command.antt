@@ -43,8 +43,13 @@ bench_command = with_rule (with_rule (with_rule (new_app (codes "bench"))
     (required_word (codes "NUMBER"))) (required_word (codes "WORKERS")))
     (required_word (codes "OUT"))
 
+-- upgrade TEST OUT
+unfoldable pub upgrade_command : App
+upgrade_command = with_rule (with_rule (new_app (codes "upgrade"))
+    (required_word (codes "TEST"))) (required_word (codes "OUT"))
+
 -- rvklee COMMAND ..
 unfoldable pub rvklee_command : App
-rvklee_command = with_subcommand (with_subcommand (with_subcommand
+rvklee_command = with_subcommand (with_subcommand (with_subcommand (with_subcommand
     (on_top (λ top. record top { subcommand_required = true }) (new_app (codes "rvklee")))
-    explore_command.top) replay_command.top) bench_command.top
+    explore_command.top) replay_command.top) bench_command.top) upgrade_command.top

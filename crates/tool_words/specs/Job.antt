@@ -18,6 +18,8 @@ pub data Job : Type 0 where
   -- the leaves of the generated program of this number, and their tests, are put into the folder `out`,
   -- by so many workers
   Bench : (number workers : ℕ) → (out : List ℕ) → Job
+  -- a test's file of either format is written in format 2, as the file `out`
+  Upgrade : (test out : List ℕ) → Job
 
 -- the job, where all is there
 abbrev pub explore_with : Option (List ℕ) → Option (List ℕ) → Option (List Region) → Option Budgets
@@ -49,13 +51,22 @@ unfoldable pub bench_job : List Row → Option Job
 bench_job rows = bench_with (number_said numbers_limit (codes "NUMBER") rows)
     (number_said workers_limit (codes "WORKERS") rows) (first_of (codes "OUT") rows)
 
+abbrev pub upgrade_with : Option (List ℕ) → Option (List ℕ) → Option Job
+upgrade_with (Some test) (Some out) = Some (Upgrade test out)
+upgrade_with _ _ = None
+
+-- the job of `upgrade`, likewise
+unfoldable pub upgrade_job : List Row → Option Job
+upgrade_job rows = upgrade_with (first_of (codes "TEST") rows) (first_of (codes "OUT") rows)
+
 -- the job of the command that `clap` finds in the words
 abbrev pub command_job : Option (List ℕ × List Row) → Option Job
 command_job None = None
 command_job (Some (name, rows)) =
     if bytes_eq name (codes "explore") then explore_job rows else
     if bytes_eq name (codes "replay") then replay_job rows else
-    if bytes_eq name (codes "bench") then bench_job rows else None
+    if bytes_eq name (codes "bench") then bench_job rows else
+    if bytes_eq name (codes "upgrade") then upgrade_job rows else None
 
 -- no job where `clap` finds a fault, a call for help among them
 abbrev pub without_fault : Kinds → Option Job → Option Job
@@ -76,3 +87,4 @@ IsWithinLimits (Explore program out regions budgets workers) =
 IsWithinLimits (Replay program test) = Unit {0}
 IsWithinLimits (Bench number workers out) =
     IsWithin numbers_limit number × IsWithin workers_limit workers
+IsWithinLimits (Upgrade test out) = Unit {0}

@@ -3,7 +3,7 @@
 ghost use Rattle.std.specs.Prelude.{◌≡◌, IfOk, false};
 ghost use Rattle.clap.specs.Words.{app_of, rule_of};
 ghost use Rattle.clap.specs.declared.builder.command.Command.TheViews.{out-Command as fields_of};
-ghost use Rattle.tool_words.specs.Command.{bench_command, explore_command, value_option, replay_command, required_word, required_words, rvklee_command};
+ghost use Rattle.tool_words.specs.Command.{bench_command, explore_command, value_option, replay_command, required_word, required_words, rvklee_command, upgrade_command};
 
 use clap::{Arg, Command};
 use std::alloc::{AllocError as NoMemory, Global};
@@ -16,7 +16,8 @@ pub(crate) fn rvklee<'a>(alloc: Global) -> Result<Command<'a>, NoMemory>
         .subcommand_required(true)
         .subcommand(explore(alloc)?)?
         .subcommand(replay(alloc)?)?
-        .subcommand(bench(alloc)?)
+        .subcommand(bench(alloc)?)?
+        .subcommand(upgrade(alloc)?)
 }
 
 /// `explore [--steps N] [--targets N] [--conflicts N] [--workers N] [--nodes N] [--order O] PROGRAM OUT INPUT..`.
@@ -54,6 +55,16 @@ fn bench<'a>(alloc: Global) -> Result<Command<'a>, NoMemory>
     Command::new(alloc, "bench")
         .arg(required_word(alloc, "NUMBER"))?
         .arg(required_word(alloc, "WORKERS"))?
+        .arg(required_word(alloc, "OUT"))
+}
+
+/// `upgrade TEST OUT`.
+fn upgrade<'a>(alloc: Global) -> Result<Command<'a>, NoMemory>
+    ensures app { IfOk result (λ command. app_of command ≡ upgrade_command) }
+    ensures local { IfOk result (λ command. (fields_of command).has_globals ≡ false) }
+{
+    Command::new(alloc, "upgrade")
+        .arg(required_word(alloc, "TEST"))?
         .arg(required_word(alloc, "OUT"))
 }
 

@@ -53,6 +53,11 @@ pub enum Job {
         workers: u32,
         out: String,
     },
+    /// The test in one file, of format 1 or 2, is to be put in format 2 as the file `out`.
+    Upgrade {
+        test: String,
+        out: String,
+    },
 }
 
 /// Why there is no job.

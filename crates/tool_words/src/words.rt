@@ -4,7 +4,7 @@ ghost use Rattle.std.specs.Prelude.{◌≡◌, ◌≢◌, [], IfErr, IfOk, Some,
 ghost use Rattle.clap.specs.Words.{fault_of, found_of, kind_of, rows_of, subcommand_of, subcommand_rows_of};
 ghost use Rattle.clap.specs.declared.error.kind.ErrorKind.TheVariants.{OutOfMemory};
 ghost use Rattle.tool_words.specs.Command.{rvklee_command};
-ghost use Rattle.tool_words.specs.Job.{IsWithinLimits, bench_job, command_job, explore_job, job_of, replay_job};
+ghost use Rattle.tool_words.specs.Job.{IsWithinLimits, bench_job, command_job, explore_job, job_of, replay_job, upgrade_job};
 ghost use Rattle.tool_words.specs.Region.{regions_said};
 ghost use Rattle.tool_words.specs.Seen.{IsRead, job_seen};
 
@@ -38,6 +38,8 @@ fn read_command(alloc: Global, name: &str, found: &ArgMatches<'_>) -> Result<Job
         read_replay(alloc, found)
     } else if name == "bench" {
         read_bench(alloc, found)
+    } else if name == "upgrade" {
+        read_upgrade(alloc, found)
     } else {
         Err(WordsError::Usage)
     }
@@ -105,6 +107,19 @@ fn read_bench(alloc: Global, found: &ArgMatches<'_>) -> Result<Job, WordsError>
         number,
         workers,
         out: String::from_str(alloc, folder)?,
+    })
+}
+
+/// The job of `upgrade`.
+fn read_upgrade(alloc: Global, found: &ArgMatches<'_>) -> Result<Job, WordsError>
+    ensures { IsRead job_seen (upgrade_job (rows_of (found_of found.now))) result }
+{
+    let (Some(test), Some(file)) = (found.get_str("TEST"), found.get_str("OUT")) else {
+        return Err(WordsError::Usage);
+    };
+    Ok(Job::Upgrade {
+        test: String::from_str(alloc, test)?,
+        out: String::from_str(alloc, file)?,
     })
 }
 
