@@ -1,9 +1,9 @@
 -- The events and what stands beside leaves, where the claims hold of them: their texts tell them from all others.
-use Rattle.std.proofs.Common.{◌≡◌, ◌∙◌, ℕ, ◌<◌, ◌≤◌, ◌^◌, List, [], ◌∷◌, Some, ap, arith, get_or, length, map, option_map, subst, sym}
+use Rattle.std.proofs.Common.{◌≡◌, ◌∙◌, ℕ, ◌+◌, ◌<◌, ◌^◌, List, [], ◌∷◌, Some, ap, arith, get_or, length, map, option_map, refl, subst, sym}
 use Rattle.std.specs.Prelude.{All, slice_get}
 use Rattle.std.proofs.lemmas.List.{length-map}
 use Rattle.std.proofs.lemmas.List.Elements.{All-map, All-weaker}
-use Rattle.std.proofs.lemmas.List.Sums.{count_by-le-length}
+use Rattle.std.proofs.lemmas.List.Sums.{count_by-le-length, sum_by-cons}
 use Rattle.std.proofs.lemmas.Option.{get_or_from_slice_get, slice_get-map, slice_get_within}
 use Rattle.hex.specs.Hex.{IsBytes}
 use Rattle.elf_load.specs.Images.{Image}
@@ -13,6 +13,7 @@ use Rattle.bv_dag.proofs.TermLaws.{there}
 use Rattle.term_trees.proofs.Terms.{is_term}
 use Rattle.rv_decode.specs.declared.ends.PathStep.{PathStep}
 use Rattle.rv_decode.specs.declared.ends.PathStep.TheVariants.{Taken, NotTaken, Target}
+use Rattle.rv_spec.specs.Memory.{count_of}
 use Rattle.rv_spec.specs.Runs.{Run, run}
 use Rattle.tree_core.specs.declared.cause.Cause.TheVariants.{Conflicts, Nodes, Steps, Targets}
 use Rattle.tree_core.specs.declared.choice.Choice.{Choice}
@@ -24,6 +25,7 @@ use Rattle.fork_spec.specs.Walks.{root}
 use Rattle.fork_spec.specs.declared.end.LeafEnd.{LeafEnd}
 use Rattle.fork_spec.specs.declared.end.LeafEnd.TheVariants.{Exits, Traps, Cut}
 use Rattle.term_trees.proofs.Numbers.{number_fits}
+use Rattle.test_files.specs.Inputs.{bytes_in}
 use Rattle.test_files.specs.Tests.{Test}
 use Rattle.test_files.specs.Writable.{HasStatus, HasTarget, IsLegible}
 use Rattle.report_text.specs.Claims.{Beside, Entry, Filling, HasSpent, IsReport, IsRun, IsTested, Learning, Report, Spending, Tested, bounds_of, leaf_nodes_of, leaves_of}
@@ -58,11 +60,16 @@ small_target (Target address) small = small
 
 -- ---- what stands beside a leaf
 
+-- the bytes of regions are counted in two ways
+pub sum_count : (regions : List Region) → bytes_in regions ≡ count_of regions
+sum_count [] = refl
+sum_count (r ∷ regions) = sum_by-cons (λ (r : Region). r.count) r regions ∙ ap (λ n. r.count + n) (sum_count regions)
+
 -- a run of a leaf, whose input bytes stand in these regions
 test_legible : (image : Image) (regions : List Region) (most : ℕ) (leaf : Leaf) (rank : ℕ) (test : Test) → IsFull leaf → IsFaithful image regions most leaf →
-    All (λ (region : Region). region.start < 2 ^ 32) regions → All (λ (region : Region). region.count ≤ 9999) regions → IsSmall rank →
+    All (λ (region : Region). region.start < 2 ^ 32) regions → IsSmall rank →
     IsRun image regions leaf rank test → IsLegible test
-test_legible image regions most leaf rank test full faithful starts counts small is =
+test_legible image regions most leaf rank test full faithful starts small is =
     let made = faithful.runs test.input is.assignment is.covered in
     let same : run image regions test.input test.steps ≡ run image regions test.input leaf.steps = ap (run image regions test.input) is.same_steps in
     let end : test.end ≡ end_on leaf test.input leaf.end = sym is.runs.same_end ∙ ap (λ (r : Run). r.end) same ∙ made.same_end in
@@ -73,7 +80,7 @@ test_legible image regions most leaf rank test full faithful starts counts small
       status = subst HasStatus (sym end) (status_fits leaf full test.input is.assignment.1 leaf.end full.status);
       targets = subst (All HasTarget) (sym is.same_path) (All-weaker IsSmallStep HasTarget small_target leaf.path full.small_path);
       starts = subst (All (λ (region : Region). region.start < 2 ^ 32)) (sym is.same_regions) starts;
-      counts = subst (All (λ (region : Region). region.count ≤ 9999)) (sym is.same_regions) counts;
+      input_long = is.assignment.0 ∙ sym (ap bytes_in is.same_regions ∙ sum_count regions);
       input_bytes = bytes_of test.input is.assignment.1;
       output_bytes = subst IsBytes (sym output) (bytes_of (map (worth leaf test.input) leaf.outputs) (output_fits leaf full test.input is.assignment.1));
     }
@@ -119,18 +126,18 @@ module _ (r : Report) (claims : IsReport r) (counts : HasSmallCounts r) where
   at_leaf P rank e all at =
       holds_at P (leaves_of r.entries) rank e.leaf all (slice_get-map (λ (x : Entry). x.leaf) r.entries rank ∙ ap (option_map (λ (x : Entry). x.leaf)) at)
 
-  module _ (starts : All (λ (region : Region). region.start < 2 ^ 32) r.regions) (sizes : All (λ (region : Region). region.count ≤ 9999) r.regions) where
+  module _ (starts : All (λ (region : Region). region.start < 2 ^ 32) r.regions) where
     beside_legible : (leaf : Leaf) (node rank : ℕ) (end : LeafEnd) (b : Beside) → IsFull leaf → IsFaithful r.image r.regions r.budgets.steps leaf → IsSmall rank →
         IsTested r.image r.regions leaf end rank b → HasSpent r.regions r.budgets r.lines node leaf end b → HasSmallLogBeside b → IsLegibleBeside b
-    beside_legible leaf node rank (Exits status) (Tested test) full faithful low is spent small = test_legible r.image r.regions r.budgets.steps leaf rank test full faithful starts sizes low is
+    beside_legible leaf node rank (Exits status) (Tested test) full faithful low is spent small = test_legible r.image r.regions r.budgets.steps leaf rank test full faithful starts low is
     beside_legible leaf node rank (Exits status) (Spending found) full faithful low is spent small = absurd is
     beside_legible leaf node rank (Exits status) (Learning learnt) full faithful low is spent small = absurd is
     beside_legible leaf node rank (Exits status) (Filling count) full faithful low is spent small = absurd is
-    beside_legible leaf node rank (Traps trap) (Tested test) full faithful low is spent small = test_legible r.image r.regions r.budgets.steps leaf rank test full faithful starts sizes low is
+    beside_legible leaf node rank (Traps trap) (Tested test) full faithful low is spent small = test_legible r.image r.regions r.budgets.steps leaf rank test full faithful starts low is
     beside_legible leaf node rank (Traps trap) (Spending found) full faithful low is spent small = absurd is
     beside_legible leaf node rank (Traps trap) (Learning learnt) full faithful low is spent small = absurd is
     beside_legible leaf node rank (Traps trap) (Filling count) full faithful low is spent small = absurd is
-    beside_legible leaf node rank (Cut Steps) (Tested test) full faithful low is spent small = test_legible r.image r.regions r.budgets.steps leaf rank test full faithful starts sizes low is
+    beside_legible leaf node rank (Cut Steps) (Tested test) full faithful low is spent small = test_legible r.image r.regions r.budgets.steps leaf rank test full faithful starts low is
     beside_legible leaf node rank (Cut Steps) (Spending found) full faithful low is spent small = absurd is
     beside_legible leaf node rank (Cut Steps) (Learning learnt) full faithful low is spent small = absurd is
     beside_legible leaf node rank (Cut Steps) (Filling count) full faithful low is spent small = absurd is
