@@ -1,5 +1,5 @@
 -- A plan that was made, and then carried out.
-use Rattle.std.proofs.Common.{◌≡◌, ◌≢◌, ◌⊎◌, ℕ, List, [], inl, inr, refl, sym, ◌∙◌, ap, subst, arith}
+use Rattle.std.proofs.Common.{◌≡◌, ◌≢◌, ◌⊎◌, ℕ, List, [], ◌∷◌, inl, inr, refl, sym, ◌∙◌, ap, subst, arith}
 use Rattle.std.specs.Prelude.{Option, None, Some, IfSome, if◌then◌else◌, ◌==◌}
 use Rattle.tool_io.specs.Told.{Told, Seen, Put, Deeds, Gives, after, says, puts_all, IsPrefix, names_since}
 use Rattle.tool_io.specs.Causes.{Rose}
@@ -11,9 +11,9 @@ use Rattle.elf_load.specs.declared.refused.Refused.{Refused as WhyRefused}
 use Rattle.elf_load.specs.declared.region.Region.{Region}
 use Rattle.elf_load.specs.declared.unfit.Unfit.{Unfit as WhyUnfit}
 use Rattle.prog_gen.specs.Generated.{generated_file, generated_regions}
-use Rattle.tool_words.specs.Job.{Job, Bench, Explore, Replay}
+use Rattle.tool_words.specs.Job.{Job, Bench, Explore, Replay, Upgrade}
 use Rattle.tool_words.specs.Limits.{default_budgets}
-use Rattle.tool_top.specs.Lines.{no_memory}
+use Rattle.tool_top.specs.Lines.{no_memory, upgraded_line}
 use Rattle.tool_top.specs.Reports.{IsReportOf}
 use Rattle.tool_top.specs.Plan.{Plan, names_of, IsPlan, IsPlanned, IsReadFault, IsReported, IsRefusal, IsMisfit, Means, OnlyReads, most_bytes}
 use Rattle.elf_load.specs.Images.{Image, Loads}
@@ -21,10 +21,11 @@ use Rattle.elf_load.proofs.OneImage.{one_image}
 use Rattle.tree_core.specs.declared.budgets.Budgets.{Budgets}
 use Rattle.replay_core.specs.Replays.{IsAsSaid}
 use Rattle.tool_top.proofs.BenchEndings.{benched, not_benched}
+use Rattle.tool_top.proofs.UpgradeEndings.{not_upgraded, upgrade_done, upgrade_fault, upgrade_kept, upgrade_no_test, upgrade_puts}
 use Rattle.tool_top.proofs.ReplayEndings.{given_held, replay_fault, replay_kept, replay_no_job, replay_misfit, replay_no_program, replay_no_test, replay_other, replay_puts, replay_same}
 use Rattle.report_text.specs.Claims.{IsReport, Report}
 use Rattle.report_text.specs.Files.{files_of, summary_of}
-use Rattle.tool_top.specs.Answer.{HasEnded, Asked, Ran, named, numbered, line_with, status_of, IsAnswered, IsFaulted, IsFile, IsWanting, IsCarriedOut, IsCutByFault, IsWritten, WritesFor, OnReplayed, HoldsProgram, HoldsNoProgram, HoldsMisfit, HoldsNoTest, HoldsOther, HoldsTest, verdict_status}
+use Rattle.tool_top.specs.Answer.{HasEnded, Asked, Ran, named, numbered, line_with, status_of, IsAnswered, IsFaulted, IsFile, IsWanting, IsCarriedOut, IsCutByFault, IsWritten, WritesFor, OnReplayed, UpgradesFor, HoldsProgram, HoldsNoProgram, HoldsMisfit, HoldsNoTest, HoldsOther, HoldsTest, HoldsUpgrade, verdict_status}
 use Rattle.tool_top.specs.ReadBack.{AreReadBack}
 use Rattle.tool_top.proofs.ReadingBack.{read_back}
 use Rattle.tool_top.specs.declared.verdict.Verdict.{Verdict}
@@ -46,18 +47,21 @@ means_names told None plan is = rw is (IsPrefix-whole _)
 means_names told (Some (Explore program out asked budgets workers)) plan (bytes, given, names, treated) = rw names (IsPrefix-whole _)
 means_names told (Some (Replay program test)) plan (bytes, text, given, also, names, treated) = rw names (IsPrefix-whole _)
 means_names told (Some (Bench number workers out)) plan (names, benched) = rw names (IsPrefix-whole _)
+means_names told (Some (Upgrade test out)) plan (text, given, names, treated) = rw names (IsPrefix-whole _)
 
 fault_names : (job : Option Job) (plan : Plan) → IsReadFault job plan → IsPrefix plan.names (names_of job)
 fault_names None plan none = absurd none
 fault_names (Some (Explore program out asked budgets workers)) plan (begins, is) = begins
 fault_names (Some (Replay program test)) plan (begins, is) = begins
 fault_names (Some (Bench number workers out)) plan none = absurd none
+fault_names (Some (Upgrade test out)) plan (begins, is) = begins
 
 fault_verdict : (job : Option Job) (plan : Plan) → IsReadFault job plan → plan.verdict ≡ ReadFault
 fault_verdict None plan none = absurd none
 fault_verdict (Some (Explore program out asked budgets workers)) plan (begins, is) = ap (λ (p : Plan). p.verdict) is
 fault_verdict (Some (Replay program test)) plan (begins, is) = ap (λ (p : Plan). p.verdict) is
 fault_verdict (Some (Bench number workers out)) plan none = absurd none
+fault_verdict (Some (Upgrade test out)) plan (begins, is) = ap (λ (p : Plan). p.verdict) is
 
 pub plan_names : (old new : Seen) (job : Option Job) (plan : Plan) → IsPlan old new job plan → IsPrefix plan.names (names_of job)
 plan_names old new job plan (inl means) = means_names old.told job plan means
@@ -136,6 +140,7 @@ some_puts_done old new (Some (Explore program out asked budgets workers)) plan s
 some_puts_done old new (Some (Explore program out asked budgets workers)) plan some (inr (rose, (begins, is))) = absurd (some (ap (λ (p : Plan). p.puts) is))
 some_puts_done old new (Some (Replay program test)) plan some planned = absurd (some (replay_puts old new program test plan planned))
 some_puts_done old new (Some (Bench number workers out)) plan some planned = (benched old new number workers out plan planned).done
+some_puts_done old new (Some (Upgrade test out)) plan some planned = upgrade_puts old new test out plan some planned
 
 pub answered : (old mid new : Seen) (job : Option Job) (verdict : Verdict) (puts : List Put) (text : List ℕ) → IsPlanned old mid job verdict puts text → mid.writes ≡ old.writes → new.reads ≡ mid.reads → IsCarriedOut mid new verdict puts text [] → IsAnswered old new job verdict
 answered old mid new job verdict puts text planned writes reads out = record {
@@ -236,6 +241,7 @@ done_written old new (Some (Explore program out asked budgets workers)) Claim cl
     (record { source = named program; out = out; regions = asked; budgets = budgets; workers = workers }) r.0 r.2.image Claim h.plan h.plan.text
     claims r.1 r.2.loads r.2.fits r.2.report refl h.out
 done_written old new (Some (Replay program test)) Claim claims h = tt
+done_written old new (Some (Upgrade test out)) Claim claims h = tt
 done_written old new (Some (Bench number workers out)) Claim claims h =
     let is = benched old new number workers out h.plan h.planned in
     written (record { old = old; new = new; job = Some (Bench number workers out) })
@@ -247,13 +253,34 @@ pub done_same : (old new : Seen) (job : Option Job) → IsAnswered old new job D
 done_same old new None h = none_other old new h.plan Done h.is (λ e. cc) h.planned
 done_same old new (Some (Explore program out asked budgets workers)) h = tt
 done_same old new (Some (Bench number workers out)) h = tt
+done_same old new (Some (Upgrade test out)) h = tt
 done_same old new (Some (Replay program test)) h = replay_same old new program test h.plan h.is h.planned
+
+-- what was upgraded
+pub done_upgraded : (old new : Seen) (job : Option Job) → IsAnswered old new job Done → UpgradesFor (record { old = old; new = new; job = job }) job
+done_upgraded old new None h = none_other old new h.plan Done h.is (λ e. cc) h.planned
+done_upgraded old new (Some (Explore program out asked budgets workers)) h = tt
+done_upgraded old new (Some (Replay program test)) h = tt
+done_upgraded old new (Some (Bench number workers out)) h = tt
+done_upgraded old new (Some (Upgrade test out)) h =
+    let done = upgrade_done old new test out h.plan h.is h.planned in
+    let deeds : Deeds = record { names = h.plan.names; puts = h.plan.puts; said = h.out.said } in
+    let said : h.out.said ≡ h.plan.text = elim h.out.whole [ inl all ↦ all | inr cut ↦ absurd (cut.1 refl) ] in
+    record {
+      text = done.0;
+      new = done.2.new;
+      given = done.1;
+      gives = done.2.gives;
+      file = puts_since-after old.told new.told deeds (λ puts. puts ≡ (record { name = out; bytes = done.2.new }) ∷ []) h.out.changes done.2.file;
+      line = said_since-after old.told new.told deeds (λ said. said ≡ upgraded_line) h.out.changes (said ∙ done.2.line);
+    }
 
 pub differs_other : (old new : Seen) (job : Option Job) → IsAnswered old new job Differs → HoldsOther old.told job
 differs_other old new None h = none_other old new h.plan Differs h.is (λ e. cc) h.planned
 differs_other old new (Some (Explore program out asked budgets workers)) h = not_explored old new program out asked budgets workers h.plan Differs h.is (λ e. cc) (λ e. cc) (λ e. cc) (λ e. cc) h.planned
 differs_other old new (Some (Replay program test)) h = replay_other old new program test h.plan h.is h.planned
 differs_other old new (Some (Bench number workers out)) h = not_benched old new number workers out h.plan Differs h.is (λ e. cc) h.planned
+differs_other old new (Some (Upgrade test out)) h = not_upgraded old new test out h.plan Differs h.is (λ e. cc) (λ e. cc) (λ e. cc) h.planned
 
 -- what is refused is no test
 pub refused_no_test : (old new : Seen) (job : Option Job) → IsAnswered old new job TestRefused → HoldsNoTest old.told job
@@ -261,6 +288,7 @@ refused_no_test old new None h = none_other old new h.plan TestRefused h.is (λ 
 refused_no_test old new (Some (Explore program out asked budgets workers)) h = not_explored old new program out asked budgets workers h.plan TestRefused h.is (λ e. cc) (λ e. cc) (λ e. cc) (λ e. cc) h.planned
 refused_no_test old new (Some (Replay program test)) h = replay_no_test old new program test h.plan h.is h.planned
 refused_no_test old new (Some (Bench number workers out)) h = not_benched old new number workers out h.plan TestRefused h.is (λ e. cc) h.planned
+refused_no_test old new (Some (Upgrade test out)) h = upgrade_no_test old new test out h.plan h.is h.planned
 
 -- what is refused is no program
 pub refused_no_program : (old new : Seen) (job : Option Job) → IsAnswered old new job Refused → HoldsNoProgram old.told job
@@ -268,6 +296,7 @@ refused_no_program old new None h = none_other old new h.plan Refused h.is (λ e
 refused_no_program old new (Some (Explore program out asked budgets workers)) h = refused_refusal old new program out asked budgets workers h.plan h.is h.planned
 refused_no_program old new (Some (Replay program test)) h = replay_no_program old new program test h.plan h.is h.planned
 refused_no_program old new (Some (Bench number workers out)) h = not_benched old new number workers out h.plan Refused h.is (λ e. cc) h.planned
+refused_no_program old new (Some (Upgrade test out)) h = not_upgraded old new test out h.plan Refused h.is (λ e. cc) (λ e. cc) (λ e. cc) h.planned
 
 -- what doesn't fit is a program for another input
 pub unfit_holds : (old new : Seen) (job : Option Job) → IsAnswered old new job Unfit → HoldsMisfit old.told job
@@ -275,6 +304,7 @@ unfit_holds old new None h = none_other old new h.plan Unfit h.is (λ e. cc) h.p
 unfit_holds old new (Some (Explore program out asked budgets workers)) h = unfit_misfit old new program out asked budgets workers h.plan h.is h.planned
 unfit_holds old new (Some (Replay program test)) h = replay_misfit old new program test h.plan h.is h.planned
 unfit_holds old new (Some (Bench number workers out)) h = not_benched old new number workers out h.plan Unfit h.is (λ e. cc) h.planned
+unfit_holds old new (Some (Upgrade test out)) h = not_upgraded old new test out h.plan Unfit h.is (λ e. cc) (λ e. cc) (λ e. cc) h.planned
 
 -- Each status is that of one ending.
 abbrev verdict_of : ℕ → Option Verdict
@@ -317,6 +347,7 @@ no_job_none old new None h = refl
 no_job_none old new (Some (Explore program out asked budgets workers)) h = absurd (not_explored old new program out asked budgets workers h.plan NoJob h.is (λ e. cc) (λ e. cc) (λ e. cc) (λ e. cc) h.planned)
 no_job_none old new (Some (Replay program test)) h = absurd (replay_no_job old new program test h.plan h.is h.planned)
 no_job_none old new (Some (Bench number workers out)) h = absurd (not_benched old new number workers out h.plan NoJob h.is (λ e. cc) h.planned)
+no_job_none old new (Some (Upgrade test out)) h = absurd (not_upgraded old new test out h.plan NoJob h.is (λ e. cc) (λ e. cc) (λ e. cc) h.planned)
 
 -- a read fault was counted, where that is said
 none_fault : (old new : Seen) (plan : Plan) → plan.verdict ≡ ReadFault → IsPlan old new None plan → Rose old.reads new.reads
@@ -328,6 +359,7 @@ read_rose old new None h = none_fault old new h.plan h.is h.planned
 read_rose old new (Some (Explore program out asked budgets workers)) h = fault_rose old new program out asked budgets workers h.plan h.is h.planned
 read_rose old new (Some (Replay program test)) h = replay_fault old new program test h.plan h.is h.planned
 read_rose old new (Some (Bench number workers out)) h = absurd (not_benched old new number workers out h.plan ReadFault h.is (λ e. cc) h.planned)
+read_rose old new (Some (Upgrade test out)) h = upgrade_fault old new test out h.plan h.is h.planned
 
 -- a write fault is answered only where there is a job
 pub faulted_job : (old new : Seen) (job : Option Job) → IsFaulted old new job → job ≢ None
@@ -343,6 +375,7 @@ held_not_refused told (Some (Explore program out asked budgets workers)) (bytes,
     cc
 held_not_refused told (Some (Replay program test)) holds none = holds
 held_not_refused told (Some (Bench number workers out)) holds none = none
+held_not_refused told (Some (Upgrade test out)) holds none = holds
 
 -- nor is an input that fits
 held_not_unfit : (told : Told) (job : Option Job) → HoldsProgram told job → HoldsMisfit told job → ⊥
@@ -354,11 +387,13 @@ held_not_unfit told (Some (Explore program out asked budgets workers)) (bytes, h
     cc
 held_not_unfit told (Some (Replay program test)) holds misfit = holds
 held_not_unfit told (Some (Bench number workers out)) holds misfit = misfit
+held_not_unfit told (Some (Upgrade test out)) holds misfit = holds
 
 -- where it is held, and no fault was counted, it is explored to the end
 explored_whole : (old new : Seen) (job : Option Job) (verdict : Verdict) (status : ℕ) → IsAnswered old new job verdict → status ≡ verdict_status verdict → HoldsProgram old.told job → ¬ Rose old.reads new.reads → status ≡ 0
 explored_whole old new None verdict status h is holds read = absurd holds
 explored_whole old new (Some (Replay program test)) verdict status h is holds read = absurd holds
+explored_whole old new (Some (Upgrade test out)) verdict status h is holds read = absurd holds
 explored_whole old new (Some (Bench number workers out)) verdict status h is holds read =
     is ∙ ap verdict_status (sym h.is ∙ (benched old new number workers out h.plan h.planned).done)
 explored_whole old new (Some (Explore program out asked budgets workers)) verdict status h is holds read =
@@ -381,6 +416,7 @@ replayed_whole : (old new : Seen) (job : Option Job) (verdict : Verdict) (status
 replayed_whole old new None verdict status h is holds read = absurd holds
 replayed_whole old new (Some (Explore program out asked budgets workers)) verdict status h is holds read = absurd holds
 replayed_whole old new (Some (Bench number workers out)) verdict status h is holds read = absurd holds
+replayed_whole old new (Some (Upgrade test out)) verdict status h is holds read = absurd holds
 replayed_whole old new (Some (Replay program test)) verdict status h is (bytes, text, image, test_read, held, held_text, replayable) read =
     elim (replay_kept old new program test h.plan bytes text image test_read held held_text replayable read h.planned) [
       | inl done ↦ inl (is ∙ ap verdict_status (sym h.is ∙ done))
@@ -392,3 +428,17 @@ pub complete_replay : (old new : Seen) (job : Option Job) (ending : Ending) (sta
 complete_replay old new job (Planned verdict) status h is holds read wrote = elim (replayed_whole old new job verdict status h is holds read) [ inl zero ↦ inl zero | inr one ↦ inr (inl one) ]
 complete_replay old new job WriteFault status h is holds read wrote = absurd (wrote h.rose)
 complete_replay old new job NoMemory status h is holds read wrote = inr (inr is)
+
+-- where a test that has a text in format 2 is held, and no fault was counted, it is upgraded
+upgraded_whole : (old new : Seen) (job : Option Job) (verdict : Verdict) (status : ℕ) → IsAnswered old new job verdict → status ≡ verdict_status verdict → HoldsUpgrade old.told job → ¬ Rose old.reads new.reads → status ≡ 0
+upgraded_whole old new None verdict status h is holds read = absurd holds
+upgraded_whole old new (Some (Explore program out asked budgets workers)) verdict status h is holds read = absurd holds
+upgraded_whole old new (Some (Replay program test)) verdict status h is holds read = absurd holds
+upgraded_whole old new (Some (Bench number workers out)) verdict status h is holds read = absurd holds
+upgraded_whole old new (Some (Upgrade test out)) verdict status h is (text, changed, held, gives) read =
+    is ∙ ap verdict_status (sym h.is ∙ upgrade_kept old new test out h.plan text changed held gives read h.planned)
+
+pub complete_upgrade : (old new : Seen) (job : Option Job) (ending : Ending) (status : ℕ) → HasEnded old new job ending → status ≡ status_of ending → HoldsUpgrade old.told job → ¬ Rose old.reads new.reads → ¬ Rose old.writes new.writes → (status ≡ 0) ⊎ (status ≡ 8)
+complete_upgrade old new job (Planned verdict) status h is holds read wrote = inl (upgraded_whole old new job verdict status h is holds read)
+complete_upgrade old new job WriteFault status h is holds read wrote = absurd (wrote h.rose)
+complete_upgrade old new job NoMemory status h is holds read wrote = inr is

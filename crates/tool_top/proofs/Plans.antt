@@ -4,7 +4,6 @@ use Rattle.std.specs.Prelude.{All, Bool, not, ◌&&◌, ◌==◌, if◌then◌el
 use Rattle.std.proofs.lemmas.Bool.Decides.{nat_tests}
 use Rattle.std.proofs.lemmas.Bool.{or_parts}
 use Rattle.std.proofs.lemmas.List.Elements.{All-cons, All-nil}
-use Rattle.std.proofs.lemmas.List.Sums.{get_or-le-sum_by, sum_by-cons}
 use Rattle.std.specs.FinMap.{contains_key}
 use Rattle.std.specs.List.{list_any, range_with_len}
 use Rattle.std.specs.declared.alloc.AllocError.{AllocError}
@@ -21,6 +20,7 @@ use Rattle.fork_spec.specs.Leaves.{IsSmall}
 use Rattle.tool_words.specs.Job.{Bench, Job}
 use Rattle.rv_spec.specs.Memory.{count_of}
 use Rattle.tree_core.specs.declared.budgets.Budgets.{Budgets}
+use Rattle.report_text.proofs.ClaimsLegible.{sum_count}
 use Rattle.tool_top.specs.Reports.{IsReportOf}
 use Rattle.tool_top.specs.Lines.{refused_line, unfit_line, usage}
 use Rattle.tool_top.specs.Plan.{IsBenched, IsPlan, IsPlanned, OnlyReads, Plan, Treats, names_of}
@@ -90,11 +90,6 @@ module _ (out bytes : List ℕ) (asked : List Region) (budgets : Budgets) (worke
     report = r;
   })
 
--- the bytes of regions are counted in two ways
-pub sum_count : (rs : List Region) → sum_by (λ (r : Region). r.count) rs ≡ count_of rs
-sum_count [] = refl
-sum_count (r ∷ rs) = sum_by-cons (λ (r : Region). r.count) r rs ∙ ap (λ n. r.count + n) (sum_count rs)
-
 -- no reason is answered where none of the tests holds
 passed : {T : Type 0} (holds : Bool) (why : T) (rest : Option T) → (if holds then Some why else rest) ≡ None → (holds ≡ false) × (rest ≡ None)
 passed true why rest is = cc
@@ -109,16 +104,6 @@ few_bytes image asked fits =
     let short : nat_lt 1024 (sum_by (λ (r : Region). r.count) asked) ≡ false = (passed (unfit_too_long asked) TooLong _ some.1).0 in
     let same = sum_count asked in
     grind (arith, nat_tests, short, same)
-
--- so does each of them
-pub short_regions : (image : Image) (asked : List Region) → unfit image asked ≡ None → All (λ (r : Region). r.count ≤ 9999) asked
-unfolding unfit
-short_regions image asked fits k d within =
-    let few = passed (unfit_too_many asked) TooMany _ fits in
-    let some = passed (unfit_empty asked) Empty _ few.1 in
-    let short : nat_lt 1024 (sum_by (λ (r : Region). r.count) asked) ≡ false = (passed (unfit_too_long asked) TooLong _ some.1).0 in
-    let part = get_or-le-sum_by (λ (r : Region). r.count) asked k d within in
-    grind (arith, nat_tests, short, part)
 
 -- the first byte of a region that fits is on a mapped page
 first_mapped : (image : Image) (start count : ℕ) → (count == 0) ≡ false → list_any (λ address. not (is_in_image image address)) (range_with_len start count) ≡ false → start < 2 ^ 32

@@ -21,7 +21,7 @@ use Rattle.smt_text.proofs.Whole.{whole_full, whole_text}
 use Rattle.test_files.proofs.OneTest.{test_by_text}
 use Rattle.tool_io.specs.Told.{Put}
 use Rattle.tool_top.specs.ReadBack.{AreReadBack, HasOwnText, ReadsAs}
-use Rattle.tool_top.proofs.Plans.{region_starts, short_regions}
+use Rattle.tool_top.proofs.Plans.{region_starts}
 
 -- what reads as a leaf is the text of a leaf in full
 read_whole : (bytes : List ℕ) (leaf : Leaf) (is : IsTextOf bytes leaf) → IsWhole bytes is.read_as.reading
@@ -100,6 +100,6 @@ read_back out r claims counts fits =
             leaf = record { bytes = leaf_text e.leaf; is_put = among (leaf_put out rank e.leaf) there.leaf; reads = reads_as e.leaf full };
             beside = among (beside_put out rank e.beside) there.beside;
             alone = own_text e.beside
-                (entry_legible r claims counts (region_starts r.image r.regions fits) (short_regions r.image r.regions fits) rank e at);
+                (entry_legible r claims counts (region_starts r.image r.regions fits) rank e at);
           };
     }

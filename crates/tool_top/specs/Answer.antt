@@ -11,9 +11,9 @@ use Rattle.elf_load.specs.declared.refused.Refused.{Refused as WhyRefused}
 use Rattle.elf_load.specs.declared.region.Region.{Region}
 use Rattle.elf_load.specs.declared.unfit.Unfit.{Unfit as WhyUnfit}
 use Rattle.prog_gen.specs.Generated.{generated_file, generated_regions}
-use Rattle.tool_words.specs.Job.{Job, Bench, Explore, Replay, job_of}
+use Rattle.tool_words.specs.Job.{Job, Bench, Explore, Replay, Upgrade, job_of}
 use Rattle.tool_words.specs.Limits.{default_budgets}
-use Rattle.tool_top.specs.Lines.{bench_line, no_memory}
+use Rattle.tool_top.specs.Lines.{bench_line, no_memory, upgraded_line}
 use Rattle.tool_top.specs.Plan.{Plan, IsPlan, names_of, most_bytes}
 use Rattle.tree_core.specs.declared.budgets.Budgets.{Budgets}
 use Rattle.elf_load.specs.Images.{Image, Loads}
@@ -24,6 +24,7 @@ use Rattle.report_text.specs.Files.{files_of, summary_of}
 use Rattle.replay_core.specs.Replays.{IsAsSaid}
 use Rattle.test_files.specs.Reading.{reading}
 use Rattle.test_files.specs.Tests.{Test}
+use Rattle.test_files.specs.Upgrading.{upgraded}
 use Rattle.test_files.specs.declared.refused.TestRefused.{TestRefused as WhyNoTest}
 use Rattle.tool_top.specs.declared.verdict.Verdict.{Verdict}
 use Rattle.tool_top.specs.declared.verdict.Verdict.TheVariants.{Done, Differs, NoJob, Refused, Unfit, ReadFault, TestRefused}
@@ -182,6 +183,7 @@ WritesFor r (Some (Explore program out asked budgets workers)) Claim =
       workers = workers;
     }) Claim
 WritesFor r (Some (Replay program test)) Claim = Unit {0}
+WritesFor r (Some (Upgrade test out)) Claim = Unit {0}
 WritesFor r (Some (Bench number workers out)) Claim =
     IsWritten r (record {
       source = numbered number;
@@ -214,20 +216,48 @@ OnReplayed told None Claim = ⊥
 OnReplayed told (Some (Explore program out asked budgets workers)) Claim = Unit {0}
 OnReplayed told (Some (Replay program test)) Claim = IsRunTest told program test Claim
 OnReplayed told (Some (Bench number workers out)) Claim = Unit {0}
+OnReplayed told (Some (Upgrade test out)) Claim = Unit {0}
+
+-- The test's name gives a test, and its text in format 2 was put as the file `out`, and no other file, where the object tells its files;
+-- where it tells what was said, that was said.
+pub record IsUpgradedTo (r : Ran) (test out : List ℕ) : Type 0 where
+  pub text : List ℕ
+  pub new : List ℕ
+  pub given : Gives r.old.told test most_test_bytes text
+  pub gives : upgraded (reading text) ≡ Ok new
+  pub file : IfSome (puts_since r.old.told r.new.told)
+      (λ puts. puts ≡ (record { name = out; bytes = new }) ∷ [])
+  pub line : IfSome (said_since r.old.told r.new.told) (λ said. said ≡ upgraded_line)
+
+abbrev pub UpgradesFor : Ran → Option Job → Type 0
+UpgradesFor r None = ⊥
+UpgradesFor r (Some (Explore program out asked budgets workers)) = Unit {0}
+UpgradesFor r (Some (Replay program test)) = Unit {0}
+UpgradesFor r (Some (Bench number workers out)) = Unit {0}
+UpgradesFor r (Some (Upgrade test out)) = IsUpgradedTo r test out
+
+-- there is a job, and where it is to upgrade a test, that was done
+abbrev pub Upgrades : Ran → Type 0
+Upgrades r = UpgradesFor r r.job
 
 -- there is a job to replay a test, and the claim holds of its program and its test
 abbrev pub HoldsOther : Told → Option Job → Type 0
 HoldsOther told None = ⊥
 HoldsOther told (Some (Explore program out asked budgets workers)) = ⊥
 HoldsOther told (Some (Bench number workers out)) = ⊥
+HoldsOther told (Some (Upgrade test out)) = ⊥
 HoldsOther told (Some (Replay program test)) =
     IsRunTest told program test (λ image read. ¬ IsAsSaid image read)
 
--- there is a job to replay a test, its program's name gives the file of a program, and the other name's bytes are no test
+-- there is a job to replay a test, its program's name gives the file of a program, and the other name's bytes are no test; or to
+-- upgrade one, and its name's bytes are no test, or one that format 2 has no text of
 abbrev pub HoldsNoTest : Told → Option Job → Type 0
 HoldsNoTest told None = ⊥
 HoldsNoTest told (Some (Explore program out asked budgets workers)) = ⊥
 HoldsNoTest told (Some (Bench number workers out)) = ⊥
+HoldsNoTest told (Some (Upgrade test out)) =
+    (text : List ℕ) × (why : WhyNoTest) × Gives told test most_test_bytes text
+    × (upgraded (reading text) ≡ Err why)
 HoldsNoTest told (Some (Replay program test)) =
     (bytes : List ℕ) × (text : List ℕ) × (image : Image) × (why : WhyNoTest)
     × Gives told program most_bytes bytes × Gives told test most_test_bytes text × Loads bytes image
@@ -237,6 +267,7 @@ HoldsNoTest told (Some (Replay program test)) =
 abbrev pub HoldsNoProgram : Told → Option Job → Type 0
 HoldsNoProgram told None = ⊥
 HoldsNoProgram told (Some (Bench number workers out)) = ⊥
+HoldsNoProgram told (Some (Upgrade test out)) = ⊥
 HoldsNoProgram told (Some (Explore program out asked budgets workers)) =
     (bytes : List ℕ) × (why : WhyRefused) × Gives told program most_bytes bytes
     × (refusal bytes ≡ Some why)
@@ -248,6 +279,7 @@ HoldsNoProgram told (Some (Replay program test)) =
 abbrev pub HoldsMisfit : Told → Option Job → Type 0
 HoldsMisfit told None = ⊥
 HoldsMisfit told (Some (Bench number workers out)) = ⊥
+HoldsMisfit told (Some (Upgrade test out)) = ⊥
 HoldsMisfit told (Some (Explore program out asked budgets workers)) =
     (bytes : List ℕ) × (image : Image) × (why : WhyUnfit) × Gives told program most_bytes bytes
     × Loads bytes image × (unfit image asked ≡ Some why)
@@ -265,6 +297,7 @@ HoldsProgram told (Some (Explore program out asked budgets workers)) =
     × (option_map (take most_bytes) (told_held told program) ≡ Some bytes) × Loads bytes image
     × (unfit image asked ≡ None)
 HoldsProgram told (Some (Replay program test)) = ⊥
+HoldsProgram told (Some (Upgrade test out)) = ⊥
 HoldsProgram told (Some (Bench number workers out)) = Unit {0}
 
 -- there is a job to replay a test, and it is told that its names hold the files of a program and of a test whose regions fit it
@@ -272,8 +305,20 @@ abbrev pub HoldsTest : Told → Option Job → Type 0
 HoldsTest told None = ⊥
 HoldsTest told (Some (Explore program out asked budgets workers)) = ⊥
 HoldsTest told (Some (Bench number workers out)) = ⊥
+HoldsTest told (Some (Upgrade test out)) = ⊥
 HoldsTest told (Some (Replay program test)) =
     (bytes : List ℕ) × (text : List ℕ) × (image : Image) × (read : Test)
     × (option_map (take most_bytes) (told_held told program) ≡ Some bytes)
     × (option_map (take most_test_bytes) (told_held told test) ≡ Some text)
     × IsReplayable bytes text image read
+
+-- there is a job to upgrade a test, and it is told that its name holds one that has a text in format 2
+abbrev pub HoldsUpgrade : Told → Option Job → Type 0
+HoldsUpgrade told None = ⊥
+HoldsUpgrade told (Some (Explore program out asked budgets workers)) = ⊥
+HoldsUpgrade told (Some (Replay program test)) = ⊥
+HoldsUpgrade told (Some (Bench number workers out)) = ⊥
+HoldsUpgrade told (Some (Upgrade test out)) =
+    (text : List ℕ) × (new : List ℕ)
+    × (option_map (take most_test_bytes) (told_held told test) ≡ Some text)
+    × (upgraded (reading text) ≡ Ok new)

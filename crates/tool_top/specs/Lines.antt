@@ -11,6 +11,7 @@ usage =
     codes "usage: rvklee explore [--steps N] [--targets N] [--conflicts N] [--workers N] [--nodes N] [--order O] PROGRAM OUT INPUT..\n"
     ++ codes "       rvklee replay PROGRAM TEST\n"
     ++ codes "       rvklee bench NUMBER WORKERS OUT\n"
+    ++ codes "       rvklee upgrade TEST OUT\n"
 
 abbrev pub program_refused : ℕ → List ℕ → List ℕ
 program_refused number name =
@@ -41,6 +42,9 @@ test_refused why = codes "test refused " ++ decimal (test_number why) ++ codes "
 
 abbrev pub same : List ℕ
 same = codes "same\n"
+
+abbrev pub upgraded_line : List ℕ
+upgraded_line = codes "upgraded\n"
 
 -- the line of `bench`: which program it explored, and the summary of its report
 abbrev pub bench_line : (number : ℕ) → (summary : List ℕ) → List ℕ

@@ -9,12 +9,13 @@ use Rattle.elf_load.specs.declared.refused.Refused.{Refused as WhyRefused}
 use Rattle.elf_load.specs.declared.region.Region.{Region}
 use Rattle.elf_load.specs.declared.unfit.Unfit.{Unfit as WhyUnfit}
 use Rattle.prog_gen.specs.Generated.{generated_file, generated_regions}
-use Rattle.tool_words.specs.Job.{Job, Bench, Explore, Replay}
+use Rattle.tool_words.specs.Job.{Job, Bench, Explore, Replay, Upgrade}
 use Rattle.tool_words.specs.Limits.{default_budgets}
 use Rattle.tree_core.specs.declared.budgets.Budgets.{Budgets}
 use Rattle.tool_top.specs.Lines.{bench_line, read_fault, refused_line, unfit_line, usage}
 use Rattle.tool_top.specs.Replaying.{IsNoTest, IsReplayed, IsTestMisfit, most_test_bytes}
 use Rattle.tool_top.specs.Reports.{IsReportOf}
+use Rattle.tool_top.specs.Upgrading.{TreatsUpgrade}
 use Rattle.tool_top.specs.declared.plan.TheConstants.{MOST_BYTES}
 use Rattle.tool_top.specs.declared.verdict.Verdict.{Verdict}
 use Rattle.tool_top.specs.declared.verdict.Verdict.TheVariants.{Done, NoJob, Refused, Unfit, ReadFault}
@@ -25,6 +26,7 @@ names_of None = []
 names_of (Some (Explore program out asked budgets workers)) = program ∷ []
 names_of (Some (Replay program test)) = program ∷ test ∷ []
 names_of (Some (Bench number workers out)) = []
+names_of (Some (Upgrade test out)) = test ∷ []
 
 -- the names that were read, and what is to be put and said
 pub record Plan : Type 0 where
@@ -108,6 +110,9 @@ Means told (Some (Replay program test)) plan =
     × (plan.names ≡ program ∷ test ∷ []) × TreatsTest bytes text plan.verdict plan.puts plan.text
 Means told (Some (Bench number workers out)) plan = (plan.names ≡ [])
     × IsBenched number workers out plan.verdict plan.puts plan.text
+Means told (Some (Upgrade test out)) plan =
+    (text : List ℕ) × Gives told test most_test_bytes text × (plan.names ≡ test ∷ [])
+    × TreatsUpgrade out text plan.verdict plan.puts plan.text
 
 -- of these names some were read, from the first on, the last of them in vain
 abbrev pub IsFaultAmong : (names : List (List ℕ)) → Plan → Type 0
@@ -121,6 +126,7 @@ IsReadFault (Some (Explore program out asked budgets workers)) plan =
     IsFaultAmong (program ∷ []) plan
 IsReadFault (Some (Replay program test)) plan = IsFaultAmong (program ∷ test ∷ []) plan
 IsReadFault (Some (Bench number workers out)) plan = ⊥
+IsReadFault (Some (Upgrade test out)) plan = IsFaultAmong (test ∷ []) plan
 
 -- the plan of a job, for the bytes that its names give
 abbrev pub IsPlan : Seen → Seen → Option Job → Plan → Type 0

@@ -8,6 +8,7 @@ mod plan;
 mod refusals;
 mod replaying;
 mod run;
+mod upgrading;
 mod verdict;
 
 pub use run::run_tool;

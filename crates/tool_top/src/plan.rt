@@ -9,6 +9,7 @@ use crate::benching::plan_bench;
 use crate::exploring::plan_explore;
 use crate::refusals::{say_refused, say_unfit};
 use crate::replaying::plan_replay;
+use crate::upgrading::plan_upgrade;
 use crate::verdict::Verdict;
 use byte_list::Bytes;
 use elf_load::{Refused, Unfit};
@@ -26,6 +27,7 @@ const USAGE: &[u8] =
     b"usage: rvklee explore [--steps N] [--targets N] [--conflicts N] [--workers N] [--nodes N] [--order O] PROGRAM OUT INPUT..
        rvklee replay PROGRAM TEST
        rvklee bench NUMBER WORKERS OUT
+       rvklee upgrade TEST OUT
 ";
 
 /// What is to be put and said, and what the run answers then.
@@ -102,6 +104,7 @@ pub(crate) fn make_plan<R: Threads + Wait + Sync, F: Files, G: Gate + Sync>(
                 out,
             },
         ) => plan_bench(rt, alloc, number, workers, out.as_str(), gate),
+        Ok(Job::Upgrade { test, out }) => plan_upgrade(alloc, test.as_str(), out.as_str(), files),
         Err(WordsError::Usage) => says_only(alloc, Verdict::NoJob, USAGE),
         Err(WordsError::NoMemory) => Err(NoMemory),
     }

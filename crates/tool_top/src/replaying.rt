@@ -20,7 +20,7 @@ use test_files::{Test, TestError, read_test};
 use tool_io::{Fault, Files};
 
 // The most bytes of a test's file that are read.
-const MOST_TEST_BYTES: usize = 16_777_217;
+pub(crate) const MOST_TEST_BYTES: usize = 16_777_217;
 
 // The answer of a test that can be run.
 fn plan_run(

@@ -1,11 +1,11 @@
 use Rattle.std.proofs.Common.{◌∙◌}
+use Rattle.report_text.proofs.ClaimsLegible.{sum_count}
 use Rattle.test_files.proofs.Bounded.{read_bounded}
-use Rattle.tool_top.proofs.Plans.{sum_count}
 use Rattle.tool_top.proofs.ReplayPlans.{replays_other, replays_same}
 use Rattle.tool_top.proofs.replaying.plan_run.Goals as goal
 
 pub replay-requires-clause-whole : goal.replay-requires-clause-whole
-replay-requires-clause-whole c = (read_bounded c.args.text.now c.args.test.now c.requires.replayable.reads).input_long ∙ sum_count c.args.test.now.regions
+replay-requires-clause-whole c = (read_bounded c.args.text.now c.args.test.now c.requires.replayable.reads).legible.input_long ∙ sum_count c.args.test.now.regions
 
 pub returns-in-Same : goal.returns-in-Same
 returns-in-Same c =
