@@ -196,13 +196,16 @@ fn a_shared_page(rt: HostRuntime) -> Result<(), Fail> {
 }
 
 // Starts and counts of regions, and whether they fit.
-const REGION_ROWS: [(&[(u32, u32)], Result<(), Unfit>); 10] = [
+const REGION_ROWS: [(&[(u32, u32)], Result<(), Unfit>); 13] = [
     (&[], Ok(())),
     (&[(0x11000, 256)], Ok(())),
     (&[(0x11000, 1), (0x11001, 1), (0x110FF, 2)], Ok(())),
     (&[(0x11000, 1); 9], Err(Unfit::TooMany)),
     (&[(0x11000, 0)], Err(Unfit::Empty)),
-    (&[(0x11000, 257)], Err(Unfit::TooLong)),
+    (&[(0x11000, 512)], Ok(())),
+    (&[(0x7FFF_0000, 1_024)], Ok(())),
+    (&[(0x7FFF_0000, 1_025)], Err(Unfit::TooLong)),
+    (&[(0x11000, 1_025)], Err(Unfit::TooLong)),
     (&[(0x12000, 1)], Err(Unfit::Unmapped)),
     (&[(0x111FF, 2)], Err(Unfit::Unmapped)),
     (&[(0xFFFF_FFFF, 2)], Err(Unfit::Unmapped)),

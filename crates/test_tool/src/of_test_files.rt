@@ -1,2 +1,3 @@
 mod reads;
+mod upgrades;
 mod writes;

@@ -7,4 +7,5 @@ mod refusals;
 mod replays;
 mod rows;
 pub(crate) mod runs;
+mod upgrades;
 mod workers;

@@ -16,6 +16,8 @@ enum Wanted {
     Replay(&'static str, &'static str),
     /// The number, the workers and the folder.
     Bench(u32, u32, &'static str),
+    /// The test and the file.
+    Upgrade(&'static str, &'static str),
 }
 
 // Where no option is given.
@@ -26,7 +28,7 @@ const BY_OLDEST: Options = (10_000, 16, 2_000, 1_000_000, 4, Order::Oldest);
 const BY_MIXED: Options = (10_000, 16, 2_000, 50, 4, Order::Mixed);
 
 /// Command lines, and what they ask for.
-static TAKEN: [(&[&str], Wanted); 19] = [
+static TAKEN: [(&[&str], Wanted); 21] = [
     (
         &["rvklee", "explore", "a.elf", "out", "00011000:1"],
         Wanted::Explore("a.elf", "out", &[(0x11000, 1)], DEFAULTS),
@@ -206,10 +208,18 @@ static TAKEN: [(&[&str], Wanted); 19] = [
         &["rvklee", "bench", "--", "1", "1", "-out"],
         Wanted::Bench(1, 1, "-out"),
     ),
+    (
+        &["rvklee", "upgrade", "t.json", "new.json"],
+        Wanted::Upgrade("t.json", "new.json"),
+    ),
+    (
+        &["rvklee", "upgrade", "--", "-t.json", "upgrade"],
+        Wanted::Upgrade("-t.json", "upgrade"),
+    ),
 ];
 
 /// Command lines that say too little, too much, a number out of its form or its limit, or an order that is none.
-static REFUSED: [&[&str]; 46] = [
+static REFUSED: [&[&str]; 49] = [
     &[],
     &["rvklee"],
     &["rvklee", "explore", "a.elf", "out"],
@@ -429,6 +439,9 @@ static REFUSED: [&[&str]; 46] = [
     &["rvklee", "bench", "8", "65", "out"],
     &["rvklee", "bench", "8", "2"],
     &["rvklee", "bench", "8", "2", "out", "00011000:8"],
+    &["rvklee", "upgrade", "t.json"],
+    &["rvklee", "upgrade", "t.json", "new.json", "more.json"],
+    &["rvklee", "upgrade", "--steps", "5", "t.json", "new.json"],
 ];
 
 /// The words as a program is given them.
@@ -487,6 +500,9 @@ fn is_wanted(job: &Job, wanted: &Wanted) -> bool {
             },
             Wanted::Bench(which, many, folder),
         ) => { *number == *which && *workers == *many && out.as_str() == *folder }
+        (Job::Upgrade { test, out }, Wanted::Upgrade(said, file)) => {
+            test.as_str() == *said && out.as_str() == *file
+        }
         _ => false,
     }
 }

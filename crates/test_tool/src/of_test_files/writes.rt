@@ -1,4 +1,4 @@
-//! The text of a test, byte for byte.
+//! The text of a test, byte for byte, in format 2.
 
 use byte_list::Bytes;
 use elf_load::{Region, Regions};
@@ -7,14 +7,14 @@ use std::alloc::{AllocError as NoMemory, Global};
 use std::test::Fail;
 use test_files::{Test, write_test};
 
-pub(super) static ENDED: &str =
-    "{\"end\":\"exit 7\",\"format\":1,\"input\":\"00\",\"leaf\":0,\"output\":\"\",\"path\":\"\",\"regions\":[\"00011000:1\"],\"steps\":3}\n";
+pub(super) const ENDED: &str =
+    "{\"end\":\"exit 7\",\"format\":2,\"inputs\":[{\"at\":\"00011000\",\"bytes\":\"00\"}],\"leaf\":0,\"output\":\"\",\"path\":\"\",\"steps\":3}\n";
 
-pub(super) static TRAPPED: &str =
-    "{\"end\":\"trap LoadAccess\",\"format\":1,\"input\":\"00ff41\",\"leaf\":12,\"output\":\"0a\",\"path\":\"TN@00010028\",\"regions\":[\"00011000:1\",\"fffffffe:2\"],\"steps\":4}\n";
+pub(super) const TRAPPED: &str =
+    "{\"end\":\"trap LoadAccess\",\"format\":2,\"inputs\":[{\"at\":\"00011000\",\"bytes\":\"00\"},{\"at\":\"fffffffe\",\"bytes\":\"ff41\"}],\"leaf\":12,\"output\":\"0a\",\"path\":\"TN@00010028\",\"steps\":4}\n";
 
-pub(super) static RUNNING: &str =
-    "{\"end\":\"running\",\"format\":1,\"input\":\"10\",\"leaf\":0,\"output\":\"\",\"path\":\"N\",\"regions\":[\"00011000:1\"],\"steps\":50}\n";
+pub(super) const RUNNING: &str =
+    "{\"end\":\"running\",\"format\":2,\"inputs\":[{\"at\":\"00011000\",\"bytes\":\"10\"}],\"leaf\":0,\"output\":\"\",\"path\":\"N\",\"steps\":50}\n";
 
 /// What a test says.
 struct Said {

@@ -59,7 +59,17 @@ const MOST_BYTES: &[&str] = &[
     "1",
     "p.elf",
     "out",
-    "00011000:256",
+    "7FFF0000:1024",
+];
+
+const PAST_A_PAGE: &[&str] = &[
+    "rvklee",
+    "explore",
+    "--workers",
+    "1",
+    "p.elf",
+    "out",
+    "00011000:257",
 ];
 
 const ONE_CONFLICT: &[&str] = &[
@@ -78,6 +88,14 @@ const ROWS: &[Row] = &[
     Row {
         program: &STRAIGHT,
         words: MOST_BYTES,
+        said: "leaves 1 finished 1 cut 0 tests 1 steps 3\n",
+        puts: 4,
+        tests: 1,
+        files: &[],
+    },
+    Row {
+        program: &STRAIGHT,
+        words: PAST_A_PAGE,
         said: "leaves 1 finished 1 cut 0 tests 1 steps 3\n",
         puts: 4,
         tests: 1,
@@ -117,7 +135,7 @@ const ROWS: &[Row] = &[
             (
                 2,
                 "out/test-000000.json",
-                "{\"end\":\"exit 0\",\"format\":1,\"input\":\"0000\",",
+                "{\"end\":\"exit 0\",\"format\":2,\"inputs\":[{\"at\":\"00011000\",\"bytes\":\"0000\"}],",
             ),
             (
                 3,
@@ -142,7 +160,7 @@ const ROWS: &[Row] = &[
             (
                 2,
                 "out/test-000000.json",
-                "{\"end\":\"exit 0\",\"format\":1,\"input\":\"0000\",\"leaf\":0,\"output\":\"\",",
+                "{\"end\":\"exit 0\",\"format\":2,\"inputs\":[{\"at\":\"00011000\",\"bytes\":\"0000\"}],\"leaf\":0,\"output\":\"\",",
             ),
             (
                 3,
@@ -218,20 +236,20 @@ fn is_made_of(text: &[u8], parts: &[&[u8]]) -> bool {
 
 // Whether the test of this rank, whose status has one digit, says as its output so many digits of its input, and more behind them.
 fn is_written(text: &[u8], rank: &str, digits: usize, more: &str) -> bool {
-    let Some(input) = text.get(36..40) else {
+    let Some(input) = text.get(63..67) else {
         return false;
     };
     let parts = [
         b"{\"end\":\"exit ".as_slice(),
         rank.as_bytes(),
-        b"\",\"format\":1,\"input\":\"",
+        b"\",\"format\":2,\"inputs\":[{\"at\":\"00011000\",\"bytes\":\"",
         input,
-        b"\",\"leaf\":",
+        b"\"}],\"leaf\":",
         rank.as_bytes(),
         b",\"output\":\"",
         &input[..digits.min(4)],
         more.as_bytes(),
-        b"\",\"path\":\"\",\"regions\":[\"00011000:2\"],\"steps\":9}\n",
+        b"\",\"path\":\"\",\"steps\":9}\n",
     ];
     is_made_of(text, &parts)
 }

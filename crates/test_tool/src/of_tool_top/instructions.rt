@@ -137,7 +137,7 @@ const ROWS: &[Row] = &[
             (
                 2,
                 "out/test-000000.json",
-                "{\"end\":\"exit 255\",\"format\":1,\"input\":\"00\",\"leaf\":0,\"output\":\"\",\"path\":\"\",\"regions\":[\"00011000:1\"],\"steps\":6}\n",
+                "{\"end\":\"exit 255\",\"format\":2,\"inputs\":[{\"at\":\"00011000\",\"bytes\":\"00\"}],\"leaf\":0,\"output\":\"\",\"path\":\"\",\"steps\":6}\n",
             ),
         ],
     },
@@ -157,7 +157,7 @@ const ROWS: &[Row] = &[
             (
                 2,
                 "out/test-000000.json",
-                "{\"end\":\"exit 0\",\"format\":1,\"input\":\"00\",\"leaf\":0,\"output\":\"\",\"path\":\"N\",\"regions\":[\"00011000:1\"],\"steps\":8}\n",
+                "{\"end\":\"exit 0\",\"format\":2,\"inputs\":[{\"at\":\"00011000\",\"bytes\":\"00\"}],\"leaf\":0,\"output\":\"\",\"path\":\"N\",\"steps\":8}\n",
             ),
             (
                 3,
@@ -167,7 +167,7 @@ const ROWS: &[Row] = &[
             (
                 4,
                 "out/test-000001.json",
-                "{\"end\":\"exit 1\",\"format\":1,\"input\":\"41\",\"leaf\":1,\"output\":\"\",\"path\":\"T\",\"regions\":[\"00011000:1\"],\"steps\":9}\n",
+                "{\"end\":\"exit 1\",\"format\":2,\"inputs\":[{\"at\":\"00011000\",\"bytes\":\"41\"}],\"leaf\":1,\"output\":\"\",\"path\":\"T\",\"steps\":9}\n",
             ),
         ],
     },
@@ -280,7 +280,7 @@ const ROWS: &[Row] = &[
             (
                 4,
                 "out/test-000001.json",
-                "{\"end\":\"exit 0\",\"format\":1,\"input\":\"00\",",
+                "{\"end\":\"exit 0\",\"format\":2,\"inputs\":[{\"at\":\"00011000\",\"bytes\":\"00\"}],",
             ),
         ],
     },
@@ -300,7 +300,7 @@ const ROWS: &[Row] = &[
             (
                 2,
                 "out/test-000000.json",
-                "{\"end\":\"exit 0\",\"format\":1,\"input\":\"00\",",
+                "{\"end\":\"exit 0\",\"format\":2,\"inputs\":[{\"at\":\"00010003\",\"bytes\":\"00\"}],",
             ),
             (
                 9,

@@ -133,7 +133,11 @@ const TWICE: &[&str] = &[
 
 const NONE: &[&str] = &["rvklee", "explore", "p.elf", "out", "00011000:0"];
 
-const LONG: &[&str] = &["rvklee", "explore", "p.elf", "out", "00011000:257"];
+const LONG: &[&str] = &["rvklee", "explore", "p.elf", "out", "00011000:1025"];
+
+const LONG_STACK: &[&str] = &["rvklee", "explore", "p.elf", "out", "7FFF0000:1025"];
+
+const PAST: &[&str] = &["rvklee", "explore", "p.elf", "out", "00011000:513"];
 
 const FAR: &[&str] = &["rvklee", "explore", "p.elf", "out", "00012000:1"];
 
@@ -142,6 +146,8 @@ const INPUTS: &[(&[&'static str], &str)] = &[
     (NINE, "inputs refused 1 TooMany\n"),
     (NONE, "inputs refused 2 Empty\n"),
     (LONG, "inputs refused 3 TooLong\n"),
+    (LONG_STACK, "inputs refused 3 TooLong\n"),
+    (PAST, "inputs refused 4 Unmapped\n"),
     (FAR, "inputs refused 4 Unmapped\n"),
     (TWICE, "inputs refused 5 Overlap\n"),
 ];

@@ -23,6 +23,12 @@ const ROWS: &[Row] = &[
         0,
         "same\n",
     ),
+    (
+        FORKS,
+        r#"{"end":"exit 1","format":2,"inputs":[{"at":"00011000","bytes":"41"}],"leaf":1,"output":"","path":"T","steps":7}"#,
+        0,
+        "same\n",
+    ),
     // Keys in another order, and one more; hexadecimal digits of either case are taken.
     (
         FORKS,
@@ -32,19 +38,19 @@ const ROWS: &[Row] = &[
     ),
     (
         FORKS,
-        r#"{"end":"exit 1","format":1,"input":"42","leaf":1,"output":"","path":"T","regions":["00011000:1"],"steps":7}"#,
+        r#"{"end":"exit 1","format":2,"inputs":[{"at":"00011000","bytes":"42"}],"leaf":1,"output":"","path":"T","steps":7}"#,
         1,
         "differs\nend exit 0\nsteps 6\npath N.\noutput .\n",
     ),
     (
         FORKS,
-        r#"{"end":"running","format":1,"input":"41","leaf":1,"output":"","path":"T","regions":["00011000:1"],"steps":4}"#,
+        r#"{"end":"running","format":2,"inputs":[{"at":"00011000","bytes":"41"}],"leaf":1,"output":"","path":"T","steps":4}"#,
         0,
         "same\n",
     ),
     (
         FORKS,
-        r#"{"end":"exit 1","format":1,"input":"4","leaf":1,"output":"","path":"T","regions":["00011000:1"],"steps":7}"#,
+        r#"{"end":"exit 1","format":2,"inputs":[{"at":"00011000","bytes":"4"}],"leaf":1,"output":"","path":"T","steps":7}"#,
         7,
         "test refused 4 Hex\n",
     ),
@@ -54,10 +60,29 @@ const ROWS: &[Row] = &[
         7,
         "test refused 5 Length\n",
     ),
+    // In format 2 a region has as many places as bytes.
+    (
+        FORKS,
+        r#"{"end":"exit 1","format":2,"inputs":[{"at":"00011000","bytes":"4142"}],"leaf":1,"output":"","path":"T","steps":7}"#,
+        0,
+        "same\n",
+    ),
+    (
+        FORKS,
+        r#"{"end":"exit 1","format":2,"inputs":[{"at":"00011000","bytes":""}],"leaf":1,"output":"","path":"T","steps":7}"#,
+        7,
+        "test refused 5 Length\n",
+    ),
     (FORKS, "", 7, "test refused 1 NotJson\n"),
     (FORKS, "{}", 7, "test refused 2 Missing\n"),
     (FORKS, "[]", 7, "test refused 3 Kind\n"),
-    // Regions as for explore, but that there may be none.
+    (
+        FORKS,
+        r#"{"end":"exit 1","format":7,"leaf":1,"output":"","path":"T","regions":["00011000:1"],"steps":7}"#,
+        7,
+        "test refused 3 Kind\n",
+    ),
+    // Regions as for explore, but that a test of format 1 may have none.
     (
         FORKS,
         r#"{"end":"exit 1","format":1,"input":"41","leaf":1,"output":"","path":"T","regions":["00012000:1"],"steps":7}"#,

@@ -76,7 +76,7 @@ const ROWS: &[Row] = &[
             (
                 2,
                 "out/test-000000.json",
-                "{\"end\":\"exit 7\",\"format\":1,\"input\":\"00\",\"leaf\":0,\"output\":\"\",\"path\":\"\",\"regions\":[\"00011000:1\"],\"steps\":3}\n",
+                "{\"end\":\"exit 7\",\"format\":2,\"inputs\":[{\"at\":\"00011000\",\"bytes\":\"00\"}],\"leaf\":0,\"output\":\"\",\"path\":\"\",\"steps\":3}\n",
             ),
             (
                 3,
@@ -105,7 +105,7 @@ const ROWS: &[Row] = &[
             (
                 2,
                 "out/test-000000.json",
-                "{\"end\":\"exit 0\",\"format\":1,\"input\":\"00\",\"leaf\":0,\"output\":\"\",\"path\":\"N\",\"regions\":[\"00011000:1\"],\"steps\":6}\n",
+                "{\"end\":\"exit 0\",\"format\":2,\"inputs\":[{\"at\":\"00011000\",\"bytes\":\"00\"}],\"leaf\":0,\"output\":\"\",\"path\":\"N\",\"steps\":6}\n",
             ),
             (
                 3,
@@ -115,7 +115,7 @@ const ROWS: &[Row] = &[
             (
                 4,
                 "out/test-000001.json",
-                "{\"end\":\"exit 1\",\"format\":1,\"input\":\"41\",\"leaf\":1,\"output\":\"\",\"path\":\"T\",\"regions\":[\"00011000:1\"],\"steps\":7}\n",
+                "{\"end\":\"exit 1\",\"format\":2,\"inputs\":[{\"at\":\"00011000\",\"bytes\":\"41\"}],\"leaf\":1,\"output\":\"\",\"path\":\"T\",\"steps\":7}\n",
             ),
         ],
     },
@@ -134,7 +134,7 @@ const ROWS: &[Row] = &[
             (
                 2,
                 "out/test-000000.json",
-                "{\"end\":\"exit 1\",\"format\":1,\"input\":\"0",
+                "{\"end\":\"exit 1\",\"format\":2,\"inputs\":[{\"at\":\"00011000\",\"bytes\":\"0",
             ),
             (
                 3,
@@ -165,7 +165,7 @@ const ROWS: &[Row] = &[
             (
                 2,
                 "out/test-000000.json",
-                "{\"end\":\"running\",\"format\":1,\"input\":\"",
+                "{\"end\":\"running\",\"format\":2,\"inputs\":[{\"at\":\"00011000\",\"bytes\":\"",
             ),
             (
                 33,
@@ -175,7 +175,7 @@ const ROWS: &[Row] = &[
             (
                 34,
                 "out/test-000016.json",
-                "{\"end\":\"exit 0\",\"format\":1,\"input\":\"00\",\"leaf\":16,",
+                "{\"end\":\"exit 0\",\"format\":2,\"inputs\":[{\"at\":\"00011000\",\"bytes\":\"00\"}],\"leaf\":16,",
             ),
         ],
     },
@@ -213,7 +213,7 @@ const ROWS: &[Row] = &[
             (
                 2,
                 "out/test-000000.json",
-                "{\"end\":\"trap Call\",\"format\":1,\"input\":\"00\",\"leaf\":0,\"output\":\"\",\"path\":\"\",\"regions\":[\"00011000:1\"],\"steps\":3}\n",
+                "{\"end\":\"trap Call\",\"format\":2,\"inputs\":[{\"at\":\"00011000\",\"bytes\":\"00\"}],\"leaf\":0,\"output\":\"\",\"path\":\"\",\"steps\":3}\n",
             ),
             (
                 9,

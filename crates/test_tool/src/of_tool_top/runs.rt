@@ -16,7 +16,7 @@ use work_gate::{Gate, OpenGate};
 pub(crate) const SUMMARY: &str = "leaves 2 finished 2 cut 0 tests 2 steps 13\n";
 
 const USAGE: &str =
-    "usage: rvklee explore [--steps N] [--targets N] [--conflicts N] [--workers N] [--nodes N] [--order O] PROGRAM OUT INPUT..\n       rvklee replay PROGRAM TEST\n       rvklee bench NUMBER WORKERS OUT\n";
+    "usage: rvklee explore [--steps N] [--targets N] [--conflicts N] [--workers N] [--nodes N] [--order O] PROGRAM OUT INPUT..\n       rvklee replay PROGRAM TEST\n       rvklee bench NUMBER WORKERS OUT\n       rvklee upgrade TEST OUT\n";
 
 const UNFIT: &str = "inputs refused 4 Unmapped\n";
 
@@ -25,10 +25,10 @@ const FAULT: &str = "read fault\n";
 const REFUSED: &str = "program refused 2 Short\n";
 
 const TEST_0: &str =
-    "{\"end\":\"exit 0\",\"format\":1,\"input\":\"00\",\"leaf\":0,\"output\":\"\",\"path\":\"N\",\"regions\":[\"00011000:1\"],\"steps\":6}\n";
+    "{\"end\":\"exit 0\",\"format\":2,\"inputs\":[{\"at\":\"00011000\",\"bytes\":\"00\"}],\"leaf\":0,\"output\":\"\",\"path\":\"N\",\"steps\":6}\n";
 
 const TEST_1: &str =
-    "{\"end\":\"exit 1\",\"format\":1,\"input\":\"41\",\"leaf\":1,\"output\":\"\",\"path\":\"T\",\"regions\":[\"00011000:1\"],\"steps\":7}\n";
+    "{\"end\":\"exit 1\",\"format\":2,\"inputs\":[{\"at\":\"00011000\",\"bytes\":\"41\"}],\"leaf\":1,\"output\":\"\",\"path\":\"T\",\"steps\":7}\n";
 
 pub(crate) const EXPLORE: &[&str] = &[
     "rvklee",
