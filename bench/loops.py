@@ -32,6 +32,7 @@ def write_elf(path, words):
 def write_tests(folder):
     """A test of the whole loop, and one of its first step, which is as long to read and differs."""
     path, files = "T" * (TURNS - 1) + "N", []
+    # A test with no region is one of format 1: format 2 has no text of it.
     for name, steps in (("whole", STEPS), ("one", 1)):
         test = {"end": "exit 0", "format": 1, "input": "", "leaf": 0, "output": "", "path": path, "regions": [], "steps": steps}
         files.append(folder / f"{name}.json")

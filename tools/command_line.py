@@ -9,7 +9,8 @@ import re
 from own_options import NAMES
 
 Limit = collections.namedtuple("Limit", "most default")
-COMMANDS = {"explore": ("PROGRAM", "OUT", "INPUT"), "replay": ("PROGRAM", "TEST"), "bench": ("NUMBER", "WORKERS", "OUT")}
+COMMANDS = {"explore": ("PROGRAM", "OUT", "INPUT"), "replay": ("PROGRAM", "TEST"), "bench": ("NUMBER", "WORKERS", "OUT"),
+            "upgrade": ("TEST", "OUT")}
 # Of the options of `explore` that take a number.
 LIMITS = {"--steps": Limit(1_000_000, 10_000), "--targets": Limit(64, 16), "--conflicts": Limit(100_000, 2_000),
           "--workers": Limit(64, 4), "--nodes": Limit(1_000_000, 1_000_000)}
@@ -21,6 +22,7 @@ NUMBERS = {"NUMBER": 12, "WORKERS": 64}
 USAGE = """usage: rvklee explore [--steps N] [--targets N] [--conflicts N] [--workers N] [--nodes N] [--order O] PROGRAM OUT INPUT..
        rvklee replay PROGRAM TEST
        rvklee bench NUMBER WORKERS OUT
+       rvklee upgrade TEST OUT
 """
 REGION = re.compile(r"([0-9a-fA-F]{8}):([0-9]{1,4})")
 
@@ -101,8 +103,8 @@ class Reading:
             self.command = self.words[1] if self.words[1:] and self.words[1] in COMMANDS else None
             return self.help()
         if first.startswith("-") and first != "-":
-            return self.refuse(f"{first}: the first word is explore, replay or bench")
-        return self.refuse(f"{first}: no such command{near(first, COMMANDS) or '; there are explore, replay and bench'}")
+            return self.refuse(f"{first}: the first word is explore, replay, bench or upgrade")
+        return self.refuse(f"{first}: no such command{near(first, COMMANDS) or '; there are explore, replay, bench and upgrade'}")
 
     def takes_words(self):
         """Sorts the words behind the command: options with their values, and the places of all others."""
@@ -144,7 +146,7 @@ class Reading:
         faults += [(f"{name} {value}", number_fault(value, most)) for name, value, most in numbers if value is not None]
         faults += [(self.words[place], self.input_fault(place)) for place in self.inputs()]
         self.faults += [f"{said}: {fault}" for said, fault in faults if fault]
-        out = self.word("OUT")
+        out = self.folder()
         if self.faults and out is not None and REGION.fullmatch(out):
             self.faults.append(f"{out} is read as OUT, the folder, which stands before the INPUT words")
 
@@ -156,6 +158,10 @@ class Reading:
     def word(self, name):
         place = self.place(name)
         return None if place is None else self.words[place]
+
+    def folder(self):
+        """The folder that a report is put into, or None; that of `upgrade` is a file."""
+        return None if self.command == "upgrade" else self.word("OUT")
 
     def inputs(self):
         """The places of INPUT words."""

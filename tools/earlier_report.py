@@ -2,7 +2,7 @@
 import pathlib
 import re
 
-# `report.html` is the page of tools/report, `tests.h` the header of tools/tests.
+# `report.html` is the page of tools/report, `tests.h` the header of tools/test-inputs.
 NAME = re.compile(r"(leaf-\d{6,}\.smt2|test-\d{6,}\.json|spent-\d{6,}\.txt|events\.txt|report\.json|report\.html|tests\.h)")
 EARLIER = "earlier"
 

@@ -7,6 +7,7 @@ rvklee finds the paths of RV32IM firmware: for each a condition on the input byt
   explore   runs a program with some bytes as input, and puts each path and its test into a folder
   replay    runs a test again, and says whether the run is as the test says
   bench     explores a program that it generates, with 2^NUMBER paths
+  upgrade   writes a test of format 1 in format 2
 
 `rvklee COMMAND --help` says more of each; docs/GUIDE.md goes from a C routine to its tests, docs/FORMATS.md has all texts.
 """
@@ -17,7 +18,7 @@ rvklee explore runs PROGRAM with the INPUT bytes symbolic. For each path OUT get
   PROGRAM   a static RV32IM executable, an ELF32 file of at most 1 MiB
   OUT       a folder that is there (--make-out makes it)
   INPUT     ADDRESS:COUNT, eight hexadecimal digits and a number of bytes; or by a symbol of PROGRAM, NAME, NAME:COUNT or
-            NAME+OFFSET:COUNT, where without COUNT all of its bytes are meant. Up to eight INPUTs, 256 bytes in all
+            NAME+OFFSET:COUNT, where without COUNT all of its bytes are meant. Up to eight INPUTs, 1,024 bytes in all
 
   --steps N      the most instructions of a run{steps}
   --targets N    the most values followed of a number that a run depends on, mostly an address{targets}
@@ -39,6 +40,12 @@ folder OUT as explore does.
 
 example: ./rvklee bench --make-out 8 2 out/bench
 """
+UPGRADE = """
+rvklee upgrade reads the test in the file TEST, of format 1 or 2 (docs/FORMATS.md, Tests), and writes it in format 2 as the file
+OUT. It prints `upgraded`. OUT may be TEST.
+
+example: ./rvklee upgrade old/test-000018.json out/test-000018.json
+"""
 LAUNCHER = """
 The launcher's own options, anywhere before a word `--`:
   --make-out   makes the folder OUT where it isn't there
@@ -52,7 +59,7 @@ Statuses: 0 done, 1 the replay differs, 2 the words make no job (as calls for he
 refused, 5 a file couldn't be read, 6 a file couldn't be written, 7 the test is refused, 8 out of memory; 70 no Rattle kit,
 124 ended by --seconds, 130 ended by Ctrl-C.
 """
-TEXTS = {"explore": EXPLORE, "replay": REPLAY, "bench": BENCH}
+TEXTS = {"explore": EXPLORE, "replay": REPLAY, "bench": BENCH, "upgrade": UPGRADE}
 
 
 def text(command):

@@ -8,7 +8,7 @@ from program_file import ProgramFile, is_stack
 NAME = re.compile(r"([A-Za-z_.][\w.$]*)(?:\+(0[xX][0-9a-fA-F]{1,8}|[0-9]{1,10}))?(?::([0-9]+))?")
 EXECUTABLE = 1
 # What the tool takes, of all regions together.
-MOST_BYTES = 256
+MOST_BYTES = 1_024
 
 
 class NoRegion(Exception):

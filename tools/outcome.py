@@ -10,6 +10,7 @@ from command_line import LIMITS
 from coverage import TracedRun
 from program import Program
 from program_file import read
+from test_text import as_joined
 
 # So many steps of tests are made again to find where they trap: about a second.
 MOST_STEPS = 200_000
@@ -40,7 +41,7 @@ def traps(path, folder, leaves):
         left, place = left - leaf["steps"], ""
         if left > 0 and read(path):
             program = program or Program(pathlib.Path(path))
-            place = place_of(program, json.loads((folder / f"test-{rank:06}.json").read_text()))
+            place = place_of(program, as_joined(json.loads((folder / f"test-{rank:06}.json").read_text())))
         found.setdefault((leaf["end"], place), []).append(rank)
     for (end, place), ranks in list(found.items())[:MOST_LINES]:
         tests = "1 test" if len(ranks) == 1 else f"{len(ranks)} tests"

@@ -32,7 +32,7 @@ PROGRAM = {
 INPUTS = {
     1: "there are {count} regions, and at most eight may be",
     2: "{empty} has no byte: behind the colon stands how many bytes are input",
-    3: "they have {bytes} bytes in all, and at most 256 may be input: give fewer, as paths grow fast with each",
+    3: "they have {bytes} bytes in all, and at most 1,024 may be input: give fewer, as paths grow fast with each",
     4: "{unmapped}: not all of it is on pages of the program{pages}: `nm` shows where things are, or give the input by its symbol",
     5: "{shared} share an address: give each byte once",
 }
@@ -42,7 +42,7 @@ TEST = {
     2: "it has no {missing}: give a test-NNNNNN.json that `explore` wrote",
     3: "{odd}: docs/FORMATS.md says what each key of a test may be",
     4: "its input or output isn't hexadecimal, two digits for each byte",
-    5: "its input has {given}, and its regions {asked}",
+    5: "{length}",
     6: "it has more than 16,777,216 bytes: is it a test?",
 }
 
@@ -59,11 +59,12 @@ def sentences(run):
         regions = [reading.words[place] for place in reading.inputs()] or test_regions(read_test(test))
         yield "the inputs: " + INPUTS[number].format_map(input_facts(regions, ProgramFile(path)))
     if status == 7 and number in TEST:
-        yield f"{test}: " + TEST[number].format_map(test_facts(read_test(test)))
+        yield f"{test}: " + TEST[number].format_map(test_facts(read_test(test), reading.command == "upgrade"))
     if status == 5:
         yield unreadable([file for file in (path, test) if file is not None])
     if status == 6:
-        yield f"{reading.word('OUT')} hasn't all of the report, or the line wasn't printed: is the disk full, or may you not write?"
+        lacks = "isn't whole" if reading.command == "upgrade" else "hasn't all of the report"
+        yield f"{reading.word('OUT')} {lacks}, or the line wasn't printed: is the disk full, or may you not write?"
     if status == 8:
         yield "memory ran out: give smaller budgets, fewer input bytes or fewer workers"
 

@@ -9,8 +9,9 @@ import leaf_text
 from command_line import ORDERS
 from conditions import Condition
 from regions import is_region
+from test_text import NoInputs, as_joined
 
-# By the keys of a report and of a test that are read here, what stands there.
+# By the keys of a report and of a test, as format 1 has it, that are read here, what stands there.
 REPORT = {"budgets": dict, "leaves": list, "regions": list, "summary": dict}
 SUMMARY = ("leaves", "finished", "cut", "tests", "steps")
 BUDGETS = ("steps", "targets", "conflicts", "workers")
@@ -48,10 +49,14 @@ def read_object(file, kinds):
         said = json.loads(read_text(file))
     except (ValueError, RecursionError):
         raise SystemExit(f"{file} is no JSON text") from None
+    has_kinds(file, said, kinds)
+    return said
+
+
+def has_kinds(file, said, kinds):
     wrong = [key for key, kind in kinds.items() if not isinstance(said, dict) or not isinstance(said.get(key), kind)]
     if wrong:
         refuse(file, f"its key `{wrong[0]}`")
-    return said
 
 
 def refuse(file, why):
@@ -73,7 +78,13 @@ def read_report(folder):
 
 
 def read_test(file):
-    test = read_object(file, TEST)
+    """A test of either format, with `regions` and `input` as format 1 has them."""
+    said = read_object(file, {"format": int})
+    try:
+        test = as_joined(said)
+    except NoInputs:
+        refuse(file, "its key `inputs`")
+    has_kinds(file, test, TEST)
     try:
         bytes.fromhex(test["input"]), bytes.fromhex(test["output"])
     except ValueError:
