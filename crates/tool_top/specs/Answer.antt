@@ -1,5 +1,5 @@
 -- How a run of the tool may end, why, and what stands then.
-use Rattle.std.specs.Prelude.{◌≡◌, ◌≢◌, ℕ, ◌⊎◌, List, [], map, take, Option, None, Some, IfSome, Ok, Err, String, string_bytes}
+use Rattle.std.specs.Prelude.{◌≡◌, ◌≢◌, ℕ, ◌⊎◌, List, [], ◌∷◌, map, take, Option, None, Some, IfSome, Ok, Err, String, string_bytes}
 use Rattle.std.specs.Global.{Global}
 use Rattle.std.specs.Option.{option_map}
 use Rattle.tool_io.specs.Told.{Told, Seen, Put, after, Gives, IsPrefix, IsCutShort, puts_since, said_since, told_held}
