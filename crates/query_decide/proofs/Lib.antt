@@ -1,5 +1,6 @@
 pub mod Joining
 pub mod Agreeing
 pub mod Failing
+pub mod Trying
 pub mod Fewer
 pub mod Around

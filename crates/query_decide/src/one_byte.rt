@@ -14,15 +14,13 @@ use std::alloc::{AllocError as NoMemory, Global};
 /// How many values a byte has.
 const VALUES: u32 = 256;
 
-/// Zeros, but for this byte at its place, if it is one of them.
-fn one_byte(alloc: Global, count: usize, place: usize, value: u8) -> Result<Vec<u8>, NoMemory>
-    ensures { IfOk result (λ input. input.items ≡ slice_set (replicate count 0) place value) }
+// Puts a byte at its place, if it is one of these.
+fn put_byte(input: &mut Vec<u8>, place: usize, value: u8)
+    ensures { input.new.items ≡ slice_set input.old.items place value }
 {
-    let mut input = vec![in alloc; 0u8; count]?;
     if place < input.len() {
         input[place] = value;
     }
-    Ok(input)
 }
 
 // The part of a question that is asked last: its last term alone, or nothing where it has none.
@@ -49,9 +47,9 @@ pub(crate) fn try_byte(
         → holds query.now (slice_set (replicate query.now.graph.inputs 0) place b) ≡ false) }
 {
     let last = last_part(alloc, query)?;
+    let mut input = vec![in alloc; 0u8; query.inputs()]?;
     for steps in 0..VALUES {
-        let value = first.wrapping_add(steps as u8);
-        let input = one_byte(alloc, query.inputs(), place, value)?;
+        put_byte(&mut input, place, first.wrapping_add(steps as u8));
         if last.holds(alloc, &input)? && query.holds(alloc, &input)? {
             return Ok(Some(input));
         }
