@@ -81,7 +81,7 @@ def misfit(data, regions):
         return "TooMany"
     if any(count == 0 for _, count in regions):
         return "Empty"
-    if sum(count for _, count in regions) > 256:
+    if sum(count for _, count in regions) > 1024:
         return "TooLong"
     # The stack is mapped in every program.
     pages = touched(areas_of(data)) | set(range(STACK // PAGE, TOP // 2 // PAGE))
