@@ -3,6 +3,7 @@
 #![tactic(auto)]
 
 mod chunk;
+mod chunks;
 mod list;
 
 pub use list::CowVec;

@@ -2,15 +2,15 @@
 
 ghost use Rattle.std.specs.Prelude.{◌≡◌, ◌↔◌, ◌<◌, ◌++◌, ◌∷◌, [], IfOk, IsTrue, OnOk, OnErr, length, slice_get, slice_set, take};
 
-use crate::chunk::{CHUNK, chunk_of, push_to, set_in};
+use crate::chunk::CHUNK;
+use crate::chunks::Chunks;
 use std::alloc::{AllocError as NoMemory, Global};
 use std::marker::Model;
-use std::sync::Arc;
 
 /// A list in chunks of 64 that its copies share.
 pub struct CowVec<T: Copy> {
     alloc: Global,
-    chunks: Vec<Arc<Vec<T>>>,
+    chunks: Chunks<T>,
     len: usize,
 }
 
@@ -26,13 +26,13 @@ impl<T: Copy> Drop for CowVec<T> {
 
 impl<T: Copy> Model for CowVec<T> {
     ghost use Rattle.std.specs.Prelude.{List, take};
-    ghost use Rattle.cow_vec.specs.Chunks.{pieces_of, joined_pieces, IsChunked};
+    ghost use Rattle.cow_vec.specs.Chunks.{joined_pieces, IsChunked};
 
     ghost Value = { List T };
 
-    ghost view = { λ v. take v.len (joined_pieces (pieces_of v.chunks.items)) };
+    ghost view = { λ v. take v.len (joined_pieces v.chunks) };
 
-    ghost invariant = { λ v. IsChunked (pieces_of v.chunks.items) v.len };
+    ghost invariant = { λ v. IsChunked v.chunks v.len };
 }
 
 impl<T: Copy> CowVec<T> {
@@ -42,7 +42,7 @@ impl<T: Copy> CowVec<T> {
     {
         CowVec {
             alloc,
-            chunks: Vec::new(alloc),
+            chunks: Chunks::new(alloc),
             len: 0,
         }
     }
@@ -66,7 +66,7 @@ impl<T: Copy> CowVec<T> {
         if i >= self.len {
             return None;
         }
-        Some(self.chunks[i / CHUNK][i % CHUNK])
+        Some(self.chunks.item(i / CHUNK, i % CHUNK))
     }
 
     /// Puts the value behind the others. It copies the last chunk where another list holds it too.
@@ -78,10 +78,10 @@ impl<T: Copy> CowVec<T> {
             return Err(NoMemory);
         };
         if self.len % CHUNK == 0 {
-            self.chunks.push(chunk_of(self.alloc, value)?)?;
+            self.chunks.push(self.alloc, value)?;
         } else {
-            let last = &mut self.chunks[self.len / CHUNK];
-            push_to(self.alloc, last, self.len % CHUNK, value)?;
+            self.chunks
+                .push_to(self.alloc, self.len / CHUNK, self.len % CHUNK, value)?;
         }
         self.len = len;
         Ok(())
@@ -94,9 +94,7 @@ impl<T: Copy> CowVec<T> {
         ensures ok { OnOk result (self.new ≡ slice_set self.old i value) }
         ensures err { OnErr result (self.new ≡ self.old) }
     {
-        let chunk = &mut self.chunks[i / CHUNK];
-        set_in(self.alloc, chunk, i % CHUNK, value)?;
-        Ok(())
+        self.chunks.set(self.alloc, i / CHUNK, i % CHUNK, value)
     }
 
     /// Keeps the first `len` items, or all where there are no more. It takes no memory.
@@ -109,17 +107,14 @@ impl<T: Copy> CowVec<T> {
         }
     }
 
-    /// An equal list, which shares the chunks. It takes memory for the table of references alone.
+    /// An equal list, which shares the chunks. It takes memory for a table of references alone, and none
+    /// where there is one chunk.
     pub fn share(&self) -> Result<CowVec<T>, NoMemory>
         ensures { IfOk result (λ copy. copy ≡ self.now) }
     {
-        let mut chunks = Vec::with_capacity(self.alloc, self.chunks.len())?;
-        for chunk in &self.chunks {
-            chunks.push(Arc::try_clone(chunk)?)?;
-        }
         Ok(CowVec {
             alloc: self.alloc,
-            chunks,
+            chunks: self.chunks.share(self.alloc)?,
             len: self.len,
         })
     }

@@ -1,13 +1,11 @@
-use Rattle.std.proofs.Common.{arith}
-use Rattle.cow_vec.proofs.ChunkWrites.{item_within, item_read}
+use Rattle.std.proofs.Common.{sym, [], get_or, ◌/◌, ◌%◌}
+use Rattle.std.proofs.lemmas.Option.{get_or_from_slice_get}
+use Rattle.cow_vec.specs.declared.chunk.TheConstants.{CHUNK}
+use Rattle.cow_vec.proofs.Chunked.{slice_get-items}
 use Rattle.cow_vec.proofs.list.CowVec.get.Goals as goal
-
-pub index-requires-2 : goal.index-requires-2
-index-requires-2 g c =
-    rw c.deref.ensures
-    (omega (arith, item_within c.self.inside.chunks.items c.self.inside.len c.args.i c.index.result.now c.self.invariant c.if-i-self.false c.index.ensures))
 
 pub returns : goal.returns
 returns g c =
     rw (← c.self.view_is)
-    (item_read c.self.inside.chunks.items c.self.inside.len c.args.i c.index.result.now c.index-2.result.now c.self.invariant c.if-i-self.false c.index.ensures (rw c.deref.ensures at c.index-2.ensures))
+    (slice_get-items c.self.inside.chunks c.self.inside.len c.args.i [] c.item.result c.self.invariant c.if-i-self.false
+    (sym (get_or_from_slice_get (get_or c.self.inside.chunks (c.args.i / CHUNK) []) (c.args.i % CHUNK) c.item.result c.item.result c.item.ensures)))
