@@ -1,13 +1,15 @@
 -- Two classes made one.
-use Rattle.std.proofs.Common.{◌≡◌, ℕ, ◌+◌, ◌<◌, ◌≤◌, ◌==◌, Bool, true, false, cond, inl, inr, List, [], ◌∷◌, ◌++◌, length, map, get_or, Option, Some, None, refl, sym, ap, ◌∙◌, slice_index, slice_set, arith}
-use Rattle.std.specs.Prelude.{slice_get}
+use Rattle.std.proofs.Common.{◌≡◌, ℕ, ◌<◌, ◌≤◌, ◌==◌, Bool, true, false, cond, inl, inr, List, [], ◌∷◌, ◌++◌, length, map, Option, Some, None, refl, sym, ap, ◌∙◌, slice_index, arith}
+use Rattle.std.specs.Prelude.{slice_get, fold, option_map}
 use Rattle.std.specs.List.{range_with_len}
-use Rattle.std.proofs.lemmas.Bool.{cases_eq, eq-eqb}
+use Rattle.std.proofs.lemmas.Bool.{eq-eqb}
 use Rattle.std.proofs.lemmas.Bool.Decides.{eqb_tells}
-use Rattle.std.proofs.lemmas.List.{get_or-map, get_or-set_other, get_or-set_same, get_or_default, length-map, length-set, map-id, same_lists}
-use Rattle.std.proofs.lemmas.List.FromFn.{map-range_with_len_more}
-use Rattle.std.proofs.lemmas.Option.{slice_get-get_or}
-use Rattle.query_slice.specs.Classes.{joined, label_of, relabelled}
+use Rattle.std.proofs.lemmas.List.{get_or-map, length-map}
+use Rattle.std.proofs.lemmas.List.FromFn.{get_or-range_with_len, length-range_with_len}
+use Rattle.std.proofs.lemmas.List.Sums.{fold-append}
+use Rattle.std.proofs.lemmas.Option.{slice_get-get_or, slice_get-map, slice_get_past}
+use Rattle.query_slice.specs.Classes.{joined, label_of, relabelled, renamed, renamed_all}
+use Rattle.query_slice.specs.declared.classes.Renaming.{Renaming}
 
 length-relabelled : (kept gone : Option ℕ) (labels : List ℕ) → length (relabelled kept gone labels) ≡ length labels
 length-relabelled (Some kept) (Some gone) labels = length-map labels (λ l. cond (l == gone) kept l)
@@ -89,37 +91,31 @@ relabelled_itself gone kept [] e = refl
 relabelled_itself gone kept (l ∷ labels) e =
     cc (stays gone kept l e, relabelled_itself gone kept labels e)
 
--- How far the labels were gone over.
-pub record IsRelabelled (f : ℕ → ℕ) (old labels : List ℕ) (i : ℕ) : Type 0 where
-  pub each : length labels ≡ length old
-  pub before : (k : ℕ) → k < i → k < length old → get_or labels k 0 ≡ f (get_or old k 0)
-  pub after : (k : ℕ) → i ≤ k → get_or labels k 0 ≡ get_or old k 0
+-- one renaming more
+pub renamed_more : (renamings : List Renaming) (renaming : Renaming) (labels : List ℕ) →
+    renamed_all (renamings ++ renaming ∷ []) labels ≡ map (renamed renaming) (renamed_all renamings labels)
+renamed_more renamings renaming labels = fold-append (λ before r. map (renamed r) before) labels renamings (renaming ∷ [])
 
-pub relabelled_none : (f : ℕ → ℕ) (old : List ℕ) → IsRelabelled f old old 0
-relabelled_none f old = record { each = refl; before = λ k l there. absurd (omega (arith, l)); after = λ k l. refl }
+length-renamed_all : (renamings : List Renaming) (labels : List ℕ) → length (renamed_all renamings labels) ≡ length labels
+length-renamed_all [] labels = refl
+length-renamed_all (r ∷ rs) labels = length-renamed_all rs (map (renamed r) labels) ∙ length-map labels (renamed r)
 
-pub relabelled_more : (f : ℕ → ℕ) (old labels new : List ℕ) (i v : ℕ) → i < length labels → new ≡ slice_set labels i v → v ≡ f (get_or labels i 0) → IsRelabelled f old labels i → IsRelabelled f old new (i + 1)
-relabelled_more f old labels new i v there written is so_far = record {
-  each = ap length written ∙ length-set labels i v ∙ so_far.each;
-  before = λ k l within.
-      ap (λ (ls : List ℕ). get_or ls k 0) written
-      ∙ elim (cases_eq k i) [
-        | inl e ↦ ap (λ j. get_or (slice_set labels i v) j 0) e ∙ get_or-set_same labels i v 0 there ∙ is ∙ ap f (so_far.after i (omega arith) ∙ ap (λ j. get_or old j 0) (sym e))
-        | inr apart ↦ get_or-set_other labels i k v 0 apart ∙ so_far.before k (omega (arith, l, apart)) within
-      ];
-  after = λ k l. ap (λ (ls : List ℕ). get_or ls k 0) written ∙ get_or-set_other labels i k v 0 (λ e. omega (arith, l, e)) ∙ so_far.after k (omega (arith, l));
-}
+label_renamed : (renamings : List Renaming) (labels : List ℕ) (i x : ℕ) → slice_get labels i ≡ Some x →
+    slice_get (renamed_all renamings labels) i ≡ Some (fold (λ before r. renamed r before) x renamings)
+label_renamed [] labels i x h = h
+label_renamed (r ∷ rs) labels i x h =
+    label_renamed rs (map (renamed r) labels) i (renamed r x) (slice_get-map (renamed r) labels i ∙ ap (option_map (renamed r)) h)
 
-pub relabelled_all : (f : ℕ → ℕ) (old labels : List ℕ) (i : ℕ) → length labels ≤ i → IsRelabelled f old labels i → labels ≡ map f old
-relabelled_all f old labels i past all =
-    same_lists labels (map f old) (all.each ∙ sym (length-map old f))
-    (λ k d within.
-    let there : k < length old = omega (arith, within, all.each) in
-    get_or_default labels k d 0 within ∙ all.before k (omega (arith, within, past)) there ∙ sym (get_or-map f old k 0 d there))
+-- the label of a byte that is there, and of one that isn't
+pub label_there : (renamings : List Renaming) (count i : ℕ) → i < count →
+    slice_get (renamed_all renamings (range_with_len 0 count)) i ≡ Some (fold (λ before r. renamed r before) i renamings)
+label_there renamings count i there =
+    label_renamed renamings (range_with_len 0 count) i i
+    (slice_get-get_or (range_with_len 0 count) i 0 (omega (arith, there, length-range_with_len 0 count))
+    ∙ ap Some (get_or-range_with_len 0 count i 0 there ∙ omega arith))
 
--- one label more, each its own
-pub range_more : (n : ℕ) → range_with_len 0 (n + 1) ≡ range_with_len 0 n ++ n ∷ []
-range_more n =
-    sym (map-id (range_with_len 0 (n + 1)))
-    ∙ map-range_with_len_more (λ x. x) 0 n n (omega arith)
-    ∙ ap (λ (ls : List ℕ). ls ++ n ∷ []) (map-id (range_with_len 0 n))
+pub label_past : (renamings : List Renaming) (count i : ℕ) → count ≤ i →
+    slice_get (renamed_all renamings (range_with_len 0 count)) i ≡ None
+label_past renamings count i past =
+    slice_get_past (renamed_all renamings (range_with_len 0 count)) i
+    (omega (arith, past, length-renamed_all renamings (range_with_len 0 count), length-range_with_len 0 count))

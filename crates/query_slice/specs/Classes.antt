@@ -5,6 +5,7 @@ use Rattle.bv_dag.specs.Graphs.{Graph, IsDag}
 use Rattle.bv_dag.specs.Inputs.{inputs_under}
 use Rattle.bv_dag.specs.Queries.{Condition}
 use Rattle.query_pick.specs.Cones.{IsCone}
+use Rattle.query_slice.specs.declared.classes.Renaming.{Renaming}
 
 -- an input byte under a term, if there is one, from all that are under it
 abbrev pub first_of : List ℕ → Option ℕ
@@ -17,6 +18,14 @@ first_under graph id = first_of (inputs_under graph id)
 -- the label of an input byte
 abbrev pub label_of : List ℕ → Option ℕ → Option ℕ
 label_of labels input = option_and_then (slice_get labels) input
+
+-- what a label is after one became another
+abbrev pub renamed : Renaming → ℕ → ℕ
+renamed renaming label = if label == renaming.gone then renaming.kept else label
+
+-- the labels after some became others, in order
+abbrev pub renamed_all : List Renaming → List ℕ → List ℕ
+renamed_all renamings labels = fold (λ before renaming. map (renamed renaming) before) labels renamings
 
 -- every label of the one kind is now the other
 abbrev pub relabelled : (kept gone : Option ℕ) → List ℕ → List ℕ

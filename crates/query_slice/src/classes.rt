@@ -1,73 +1,81 @@
 //! Input bytes in classes: each has a label, and those of one class have the same.
 
-ghost use Rattle.std.specs.Prelude.{◌≡◌, ◌==◌, IfOk, map, if◌then◌else◌};
+ghost use Rattle.std.specs.Prelude.{◌≡◌, OnOk, fold};
 ghost use Rattle.std.specs.List.{range_with_len};
-ghost use Rattle.query_slice.specs.Classes.{label_of, joined, relabelled, are_same};
+ghost use Rattle.query_slice.specs.Classes.{are_same, joined, label_of, renamed};
 
 use std::alloc::{AllocError as NoMemory, Global};
 use std::marker::Model;
 
-/// A label for each input byte.
+/// A label that became another, as two classes became one.
+#[derive(Clone, Copy, Debug)]
+struct Renaming {
+    gone: usize,
+    kept: usize,
+}
+
+/// A label for each input byte, which is its own number until others take its place. So it costs what was joined, and not
+/// what there is.
 #[derive(Drop)]
 pub(crate) struct Classes {
-    labels: Vec<usize>,
+    count: usize,
+    /// In the order in which they came.
+    renamings: Vec<Renaming>,
 }
 
 impl Model for Classes {
     ghost use Rattle.std.specs.Prelude.{List, ℕ};
+    ghost use Rattle.std.specs.List.{range_with_len};
+    ghost use Rattle.query_slice.specs.Classes.{renamed_all};
 
     ghost Value = { List ℕ };
 
-    ghost view = { λ c. c.labels.items };
+    ghost view = { λ c. renamed_all c.renamings.items (range_with_len 0 c.count) };
 }
 
-// What a label becomes.
-fn renamed(label: usize, gone: usize, kept: usize) -> usize
-    ensures { result ≡ if label == gone then kept else label }
+// What a label is after one renaming.
+fn renamed(renaming: Renaming, label: usize) -> usize
+    ensures { result ≡ renamed renaming label }
 {
-    if label == gone { kept } else { label }
-}
-
-// Makes each label of the one kind the other.
-fn relabel(labels: &mut [usize], gone: usize, kept: usize)
-    ensures { labels.new ≡ map (λ label. if label == gone then kept else label) labels.old }
-{
-    for label in labels.iter_mut() {
-        *label = renamed(*label, gone, kept);
+    if label == renaming.gone {
+        renaming.kept
+    } else {
+        label
     }
 }
 
-// Makes each label of the one kind the other, where there are both.
-#[tactic(auto, using(crate::proofs::Labels::relabelled_itself))]
-fn make_one(labels: &mut Vec<usize>, kept: Option<usize>, gone: Option<usize>)
-    ensures { labels.new.items ≡ relabelled kept gone labels.old.items }
+// What a label is after all of these.
+fn renamed_by(renamings: &[Renaming], label: usize) -> usize
+    ensures { result ≡ fold (λ before renaming. renamed renaming before) label renamings.now }
 {
-    if let Some(kept) = kept {
-        if let Some(gone) = gone {
-            if kept != gone {
-                relabel(labels, gone, kept);
-            }
-        }
+    let mut last = label;
+    for renaming in renamings {
+        last = renamed(*renaming, last);
     }
+    last
 }
 
 impl Classes {
     /// So many bytes, each in a class of its own.
-    pub(crate) fn new(alloc: Global, count: usize) -> Result<Classes, NoMemory>
-        ensures { IfOk result (λ classes. classes ≡ range_with_len 0 count) }
+    pub(crate) fn new(alloc: Global, count: usize) -> Classes
+        ensures { result ≡ range_with_len 0 count }
     {
-        let mut labels = Vec::with_capacity(alloc, count)?;
-        for label in 0..count {
-            labels.push(label)?;
+        Classes {
+            count,
+            renamings: Vec::new(alloc),
         }
-        Ok(Classes { labels })
     }
 
     // The label of a byte.
     fn label(&self, input: Option<usize>) -> Option<usize>
         ensures { result ≡ label_of self.now input }
     {
-        self.labels.get(input?).copied()
+        let place = input?;
+        if place < self.count {
+            Some(renamed_by(&self.renamings, place))
+        } else {
+            None
+        }
     }
 
     /// Whether both bytes are there and of one class.
@@ -81,11 +89,22 @@ impl Classes {
     }
 
     /// Makes one class of those of two bytes.
-    pub(crate) fn join(&mut self, first: Option<usize>, second: Option<usize>)
-        ensures { self.new ≡ joined self.old first second }
+    pub(crate) fn join(
+        &mut self,
+        first: Option<usize>,
+        second: Option<usize>,
+    ) -> Result<(), NoMemory>
+        ensures { OnOk result (self.new ≡ joined self.old first second) }
     {
-        let kept = self.label(first);
-        let gone = self.label(second);
-        make_one(&mut self.labels, kept, gone);
+        let Some(kept) = self.label(first) else {
+            return Ok(());
+        };
+        let Some(gone) = self.label(second) else {
+            return Ok(());
+        };
+        if kept != gone {
+            self.renamings.push(Renaming { gone, kept })?;
+        }
+        Ok(())
     }
 }

@@ -45,16 +45,21 @@ fn either(first: Option<usize>, second: Option<usize>) -> Option<usize>
     }
 }
 
-// Joins the bytes under two operands. It gives that under both.
-fn join_two(classes: &mut Classes, one: Option<usize>, other: Option<usize>) -> Option<usize>
-    ensures first { (under above : List ℕ) → one ≡ first_of under → other ≡ first_of above
-        → result ≡ first_of (under ++ above) }
-    ensures classes { classes.new ≡ joined (joined classes.old result one) result other }
+// Joins the bytes under two operands. It gives the first one under both.
+fn join_two(
+    classes: &mut Classes,
+    one: Option<usize>,
+    other: Option<usize>,
+) -> Result<Option<usize>, NoMemory>
+    ensures first { IfOk result (λ first. (under above : List ℕ)
+        → one ≡ first_of under → other ≡ first_of above → first ≡ first_of (under ++ above)) }
+    ensures classes { IfOk result (λ first. classes.new
+        ≡ joined (joined classes.old first one) first other) }
 {
     let first = either(one, other);
-    classes.join(first, one);
-    classes.join(first, other);
-    first
+    classes.join(first, one)?;
+    classes.join(first, other)?;
+    Ok(first)
 }
 
 // Joins the bytes under the operands of the next term. It gives the first one under the term.
@@ -64,7 +69,7 @@ fn join_operands<T: Table>(
     firsts: &[Option<usize>],
     classes: &mut Classes,
     id: usize,
-) -> Option<usize>
+) -> Result<Option<usize>, NoMemory>
     requires there { id < length (T.graph terms.now).nodes }
     requires increasing { IsStrictlyIncreasing places.now }
     requires next { slice_get places.now (length firsts.now) ≡ Some id }
@@ -72,16 +77,17 @@ fn join_operands<T: Table>(
     requires firsts { firsts.now
         ≡ map (first_under (T.graph terms.now)) (take (length firsts.now) places.now) }
     ensures fit { IsDag (T.graph terms.now) }
-    ensures first { result ≡ first_under (T.graph terms.now) id }
-    ensures classes { (n : Term) → slice_get (T.graph terms.now).nodes id ≡ Some n
-        → classes.new ≡ joined_all (T.graph terms.now) result classes.old (operands n) }
+    ensures first { IfOk result (λ first. first ≡ first_under (T.graph terms.now) id) }
+    ensures classes { IfOk result (λ first. (n : Term)
+        → slice_get (T.graph terms.now).nodes id ≡ Some n
+        → classes.new ≡ joined_all (T.graph terms.now) first classes.old (operands n)) }
 {
     match terms.node(id) {
-        Node::Num { .. } => None,
-        Node::Input(place) => Some(place),
-        Node::Not(a) | Node::Neg(a) => first_at(places, firsts, a),
+        Node::Num { .. } => Ok(None),
+        Node::Input(place) => Ok(Some(place)),
+        Node::Not(a) | Node::Neg(a) => Ok(first_at(places, firsts, a)),
         Node::Extract { operand, .. } | Node::Extend { operand, .. } => {
-            first_at(places, firsts, operand)
+            Ok(first_at(places, firsts, operand))
         }
         Node::Binary(_, a, b) | Node::Compare(_, a, b) => {
             let one = first_at(places, firsts, a);
@@ -96,10 +102,10 @@ fn join_operands<T: Table>(
             let two = first_at(places, firsts, yes);
             let three = first_at(places, firsts, no);
             let first = either(either(one, two), three);
-            classes.join(first, one);
-            classes.join(first, two);
-            classes.join(first, three);
-            first
+            classes.join(first, one)?;
+            classes.join(first, two)?;
+            classes.join(first, three)?;
+            Ok(first)
         }
     }
 }
@@ -111,10 +117,10 @@ fn walked<T: Table>(alloc: Global, terms: &T, places: Vec<usize>) -> Result<Link
         → IfOk result (λ l. AreLinks
         (T.graph terms.now) tops l.places.items l.firsts.items l.classes) }
 {
-    let mut classes = Classes::new(alloc, terms.inputs())?;
+    let mut classes = Classes::new(alloc, terms.inputs());
     let mut firsts = Vec::with_capacity(alloc, places.len())?;
     for id in &places {
-        let first = join_operands(terms, &places, &firsts, &mut classes, *id);
+        let first = join_operands(terms, &places, &firsts, &mut classes, *id)?;
         firsts.push(first)?;
     }
     Ok(Links {

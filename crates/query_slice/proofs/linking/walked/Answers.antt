@@ -14,12 +14,12 @@ pub loop-id-init : goal.loop-id-init
 loop-id-init g c = (
   (λ none. absurd (omega (arith, none))),
   c.in_ok-firsts.ensures.items,
-  (λ tops cone. walked_first (record { graph = g.T.Table.graph c.args.terms.now; asserted = tops }) c.in_ok-classes.classes
-      (c.in_ok-classes.ensures ∙ ap (range_with_len 0) c.inputs.ensures)),
+  (λ tops cone. walked_first (record { graph = g.T.Table.graph c.args.terms.now; asserted = tops }) c.new-classes.result
+      (c.new-classes.ensures ∙ ap (range_with_len 0) c.inputs.ensures)),
 )
 
-pub join_operands-first-requires-clause-operands : goal.join_operands-first-requires-clause-operands
-join_operands-first-requires-clause-operands g c =
+pub join_operands-requires-clause-operands : goal.join_operands-requires-clause-operands
+join_operands-requires-clause-operands g c =
     let graph = g.T.Table.graph c.args.terms.now in
     let i = c.loop-id.id-index in
     let listed = c.deref-id-items.ensures.value in
@@ -33,11 +33,12 @@ loop-id-preserved g c =
     let i = c.loop-id.id-index in
     let places = c.deref-id-items.result.now in
     let id : ℕ = get_or places i 0 in
-    let made = c.join_operands-first in (
+    let made = c.join_operands in
+    let first = c.in_ok-first in (
       (λ some. made.ensures.fit),
       c.in_ok-push.ensures.items
-          ∙ ap (λ (fs : List (Option ℕ)). fs ++ made.result ∷ []) c.loop-id.invariant.1
-          ∙ ap (λ (o : Option ℕ). map (first_under graph) (take i places) ++ o ∷ []) made.ensures.first
+          ∙ ap (λ (fs : List (Option ℕ)). fs ++ first.first ∷ []) c.loop-id.invariant.1
+          ∙ ap (λ (o : Option ℕ). map (first_under graph) (take i places) ++ o ∷ []) first.ensures.first
           ∙ sym (map-append (first_under graph) (take i places) (id ∷ []))
           ∙ ap (map (first_under graph)) (sym (take_more places i 0 c.loop-id-test.true)),
       (λ tops cone.
@@ -45,7 +46,7 @@ loop-id-preserved g c =
           subst (IsWalked (record { graph = graph; asserted = tops }) made.new.classes) (sym (take_more places i 0 c.loop-id-test.true))
           (walked_more (record { graph = graph; asserted = tops }) made.ensures.fit c.loop-id.classes made.new.classes (take i places) id node.0 node.1
           (All-get_or (IsUnder graph tops) places i 0 c.loop-id-test.true cone.under)
-          (made.ensures.classes node.0 node.1 ∙ ap (λ (o : Option ℕ). joined_all graph o c.loop-id.classes (operands node.0)) made.ensures.first)
+          (first.ensures.classes node.0 node.1 ∙ ap (λ (o : Option ℕ). joined_all graph o c.loop-id.classes (operands node.0)) first.ensures.first)
           (c.loop-id.invariant.2 tops cone))),
     )
 
