@@ -101,6 +101,17 @@ pub fn print_query(alloc: Global, condition: &Query) -> Result<String, NoMemory>
     Ok(text)
 }
 
+// About how many bytes the text of a leaf has, so that it seldom grows as it is written.
+fn expected_len(dag: &Dag, outputs: &[usize]) -> usize {
+    let inputs = dag.inputs().saturating_mul(34);
+    let nodes = dag.len().saturating_mul(56);
+    let outputs = outputs.len().saturating_mul(34);
+    inputs
+        .saturating_add(nodes)
+        .saturating_add(outputs)
+        .saturating_add(512)
+}
+
 /// The text of a leaf, from its parts.
 pub fn print_parts(
     alloc: Global,
@@ -121,7 +132,7 @@ pub fn print_parts(
     })) }
 {
     let dag = condition.dag();
-    let mut text = String::new(alloc);
+    let mut text = String::with_capacity(alloc, expected_len(dag, outputs))?;
     write_runs_heading(alloc, &mut text, choices, path, steps, end)?;
     write_counts_heading(&mut text, dag.inputs(), dag.len(), outputs.len())?;
     write_definitions(&mut text, dag, end, outputs)?;

@@ -28,7 +28,7 @@ returns c =
     ap (λ ids. lines_text (map AssertLine ids)) c.asserted.ensures.value in
     c.from_vec.ensures ∙ ap (λ (v : Vec ℕ Global). v.items) c.into_bytes.ensures.value
     ∙ c.in_ok-push_str.ensures.bytes
-    ∙ whole_text _ _ _ _ _ _ _ _ _ c.new-text.ensures.bytes
+    ∙ whole_text _ _ _ _ _ _ _ _ _ c.in_ok-text.ensures.bytes
     c.in_ok-write_runs_heading.ensures.ok
     (pushed _ _ _ _ c.in_ok-write_counts_heading.ensures.ok counts)
     (pushed _ _ _ _ c.in_ok-write_definitions.ensures.ok defined)
