@@ -5,6 +5,7 @@ pub mod PageLookups
 pub mod SharedGroups
 pub mod GroupChanges
 pub mod SharedChanges
+pub mod ImageBytes
 pub mod ImagePages
 pub mod ByteWrites
 pub mod Overlays

@@ -1,6 +1,6 @@
 //! Pages of symbolic memory.
 
-ghost use Rattle.std.specs.Prelude.{◌≡◌, ◌<◌, length, map as mapped, slice_get, slice_set, Some, IfOk, OnOk, OnErr};
+ghost use Rattle.std.specs.Prelude.{◌≡◌, ◌<◌, All, length, map as mapped, slice_get, slice_set, Some, IfOk, OnOk, OnErr};
 ghost use Rattle.cow_pages.specs.SymbolicMemory.{number_bytes, page_byte, page_with};
 
 use crate::byte::Byte;
@@ -136,8 +136,9 @@ impl Page {
     /// A page of these numbers.
     pub(crate) fn of_numbers(alloc: Global, flags: u8, numbers: &[u8]) -> Result<Page, NoMemory>
         requires { length numbers.now ≡ 256 }
-        ensures { IfOk result (λ page. page
+        ensures page { IfOk result (λ page. page
             ≡ record { flags = flags; bytes = number_bytes numbers.now }) }
+        ensures small { All (λ number. number < 256) numbers.now }
     {
         Ok(Page {
             flags,

@@ -1,6 +1,6 @@
 //! The memory of a symbolic run.
 
-ghost use Rattle.std.specs.Prelude.{◌≡◌, ◌/◌, ◌==◌, ℕ, if◌then◌else◌, is_some, IsSome, IfSome, IfOk, OnOk, OnErr};
+ghost use Rattle.std.specs.Prelude.{◌≡◌, ◌<◌, ◌/◌, ◌==◌, ℕ, if◌then◌else◌, is_some, IsSome, IfSome, IfOk, OnOk, OnErr};
 ghost use Rattle.std.specs.FinMap as map;
 ghost use Rattle.std.specs.Option.{option_copied, option_map};
 ghost use Rattle.rv_spec.specs.Memory.{byte_of, flags_of};
@@ -102,6 +102,7 @@ impl Pages {
             memory_byte pages address ≡ Byte.Number (byte_of image.now address)) }
         ensures flags { IfOk result (λ pages. (number : ℕ) →
             memory_flags pages number ≡ flags_of image.now number) }
+        ensures small { OnOk result ((address : ℕ) → byte_of image.now address < 256) }
     {
         let mut groups = GroupList::new(alloc);
         for (number, page) in image.pages() {

@@ -2,7 +2,6 @@ pub mod Deciding
 pub mod Filling
 pub mod Forms
 pub mod Growing
-pub mod ImageBytes
 pub mod Listing
 pub mod Naming
 pub mod Expressing

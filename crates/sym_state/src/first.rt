@@ -43,20 +43,6 @@ fn count_bytes(regions: &[Region]) -> usize
     count
 }
 
-/// A list of bytes has no greater numbers.
-fn list_is_of_bytes(bytes: &[u8])
-    ensures { All (λ b. b < 256) bytes.now }
-{}
-
-/// An image has bytes, and no greater numbers.
-fn image_is_of_bytes(image: &Image)
-    ensures { (address : ℕ) → byte_of image.now address < 256 }
-{
-    for (_, page) in image.pages() {
-        list_is_of_bytes(&page.bytes);
-    }
-}
-
 /// Puts input bytes to a region, from the input `first` on.
 fn fill(
     memory: &mut Pages,
@@ -129,7 +115,6 @@ impl State {
     {
         let image = program.image();
         let regions = program.regions().as_slice();
-        image_is_of_bytes(image);
         let mut memory = Pages::new(alloc, image)?;
         let mut terms = Builder::new(Terms::new(alloc, count_bytes(regions)));
         place_inputs(&mut memory, &mut terms, regions)?;

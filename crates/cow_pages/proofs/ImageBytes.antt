@@ -23,9 +23,9 @@ byte_found : (found : Option Page) (i : ℕ) → IfSome found (λ p. All (λ b. 
 byte_found None i has = omega arith
 byte_found (Some p) i has = byte_at p.bytes i has
 
-pub image_bytes : (image : Image) → All IsOfBytes (entries image.pages) → (address : ℕ) → byte_of image address < 256
+pub image_small : (image : Image) → All IsOfBytes (entries image.pages) → (address : ℕ) → byte_of image address < 256
 unfolding byte_of
-image_bytes image all address =
+image_small image all address =
     byte_found (get image.pages (address / 256)) (address % 256)
     (subst (λ found. IfSome found (λ p. All (λ b. b < 256) p.bytes)) (sym (get-entries image.pages (address / 256)))
     (All-lookup (λ p. All (λ b. b < 256) p.bytes) (λ k. is_eq (nat_cmp (address / 256) k)) (entries image.pages) all))
