@@ -26,6 +26,14 @@ abbrev pub is_held : Status → Bool
 is_held (Held by) = true
 is_held _ = false
 
+-- Of each node, at its number, its birth, the place of the last event that names it, and what it
+-- holds while it's free or held; and how many nodes more there is room for.
+pub record Shelved (R : Type 0) : Type 0 where
+  pub nodes : List (Node R)
+  pub latest : List (Option ℕ)
+  pub contents : List (Option R)
+  pub room : ℕ
+
 -- how many nodes are held
 abbrev pub held_count : {R : Type 0} → Story R → ℕ
 held_count s = count_below (λ m. is_held (status s m)) (length s.nodes)
@@ -100,10 +108,8 @@ spare_nodes nodes latest contents =
     min (min (vec_capacity nodes - length nodes.items) (vec_capacity latest - length latest.items))
     (vec_capacity contents - length contents.items)
 
--- there is too little room for the deed, by the fields
-abbrev pub NoRoom : {R : Type 0} → Vec (Node R) → Vec (Option ℕ) → Vec (Option R) → Vec (Event R ℕ)
-    → ℕ → Deed R (Vec (Kid R)) → Type 0
-NoRoom nodes latest contents events held Claim = vec_capacity events < vec_len events + held + 2
-NoRoom nodes latest contents events held (Split kids) =
-    spare_nodes nodes latest contents < vec_len kids
-NoRoom nodes latest contents events held _ = ⊥
+-- there is too little room for the deed, where there is that of so many nodes, and so many are held
+abbrev pub NoRoom : {R : Type 0} → ℕ → Vec (Event R ℕ) → ℕ → Deed R (Vec (Kid R)) → Type 0
+NoRoom room events held Claim = vec_capacity events < vec_len events + held + 2
+NoRoom room events held (Split kids) = room < vec_len kids
+NoRoom room events held _ = ⊥

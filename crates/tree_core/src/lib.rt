@@ -12,6 +12,7 @@ pub mod laws;
 mod node;
 mod order;
 mod refusal;
+mod shelves;
 mod tree;
 
 pub use budgets::Budgets;

@@ -1,18 +1,19 @@
 //! The core of a fork tree: its nodes and events, both of which only grow, and what the nodes hold on which there is work left.
 
-ghost use Rattle.std.specs.Prelude.{◌≡◌, ◌≢◌, ◌+◌, ◌^◌, ◌<◌, ◌≤◌, ◌↔◌, Some, Err, IsTrue, IsFalse, All, length, option_map, OnOk, OnErr, IfOk, IfSome, IsNone, Option, option_copied};
-ghost use Rattle.tree_core.specs.Stories.{status, content, origin, left_by, born_as, content_by};
+ghost use Rattle.std.specs.Prelude.{◌≡◌, ◌≢◌, ◌+◌, ◌^◌, ◌<◌, ◌≤◌, ◌↔◌, Some, Err, IsTrue, IsFalse, All, length, option_map, OnOk, OnErr, IfOk, IfSome, IsNone, vec_capacity, vec_len};
+ghost use Rattle.tree_core.specs.Stories.{status, content, origin};
 ghost use Rattle.tree_core.specs.declared.node.Status.TheVariants.{Parted};
 ghost use Rattle.tree_core.specs.Covers.{Partition};
-ghost use Rattle.tree_core.specs.Replays.{IsFit, Replays, after_event, is_allowed, is_early, is_full, may_come, opening, with_event};
-ghost use Rattle.tree_core.specs.Cores.{LacksRoom, IsLast, held_count, if_leaf};
+ghost use Rattle.tree_core.specs.Replays.{IsFit, Replays, after_event, is_allowed, is_early, is_full, kids_of, may_come, opening, with_event};
+ghost use Rattle.tree_core.specs.Cores.{LacksRoom, NoRoom, ends, held_count, takes};
 
 use crate::choice::Choice;
 use crate::cover::Cover;
-use crate::deed::{bear, held_after, let_go, make_room};
+use crate::deed::held_after;
 use crate::event::{Deed, Event, Noted};
-use crate::node::{Node, Status, newborn};
+use crate::node::{Node, Status};
 use crate::refusal::Refusal;
+use crate::shelves::Shelves;
 use std::alloc::{AllocError as NoMemory, Global};
 use std::marker::Model;
 
@@ -20,12 +21,8 @@ use std::marker::Model;
 /// the event that ends each claim, so that only claims and splits may find no memory. Once there are as many nodes as there may
 /// be, no node is parted.
 pub struct Core<R: Cover> {
-    nodes: Vec<Node<R>>,
+    shelves: Shelves<R>,
     events: Vec<Noted<R>>,
-    // The place of the last event that names each node.
-    latest: Vec<Option<usize>>,
-    // What each node holds that is free or held, and of any other node nothing.
-    contents: Vec<Option<R>>,
     // How many nodes are held.
     held: usize,
     // From how many nodes on none is parted.
@@ -35,10 +32,8 @@ pub struct Core<R: Cover> {
 impl<R: Cover> Drop for Core<R> {
     fn drop(self) {
         let Self {
-            nodes: _nodes,
+            shelves: _shelves,
             events: _events,
-            latest: _latest,
-            contents: _contents,
             held: _held,
             most: _most,
         } = self;
@@ -47,13 +42,13 @@ impl<R: Cover> Drop for Core<R> {
 
 impl<R: Cover> Model for Core<R> {
     ghost use Rattle.std.specs.Prelude.{◌+◌, ◌-◌, ◌≤◌, length, vec_capacity};
-    ghost use Rattle.tree_core.specs.Cores.{CoreValue, IsCore, spare_nodes};
+    ghost use Rattle.tree_core.specs.Cores.{CoreValue, IsCore};
 
     ghost Value = { CoreValue R };
 
-    ghost view = { λ c. record { story = record { nodes = c.nodes.items; events = c.events.items }; most = c.most; node_room = spare_nodes c.nodes c.latest c.contents; event_room = vec_capacity c.events - (length c.events.items + c.held) } };
+    ghost view = { λ c. record { story = record { nodes = c.shelves.nodes; events = c.events.items }; most = c.most; node_room = c.shelves.room; event_room = vec_capacity c.events - (length c.events.items + c.held) } };
 
-    ghost invariant = { λ c. IsCore R.covers R.by_nodes c.most (record { nodes = c.nodes.items; events = c.events.items }) c.latest.items c.contents.items c.held × (length c.events.items + c.held ≤ vec_capacity c.events) × (c.held ≤ length c.events.items) };
+    ghost invariant = { λ c. IsCore R.covers R.by_nodes c.most (record { nodes = c.shelves.nodes; events = c.events.items }) c.shelves.latest c.shelves.contents c.held × (length c.events.items + c.held ≤ vec_capacity c.events) × (c.held ≤ length c.events.items) };
 }
 
 impl<R: Cover> Core<R> {
@@ -62,18 +57,10 @@ impl<R: Cover> Core<R> {
         ensures story { IfOk result (λ c. c.story ≡ opening root is_leaf) }
         ensures most { IfOk result (λ c. c.most ≡ most) }
     {
-        let mut nodes = Vec::with_capacity(alloc, 1)?;
-        let mut latest = Vec::with_capacity(alloc, 1)?;
-        let mut contents = Vec::with_capacity(alloc, 1)?;
-        let (node, content) = newborn(None, root, is_leaf);
-        nodes.push_reserved(node);
-        latest.push_reserved(None);
-        contents.push_reserved(content);
+        let shelves = Shelves::new(alloc, root, is_leaf)?;
         Ok(Core {
-            nodes,
+            shelves,
             events: Vec::new(alloc),
-            latest,
-            contents,
             held: 0,
             most,
         })
@@ -107,35 +94,21 @@ impl<R: Cover> Core<R> {
             → self.new.story ≡ after_event R.by_nodes self.old.most self.old.story event }
     {
         let Event { by, node, deed } = event;
-        let status = status_at(&self.nodes, &self.events, self.latest[node], node);
+        let status = self.shelves.status(&self.events, node);
         if !deed.is_allowed(status, by) {
             return Err(Refusal::NotNow { node, status });
         }
-        let nodes = self.nodes.len();
+        let nodes = self.shelves.len();
         if deed.is_full(self.most, nodes) {
             return Err(Refusal::Full { nodes });
         }
         if deed.is_early(self.most, nodes) {
             return Err(Refusal::Early { nodes });
         }
-        make_room(
-            &mut self.nodes,
-            &mut self.latest,
-            &mut self.contents,
-            &mut self.events,
-            self.held,
-            &deed,
-        )?;
+        make_room(&mut self.shelves, &mut self.events, self.held, &deed)?;
         self.held = held_after(self.held, &deed);
-        let deed = bear(
-            &mut self.nodes,
-            &mut self.latest,
-            &mut self.contents,
-            node,
-            deed,
-        );
-        let_go(&mut self.contents, node, &deed);
-        self.latest[node] = Some(self.events.len());
+        let deed = self.shelves.bear(node, deed);
+        self.shelves.note(node, &deed, self.events.len());
         self.events.push_reserved(Event { by, node, deed });
         Ok(())
     }
@@ -145,7 +118,7 @@ impl<R: Cover> Core<R> {
         requires there { node < length self.now.story.nodes }
         ensures { result ≡ status self.now.story node }
     {
-        status_at(&self.nodes, &self.events, self.latest[node], node)
+        self.shelves.status(&self.events, node)
     }
 
     /// What the node holds: the content that it was finished or cut with, else that of its birth. None of a parted node, whose
@@ -155,9 +128,9 @@ impl<R: Cover> Core<R> {
         ensures value { IfSome result (λ held. content self.now.story node ≡ Some held.now) }
         ensures none { IsNone result ↔ (status self.now.story node ≡ Parted) }
     {
-        match leaf_at(&self.nodes, &self.events, self.latest[node], node) {
+        match self.shelves.leaf(&self.events, node) {
             Some(leaf) => Some(leaf),
-            None => self.contents[node].as_ref(),
+            None => self.shelves.unworked(node),
         }
     }
 
@@ -167,7 +140,7 @@ impl<R: Cover> Core<R> {
         ensures value { result ≡ option_map (λ o. o.parent) (origin self.now.story node) }
         ensures older { IfSome result (λ parent. parent < node) }
     {
-        let node = &self.nodes[node];
+        let node = &self.shelves.nodes()[node];
         node.origin().map(|origin| origin.parent)
     }
 
@@ -176,7 +149,7 @@ impl<R: Cover> Core<R> {
         requires there { node < length self.now.story.nodes }
         ensures { result ≡ option_map (λ o. o.choice) (origin self.now.story node) }
     {
-        let node = &self.nodes[node];
+        let node = &self.shelves.nodes()[node];
         node.origin().map(|origin| origin.choice)
     }
 
@@ -188,9 +161,7 @@ impl<R: Cover> Core<R> {
         ensures fits { OnOk result (length self.new.story.nodes + kids < 2 ^ 64) }
         ensures events { OnOk result (2 ≤ self.new.event_room) }
     {
-        self.nodes.reserve(kids)?;
-        self.latest.reserve(kids)?;
-        self.contents.reserve(kids)?;
+        self.shelves.reserve(kids)?;
         self.events.reserve(self.held + 2)
     }
 
@@ -200,7 +171,7 @@ impl<R: Cover> Core<R> {
         ensures replays { Replays R.covers R.by_nodes self.now.most self.now.story }
         ensures partition { Partition R.covers self.now.story }
     {
-        let _ = &self.nodes;
+        let _ = &self.shelves;
     }
 
     /// How many nodes there are. The root, node 0, is always there.
@@ -208,7 +179,7 @@ impl<R: Cover> Core<R> {
         ensures count { result ≡ length self.now.story.nodes }
         ensures root { 0 < result }
     {
-        self.nodes.len()
+        self.shelves.len()
     }
 
     /// From how many nodes on none is parted.
@@ -229,7 +200,7 @@ impl<R: Cover> Core<R> {
     pub fn nodes(&self) -> &[Node<R>]
         ensures { result.now ≡ self.now.story.nodes }
     {
-        self.nodes.as_slice()
+        self.shelves.nodes()
     }
 
     /// The events that were noted, in order. The node of each is there.
@@ -241,71 +212,30 @@ impl<R: Cover> Core<R> {
     }
 }
 
-// How the deed of an event leaves its node.
-fn left_by<R>(event: &Noted<R>) -> Status
-    ensures { result ≡ left_by event.now.by event.now.deed }
-{
-    match event.deed {
-        Deed::Claim => Status::Held(event.by),
-        Deed::Split(_) => Status::Parted,
-        Deed::Finish(_) | Deed::Cut(_) => Status::Leaf,
-        Deed::Release => Status::Free,
-    }
-}
+// Room for the event, for one more for each node that is then held, and for a split's kids.
+fn make_room<R: Drop>(
+    shelves: &mut Shelves<R>,
+    events: &mut Vec<Noted<R>>,
+    held: usize,
+    deed: &Deed<R>,
+) -> Result<(), NoMemory>
+    requires held { ends deed.now ≤ held }
+    requires claimed { held ≤ vec_len events.old }
+    requires spare { vec_len events.old + held ≤ vec_capacity events.old }
+    ensures nodes { shelves.new.nodes ≡ shelves.old.nodes }
+    ensures latest { shelves.new.latest ≡ shelves.old.latest }
+    ensures contents { shelves.new.contents ≡ shelves.old.contents }
+    ensures events { events.new.items ≡ events.old.items }
+    ensures spare { vec_len events.new + held ≤ vec_capacity events.new }
 
-// How a node stands at its birth.
-fn born_as<R>(node: &Node<R>) -> Status
-    ensures { result ≡ born_as (Some node.now) }
+    ensures node_room { OnOk result (length (kids_of deed.now) ≤ shelves.new.room) }
+    ensures event_room { OnOk result (vec_len events.new + 1 + held + takes deed.now
+        ≤ vec_capacity events.new + ends deed.now) }
+    ensures err { OnErr result (NoRoom shelves.old.room events.old held deed.now) }
 {
-    if node.is_leaf() {
-        Status::Leaf
-    } else {
-        Status::Free
-    }
-}
-
-// How the node stands, by the place of the last event that names it.
-fn status_at<R>(nodes: &[Node<R>], events: &[Noted<R>], last: Option<usize>, node: usize) -> Status
-    requires there { node < length nodes.now }
-    requires last { IsLast (record { nodes = nodes.now; events = events.now }) node last }
-    ensures { result ≡ status (record { nodes = nodes.now; events = events.now }) node }
-{
-    match last {
-        Some(place) => left_by(&events[place]),
-        None => born_as(&nodes[node]),
-    }
-}
-
-// The leaf that an event makes of its node.
-fn leaf_by<R>(event: &Noted<R>) -> Option<&R>
-    ensures { (birth : Option R)
-        → option_copied result ≡ if_leaf (left_by event.now.by event.now.deed)
-        (content_by birth event.now.deed) }
-{
-    match &event.deed {
-        Deed::Finish(leaf) | Deed::Cut(leaf) => Some(leaf),
-        Deed::Claim | Deed::Split(_) | Deed::Release => None,
-    }
-}
-
-// What the node holds where it's a leaf, by the place of the last event that names it.
-fn leaf_at<'a, R>(
-    nodes: &'a [Node<R>],
-    events: &'a [Noted<R>],
-    last: Option<usize>,
-    node: usize,
-) -> Option<&'a R>
-    requires there { node < length nodes.now }
-    requires last { IsLast (record { nodes = nodes.now; events = events.now }) node last }
-    ensures { option_copied result
-        ≡ if_leaf (status (record { nodes = nodes.now; events = events.now }) node)
-        (content (record { nodes = nodes.now; events = events.now }) node) }
-{
-    match last {
-        Some(place) => leaf_by(&events[place]),
-        None => {
-            let birth = &nodes[node];
-            birth.leaf()
-        }
+    match deed {
+        Deed::Claim => events.reserve(held + 2),
+        Deed::Split(kids) => shelves.reserve(kids.len()),
+        _ => Ok(()),
     }
 }
