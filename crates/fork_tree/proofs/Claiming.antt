@@ -1,10 +1,8 @@
 -- What an order of claims names, and that it names none where no node is free.
-use Rattle.std.proofs.Common.{◌≡◌, ◌≢◌, ℕ, suc, ◌+◌, ◌<◌, true, false, IsTrue, List, [], ◌∷◌, Option, Some, None, length, refl, sym, ap, subst, ◌∙◌, arith}
+use Rattle.std.proofs.Common.{◌≡◌, ℕ, ◌<◌, true, false, IsTrue, List, Option, Some, None, length, refl, sym, ap, subst, ◌∙◌}
 use Rattle.std.specs.Prelude.{slice_get}
 use Rattle.std.proofs.lemmas.List.{length-map}
-use Rattle.std.proofs.lemmas.List.Sums.{sum_by-cons}
 use Rattle.std.proofs.lemmas.Option.{slice_get_within}
-use Rattle.tree_core.specs.Covers.{one_if}
 use Rattle.tree_core.specs.Orders.{Candidate, free_count, is_named}
 use Rattle.tree_core.specs.Replays.{is_free}
 use Rattle.tree_core.specs.Stories.{Story, status}
@@ -25,22 +23,6 @@ is_free-true Free is = refl
 is_free-true (Held w) is = cc
 is_free-true Parted is = cc
 is_free-true Leaf is = cc
-
--- where none is free, none is counted
-none-counted : (all : List Candidate) → ((m : ℕ) (c : Candidate) → slice_get all m ≡ Some c → c.is_free ≡ false) → free_count all ≡ 0
-none-counted [] none = refl
-none-counted (x ∷ xs) none =
-    both (one_if x.is_free) (free_count xs) (free_count (x ∷ xs)) (sum_by-cons (λ (y : Candidate). one_if y.is_free) x xs)
-    (ap one_if (none 0 x refl)) (none-counted xs (λ m. none (suc m)))
-  where
-    both : (a b c : ℕ) → c ≡ a + b → a ≡ 0 → b ≡ 0 → c ≡ 0
-    both a b c sum x y = omega arith
-
-not-free : (st : Status) → st ≢ Free → is_free st ≡ false
-not-free Free other = absurd (other refl)
-not-free (Held by) other = refl
-not-free Parted other = refl
-not-free Leaf other = refl
 
 module _ {R : Type 0} (choices : R → List Choice) (cut : R → Option Cause) (s : Story R) (all : List Candidate)
     (are : AreCandidates choices cut s all) where
@@ -77,11 +59,3 @@ module _ {R : Type 0} (choices : R → List Choice) (cut : R → Option Cause) (
       let off = none_free_where_none all m (record { depth = length (choices held.0); is_free = is_free (status s m) }) none
       (seen-at choices cut s all m held.0 are held.1) in
       let never : false ≡ true = sym off ∙ ap is_free is in absurd cc
-
-  pub none-counted-free : NoneFree s → free_count all ≡ 0
-  none-counted-free none = none-counted all (λ m c at.
-      let lt : m < length s.nodes = subst (λ n. m < n) as-many-candidates (slice_get_within all m c at) in
-      let held = content-there s m lt in
-      let same = same_held c (record { depth = length (choices held.0); is_free = is_free (status s m) })
-      (sym at ∙ seen-at choices cut s all m held.0 are held.1) in
-      ap (λ (x : Candidate). x.is_free) same ∙ not-free (status s m) (none m lt))

@@ -15,5 +15,6 @@ pub mod Entering
 pub mod PartingNodes
 pub mod Drained
 pub mod Fitting
+pub mod Claimed
 pub mod Claiming
 pub mod Recorded

@@ -11,8 +11,9 @@ use Rattle.tree_core.specs.declared.node.Status.{Status}
 use Rattle.tree_core.specs.declared.node.Status.TheVariants.{Free, Held}
 use Rattle.tree_core.specs.Orders.{Candidate, is_named}
 use Rattle.tree_core.specs.Stories.{Story, status, content, left_by}
-use Rattle.tree_core.specs.Replays.{allows, is_allowed, is_early, is_free, is_full, is_held_by, kids_of, may_come, with_event, opening}
+use Rattle.tree_core.specs.Replays.{allows, is_allowed, is_early, is_free, is_full, is_held_by, kids_of, may_come, with_event, opening, Replays}
 use Rattle.tree_core.proofs.Guards.{allowed-may, may-all}
+use Rattle.tree_core.proofs.Histories.{all_there}
 use Rattle.fork_spec.specs.Partings.{Place}
 use Rattle.fork_spec.specs.Walks.{candidate, is_by_nodes, is_end_cut, root, side_births}
 use Rattle.fork_tree.specs.NodesApart.{IsBelow, KeepsApart}
@@ -21,7 +22,7 @@ use Rattle.fork_tree.specs.Candidates.{AreCandidates, AreShallow, IsInTurn, kid_
 use Rattle.fork_tree.specs.Calls.{IsEndFit, IsSplitFit, MayCut, claim_event, cut_event, finish_event, release_event, split_event}
 use Rattle.fork_tree.specs.Contents.{cut_in, place_in}
 use Rattle.fork_tree.specs.Nodes.{AllHold, HasState, HoldsFor, IsLeafRight, StateIs}
-use Rattle.fork_tree.specs.Trees.{FollowsRules, choices_at}
+use Rattle.fork_tree.specs.Trees.{FollowsRules, IsWholeTree, choices_at, covers_at}
 use Rattle.fork_tree.specs.Works.{Rules, nodes_at}
 use Rattle.fork_tree.specs.declared.content.Content.{Content}
 use Rattle.fork_tree.specs.declared.content.Content.TheVariants.{Open, Shut}
@@ -57,6 +58,17 @@ module _ {S L : Type 0} (rules : Rules S L) (state_place : S → Place) (leaf_pl
   -- whether a content is a leaf that was cut for want of nodes
   abbrev pub by_nodes : Content S L → Bool
   by_nodes c = is_by_nodes (place_in state_place leaf_place c).cut
+
+  pub whole-by : (most : ℕ) (s : Story (Content S L)) → FollowsRules rules state_place leaf_place s → most ≡ rules.nodes →
+      Replays (covers_at state_place leaf_place) by_nodes most s → IsWholeTree rules state_place leaf_place s
+  whole-by most s follows same replays = record {
+    follows = follows;
+    replays = subst (λ n. Replays (covers_at state_place leaf_place) by_nodes n s) same replays;
+  }
+
+  -- the node of each event of a whole tree is there
+  pub whole-there : (s : Story (Content S L)) → IsWholeTree rules state_place leaf_place s → AreThere s
+  whole-there s whole = all_there (covers_at state_place leaf_place) by_nodes rules.nodes s whole.replays
 
   follows-noted : (s : Story (Content S L)) (e : Coming (Content S L)) (r : Content S L) →
       FollowsRules rules state_place leaf_place s → AreThere s → e.node < length s.nodes →

@@ -5,7 +5,6 @@ ghost use Rattle.tree_core.specs.declared.node.Status.TheVariants.{Held};
 ghost use Rattle.tree_core.specs.Cores.{held_count};
 ghost use Rattle.tree_core.specs.Stories.{content, status};
 ghost use Rattle.fork_spec.specs.Histories.{releases_by};
-ghost use Rattle.fork_tree.specs.Calls.{IsQuiet};
 ghost use Rattle.fork_tree.specs.Drains.{GrowsBy, IsDrained, fuel};
 ghost use Rattle.fork_tree.specs.Nodes.{StateIs};
 
@@ -36,7 +35,6 @@ pub fn drain<W: Work>(
     ensures none_held { held_count tree.new.story ≡ 0 }
 {
     while work_next(rt, alloc, tree, by)? {}
-    tree.is_whole();
     Ok(())
 }
 
@@ -58,10 +56,10 @@ fn work_next<W: Work>(
     ensures less { result ≡ Ok true
         → fuel (W.rules tree.old.worker) tree.new.story
         < fuel (W.rules tree.old.worker) tree.old.story }
-    ensures quiet { result ≡ Ok false → IsQuiet tree.new.story }
+    ensures drained { result ≡ Ok false → IsDrained
+        (W.rules tree.old.worker) W.State.place W.Leaf.place tree.new.story }
 {
     tree.reserve(0)?;
-    tree.is_whole();
     match tree.claim(by)? {
         Claim::Claimed(node, state) => {
             enter(rt, alloc, tree, by, node, &state)?;
@@ -96,7 +94,6 @@ fn enter<W: Work>(
         < fuel (W.rules tree.old.worker) tree.old.story
         + ((W.rules tree.old.worker).targets + 2) ^ (W.rules tree.old.worker).left state.now) }
 {
-    tree.is_whole();
     match tree.worker().work(rt, alloc, &OpenGate, by, state) {
         Err(NoMemory) => {
             tree.release(by, node);

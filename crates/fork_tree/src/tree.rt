@@ -1,18 +1,17 @@
 //! The tree, and the calls by which workers take nodes and enter what came of them.
 
-ghost use Rattle.std.specs.Prelude.{◌≡◌, ◌↔◌, ◌<◌, ◌≤◌, ◌+◌, ◌++◌, ◌^◌, IfOk, nat_le, OnOk, OnErr, IsTrue, Some, None, All, [], length, map, vec_len};
+ghost use Rattle.std.specs.Prelude.{◌≡◌, ◌<◌, ◌≤◌, ◌+◌, ◌++◌, ◌^◌, IfOk, nat_le, OnOk, OnErr, IsTrue, Some, None, All, [], length, map, vec_len};
 ghost use Rattle.std.specs.Arc.{arc_value};
 ghost use Rattle.tree_core.specs.declared.node.Status.TheVariants.{Free, Held, Leaf};
 ghost use Rattle.tree_core.specs.Cores.{LacksRoom, held_count};
-ghost use Rattle.tree_core.specs.Covers.{Partition};
-ghost use Rattle.tree_core.specs.Replays.{IsFit, Replays, may_come, with_event};
+ghost use Rattle.tree_core.specs.Replays.{IsFit, may_come, with_event};
 ghost use Rattle.tree_core.specs.Stories.{content, status};
 ghost use Rattle.fork_tree.specs.declared.content.Content.TheVariants.{Shut};
-ghost use Rattle.fork_tree.specs.Calls.{IsClaim, IsEndFit, IsOpening, IsPartFit, IsParted, IsQuiet, IsSplitFit, MayCut, cut_event, finish_event, release_event, split_event};
+ghost use Rattle.fork_tree.specs.Calls.{IsClaim, IsEndFit, IsOpening, IsPartFit, IsParted, IsSplitFit, MayCut, cut_event, finish_event, release_event, split_event};
 ghost use Rattle.fork_tree.specs.Nodes.{HasState, IsLeafRight, StateIs};
 ghost use Rattle.fork_tree.specs.Candidates.{IsNext, kid_candidate};
 ghost use Rattle.fork_tree.specs.Contents.{cut_in};
-ghost use Rattle.fork_tree.specs.Trees.{FollowsRules, choices_at};
+ghost use Rattle.fork_tree.specs.Trees.{IsWholeTree, choices_at};
 
 use crate::content::Content;
 use crate::work::Work;
@@ -114,7 +113,7 @@ impl<W: Work> Tree<W> {
         self.free.reserve(kids)
     }
 
-    /// Claims the free node that the order names, and hands out its state.
+    /// Claims the free node that the order names, and hands out its state. The tree is whole, as at every moment.
     pub fn claim(&mut self, by: u32) -> Result<Claim<W::State>, NoMemory>
         requires room { 2 ≤ self.old.event_room }
         ensures worker { self.new.worker ≡ self.old.worker }
@@ -124,6 +123,8 @@ impl<W: Work> Tree<W> {
             (choices_at W.State.place W.Leaf.place) (cut_in W.State.place W.Leaf.place)
             (W.rules self.old.worker).order self.old.story claim) }
         ensures err { OnErr result (self.new.story ≡ self.old.story) }
+        ensures whole { IsWholeTree
+            (W.rules self.old.worker) W.State.place W.Leaf.place self.old.story }
     {
         let events = self.core.events().len();
         let Some(node) = self.free.next(self.order, events) else {
@@ -147,6 +148,7 @@ impl<W: Work> Tree<W> {
         requires room { vec_len kids ≤ self.old.node_room }
         ensures worker { self.new.worker ≡ self.old.worker }
         ensures story { self.new.story ≡ with_event self.old.story (split_event by node kids) }
+        ensures there { All (λ e. e.node < length self.old.story.nodes) self.old.story.events }
     {
         let depth = self.free.depth(node);
         list_kids(&mut self.free, depth + 1, kids.as_slice());
@@ -160,6 +162,7 @@ impl<W: Work> Tree<W> {
             (W.rules self.old.worker) W.State.place W.Leaf.place None self.old.story by node leaf }
         ensures worker { self.new.worker ≡ self.old.worker }
         ensures story { self.new.story ≡ with_event self.old.story (finish_event by node leaf) }
+        ensures there { All (λ e. e.node < length self.old.story.nodes) self.old.story.events }
     {
         let deed = Deed::Finish(Content::Shut(leaf));
         note(&mut self.core, Event { by, node, deed });
@@ -180,6 +183,7 @@ impl<W: Work> Tree<W> {
             (W.rules self.old.worker).nodes (length self.old.story.nodes) cause }
         ensures worker { self.new.worker ≡ self.old.worker }
         ensures story { self.new.story ≡ with_event self.old.story (cut_event by node leaf) }
+        ensures there { All (λ e. e.node < length self.old.story.nodes) self.old.story.events }
     {
         let deed = Deed::Cut(Content::Shut(leaf));
         note(&mut self.core, Event { by, node, deed });
@@ -202,6 +206,7 @@ impl<W: Work> Tree<W> {
         ensures ok { OnOk result (IsParted self.old.story by node kids self.new.story) }
         ensures err { OnErr result (self.new.story
             ≡ with_event self.old.story (release_event by node)) }
+        ensures there { All (λ e. e.node < length self.old.story.nodes) self.old.story.events }
     {
         let parted = self.split_or_cut(alloc, by, node, kids, run);
         if parted.is_err() {
@@ -224,6 +229,8 @@ impl<W: Work> Tree<W> {
         ensures worker { self.new.worker ≡ self.old.worker }
         ensures ok { OnOk result (IsParted self.old.story by node kids self.new.story) }
         ensures err { OnErr result (self.new.story ≡ self.old.story) }
+        ensures there { OnOk result (All (λ e. e.node < length self.old.story.nodes)
+            self.old.story.events) }
     {
         if self.full() {
             let nodes = self.len() as u32;
@@ -243,32 +250,18 @@ impl<W: Work> Tree<W> {
         requires held { status self.old.story node ≡ Held by }
         ensures worker { self.new.worker ≡ self.old.worker }
         ensures story { self.new.story ≡ with_event self.old.story (release_event by node) }
+        ensures there { All (λ e. e.node < length self.old.story.nodes) self.old.story.events }
     {
         let deed = Deed::Release;
         note(&mut self.core, Event { by, node, deed });
         self.free.set_free(node, true);
     }
 
-    /// Whether no node is free or held.
-    pub fn quiet(&self) -> bool
-        ensures { IsTrue result ↔ IsQuiet self.now.story }
-    {
-        self.free.next(self.order, 0).is_none() && self.core.held() == 0
-    }
-
-    /// At every moment the story follows the worker's rules, and is that of a core.
+    /// What holds of a tree at every moment.
     pub fn is_whole(&self)
-        ensures follows { FollowsRules
-            (W.rules self.now.worker) W.State.place W.Leaf.place self.now.story }
-        ensures replays { Replays ⟦<Content<W::State, W::Leaf> as Cover>⟧.covers
-            ⟦<Content<W::State, W::Leaf> as Cover>⟧.by_nodes
-            (W.rules self.now.worker).nodes self.now.story }
-        ensures partition { Partition ⟦<Content<W::State, W::Leaf> as Cover>⟧.covers
-            self.now.story }
-        ensures named { All (λ e. e.node < length self.now.story.nodes) self.now.story.events }
+        ensures { IsWholeTree (W.rules self.now.worker) W.State.place W.Leaf.place self.now.story }
     {
         let _ = self.core.events();
-        self.core.is_whole();
     }
 
     /// The worker.
@@ -348,9 +341,8 @@ fn note<R: Cover>(core: &mut Core<R>, event: Event<R>)
     requires room { LacksRoom core.old event.deed → ⊥ }
     ensures story { core.new.story ≡ with_event core.old.story event }
     ensures most { core.new.most ≡ core.old.most }
-    ensures named { All (λ e. e.node < length core.old.story.nodes) core.old.story.events }
+    ensures there { All (λ e. e.node < length core.old.story.nodes) core.old.story.events }
 {
-    let _ = core.events();
     match core.apply(event) {
         Ok(()) => {}
         Err(_) => unreachable!(),

@@ -178,13 +178,23 @@ fn has_three_rungs(tree: &Tree<Climber>) -> bool {
         && is_cut(tree, 6, Some(Cause::Steps))
 }
 
+// Whether each node is parted or a leaf.
+pub(crate) fn is_quiet<W: Work>(tree: &Tree<W>) -> bool {
+    for node in 0..tree.len() {
+        if !matches!(tree.status(node), Status::Parted | Status::Leaf) {
+            return false;
+        }
+    }
+    true
+}
+
 // Whether the tree is quiet once it's drained, and not before.
 fn comes_to_rest(rt: &impl Wait, alloc: Global, tree: &mut Tree<Climber>) -> Result<bool, NoMemory>
     requires opening { IsOpening (record { from = 0; just = false }) tree.old.story }
 {
-    let early = tree.quiet();
+    let early = is_quiet(tree);
     drain(rt, alloc, tree, 0)?;
-    Ok(!early && tree.quiet())
+    Ok(!early && is_quiet(tree))
 }
 
 #[test]
@@ -227,7 +237,7 @@ fn claim_and_release(rt: &impl Abort, tree: &mut Tree<Climber>) -> Result<(), No
     assert!(rt; *state == GROUND);
     tree.reserve(0)?;
     assert!(rt; matches!(tree.claim(1)?, Claim::Nothing));
-    assert!(rt; !tree.quiet());
+    assert!(rt; !is_quiet(tree));
     tree.release(0, node);
     assert!(rt; tree.status(node) == Status::Free);
     Ok(())

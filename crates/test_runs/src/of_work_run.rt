@@ -6,6 +6,7 @@ ghost use Rattle.tree_core.specs.declared.choice.Choice.TheVariants.{Value};
 ghost use Rattle.tree_core.specs.declared.order.Order.TheVariants.{Deepest};
 ghost use Rattle.fork_tree.specs.Nodes.{StateIs};
 
+use crate::of_fork_tree::is_quiet;
 use fork_spec::Placed;
 use fork_tree::{Content, Parts, Tree, Work};
 use std::alloc::{AllocError as NoMemory, Global};
@@ -140,7 +141,7 @@ fn is_leaf_of(tree: &Tree<Lent<'_, Dealer>>, node: usize, card: u32) -> bool {
 
 // The leaves are those that one worker makes: one for each card.
 fn has_each_leaf(tree: &Tree<Lent<'_, Dealer>>) -> bool {
-    tree.quiet()
+    is_quiet(tree)
         && tree.len() == 4
         && is_leaf_of(tree, 1, 0)
         && is_leaf_of(tree, 2, 1)

@@ -1,6 +1,6 @@
 -- What any list of events makes of a root.
 use Rattle.std.proofs.Common.{◌≡◌, ◌↔◌, ℕ, ◌+◌, ◌-◌, ◌≤◌, ◌<◌, length-append, Bool, true, false, cond, IsTrue, IsFalse, Option, Some, None, List, [], ◌∷◌, ◌++◌, map, length, set, option_map, refl, ap, ◌∙◌, sym, subst, arith}
-use Rattle.std.specs.List.{slice_get}
+use Rattle.std.specs.List.{All, slice_get}
 use Rattle.std.specs.Global.{Vec}
 use Rattle.tree_core.specs.declared.event.Event.{Event}
 use Rattle.tree_core.specs.declared.event.Deed.{Deed}
@@ -10,8 +10,8 @@ use Rattle.tree_core.specs.Nodes.{Node}
 use Rattle.tree_core.specs.declared.node.Status.{Status}
 use Rattle.tree_core.specs.declared.node.Status.TheVariants.{Free, Held, Leaf}
 use Rattle.tree_core.specs.Stories.{Story, status, status_by, born_as, left_by, last_on, IsClaimBy, LastIsClaim}
-use Rattle.tree_core.specs.Covers.{one_if, covered, standing_count}
-use Rattle.tree_core.specs.Replays.{noted_all, Replays, AreFit, IsFit, may_come, after_event, after_all, with_event, opening, deed_kept, kids_of, births}
+use Rattle.tree_core.specs.Covers.{one_if, covered, Partition, standing_count}
+use Rattle.tree_core.specs.Replays.{AllMayCome, noted_all, Replays, AreFit, IsFit, may_come, after_event, after_all, with_event, opening, deed_kept, kids_of, births}
 use Rattle.tree_core.specs.Cores.{IsCore, let_go, takes, ends, unworked_of}
 use Rattle.tree_core.proofs.Places.{get_before}
 use Rattle.tree_core.proofs.Guards.{allowed-may}
@@ -22,20 +22,23 @@ module _ {R : Type 0} (covers : R → List ℕ → Bool) (by_nodes : R → Bool)
   pub Made : Story R → Type 0
   Made s = (latest : List (Option ℕ)) × (contents : List (Option R)) × (held : ℕ) × IsCore covers by_nodes most s latest contents held
 
-  made_after : (s : Story R) (e : Event R (Vec (Kid R))) → IsFit covers s e → Made s → Made (after_event by_nodes most s e)
+  made_noted : (s : Story R) (e : Event R (Vec (Kid R))) → Made s → IsFit covers s e → IsTrue (may_come by_nodes most s e) → Made (with_event s e)
   unfolding Made
-  made_after s e fit m = by_guard (may_come by_nodes most s e) refl
+  made_noted s e m fit may = let held : ℕ = m.2 in let low : ends e.deed ≤ held = ends-held covers by_nodes most s m.0 m.1 held e m.3 fit.0 (allowed-may by_nodes most s e may) in (
+    set (m.0 ++ map (λ _. None) (kids_of e.deed)) e.node (Some (length s.events)),
+    let_go (deed_kept e.deed) e.node (m.1 ++ map (λ (kid : Kid R). unworked_of kid.is_leaf kid.content) (kids_of e.deed)),
+    held + takes e.deed - ends e.deed,
+    core-noted covers by_nodes most s m.0 m.1 held (held + takes e.deed - ends e.deed) e m.3 fit may (balance (ends e.deed) (takes e.deed) held low),
+  )
     where
       balance : (a b h : ℕ) → a ≤ h → (h + b - a) + a ≡ h + b
       balance a b h le = omega arith
 
+  made_after : (s : Story R) (e : Event R (Vec (Kid R))) → IsFit covers s e → Made s → Made (after_event by_nodes most s e)
+  made_after s e fit m = by_guard (may_come by_nodes most s e) refl
+    where
       by_guard : (b : Bool) → may_come by_nodes most s e ≡ b → Made (cond b (with_event s e) s)
-      by_guard true may = let held : ℕ = m.2 in let low : ends e.deed ≤ held = ends-held covers by_nodes most s m.0 m.1 held e m.3 fit.0 (allowed-may by_nodes most s e may) in (
-        set (m.0 ++ map (λ _. None) (kids_of e.deed)) e.node (Some (length s.events)),
-        let_go (deed_kept e.deed) e.node (m.1 ++ map (λ (kid : Kid R). unworked_of kid.is_leaf kid.content) (kids_of e.deed)),
-        held + takes e.deed - ends e.deed,
-        core-noted covers by_nodes most s m.0 m.1 held (held + takes e.deed - ends e.deed) e m.3 fit may (balance (ends e.deed) (takes e.deed) held low),
-      )
+      by_guard true may = made_noted s e m fit may
       by_guard false may = m
 
   made_after_all : (s : Story R) (es : List (Event R (Vec (Kid R)))) → AreFit covers by_nodes most s es → Made s → Made (after_all by_nodes most s es)
@@ -45,6 +48,21 @@ module _ {R : Type 0} (covers : R → List ℕ → Bool) (by_nodes : R → Bool)
   pub core_of : (root : R) (es : List (Event R (Vec (Kid R)))) → AreFit covers by_nodes most (opening root false) es → (latest : List (Option ℕ)) × (contents : List (Option R)) × (held : ℕ) × IsCore covers by_nodes most (after_all by_nodes most (opening root false) es) latest contents held
   unfolding Made
   core_of root es fit = made_after_all (opening root false) es fit (None ∷ [], Some root ∷ [], 0, core-opened covers by_nodes most root false)
+
+  made_all : (s : Story R) (es : List (Event R (Vec (Kid R)))) → AllMayCome covers by_nodes most s es → Made s → Made (noted_all s es)
+  unfolding Made
+  made_all s [] all m = m
+  made_all s (e ∷ es) all m = made_all (with_event s e) es all.2 (made_noted s e m all.0 all.1)
+
+  -- what holds of every story that events made of a root
+  pub shared_out : (s : Story R) → Replays covers by_nodes most s → Partition covers s
+  unfolding Made
+  shared_out s r = subst (Partition covers) (sym r.4) (made_all (opening r.0 r.1) r.2 r.3 (None ∷ [], unworked_of r.1 r.0 ∷ [], 0, core-opened covers by_nodes most r.0 r.1)).3.partition
+
+  pub all_there : (s : Story R) → Replays covers by_nodes most s → All (λ (e : Event R ℕ). e.node < length s.nodes) s.events
+  unfolding Made
+  all_there s r = subst (λ (t : Story R). All (λ (e : Event R ℕ). e.node < length t.nodes) t.events) (sym r.4)
+      (made_all (opening r.0 r.1) r.2 r.3 (None ∷ [], unworked_of r.1 r.0 ∷ [], 0, core-opened covers by_nodes most r.0 r.1)).3.named
 
   -- the root stays
   pub root_after : (s : Story R) (es : List (Event R (Vec (Kid R)))) (n : Node R) → slice_get s.nodes 0 ≡ Some n → slice_get (after_all by_nodes most s es).nodes 0 ≡ Some n

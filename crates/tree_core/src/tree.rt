@@ -3,7 +3,6 @@
 ghost use Rattle.std.specs.Prelude.{◌≡◌, ◌≢◌, ◌+◌, ◌^◌, ◌<◌, ◌≤◌, ◌↔◌, Some, Err, IsTrue, IsFalse, All, length, option_map, OnOk, OnErr, IfOk, IfSome, IsNone, vec_capacity, vec_len};
 ghost use Rattle.tree_core.specs.Stories.{status, content, origin};
 ghost use Rattle.tree_core.specs.declared.node.Status.TheVariants.{Parted};
-ghost use Rattle.tree_core.specs.Covers.{Partition};
 ghost use Rattle.tree_core.specs.Replays.{IsFit, Replays, after_event, is_allowed, is_early, is_full, kids_of, may_come, opening, with_event};
 ghost use Rattle.tree_core.specs.Cores.{LacksRoom, NoRoom, ends, held_count, takes};
 
@@ -72,7 +71,7 @@ impl<R: Cover> Core<R> {
     /// `NotNow` comes exactly where the node doesn't stand so. Where it does, `Full` comes exactly for a split where there are as
     /// many nodes as there may be, and `Early` exactly for a cut for want of nodes where there are fewer. Only a claim (for its
     /// own event, and for the one that ends it) and a split (for its kids) may find no memory. Whatever isn't noted changes
-    /// nothing.
+    /// nothing. The node of each event so far is there.
     pub fn apply(&mut self, event: Event<R>) -> Result<(), Refusal>
         requires fit { IsFit R.covers self.old.story event }
         ensures ok { OnOk result (self.new.story ≡ with_event self.old.story event) }
@@ -90,6 +89,7 @@ impl<R: Cover> Core<R> {
             R.by_nodes self.old.most (length self.old.story.nodes) event.deed)) }
         ensures memory { result ≡ Err Refusal.NoMemory → LacksRoom self.old event.deed }
         ensures err { OnErr result (self.new.story ≡ self.old.story) }
+        ensures there { All (λ e. e.node < length self.old.story.nodes) self.old.story.events }
         ensures after { result ≢ Err Refusal.NoMemory
             → self.new.story ≡ after_event R.by_nodes self.old.most self.old.story event }
     {
@@ -165,15 +165,6 @@ impl<R: Cover> Core<R> {
         self.events.reserve(self.held + 2)
     }
 
-    /// At every moment the tree is what its events have made of its root, each allowed and fit when it came, and its free,
-    /// held and leaf nodes share out what the root covers.
-    pub fn is_whole(&self)
-        ensures replays { Replays R.covers R.by_nodes self.now.most self.now.story }
-        ensures partition { Partition R.covers self.now.story }
-    {
-        let _ = &self.shelves;
-    }
-
     /// How many nodes there are. The root, node 0, is always there.
     pub fn len(&self) -> usize
         ensures count { result ≡ length self.now.story.nodes }
@@ -203,10 +194,12 @@ impl<R: Cover> Core<R> {
         self.shelves.nodes()
     }
 
-    /// The events that were noted, in order. The node of each is there.
+    /// The events that were noted, in order: they made the tree of its root, and each might come when it came. The node of each
+    /// is there.
     pub fn events(&self) -> &[Noted<R>]
         ensures value { result.now ≡ self.now.story.events }
         ensures there { All (λ e. e.node < length self.now.story.nodes) result.now }
+        ensures replays { Replays R.covers R.by_nodes self.now.most self.now.story }
     {
         self.events.as_slice()
     }

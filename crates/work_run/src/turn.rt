@@ -93,6 +93,7 @@ pub(crate) fn enter_and_claim<W: Work, R: Wait>(
     let by = pass.number();
     let kids = free_kids::<W>(&parts);
     let mut tree = lock.take(rt, pass);
+    // By what holds of every tree the claim survives what others did.
     tree.tree.is_whole();
     let freed = if tree.tree.full() { 0 } else { kids };
     let entered = tree.enter_and_claim(alloc, by, node, parts, state);
@@ -119,6 +120,7 @@ pub(crate) fn release<W: Work, R: Wait>(
 {
     let by = pass.number();
     let mut tree = lock.take(rt, pass);
+    // By what holds of every tree the claim survives what others did.
     tree.tree.is_whole();
     tree.release(by, node);
     lock.give(pass, tree);

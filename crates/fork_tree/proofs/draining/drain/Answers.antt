@@ -1,9 +1,7 @@
 use Rattle.std.proofs.Common.{Ok, refl, ap, subst, ◌∙◌}
 use Rattle.fork_tree.proofs.Releases.{none_then_one}
-use Rattle.fork_tree.specs.Calls.{IsQuiet}
 use Rattle.fork_tree.specs.Drains.{IsDrained}
 use Rattle.fork_tree.proofs.Entering.{grows-none, grows-both, on_err}
-use Rattle.fork_tree.proofs.Drained.{drained}
 use Rattle.fork_tree.proofs.draining.drain.Goals as goal
 
 pub loop-init : goal.loop-init
@@ -45,10 +43,6 @@ returns-clause-grows g c =
 
 pub returns-clause-drained : goal.returns-clause-drained
 returns-clause-drained g c =
-    let w = c.work_next.new.tree.worker in let s = c.work_next.new.tree.story in
-    let quiet : IsQuiet s =
-    c.work_next.ensures.quiet (c.in_ok-work_next.was ∙ ap Ok c.if-branch.false) in
     subst (λ (x : g.row.W.Denot). IsDrained (g.W.Work.rules x) g.W.State.Placed.place
-    g.W.Leaf.Placed.place s) (c.work_next.ensures.worker ∙ c.loop.invariant.worker)
-    (drained (g.W.Work.rules w) g.W.State.Placed.place g.W.Leaf.Placed.place s quiet
-    c.is_whole.ensures.partition c.is_whole.ensures.follows)
+    g.W.Leaf.Placed.place c.work_next.new.tree.story) c.loop.invariant.worker
+    (c.work_next.ensures.drained (c.in_ok-work_next.was ∙ ap Ok c.if-branch.false))

@@ -11,7 +11,7 @@ use Rattle.fork_tree.proofs.draining.enter.Goals as goal
 pub returns-in-Err-clause-held : goal.returns-in-Err-clause-held
 returns-in-Err-clause-held g c =
     held-less c.args.tree.now.story c.release.new.self.story (release_event c.args.by c.args.node)
-    c.release.ensures.story c.is_whole.ensures.named c.requires.there c.requires.held
+    c.release.ensures.story c.release.ensures.there c.requires.there c.requires.held
     (λ st by. refl) refl refl
 
 pub returns-in-Err-clause-one_given_up : goal.returns-in-Err-clause-one_given_up
@@ -23,7 +23,7 @@ pub returns-in-Ok-Finished-clause-held : goal.returns-in-Ok-Finished-clause-held
 returns-in-Ok-Finished-clause-held g c =
     held-less c.args.tree.now.story c.finish.new.self.story
     (finish_event c.args.by c.args.node c.in-Ok-Finished.leaf) c.finish.ensures.story
-    c.is_whole.ensures.named c.requires.there c.requires.held (λ st by. refl) refl refl
+    c.finish.ensures.there c.requires.there c.requires.held (λ st by. refl) refl refl
 
 pub returns-in-Ok-Finished-clause-none_given_up : goal.returns-in-Ok-Finished-clause-none_given_up
 returns-in-Ok-Finished-clause-none_given_up g c =
@@ -34,14 +34,14 @@ pub returns-in-Ok-Finished-clause-less : goal.returns-in-Ok-Finished-clause-less
 returns-in-Ok-Finished-clause-less g c =
     leaf-less (g.W.Work.rules c.args.tree.now.worker) c.args.tree.now.story c.finish.new.self.story
     (finish_event c.args.by c.args.node c.in-Ok-Finished.leaf) c.args.state.now
-    c.finish.ensures.story c.is_whole.ensures.named c.requires.there c.requires.held
+    c.finish.ensures.story c.finish.ensures.there c.requires.there c.requires.held
     (λ st by. refl) refl refl
 
 pub returns-in-Ok-CutSteps-clause-held : goal.returns-in-Ok-CutSteps-clause-held
 returns-in-Ok-CutSteps-clause-held g c =
     held-less c.args.tree.now.story c.cut.new.self.story
     (cut_event c.args.by c.args.node c.in-Ok-CutSteps.leaf) c.cut.ensures.story
-    c.is_whole.ensures.named c.requires.there c.requires.held (λ st by. refl) refl refl
+    c.cut.ensures.there c.requires.there c.requires.held (λ st by. refl) refl refl
 
 pub returns-in-Ok-CutSteps-clause-none_given_up : goal.returns-in-Ok-CutSteps-clause-none_given_up
 returns-in-Ok-CutSteps-clause-none_given_up g c =
@@ -52,7 +52,7 @@ pub returns-in-Ok-CutSteps-clause-less : goal.returns-in-Ok-CutSteps-clause-less
 returns-in-Ok-CutSteps-clause-less g c =
     leaf-less (g.W.Work.rules c.args.tree.now.worker) c.args.tree.now.story c.cut.new.self.story
     (cut_event c.args.by c.args.node c.in-Ok-CutSteps.leaf) c.args.state.now c.cut.ensures.story
-    c.is_whole.ensures.named c.requires.there c.requires.held (λ st by. refl) refl refl
+    c.cut.ensures.there c.requires.there c.requires.held (λ st by. refl) refl refl
 
 pub finish-requires : goal.finish-requires
 finish-requires g c = let w = c.args.tree.now.worker in
@@ -82,7 +82,7 @@ cut-requires g c = let w = c.args.tree.now.worker in
 pub returns-in_err-part-in-Ok-Kids-clause-held : goal.returns-in_err-part-in-Ok-Kids-clause-held
 returns-in_err-part-in-Ok-Kids-clause-held g c =
     held-less c.args.tree.now.story c.part.new.self.story (release_event c.args.by c.args.node)
-    c.in_err-part-in-Ok-Kids.ensures.err c.is_whole.ensures.named c.requires.there c.requires.held
+    c.in_err-part-in-Ok-Kids.ensures.err c.part.ensures.there c.requires.there c.requires.held
     (λ st by. refl) refl refl
 
 pub returns-in_err-part-in-Ok-Kids-clause-one_given_up : goal.returns-in_err-part-in-Ok-Kids-clause-one_given_up
@@ -93,7 +93,7 @@ returns-in_err-part-in-Ok-Kids-clause-one_given_up g c =
 pub returns-in_ok-part-in-Ok-Kids-clause-held : goal.returns-in_ok-part-in-Ok-Kids-clause-held
 returns-in_ok-part-in-Ok-Kids-clause-held g c =
     parted-held c.args.tree.now.story c.part.new.self.story c.args.by c.args.node
-    c.in-Ok-Kids.kids c.is_whole.ensures.named c.requires.there c.requires.held
+    c.in-Ok-Kids.kids c.part.ensures.there c.requires.there c.requires.held
     c.in_ok-part-in-Ok-Kids.ensures.ok
 
 pub returns-in_ok-part-in-Ok-Kids-clause-none_given_up : goal.returns-in_ok-part-in-Ok-Kids-clause-none_given_up
@@ -110,7 +110,7 @@ returns-in_ok-part-in-Ok-Kids-clause-less g c =
     c.in-Ok-Kids.ensures in
     parted-less (g.W.Work.rules c.args.tree.now.worker) g.W.State.Placed.place
     g.W.Leaf.Placed.place c.args.tree.now.story c.part.new.self.story c.args.by c.args.node
-    c.in-Ok-Kids.kids c.args.state.now c.is_whole.ensures.named c.requires.there c.requires.held
+    c.in-Ok-Kids.kids c.args.state.now c.part.ensures.there c.requires.there c.requires.held
     parts.0 c.in_ok-part-in-Ok-Kids.ensures.ok
 
 pub part-requires : goal.part-requires

@@ -6,14 +6,14 @@ use Rattle.tree_core.specs.Stories.{content}
 use Rattle.tree_core.specs.declared.event.Event.{Event}
 use Rattle.fork_tree.specs.Contents.{cut_in}
 use Rattle.fork_tree.specs.Nodes.{StateIs}
-use Rattle.fork_tree.specs.Trees.{TreeValue, choices_at}
+use Rattle.fork_tree.specs.Trees.{IsWholeTree, TreeValue, choices_at}
 use Rattle.fork_tree.specs.Calls.{IsClaim, claim_event}
 use Rattle.fork_tree.specs.declared.content.Content.{Content}
 use Rattle.fork_tree.specs.declared.tree.Claim.TheVariants.{Claimed}
 use Rattle.tree_core.proofs.Guards.{may-all}
 use Rattle.fork_tree.proofs.Allowing.{allowed-claim}
 use Rattle.fork_tree.proofs.Claiming.{named-node, none-free}
-use Rattle.fork_tree.proofs.Noting.{any_state, by_nodes, free-state, such_state, tended-claim}
+use Rattle.fork_tree.proofs.Noting.{any_state, by_nodes, free-state, such_state, tended-claim, whole-by}
 use Rattle.fork_tree.proofs.tree.Tree.claim.Goals as goal
 use Rattle.fork_tree.proofs.tree.Tree.claim.Goals.{then-held-eq0, else-held-eq0}
 
@@ -74,7 +74,7 @@ invariant_of-self g c =
     subst (λ order. IsTrue (is_named order (length s.events) i.free.nodes m)) c.self.invariant.4 now in
     let tended = tended-claim rules g.W.State.Placed.place g.W.Leaf.Placed.place s
     c.note.new.core.story c.args.by m node.0 i.free.nodes c.set_free.new.self.nodes
-    (c.self.invariant.0, c.self.invariant.1, c.self.invariant.2) c.note.ensures.story c.note.ensures.named
+    (c.self.invariant.0, c.self.invariant.1, c.self.invariant.2) c.note.ensures.story c.note.ensures.there
     node.2 node.3 node.1 named (c.set_free.ensures.nodes node.0 node.1) in
     (tended.0, tended.1, tended.2, c.note.ensures.most ∙ c.self.invariant.3, c.self.invariant.4)
 
@@ -112,3 +112,24 @@ returns-in_default-clause-ok g c =
       | else-held-eq0 w ↦ subst (λ r. IsClaim rules.IsWell s c.args.by r s) (sym w.result-is)
           (none, omega (arith, c.held.ensures, w.if-held-eq0.false), refl)
     ])
+
+pub returns-clause-whole : goal.returns-clause-whole
+returns-clause-whole g c = let i = c.self.inside in
+    subst (λ (k : TreeValue g.row.W.Denot g.row.W-State.Denot g.row.W-Leaf.Denot). IsWholeTree
+    (g.W.Work.rules k.worker) g.W.State.Placed.place g.W.Leaf.Placed.place k.story) c.self.view_is
+    (whole-by (g.W.Work.rules i.worker) g.W.State.Placed.place g.W.Leaf.Placed.place i.core.most i.core.story
+    c.self.invariant.0 c.self.invariant.3 c.events-events.ensures.replays)
+
+pub returns-in_default-clause-whole : goal.returns-in_default-clause-whole
+returns-in_default-clause-whole g c = let i = c.self.inside in
+    subst (λ (k : TreeValue g.row.W.Denot g.row.W-State.Denot g.row.W-Leaf.Denot). IsWholeTree
+    (g.W.Work.rules k.worker) g.W.State.Placed.place g.W.Leaf.Placed.place k.story) c.self.view_is
+    (whole-by (g.W.Work.rules i.worker) g.W.State.Placed.place g.W.Leaf.Placed.place i.core.most i.core.story
+    c.self.invariant.0 c.self.invariant.3 c.events-events.ensures.replays)
+
+pub returns-in_err-state-clause-whole : goal.returns-in_err-state-clause-whole
+returns-in_err-state-clause-whole g c = let i = c.self.inside in
+    subst (λ (k : TreeValue g.row.W.Denot g.row.W-State.Denot g.row.W-Leaf.Denot). IsWholeTree
+    (g.W.Work.rules k.worker) g.W.State.Placed.place g.W.Leaf.Placed.place k.story) c.self.view_is
+    (whole-by (g.W.Work.rules i.worker) g.W.State.Placed.place g.W.Leaf.Placed.place i.core.most i.core.story
+    c.self.invariant.0 c.self.invariant.3 c.events-events.ensures.replays)

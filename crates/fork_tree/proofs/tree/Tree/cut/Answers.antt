@@ -16,5 +16,5 @@ invariant_of-self g c = let i = c.self.inside in
     c.requires.may in
     let tended = tended-cut (g.W.Work.rules i.worker) g.W.State.Placed.place g.W.Leaf.Placed.place c.args.cause i.core.story
     c.note.new.core.story c.args.by c.args.node c.args.leaf i.free.nodes
-    (c.self.invariant.0, c.self.invariant.1, c.self.invariant.2) c.note.ensures.story c.note.ensures.named fit may in
+    (c.self.invariant.0, c.self.invariant.1, c.self.invariant.2) c.note.ensures.story c.note.ensures.there fit may in
     (tended.0, tended.1, tended.2, c.note.ensures.most ∙ c.self.invariant.3, c.self.invariant.4)

@@ -32,6 +32,6 @@ invariant_of-self g c =
     let tended = tended-release rules g.W.State.Placed.place g.W.Leaf.Placed.place s c.note.new.core.story
     c.args.by c.args.node listed.0 i.free.nodes c.set_free.new.self.nodes
     (c.self.invariant.0, c.self.invariant.1, c.self.invariant.2)
-    c.note.ensures.story c.note.ensures.named there held listed.1
+    c.note.ensures.story c.note.ensures.there there held listed.1
     (c.set_free.ensures.nodes listed.0 listed.1) in
     (tended.0, tended.1, tended.2, c.note.ensures.most ∙ c.self.invariant.3, c.self.invariant.4)

@@ -58,7 +58,7 @@ invariant_of-self g c =
     let deep = c.depth-depth.ensures.depth listed.0 listed.1 in
     let tended = tended-split rules g.W.State.Placed.place g.W.Leaf.Placed.place s c.note.new.core.story
     c.args.by c.args.node c.args.kids listed.0 i.free.nodes c.list_kids.new.free.nodes
-    (c.self.invariant.0, c.self.invariant.1, c.self.invariant.2) c.note.ensures.story c.note.ensures.named fit listed.1
+    (c.self.invariant.0, c.self.invariant.1, c.self.invariant.2) c.note.ensures.story c.note.ensures.there fit listed.1
     (subst (λ (p : ℕ × List (Kid (Content g.row.W-State.Denot g.row.W-Leaf.Denot))). c.list_kids.new.free.nodes ≡ i.free.nodes ++ map (kid_candidate (p.0 + 1)) p.1)
     (λ j. (deep j, c.as_slice.ensures.value j)) c.list_kids.ensures.nodes) in
     (tended.0, tended.1, tended.2, c.note.ensures.most ∙ c.self.invariant.3, c.self.invariant.4)
