@@ -9,7 +9,7 @@ use Rattle.tree_core.specs.declared.event.Deed.TheVariants.{Cut as CutDeed, Rele
 use Rattle.tree_core.specs.declared.node.Status.{Status}
 use Rattle.tree_core.specs.declared.node.Status.TheVariants.{Leaf as IsLeaf}
 use Rattle.fork_spec.specs.Leaves.{Leaf}
-use Rattle.fork_spec.specs.Walks.{Bounds, Line, Side, Sides, Standing, is_quiet, walk}
+use Rattle.fork_spec.specs.Walks.{Bounds, Line, Side, Sides, Standing, is_quiet, sides_of, walk}
 use Rattle.fork_spec.specs.declared.end.LeafEnd.{LeafEnd}
 use Rattle.fork_spec.specs.declared.end.LeafEnd.TheVariants.{Exits, Traps, Cut}
 
@@ -71,8 +71,7 @@ IsOwnSplit lines node (c ∷ cs) = IsSideOf lines node (c ∷ cs)
 
 -- how many nodes a written deed makes
 abbrev pub sides_made : Deed (Option Cause) Sides → ℕ
-sides_made (Split sides) = length sides.sides
-sides_made _ = 0
+sides_made deed = length (sides_of deed)
 
 -- how many nodes there are after these events: the root, and the sides of each split
 abbrev pub node_count : List Line → ℕ

@@ -1,10 +1,10 @@
 -- The walk of written events: how the nodes of a fork tree stand after them, with nothing known of what the nodes hold.
-use Rattle.std.specs.Prelude.{ℕ, ◌+◌, Bool, true, false, List, [], ◌∷◌, ◌++◌, ◌==◌, ◌&&◌, ◌||◌, ◌^◌, if◌then◌else◌, nat_le, nat_lt, drop, length, map, slice_get, slice_set, Option, Some, None, option_and_then}
+use Rattle.std.specs.Prelude.{ℕ, ◌+◌, Bool, true, false, List, [], ◌∷◌, ◌++◌, ◌==◌, ◌&&◌, ◌||◌, ◌^◌, if◌then◌else◌, nat_le, nat_lt, drop, is_some, length, map, slice_get, slice_set, Option, Some, None, option_and_then}
 use Rattle.std.specs.List.{list_all}
 use Rattle.tree_core.specs.Choices.{is_same}
 use Rattle.tree_core.specs.Orders.{Candidate, is_named}
-use Rattle.tree_core.specs.Replays.{allows, has_room, is_free}
-use Rattle.tree_core.specs.Stories.{left_by}
+use Rattle.tree_core.specs.Replays.{borne, is_free, may_do}
+use Rattle.tree_core.specs.Stories.{at_birth, left_by}
 use Rattle.tree_core.specs.declared.cause.Cause.{Cause}
 use Rattle.tree_core.specs.declared.cause.Cause.TheVariants.{Steps, Targets, Conflicts, Nodes}
 use Rattle.tree_core.specs.declared.choice.Choice.{Choice}
@@ -153,23 +153,21 @@ cut_by (Finish cut) = cut
 cut_by (Cut cut) = cut
 cut_by _ = None
 
--- a side is free, or a leaf at once
-abbrev pub side_status : Option Cause → Status
-side_status None = Free
-side_status (Some cause) = Leaf
-
--- a side of the fork at the node that these choices lead to
+-- a side of the fork at the node that these choices lead to: free, or a leaf at once
 abbrev pub side_at : List Choice → Side → Standing
 side_at choices side = record {
   choices = choices ++ side.choice ∷ [];
-  status = side_status side.cut;
+  status = at_birth (is_some side.cut);
   cut = side.cut;
 }
 
+-- the sides that a deed parts its node into
+abbrev pub sides_of : Deed (Option Cause) Sides → List Side
+sides_of deed = borne (λ (sides : Sides). sides.sides) deed
+
 -- the nodes that come behind the others
 abbrev pub side_births : List Choice → Deed (Option Cause) Sides → List Standing
-side_births choices (Split sides) = map (side_at choices) sides.sides
-side_births choices _ = []
+side_births choices deed = map (side_at choices) (sides_of deed)
 
 -- the nodes after an event on this one of them
 abbrev pub done_on : List Standing → Line → Standing → List Standing
@@ -178,13 +176,13 @@ done_on nodes line node =
     (record node { status = left_by line.by line.deed; cut = cut_by line.deed })
     ++ side_births node.choices line.deed
 
--- whether the event may come behind so many, on this one of the nodes: its worker is one of so many and may do it, a claim is in
--- turn, there are few enough nodes for it, or enough, and it is in form
+-- whether the event may come behind so many, on this one of the nodes: its worker is one of so many, its guards hold, a claim is
+-- in turn, and it is in form
 abbrev pub may_come : Bounds → (events : ℕ) → List Standing → Line → Standing → Bool
 may_come bounds events nodes line node =
-    nat_lt line.by bounds.workers && allows node.status line.by line.deed
+    nat_lt line.by bounds.workers
+    && may_do is_by_nodes bounds.nodes (length nodes) node.status line.by line.deed
     && is_in_turn bounds.order events (map candidate nodes) line.node line.deed
-    && has_room is_by_nodes bounds.nodes (length nodes) line.deed
     && is_in_form bounds.targets (length nodes) line.deed
 
 -- the nodes after an event behind so many, and none where it may not come

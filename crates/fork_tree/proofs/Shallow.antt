@@ -2,19 +2,20 @@
 use Rattle.std.proofs.Common.{◌≡◌, ℕ, zero, suc, ◌+◌, ◌-◌, ◌<◌, ◌≤◌, ◌⊎◌, inl, inr, Bool, true, false, not, List, [], ◌∷◌, ◌++◌, Option, Some, None, if◌then◌else◌, length, map, set, refl, sym, ap, ◌∙◌, arith}
 use mathlib.Core.Logic.{dite}
 use native.Mathlib.Decide.{ℕ_discrete}
-use Rattle.std.specs.Prelude.{All, slice_get}
+use Rattle.std.specs.Prelude.{All, is_some, slice_get}
 use Rattle.std.proofs.lemmas.Bool.{cases_lt}
 use Rattle.std.proofs.lemmas.List.{append-nil, length-append, set-get_or}
 use Rattle.std.proofs.lemmas.List.Elements.{All-head, All-tail}
 use Rattle.std.proofs.lemmas.Option.{get_or_from_slice_get, slice_get_within}
 use Rattle.tree_core.specs.Orders.{Candidate}
 use Rattle.tree_core.specs.Replays.{is_free}
+use Rattle.tree_core.specs.Stories.{at_birth}
 use Rattle.tree_core.specs.declared.cause.Cause.{Cause}
 use Rattle.tree_core.specs.declared.choice.Choice.{Choice}
 use Rattle.tree_core.specs.declared.event.Deed.{Deed}
 use Rattle.tree_core.specs.declared.event.Deed.TheVariants.{Claim, Split, Finish, Cut, Release}
 use Rattle.tree_core.specs.declared.event.Kid.{Kid}
-use Rattle.fork_spec.specs.Walks.{Side, Sides, candidate, side_at, side_births, side_status}
+use Rattle.fork_spec.specs.Walks.{Side, Sides, candidate, side_at, side_births}
 use Rattle.fork_tree.specs.Candidates.{AreShallow, kid_candidate}
 use Rattle.fork_tree.specs.Written.{IsCutOr, IsKidOf, side_of_kid}
 use Rattle.fork_tree.proofs.Changing.{changed, get_new, get_other, get_same}
@@ -92,7 +93,7 @@ shallow-changed all m choices now before d is shallow k c at = by_place (cases_l
         omega (arith, deep, low, within, ge)
 
 module _ {R : Type 0} (choices : R → List Choice) (cut : R → Option Cause) (r : R) where
-  kid_free : (b : Bool) (c : Option Cause) → IsCutOr b c → is_free (side_status (if b then c else None)) ≡ not b
+  kid_free : (b : Bool) (c : Option Cause) → IsCutOr b c → is_free (at_birth (is_some (if b then c else None))) ≡ not b
   kid_free true None marked = absurd marked
   kid_free true (Some c) marked = refl
   kid_free false c marked = refl

@@ -17,16 +17,17 @@ use Rattle.tree_core.specs.declared.event.Deed.TheVariants.{Claim, Split, Finish
 use Rattle.tree_core.specs.declared.event.Kid.{Kid}
 use Rattle.tree_core.specs.declared.node.Status.{Status}
 use Rattle.tree_core.specs.declared.node.Status.TheVariants.{Free, Held, Parted, Leaf}
-use Rattle.tree_core.specs.Replays.{allows, deed_kept, has_room, is_allowed, kept, kids_of, with_event, opening}
+use Rattle.tree_core.specs.Replays.{deed_kept, is_allowed, may_do, kept, kids_of, with_event, opening}
 use Rattle.tree_core.specs.Replays as tree
-use Rattle.tree_core.specs.Stories.{Story, content, content_after, content_by, last_on, left_by, status}
+use Rattle.tree_core.specs.Stories.{Story, at_birth, content, content_after, content_by, last_on, left_by, status}
 use Rattle.tree_core.specs.Stories as stories
 use Rattle.tree_core.proofs.Guards.{allowed-may}
 use Rattle.tree_core.proofs.Standing.{content-kid, content-noted, kid_unnamed, open_content, status-kid, status-noted}
 use Rattle.tree_core.proofs.Places.{get_behind}
+use Rattle.std.specs.Prelude.{is_some}
 use Rattle.tree_core.specs.Orders.{Candidate}
 use Rattle.tree_core.specs.declared.order.Order.{Order}
-use Rattle.fork_spec.specs.Walks.{Bounds, Line, Standing, candidate, is_by_nodes, is_in_turn, side_births, side_status, cut_by, done_on, is_in_form, may_come, root, side_at, walk_step, walk, walk_from}
+use Rattle.fork_spec.specs.Walks.{Bounds, Line, Standing, candidate, is_by_nodes, is_in_turn, side_births, cut_by, done_on, is_in_form, may_come, root, side_at, walk_step, walk, walk_from}
 use Rattle.fork_tree.specs.Candidates.{AreCandidates, IsInTurn}
 use Rattle.fork_tree.specs.Written.{AreNodesOf, IsCutOr, IsInForm, IsKidOf, IsWalked, LeadsTo, StandsAs, cut_where, lines_from, lines_of, nodes_after, side_of_kid, written_now}
 use Rattle.fork_tree.proofs.Changing.{changed, get_new, get_other, get_same, length-changed}
@@ -95,19 +96,13 @@ module _ {R : Type 0} (choices : R → List Choice) (cut : R → Option Cause) (
   abbrev stands : Story R → ℕ → R → Standing
   stands s m r = record { choices = choices r; status = status s m; cut = cut_where cut (status s m) r }
 
-  allows_line : (st : Status) (by first : ℕ) (d : Deed R (Vec (Kid R))) → allows st by (written_now cut first d) ≡ allows st by d
-  allows_line st by first Claim = refl
-  allows_line st by first (Split kids) = refl
-  allows_line st by first (Finish leaf) = refl
-  allows_line st by first (Cut leaf) = refl
-  allows_line st by first Release = refl
-
-  full_line : (n first : ℕ) (d : Deed R (Vec (Kid R))) → has_room is_by_nodes most n (written_now cut first d) ≡ has_room (λ leaf. is_by_nodes (cut leaf)) most n d
-  full_line n first Claim = refl
-  full_line n first (Split kids) = refl
-  full_line n first (Finish leaf) = refl
-  full_line n first (Cut leaf) = refl
-  full_line n first Release = refl
+  -- its guards are the same
+  guards_line : (n : ℕ) (st : Status) (by first : ℕ) (d : Deed R (Vec (Kid R))) → may_do is_by_nodes most n st by (written_now cut first d) ≡ may_do (λ leaf. is_by_nodes (cut leaf)) most n st by d
+  guards_line n st by first Claim = refl
+  guards_line n st by first (Split kids) = refl
+  guards_line n st by first (Finish leaf) = refl
+  guards_line n st by first (Cut leaf) = refl
+  guards_line n st by first Release = refl
 
   form_line : (first : ℕ) (r : R) (d : Deed R (Vec (Kid R))) → IsInForm choices cut targets r d → is_in_form targets first (written_now cut first d) ≡ true
   form_line first r Claim form = refl
@@ -130,7 +125,7 @@ module _ {R : Type 0} (choices : R → List Choice) (cut : R → Option Cause) (
   left_line by first r q Release form e = ap (λ x. standing (choices x) (Free) (None)) (same_held r q e)
 
   -- a kid stands as its side
-  kid_status : (b : Bool) (c : Option Cause) → IsCutOr b c → side_status (if b then c else None) ≡ cond b Leaf Free
+  kid_status : (b : Bool) (c : Option Cause) → IsCutOr b c → at_birth (is_some (if b then c else None)) ≡ cond b Leaf Free
   kid_status true None marked = absurd marked
   kid_status true (Some c) marked = refl
   kid_status false c marked = refl
@@ -171,9 +166,6 @@ module _ {R : Type 0} (choices : R → List Choice) (cut : R → Option Cause) (
     -- the guards
     may : IsTrue (is_allowed s e)
     may = allowed-may (λ leaf. is_by_nodes (cut leaf)) most s e comes
-
-    room : has_room (λ leaf. is_by_nodes (cut leaf)) most (length s.nodes) e.deed ≡ true
-    room = (and_parts (is_allowed s e) (has_room (λ leaf. is_by_nodes (cut leaf)) most (length s.nodes) e.deed) comes).1
 
     -- the content of its birth, which it has still
     birth : option_map (λ n. n.content) (slice_get s.nodes e.node) ≡ Some r
@@ -289,12 +281,11 @@ module _ {R : Type 0} (choices : R → List Choice) (cut : R → Option Cause) (
         in_turn events = is_in_turn order events (map candidate old.nodes) e.node line.deed
 
         came : may_come (bounds workers) (length (lines_of cut s)) old.nodes line (stands s e.node r) ≡ true
-        came = both (nat_lt e.by workers && allows (status s e.node) e.by line.deed && in_turn (length (lines_of cut s)) && has_room is_by_nodes most (length old.nodes) line.deed) _
-            (both (nat_lt e.by workers && allows (status s e.node) e.by line.deed && in_turn (length (lines_of cut s))) _
-            (both (nat_lt e.by workers && allows (status s e.node) e.by line.deed) _
-            (both (nat_lt e.by workers) _ (below e.by workers by) (allows_line (status s e.node) e.by (length s.nodes) e.deed ∙ may))
+        came = both (nat_lt e.by workers && may_do is_by_nodes most (length old.nodes) (status s e.node) e.by line.deed && in_turn (length (lines_of cut s))) _
+            (both (nat_lt e.by workers && may_do is_by_nodes most (length old.nodes) (status s e.node) e.by line.deed) _
+            (both (nat_lt e.by workers) _ (below e.by workers by)
+            (ap (λ n. may_do is_by_nodes most n (status s e.node) e.by line.deed) old.same.as_many ∙ (guards_line (length s.nodes) (status s e.node) e.by (length s.nodes) e.deed ∙ comes)))
             (ap in_turn (as-many-lines cut s) ∙ turn_line choices cut s order (length s.nodes) e.node e.deed old.nodes old.same turn))
-            (ap (λ n. has_room is_by_nodes most n line.deed) old.same.as_many ∙ (full_line (length s.nodes) (length s.nodes) e.deed ∙ room)))
             (ap (λ n. is_in_form targets n line.deed) old.same.as_many ∙ form_line (length s.nodes) r e.deed form)
 
     pub walked-noted : IsInTurn choices cut order s e.node e.deed → IsWalked choices cut targets most order s → IsWalked choices cut targets most order (with_event s e)

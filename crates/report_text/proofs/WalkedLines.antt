@@ -6,7 +6,7 @@ use Rattle.std.proofs.lemmas.List.{length-set}
 use Rattle.std.proofs.lemmas.List.Elements.{All-cons, All-nil}
 use Rattle.std.proofs.lemmas.Option.{same_Some, slice_get_within}
 use Rattle.tree_core.specs.Choices.{is_same}
-use Rattle.tree_core.specs.Replays.{allows, has_room}
+use Rattle.tree_core.specs.Replays.{may_do}
 use Rattle.tree_core.specs.declared.cause.Cause.{Cause}
 use Rattle.tree_core.specs.declared.choice.Choice.{Choice}
 use Rattle.tree_core.specs.declared.choice.Choice.TheVariants.{No, Yes, Value, Rest}
@@ -129,11 +129,10 @@ module _ (bounds : Bounds) where
       go : (b : Bool) → may_come bounds events nodes line node ≡ b → (if b then Some (done_on nodes line node) else None) ≡ Some next → Came bounds nodes next line
       go true may is =
           let turn : Bool = is_in_turn bounds.order events (map candidate nodes) line.node line.deed in
-          let parts = and_parts (nat_lt line.by bounds.workers && allows node.status line.by line.deed && turn && has_room is_by_nodes bounds.nodes (length nodes) line.deed)
-          (is_in_form bounds.targets (length nodes) line.deed) may in
-          let guards = and_parts (nat_lt line.by bounds.workers && allows node.status line.by line.deed && turn) (has_room is_by_nodes bounds.nodes (length nodes) line.deed) parts.0 in
-          let allowed = and_parts (nat_lt line.by bounds.workers && allows node.status line.by line.deed) turn guards.0 in
-          let worker = and_parts (nat_lt line.by bounds.workers) (allows node.status line.by line.deed) allowed.0 in
+          let guards : Bool = may_do is_by_nodes bounds.nodes (length nodes) node.status line.by line.deed in
+          let parts = and_parts (nat_lt line.by bounds.workers && guards && turn) (is_in_form bounds.targets (length nodes) line.deed) may in
+          let timely = and_parts (nat_lt line.by bounds.workers && guards) turn parts.0 in
+          let worker = and_parts (nat_lt line.by bounds.workers) guards timely.0 in
           record {
             by = lt_from line.by bounds.workers worker.0;
             within = slice_get_within nodes line.node node at.1;

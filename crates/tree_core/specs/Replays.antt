@@ -56,10 +56,15 @@ abbrev pub has_room : {R K : Type 0} → (by_nodes : R → Bool) → (most nodes
 has_room by_nodes most nodes deed = not (is_full most nodes deed)
     && not (is_early by_nodes most nodes deed)
 
+-- the guards of a worker's deed on a node that stands so, where there are so many nodes
+abbrev pub may_do : {R K : Type 0} → (by_nodes : R → Bool) → (most nodes : ℕ) → Status → (by : ℕ)
+    → Deed R K → Bool
+may_do by_nodes most nodes st by deed = allows st by deed && has_room by_nodes most nodes deed
+
 -- the event's guards hold
 abbrev pub may_come : {R : Type 0} → (by_nodes : R → Bool) → (most : ℕ) → Story R
     → Event R (Vec (Kid R)) → Bool
-may_come by_nodes most s e = is_allowed s e && has_room by_nodes most (length s.nodes) e.deed
+may_come by_nodes most s e = may_do by_nodes most (length s.nodes) (status s e.node) e.by e.deed
 
 -- the node that a kid becomes
 abbrev pub node_of : {R : Type 0} → ℕ → Kid R → Node R
@@ -69,10 +74,14 @@ node_of parent kid = record {
   is_leaf = kid.is_leaf;
 }
 
+-- what a deed bears: a split what is listed of what it carries, and any other nothing
+abbrev pub borne : {R K X : Type 0} → (listed : K → List X) → Deed R K → List X
+borne listed (Split kids) = listed kids
+borne listed _ = []
+
 -- the kids that a deed hands in
 abbrev pub kids_of : {R : Type 0} → Deed R (Vec (Kid R)) → List (Kid R)
-kids_of (Split kids) = kids.items
-kids_of _ = []
+kids_of {R} deed = borne (λ (kids : Vec (Kid R)). kids.items) deed
 
 -- the nodes that a deed makes, in their order
 abbrev pub births : {R : Type 0} → ℕ → Deed R (Vec (Kid R)) → List (Node R)

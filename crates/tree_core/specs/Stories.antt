@@ -1,5 +1,5 @@
 -- The story of a fork tree, which only grows: its nodes at their birth, and the events noted. How a node stands is read from it.
-use Rattle.std.specs.Prelude.{option_and_then, ◌≡◌, ℕ, ◌==◌, if◌then◌else◌, Option, Some, None, option_map, List, [], ◌∷◌, slice_get}
+use Rattle.std.specs.Prelude.{option_and_then, ◌≡◌, ℕ, ◌==◌, Bool, if◌then◌else◌, Option, Some, None, option_map, List, [], ◌∷◌, slice_get}
 use Rattle.tree_core.specs.declared.event.Event.{Event}
 use Rattle.tree_core.specs.declared.event.Deed.{Deed}
 use Rattle.tree_core.specs.declared.event.Deed.TheVariants.{Claim, Split, Finish, Cut, Release}
@@ -31,10 +31,14 @@ left_by by (Finish leaf) = Leaf
 left_by by (Cut leaf) = Leaf
 left_by by Release = Free
 
--- how a node stands at its birth
+-- how a node stands at its birth, as a leaf or not
+abbrev pub at_birth : (is_leaf : Bool) → Status
+at_birth is_leaf = if is_leaf then Leaf else Free
+
+-- so it does as it is born, if it is
 abbrev pub born_as : {R : Type 0} → Option (Node R) → Status
 born_as None = Free
-born_as (Some n) = if n.is_leaf then Leaf else Free
+born_as (Some n) = at_birth n.is_leaf
 
 -- how a node stands that was born so, by the last event that names it
 abbrev pub status_by : {R : Type 0} → Status → Option (Event R ℕ) → Status
