@@ -17,7 +17,7 @@ back : (a b : ℕ) → b ≤ a → a ≡ (a - b) + b
 back a b h = omega (arith, h)
 
 -- a remainder of what is below twice the divisor
-mod_once : (a b : ℕ) → a < b + b → ((a < b) × (a % b ≡ a)) ⊎ ((b ≤ a) × (a % b + b ≡ a))
+pub mod_once : (a b : ℕ) → a < b + b → ((a < b) × (a % b ≡ a)) ⊎ ((b ≤ a) × (a % b + b ≡ a))
 mod_once a b h =
     elim (lt_tells a b) [
       | inl p ↦ inl (p.1, mod-eq_of_lt p.1)

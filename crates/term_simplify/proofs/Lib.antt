@@ -46,3 +46,6 @@ pub mod Magnitudes
 pub mod EqualityNumbers
 pub mod Undoing
 pub mod Telling
+pub mod OffsetNumbers
+pub mod OffsetRules
+pub mod OffsetReading

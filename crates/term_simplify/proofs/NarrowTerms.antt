@@ -17,7 +17,7 @@ use Rattle.term_simplify.specs.Plain.{tree_number}
 use Rattle.term_simplify.specs.Simplified.{binary_at, choice_at, choice_of, comparison_at, comparison_by_low, compared, negative_at, negative_of}
 use Rattle.term_simplify.specs.Steps.{low_word, widened_word}
 use Rattle.term_simplify.specs.Times.{own}
-use Rattle.term_simplify.specs.Told.{untold}
+use Rattle.term_simplify.specs.Told.{unsummed}
 use Rattle.term_simplify.specs.declared.narrowing.Narrow.{Narrow}
 use Rattle.term_simplify.proofs.NarrowRanges.{told}
 use Rattle.term_simplify.proofs.NarrowRules.{IsMadeOf, binary_of_low, choice_of_low, negative_of_low, test_of_low}
@@ -119,7 +119,7 @@ unfolding choice_of
 choice_is c s t n is = ap (λ k. choice_at k c s t) (sym is)
 
 -- any other node is as it is at its own width
-pub as_own : (f : ℕ → Tree) (node : Node) → node_narrowing f node ≡ None → own f node ≡ untold f node
+pub as_own : (f : ℕ → Tree) (node : Node) → node_narrowing f node ≡ None → own f node ≡ unsummed f node
 unfolding negative_of choice_of
 as_own f (Num w v) e = refl
 as_own f (Input i) e = refl

@@ -11,3 +11,4 @@ pub mod Operations
 pub mod Steps
 pub mod Equalities
 pub mod Told
+pub mod Offsets

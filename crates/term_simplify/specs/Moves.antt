@@ -6,8 +6,8 @@ use Rattle.bv_dag.specs.declared.nodes.BinaryOp.TheVariants.{Shl, Lshr, Ashr}
 use Rattle.bv_dag.specs.declared.nodes.Node.{Node}
 use Rattle.bv_dag.specs.declared.nodes.Node.TheVariants.{Binary}
 use Rattle.term_trees.specs.Trees.{Tree, tree_of}
-use Rattle.term_simplify.specs.Narrowing.{binary_narrowing}
-use Rattle.term_simplify.specs.Simplified.{binary_at, moved_down, moved_up, simplified}
+use Rattle.term_simplify.specs.Offsets.{sum_of}
+use Rattle.term_simplify.specs.Simplified.{moved_down, moved_up, simplified, summed}
 use Rattle.term_simplify.specs.declared.moves.Move.{Move}
 use Rattle.term_simplify.specs.declared.moves.Way.{Way}
 use Rattle.term_simplify.specs.declared.moves.Way.TheVariants.{Up, Down}
@@ -35,6 +35,5 @@ pub record IsMove (graph : Graph) (m : Move) : Type 0 where
 
 -- the simplified tree of a node that moves no bits
 abbrev pub unmoved : (operand : ℕ → Tree) → Node → Tree
-unmoved operand (Binary op a b) =
-    binary_at (binary_narrowing op (operand a) (operand b)) op (operand a) (operand b)
+unmoved operand (Binary op a b) = summed (sum_of op (operand a) (operand b))
 unmoved operand node = simplified operand node

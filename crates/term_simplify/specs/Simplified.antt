@@ -1,6 +1,6 @@
 -- What a term is simplified to: a tree, from the trees of its operands. A shift by a number moves
--- bits; an operation of which few low bits tell the result is made of as many bits of its operands,
--- and widened. At its own width a product by a number is as `Times` has it, two terms without a bit
+-- bits; the numbers of sums are one (`Offsets`); an operation of which few low bits tell the result is
+-- made of as many bits of its operands, and widened. At its own width a product by a number is as `Times` has it, two terms without a bit
 -- in common are the one above the other (`Joints`), and any other term is as `Plain` has it. Each
 -- rule is decided by the numbers that operands are and by their top nodes.
 use Rattle.std.specs.Prelude.{ℕ, ◌-◌, ◌==◌, ◌&&◌, Bool, true, false, nat_lt, Option, Some, None, if◌then◌else◌}
@@ -14,6 +14,7 @@ use Rattle.bv_dag.specs.declared.nodes.Node.TheVariants.{Num, Input, Not, Neg, B
 use Rattle.term_trees.specs.Trees.{Tree, Constant, Byte, tree_width}
 use Rattle.term_simplify.specs.Equalities.{Peeled, peeled}
 use Rattle.term_simplify.specs.Narrowing.{negative_narrowing, binary_narrowing, pair_narrowing, choice_narrowing}
+use Rattle.term_simplify.specs.Offsets.{Sum, sum_of}
 use Rattle.term_simplify.specs.Plain.{tree_number, number_tree, complement_of, plain_negative, plain_comparison, plain_choice, extension_by, part_of, joined_of}
 use Rattle.term_simplify.specs.Times.{own_binary}
 use Rattle.term_simplify.specs.declared.narrowing.Narrow.{Narrow}
@@ -57,9 +58,14 @@ abbrev pub binary_at : Option Narrow → BinaryOp → Tree → Tree → Tree
 binary_at (Some n) op s t = widened_to (tree_width s) n (own_binary op (low_of n s) (low_of n t))
 binary_at None op s t = own_binary op s t
 
+abbrev pub narrowed : BinaryOp → Tree → Tree → Tree
+narrowed op s t = binary_at (binary_narrowing op s t) op s t
+
+abbrev pub summed : Sum → Tree
+summed p = narrowed p.op p.first p.second
+
 unfoldable pub binary_of : BinaryOp → Tree → Tree → Tree
-binary_of op s t =
-    moved op (tree_number s) (tree_number t) s (binary_at (binary_narrowing op s t) op s t)
+binary_of op s t = moved op (tree_number s) (tree_number t) s (summed (sum_of op s t))
 
 -- Terms of which zeros are left out are not negative, so a comparison with sign is one without.
 abbrev pub comparison_by_low : (signed : Bool) → Comparison → Comparison

@@ -4,12 +4,12 @@ use Rattle.bv_dag.specs.BitVectors.{BitVector, equal, extract}
 use Rattle.bv_dag.specs.Graphs.{Graph, val, width_of}
 use Rattle.bv_dag.specs.Nodes.{node_value, node_width, widths_of}
 use Rattle.bv_dag.specs.declared.nodes.Node.{Node}
-use Rattle.bv_dag.specs.declared.nodes.Node.TheVariants.{Compare}
+use Rattle.bv_dag.specs.declared.nodes.Node.TheVariants.{Binary, Compare}
 use Rattle.term_trees.specs.Trees.{Tree, IsOfWidth, tree_of}
 use Rattle.term_simplify.specs.Equalities.{Peeled}
 use Rattle.term_simplify.specs.Moves.{unmoved}
 use Rattle.term_simplify.specs.Plain.{part_of}
-use Rattle.term_simplify.specs.Simplified.{compared, equal_to}
+use Rattle.term_simplify.specs.Simplified.{compared, equal_to, narrowed}
 use Rattle.term_simplify.specs.declared.equalities.Equality.{Equality}
 use Rattle.term_simplify.specs.declared.equalities.Told.{Told}
 use Rattle.term_simplify.specs.declared.equalities.Told.TheVariants.{Sign, Equal}
@@ -38,6 +38,11 @@ told_word graph (Equal e) input = equal (val graph e.term input) e.number
 abbrev pub untold : (operand : ℕ → Tree) → Node → Tree
 untold operand (Compare op a b) = compared op (operand a) (operand b)
 untold operand node = unmoved operand node
+
+-- and is no sum or difference that is made as another
+abbrev pub unsummed : (operand : ℕ → Tree) → Node → Tree
+unsummed operand (Binary op a b) = narrowed op (operand a) (operand b)
+unsummed operand node = untold operand node
 
 -- a node is told so
 pub record Tells (graph : Graph) (node : Node) (t : Told) : Type 0 where

@@ -91,7 +91,7 @@ impl Builder {
     ghost use Rattle.term_simplify.specs.Moves.{unmoved};
     ghost use Rattle.term_simplify.specs.Plans.{plan_tree, recipe_tree, HasRoom, RecipeFits};
     ghost use Rattle.term_simplify.specs.Plain.{further};
-    ghost use Rattle.term_simplify.specs.Told.{untold};
+    ghost use Rattle.term_simplify.specs.Told.{unsummed, untold};
     ghost use Rattle.term_trees.specs.Growth.{Continues};
 
     /// Builds on these terms, which stay as they are.
@@ -226,6 +226,21 @@ impl Builder {
         self.plain(node)
     }
 
+    /// The term that a node is simplified to which moves no bits, is no test that another term tells, and is no sum that is made as
+    /// another one.
+    pub(crate) fn unsummed(&mut self, node: Node) -> Result<usize, NoMemory>
+        requires { Fits self.old.inputs (widths_of self.old.nodes) node }
+        ensures ok { IfOk result
+            (BuildsAs (unsummed (tree_of self.old) node) self.old self.new node) }
+        ensures err { OnErr result (self.new ≡ self.old) }
+        ensures term { IsTerm self.old.inputs (node_tree (tree_of self.old) node) }
+    {
+        match narrowing_of(&self.terms, node) {
+            Some(narrow) => self.narrow(node, narrow),
+            None => self.own(node),
+        }
+    }
+
     /// The term that a node is simplified to which moves no bits and is no test that another term tells.
     pub(crate) fn untold(&mut self, node: Node) -> Result<usize, NoMemory>
         requires { Fits self.old.inputs (widths_of self.old.nodes) node }
@@ -234,9 +249,9 @@ impl Builder {
         ensures err { OnErr result (self.new ≡ self.old) }
         ensures term { IsTerm self.old.inputs (node_tree (tree_of self.old) node) }
     {
-        match narrowing_of(&self.terms, node) {
-            Some(narrow) => self.narrow(node, narrow),
-            None => self.own(node),
+        match node {
+            Node::Binary(op, a, b) => self.summed(op, a, b),
+            _ => self.unsummed(node),
         }
     }
 

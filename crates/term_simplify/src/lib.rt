@@ -20,6 +20,7 @@ mod masks;
 mod moves;
 mod narrowed;
 mod narrowing;
+mod offsets;
 mod operations;
 mod parts;
 mod plan;

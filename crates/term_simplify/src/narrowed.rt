@@ -10,7 +10,7 @@ ghost use Rattle.term_simplify.specs.Builds.{BuildsAs};
 ghost use Rattle.term_simplify.specs.Narrowing.{IsFewer, node_narrowing};
 ghost use Rattle.term_simplify.specs.Simplified as simplified;
 ghost use Rattle.term_simplify.specs.Steps.{Stands, low_word, widened_word};
-ghost use Rattle.term_simplify.specs.Told.{untold};
+ghost use Rattle.term_simplify.specs.Told.{unsummed};
 
 use crate::builder::Builder;
 use crate::narrowing::Narrow;
@@ -152,7 +152,7 @@ impl Builder {
         requires term { IsTerm self.old.inputs (node_tree (tree_of self.old) node) }
         requires is { node_narrowing (tree_of self.old) node ≡ Some n }
         ensures continues { Continues self.old self.new }
-        ensures ok { IfOk result (λ id. Stands self.new id (untold (tree_of self.old) node)
+        ensures ok { IfOk result (λ id. Stands self.new id (unsummed (tree_of self.old) node)
             (node_width (widths_of self.old.nodes) node)
             (λ input. node_value input (λ k. val self.old k input) node)) }
     {
@@ -171,7 +171,7 @@ impl Builder {
         requires term { IsTerm self.old.inputs (node_tree (tree_of self.old) node) }
         requires is { node_narrowing (tree_of self.old) node ≡ Some n }
         ensures ok { IfOk result
-            (BuildsAs (untold (tree_of self.old) node) self.old self.new node) }
+            (BuildsAs (unsummed (tree_of self.old) node) self.old self.new node) }
         ensures err { OnErr result (self.new ≡ self.old) }
     {
         let len = self.len();

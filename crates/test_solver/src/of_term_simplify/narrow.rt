@@ -2,6 +2,7 @@
 
 mod bits;
 mod joints;
+mod offsets;
 mod products;
 mod sums;
 mod tests;
@@ -9,6 +10,7 @@ mod tests;
 use crate::of_term_simplify::calls::{build, is_node};
 use crate::of_term_simplify::narrow::bits::{BITWISE, FULL, SETTLED};
 use crate::of_term_simplify::narrow::joints::JOINTS;
+use crate::of_term_simplify::narrow::offsets::OFFSETS;
 use crate::of_term_simplify::narrow::products::{PRODUCTS, QUOTIENTS, REMAINDERS};
 use crate::of_term_simplify::narrow::sums::{DIFFERENCES, SUMS};
 use crate::of_term_simplify::narrow::tests::{ALIKE, CHOICES, TESTS};
@@ -137,6 +139,7 @@ fn few_low_bits_tell_a_result(rt: HostRuntime) -> Result<(), Fail> {
         SETTLED,
         FULL,
         JOINTS,
+        OFFSETS,
     ];
     for (table, rows) in tables.iter().enumerate() {
         for (at, row) in rows.iter().enumerate() {

@@ -133,14 +133,25 @@ pub(crate) const DIFFERENCES: &[Row] = &[
         ],
         13,
     ),
-    // The number 0 less a byte is the negative of the byte, and 0 less a term of all bits is the term's.
+    // The number 0 less a byte is the negative of the byte. Less the complement of one, it is the byte and 1.
     (
         &[0],
         &[Binary(Sub, 9, 2)],
         &[Number(9, 0), Zeros(1, 0), Is(Neg(11)), Signs(23, 12)],
         13,
     ),
-    (&[0], &[Binary(Sub, 9, 6)], &[Is(Neg(6))], 10),
+    (
+        &[0],
+        &[Binary(Sub, 9, 6)],
+        &[
+            Number(32, 1),
+            Zeros(1, 0),
+            Number(9, 1),
+            Is(Binary(Add, 11, 12)),
+            Zeros(23, 13),
+        ],
+        14,
+    ),
     // The negative of a byte without and with sign: -(-128) takes 9 bits.
     (
         &[],

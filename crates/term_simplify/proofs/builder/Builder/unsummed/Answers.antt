@@ -4,7 +4,7 @@ use Rattle.term_trees.specs.Trees.{tree_of}
 use Rattle.term_simplify.specs.Narrowing.{node_narrowing}
 use Rattle.term_simplify.proofs.Building.{is_term_of, named}
 use Rattle.term_simplify.proofs.NarrowTerms.{as_own}
-use Rattle.term_simplify.proofs.builder.Builder.untold.Goals as goal
+use Rattle.term_simplify.proofs.builder.Builder.unsummed.Goals as goal
 
 pub narrow-requires-clause-term : goal.narrow-requires-clause-term
 narrow-requires-clause-term c = is_term_of c.args.self.now c.args.node (subst IsDag c.self.view_is c.in-Some.ensures.fit) c.requires

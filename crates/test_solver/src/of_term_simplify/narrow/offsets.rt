@@ -1,0 +1,116 @@
+//! Sums and differences with numbers, which are then one, and with negatives.
+
+use crate::of_term_simplify::narrow::New::{Is, Number, Signs, Zeros};
+use crate::of_term_simplify::narrow::Row;
+use bv_dag::BinaryOp::{Add, Mul, Sub};
+use bv_dag::Node::{Binary, Neg};
+
+pub(crate) const OFFSETS: &[Row] = &[
+    // A word and 5 and 7; 5 less it and 7; 5 less it and 7 together; it less 5 and less 7.
+    (
+        &[5, 7],
+        &[Binary(Mul, 6, 2), Binary(Add, 11, 9), Binary(Add, 12, 10)],
+        &[
+            Is(Binary(Mul, 6, 2)),
+            Is(Binary(Add, 11, 9)),
+            Number(32, 12),
+            Is(Binary(Add, 11, 13)),
+        ],
+        14,
+    ),
+    (
+        &[5, 7],
+        &[Binary(Mul, 6, 2), Binary(Sub, 9, 11), Binary(Add, 10, 12)],
+        &[
+            Is(Binary(Mul, 6, 2)),
+            Is(Binary(Sub, 9, 11)),
+            Number(32, 12),
+            Is(Binary(Sub, 13, 11)),
+        ],
+        14,
+    ),
+    (
+        &[5, 7],
+        &[Binary(Mul, 6, 2), Binary(Add, 10, 11), Binary(Sub, 9, 12)],
+        &[
+            Is(Binary(Mul, 6, 2)),
+            Is(Binary(Add, 11, 10)),
+            Number(32, 0xFFFF_FFFE),
+            Is(Binary(Sub, 13, 11)),
+        ],
+        14,
+    ),
+    (
+        &[5, 7],
+        &[Binary(Mul, 6, 2), Binary(Sub, 11, 9), Binary(Sub, 12, 10)],
+        &[
+            Is(Binary(Mul, 6, 2)),
+            Is(Binary(Sub, 11, 9)),
+            Number(32, 0xFFFF_FFF4),
+            Is(Binary(Add, 11, 13)),
+        ],
+        14,
+    ),
+    // 7 less (5 less a word) is the word and 2, and a word and 5 less 5 is the word.
+    (
+        &[5, 7],
+        &[Binary(Mul, 6, 2), Binary(Sub, 9, 11), Binary(Sub, 10, 12)],
+        &[
+            Is(Binary(Mul, 6, 2)),
+            Is(Binary(Sub, 9, 11)),
+            Number(32, 2),
+            Is(Binary(Add, 11, 13)),
+        ],
+        14,
+    ),
+    (
+        &[5],
+        &[Binary(Mul, 6, 2), Binary(Add, 10, 9), Binary(Sub, 11, 9)],
+        &[Is(Binary(Mul, 6, 2)), Is(Binary(Add, 10, 9)), Number(32, 0)],
+        10,
+    ),
+    // The complement of a byte in 32 bits and 5 is 4 less the byte, in 9 bits; and 1, its negative.
+    (
+        &[5],
+        &[Binary(Add, 6, 9)],
+        &[
+            Number(32, 4),
+            Number(9, 4),
+            Zeros(1, 0),
+            Is(Binary(Sub, 11, 12)),
+            Signs(23, 13),
+        ],
+        14,
+    ),
+    (
+        &[1],
+        &[Binary(Add, 6, 9)],
+        &[
+            Number(32, 0),
+            Number(9, 0),
+            Zeros(1, 0),
+            Is(Neg(12)),
+            Signs(23, 13),
+        ],
+        14,
+    ),
+    // A negative is taken off where it would be added, on either side, and added where it would be taken off.
+    (
+        &[],
+        &[Neg(6), Binary(Add, 2, 9)],
+        &[Is(Neg(6)), Is(Binary(Sub, 2, 6))],
+        10,
+    ),
+    (
+        &[],
+        &[Neg(6), Binary(Add, 9, 2)],
+        &[Is(Neg(6)), Is(Binary(Sub, 2, 6))],
+        10,
+    ),
+    (
+        &[],
+        &[Neg(6), Binary(Sub, 2, 9)],
+        &[Is(Neg(6)), Is(Binary(Add, 2, 6))],
+        10,
+    ),
+];
