@@ -49,3 +49,5 @@ pub mod Telling
 pub mod OffsetNumbers
 pub mod OffsetRules
 pub mod OffsetReading
+pub mod RunNumbers
+pub mod RunSteps

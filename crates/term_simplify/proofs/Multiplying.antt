@@ -37,7 +37,7 @@ product_wide id y w None wide is = tt
 pub wide_as : (g : Graph) (a : ℕ) (y : BitVector) → tree_number (tree_of g a) ≡ Some y → width_of g a ≡ y.width
 wide_as g a y is = sym (width-tree_of g a) ∙ sym (number_width (tree_of g a) y is)
 
-worth_as : (g : Graph) (a : ℕ) (y : BitVector) → tree_number (tree_of g a) ≡ Some y → (input : List ℕ) → val g a input ≡ y
+pub worth_as : (g : Graph) (a : ℕ) (y : BitVector) → tree_number (tree_of g a) ≡ Some y → (input : List ℕ) → val g a input ≡ y
 worth_as g a y is input = sym (value-tree_of g a input) ∙ number_value input (tree_of g a) y is
 
 pub first_worth : (g : Graph) (op : BinaryOp) (a b : ℕ) (x : BitVector) (r : Option Product) → op ≡ Mul → tree_number (tree_of g a) ≡ Some x →

@@ -1,11 +1,10 @@
 -- What sums and differences of three numbers come to, modulo a power of two.
-use Rattle.std.proofs.Common.{◌≡◌, ◌∙◌, ℕ, ◌+◌, ◌-◌, ◌%◌, ◌^◌, ◌<◌, ◌≤◌, Bool, true, false, ap, sym, arith, inl, inr}
+use Rattle.std.proofs.Common.{◌≡◌, ◌∙◌, ℕ, ◌+◌, ◌-◌, ◌%◌, ◌^◌, ◌<◌, Bool, true, false, ap, sym, arith, inl, inr}
 use Rattle.std.proofs.Math.Nat.{add-mod_right, add-mod-mod, mod-add-mod, mod-eq_of_lt}
 use Rattle.bv_dag.specs.BitVectors.{BitVector, bvadd, bvneg, bvnot, bvsub}
 use Rattle.term_trees.specs.Trees.{IsOfWidth}
 use Rattle.term_simplify.specs.Offsets.{offset_word}
 use Rattle.term_simplify.proofs.EqualityNumbers.{mod_once}
-use Rattle.term_simplify.proofs.Words.{by_parts}
 
 first_two : (a b c : ℕ) → a + b + c ≡ a + (b + c)
 first_two a b c = omega arith

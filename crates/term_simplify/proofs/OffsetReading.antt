@@ -1,14 +1,12 @@
 -- Sums of a graph, as the code finds and makes them.
 use Rattle.std.proofs.Common.{◌≡◌, ◌∙◌, ℕ, ◌-◌, ◌^◌, ◌<◌, ◌≤◌, Bool, true, false, List, [], length, Some, None, refl, ap, sym, subst}
-use Rattle.std.specs.Prelude.{Option, not, option_map}
+use Rattle.std.specs.Prelude.{Option}
 use Rattle.std.specs.List.{All, slice_get}
-use Rattle.std.specs.Option.{IfSome}
 use Rattle.std.proofs.lemmas.List.Elements.{All-nil}
 use Rattle.bv_dag.specs.BitVectors.{BitVector, bvadd, bvneg, bvsub}
 use Rattle.bv_dag.specs.Graphs.{Graph, IsDag, val, width_of}
 use Rattle.bv_dag.specs.Nodes.{binary}
 use Rattle.bv_dag.specs.declared.nodes.BinaryOp.{BinaryOp}
-use Rattle.bv_dag.specs.declared.nodes.BinaryOp.TheVariants.{Add, Sub}
 use Rattle.bv_dag.specs.declared.nodes.Node.{Node}
 use Rattle.bv_dag.specs.declared.nodes.Node.TheVariants.{Num, Input, Not, Neg, Binary, Compare, Ite, Extract, Extend, Concat}
 use Rattle.term_trees.specs.Trees.{Tree, Constant, Negated, Two, IsOfWidth, IsTerm, tree_of, tree_value, tree_width, node_tree}

@@ -1,14 +1,12 @@
 -- Two terms without a bit in common: where or, xor or a sum joins them, they are the one above the
 -- other.
-use Rattle.std.specs.Prelude.{ℕ, ◌+◌, ◌-◌, ◌<◌, ◌≤◌, ◌&&◌, Bool, true, false, nat_le, Option, Some, if◌then◌else◌}
+use Rattle.std.specs.Prelude.{◌+◌, ◌-◌, ◌<◌, ◌≤◌, ◌&&◌, Bool, true, false, nat_le, Option, Some, if◌then◌else◌}
 use Rattle.bv_dag.specs.Graphs.{Graph, width_of}
 use Rattle.bv_dag.specs.declared.nodes.BinaryOp.{BinaryOp}
 use Rattle.bv_dag.specs.declared.nodes.BinaryOp.TheVariants.{Add, Or, Xor}
-use Rattle.bv_dag.specs.declared.nodes.Node.{Node}
-use Rattle.bv_dag.specs.declared.nodes.Node.TheVariants.{Binary}
 use Rattle.term_trees.specs.Trees.{Tree, Joined, tree_of, tree_width}
 use Rattle.term_simplify.specs.Narrowing.{is_zero}
-use Rattle.term_simplify.specs.Plain.{further, joined_of, plain, plain_binary, tree_number}
+use Rattle.term_simplify.specs.Plain.{further, joined_of, plain_binary, tree_number}
 use Rattle.term_simplify.specs.Plans.{under_zeros}
 use Rattle.term_simplify.specs.declared.joints.Joint.{Joint}
 
@@ -34,11 +32,6 @@ joint_by s t otherwise = joint_over s (under_zeros t) otherwise
 unfoldable pub joint_of : BinaryOp → Tree → Tree → Tree
 joint_of op s t =
     if joins op then joint_by s t (joint_by t s (plain_binary op s t)) else plain_binary op s t
-
--- the tree at its own width of a node that multiplies nothing by a number
-abbrev pub unmultiplied : (operand : ℕ → Tree) → Node → Tree
-unmultiplied operand (Binary op a b) = joint_of op (operand a) (operand b)
-unmultiplied operand node = plain operand node
 
 -- ---- Such terms as the code finds them.
 abbrev pub joint_tree : Graph → Joint → Tree

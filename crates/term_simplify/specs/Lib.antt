@@ -12,3 +12,4 @@ pub mod Steps
 pub mod Equalities
 pub mod Told
 pub mod Offsets
+pub mod Runs

@@ -2,10 +2,10 @@
 
 ghost use Rattle.std.specs.Prelude.{◌≡◌, ◌<◌, IfOk, IfSome, None, length};
 ghost use Rattle.bv_dag.specs.Graphs.{IsDag, val, width_of};
-ghost use Rattle.bv_dag.specs.Nodes.{Fits, binary, node_value, node_width, widths_of};
+ghost use Rattle.bv_dag.specs.Nodes.{Fits, binary, widths_of};
 ghost use Rattle.term_trees.specs.Growth.{Continues};
 ghost use Rattle.term_trees.specs.Trees.{Tree, tree_of, node_tree, IsTerm};
-ghost use Rattle.term_simplify.specs.Joints.{IsJoint, joins, joint_by, joint_of, joint_tree, unmultiplied};
+ghost use Rattle.term_simplify.specs.Joints.{IsJoint, joins, joint_by, joint_of, joint_tree};
 ghost use Rattle.term_simplify.specs.Plain.{plain_binary};
 ghost use Rattle.term_simplify.specs.Steps.{Stands};
 
@@ -109,7 +109,12 @@ impl Builder {
     }
 
     /// The term that an operation of two terms is at their own width.
-    fn operation_step(&mut self, op: BinaryOp, a: usize, b: usize) -> Result<usize, NoMemory>
+    pub(crate) fn operation_step(
+        &mut self,
+        op: BinaryOp,
+        a: usize,
+        b: usize,
+    ) -> Result<usize, NoMemory>
         requires { Fits self.old.inputs (widths_of self.old.nodes) (Node.Binary op a b) }
         ensures continues { Continues self.old self.new }
         ensures ok { IfOk result (λ id. Stands self.new id
@@ -120,21 +125,6 @@ impl Builder {
         match joint_of(self.terms(), op, a, b) {
             Some(joint) => self.one_above(joint),
             None => self.plain_step(Node::Binary(op, a, b)),
-        }
-    }
-
-    /// The term at its own width of a node that multiplies nothing by a number, on the way to another.
-    pub(crate) fn unmultiplied_step(&mut self, node: Node) -> Result<usize, NoMemory>
-        requires { Fits self.old.inputs (widths_of self.old.nodes) node }
-        ensures continues { Continues self.old self.new }
-        ensures ok { IfOk result (λ id. Stands self.new id (unmultiplied (tree_of self.old) node)
-            (node_width (widths_of self.old.nodes) node)
-            (λ input. node_value input (λ k. val self.old k input) node)) }
-        ensures term { IsTerm self.old.inputs (node_tree (tree_of self.old) node) }
-    {
-        match node {
-            Node::Binary(op, a, b) => self.operation_step(op, a, b),
-            _ => self.plain_step(node),
         }
     }
 }

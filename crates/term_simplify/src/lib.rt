@@ -25,6 +25,7 @@ mod operations;
 mod parts;
 mod plan;
 mod recipe;
+mod runs;
 mod times;
 
 pub use builder::Builder;

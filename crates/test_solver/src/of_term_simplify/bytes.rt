@@ -76,7 +76,7 @@ const EVEN: Call = Call::Node(Node::Num {
     value: 254,
 });
 
-/// A mask is left out where it changes nothing. One that changes bits of a byte alone is put on the byte.
+/// A mask is left out where it changes nothing. One that changes bits of a byte alone keeps bits of the byte, above zeros.
 pub(crate) const MASKED: &[Step] = &[
     Gives(X, 0),
     Gives(Call::Node(WIDENED_0), 1),
@@ -84,7 +84,7 @@ pub(crate) const MASKED: &[Step] = &[
     Gives(EVEN, 3),
     Gives(Call::Node(Node::Binary(BinaryOp::And, 1, 2)), 1),
     Gives(Call::Node(Node::Binary(BinaryOp::And, 2, 1)), 1),
-    Gives(Call::Node(Node::Binary(BinaryOp::And, 1, 3)), 6),
+    Gives(Call::Node(Node::Binary(BinaryOp::And, 1, 3)), 9),
     Stands(
         4,
         Node::Num {
@@ -92,13 +92,22 @@ pub(crate) const MASKED: &[Step] = &[
             value: 254,
         },
     ),
-    Stands(5, Node::Binary(BinaryOp::And, 0, 4)),
+    Stands(6, Node::Num { width: 1, value: 0 }),
     Stands(
-        6,
+        7,
+        Node::Extract {
+            high: 7,
+            low: 1,
+            operand: 0,
+        },
+    ),
+    Stands(8, Node::Concat { high: 7, low: 6 }),
+    Stands(
+        9,
         Node::Extend {
             by: 24,
             signed: false,
-            operand: 5,
+            operand: 8,
         },
     ),
 ];

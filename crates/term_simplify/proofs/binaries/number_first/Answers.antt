@@ -1,5 +1,5 @@
 use Rattle.term_trees.specs.Trees.{tree_of}
-use Rattle.term_simplify.proofs.BinaryPlans.{number_first-add, number_first-and, number_first-mul, number_first-or, number_first-plain, number_first-shift, number_first-sub, Makes-plain}
+use Rattle.term_simplify.proofs.BinaryPlans.{number_first-add, number_first-and, number_first-mul, number_first-or, number_first-plain, number_first-shift, Makes-plain}
 use Rattle.term_simplify.proofs.Reading.{Makes-same}
 use Rattle.term_simplify.proofs.binaries.number_first.Goals as goal
 

@@ -1,4 +1,4 @@
-use Rattle.std.proofs.Common.{◌∙◌, ap, arith, refl, subst, sym}
+use Rattle.std.proofs.Common.{◌∙◌, ap, arith, subst}
 use Rattle.std.proofs.lemmas.Nat.{pow_pos}
 use Rattle.bv_dag.specs.BitVectors.{BitVector}
 use Rattle.term_simplify.specs.Offsets.{IsSummand}

@@ -1,6 +1,4 @@
 use Rattle.std.proofs.Common.{◌∙◌, subst, sym}
-use Rattle.bv_dag.specs.Graphs.{width_of}
-use Rattle.term_trees.specs.Trees.{IsOfWidth}
 use Rattle.term_simplify.specs.Offsets.{IsSummand}
 use Rattle.term_simplify.proofs.JointReading.{if_some}
 use Rattle.term_simplify.proofs.Reading.{has_second_term, has_term}

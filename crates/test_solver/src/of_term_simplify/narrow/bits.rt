@@ -1,24 +1,46 @@
 //! Operations bit by bit; and what is not narrowed: where a number settles the operation, and where no fewer bits tell it.
 
-use crate::of_term_simplify::narrow::New::{Is, Low, Number, Signs, Zeros};
+use crate::of_term_simplify::narrow::New::{Above, Is, Low, Number, Signs, Zeros};
 use crate::of_term_simplify::narrow::Row;
 use bv_dag::BinaryOp::{Add, And, Ashr, Mul, Or, Shl, Sub, Urem, Xor};
 use bv_dag::Comparison::Ult;
-use bv_dag::Node::{Binary, Compare, Neg};
+use bv_dag::Node::{Binary, Compare, Extract, Neg, Not};
 
 pub(crate) const BITWISE: &[Row] = &[
-    // A byte and a mask of 8 bits.
+    // A byte and a mask of 8 bits: its upper four above zeros.
     (
         &[0x0F0],
         &[Binary(And, 2, 9)],
-        &[Number(8, 0xF0), Is(Binary(And, 0, 10)), Zeros(24, 11)],
-        12,
+        &[
+            Number(8, 0xF0),
+            Low(4, 0),
+            Number(4, 0),
+            Is(Extract {
+                high: 7,
+                low: 4,
+                operand: 0,
+            }),
+            Above(13, 12),
+            Zeros(24, 14),
+        ],
+        15,
     ),
     (
         &[0x0F0],
         &[Binary(And, 9, 2)],
-        &[Number(8, 0xF0), Is(Binary(And, 10, 0)), Zeros(24, 11)],
-        12,
+        &[
+            Number(8, 0xF0),
+            Low(4, 0),
+            Number(4, 0),
+            Is(Extract {
+                high: 7,
+                low: 4,
+                operand: 0,
+            }),
+            Above(13, 12),
+            Zeros(24, 14),
+        ],
+        15,
     ),
     // A term of 32 bits and a mask of 8, which keeps all of these.
     (
@@ -72,24 +94,119 @@ pub(crate) const BITWISE: &[Row] = &[
         ],
         12,
     ),
-    // A letter in the other case.
+    // A letter in the other case: bit 5 is the other one.
     (
         &[0x20],
         &[Binary(Xor, 2, 9)],
-        &[Number(8, 0x20), Is(Binary(Xor, 0, 10)), Zeros(24, 11)],
-        12,
+        &[
+            Number(8, 0x20),
+            Low(5, 0),
+            Is(Extract {
+                high: 7,
+                low: 5,
+                operand: 0,
+            }),
+            Is(Extract {
+                high: 5,
+                low: 5,
+                operand: 0,
+            }),
+            Is(Not(13)),
+            Is(Extract {
+                high: 7,
+                low: 6,
+                operand: 0,
+            }),
+            Above(15, 14),
+            Above(16, 11),
+            Zeros(24, 17),
+        ],
+        18,
     ),
     // A byte ^ -1.
     (
         &[0xFFFF_FFFF],
         &[Binary(Xor, 2, 9)],
-        &[
-            Zeros(1, 0),
-            Number(9, 0x1FF),
-            Is(Binary(Xor, 10, 11)),
-            Signs(23, 12),
-        ],
+        &[Zeros(1, 0), Number(9, 0x1FF), Is(Not(10)), Signs(23, 12)],
         13,
+    ),
+    // Or with ones in the middle of a word.
+    (
+        &[0xFF00],
+        &[Binary(Or, 9, 6)],
+        &[
+            Low(8, 6),
+            Is(Extract {
+                high: 31,
+                low: 8,
+                operand: 6,
+            }),
+            Is(Extract {
+                high: 15,
+                low: 8,
+                operand: 6,
+            }),
+            Number(8, 0xFF),
+            Is(Extract {
+                high: 31,
+                low: 16,
+                operand: 6,
+            }),
+            Above(14, 13),
+            Above(15, 10),
+        ],
+        16,
+    ),
+    // Seven runs: the upper three stay.
+    (
+        &[0xFFF0_F0F0],
+        &[Binary(And, 6, 9)],
+        &[
+            Low(4, 6),
+            Number(4, 0),
+            Is(Extract {
+                high: 31,
+                low: 4,
+                operand: 6,
+            }),
+            Is(Extract {
+                high: 7,
+                low: 4,
+                operand: 6,
+            }),
+            Is(Extract {
+                high: 31,
+                low: 8,
+                operand: 6,
+            }),
+            Is(Extract {
+                high: 11,
+                low: 8,
+                operand: 6,
+            }),
+            Is(Extract {
+                high: 31,
+                low: 12,
+                operand: 6,
+            }),
+            Is(Extract {
+                high: 15,
+                low: 12,
+                operand: 6,
+            }),
+            Is(Extract {
+                high: 31,
+                low: 16,
+                operand: 6,
+            }),
+            Number(16, 0xFFF0),
+            Is(Binary(And, 18, 19)),
+            Above(20, 17),
+            Above(21, 11),
+            Above(22, 13),
+            Above(23, 11),
+        ],
+        24,
     ),
 ];
 
@@ -115,8 +232,17 @@ pub(crate) const FULL: &[Row] = &[
     (
         &[0xFFFF_FFF0],
         &[Binary(And, 6, 9)],
-        &[Is(Binary(And, 6, 9))],
-        10,
+        &[
+            Low(4, 6),
+            Number(4, 0),
+            Is(Extract {
+                high: 31,
+                low: 4,
+                operand: 6,
+            }),
+            Above(12, 11),
+        ],
+        13,
     ),
     (&[], &[Compare(Ult, 6, 2)], &[Is(Compare(Ult, 6, 2))], 9),
     (&[], &[Neg(6)], &[Is(Neg(6))], 9),

@@ -1,4 +1,4 @@
-use Rattle.std.proofs.Common.{◌∙◌, arith, refl, sym}
+use Rattle.std.proofs.Common.{◌∙◌, arith, refl}
 use Rattle.bv_dag.specs.BitVectors.{bvadd, bvsub}
 use Rattle.bv_dag.specs.Graphs.{width_of}
 use Rattle.bv_dag.specs.declared.nodes.BinaryOp.TheVariants.{Add, Sub}
