@@ -12,7 +12,7 @@ pub mod Holding
 pub mod Noting
 pub mod Fuel
 pub mod Entering
-pub mod PartingNodes
+pub mod Entered
 pub mod Drained
 pub mod Fitting
 pub mod Claimed

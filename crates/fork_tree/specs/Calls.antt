@@ -18,11 +18,13 @@ use Rattle.fork_tree.specs.Written.{IsInForm}
 use Rattle.fork_tree.specs.Contents.{choices_in, cut_in, place_in}
 use Rattle.fork_tree.specs.Nodes.{HoldsFor, StateIs}
 use Rattle.fork_tree.specs.Trees.{choices_at, covers_at}
-use Rattle.fork_tree.specs.Works.{IsRunAt, IsSplit, Rules, nodes_at}
+use Rattle.fork_tree.specs.Works.{IsRunAt, IsSplit, IsWorked, Rules, nodes_at}
 use Rattle.fork_tree.specs.declared.content.Content.{Content}
 use Rattle.fork_tree.specs.declared.content.Content.TheVariants.{Shut}
 use Rattle.fork_tree.specs.declared.tree.Claim.{Claim}
 use Rattle.fork_tree.specs.declared.tree.Claim.TheVariants.{Claimed, Nothing, Quiet}
+use Rattle.fork_tree.specs.declared.work.Parts.{Parts}
+use Rattle.fork_tree.specs.declared.work.Parts.TheVariants.{CutSteps, Finished, Kids}
 
 module _ {R : Type 0} where
   abbrev pub NoneFree : Story R → Type 0
@@ -116,6 +118,22 @@ module _ {S L : Type 0} where
       → Story (Content S L) → Type 0
   IsParted s by node kids t = (t ≡ with_event s (split_event by node kids))
       ⊎ ((leaf : L) × (t ≡ with_event s (cut_event by node leaf)))
+
+  -- Parts may be entered for a node, which the worker holds: they are what comes of its state.
+  pub record IsEnterFit (rules : Rules S L) (state_place : S → Place) (leaf_place : L → Place)
+      (s : Story (Content S L)) (by node : ℕ) (parts : Parts S L) : Type 0 where
+    pub there : node < length s.nodes
+    pub held : status s node ≡ Held by
+    pub state : S
+    pub is_state : StateIs (content s node) state
+    pub worked : IsWorked rules state_place leaf_place state parts
+
+  -- what is entered of parts: their leaf, or their kids, or a leaf in the place of these
+  abbrev pub IsEntered : Story (Content S L) → (by node : ℕ) → Parts S L → Story (Content S L)
+      → Type 0
+  IsEntered s by node (Finished leaf) t = t ≡ with_event s (finish_event by node leaf)
+  IsEntered s by node (CutSteps leaf) t = t ≡ with_event s (cut_event by node leaf)
+  IsEntered s by node (Kids kids run) t = IsParted s by node kids t
 
 -- a run is cut so, as no side of a fork: its steps are spent, or there are as many nodes as there may be
 abbrev pub MayCut : (most nodes : ℕ) → Cause → Type 0

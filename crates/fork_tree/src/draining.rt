@@ -9,10 +9,9 @@ ghost use Rattle.fork_tree.specs.Drains.{GrowsBy, IsDrained, fuel};
 ghost use Rattle.fork_tree.specs.Nodes.{StateIs};
 
 use crate::tree::{Claim, Tree};
-use crate::work::{Parts, Work};
+use crate::work::Work;
 use std::alloc::{AllocError as NoMemory, Global};
 use std::sync::Wait;
-use tree_core::Cause;
 use work_gate::OpenGate;
 
 /// Works the tree until no node is free or held. Where memory is refused no node is held, and what was entered stays: a node that
@@ -95,21 +94,13 @@ fn enter<W: Work>(
         + ((W.rules tree.old.worker).targets + 2) ^ (W.rules tree.old.worker).left state.now) }
 {
     match tree.worker().work(rt, alloc, &OpenGate, by, state) {
+        Ok(parts) => {
+            tree.enter(alloc, by, node, parts)?;
+            Ok(())
+        }
         Err(NoMemory) => {
             tree.release(by, node);
             Err(NoMemory)
-        }
-        Ok(Parts::Finished(leaf)) => {
-            tree.finish(by, node, leaf);
-            Ok(())
-        }
-        Ok(Parts::CutSteps(leaf)) => {
-            tree.cut(by, node, Cause::Steps, leaf);
-            Ok(())
-        }
-        Ok(Parts::Kids(kids, run)) => {
-            tree.part(alloc, by, node, kids, run)?;
-            Ok(())
         }
     }
 }

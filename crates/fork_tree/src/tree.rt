@@ -7,14 +7,14 @@ ghost use Rattle.tree_core.specs.Cores.{LacksRoom, held_count};
 ghost use Rattle.tree_core.specs.Replays.{IsFit, may_come, with_event};
 ghost use Rattle.tree_core.specs.Stories.{content, status};
 ghost use Rattle.fork_tree.specs.declared.content.Content.TheVariants.{Shut};
-ghost use Rattle.fork_tree.specs.Calls.{IsClaim, IsEndFit, IsOpening, IsPartFit, IsParted, IsSplitFit, MayCut, cut_event, finish_event, release_event, split_event};
+ghost use Rattle.fork_tree.specs.Calls.{IsClaim, IsEndFit, IsEnterFit, IsEntered, IsOpening, IsPartFit, IsParted, IsSplitFit, MayCut, cut_event, finish_event, release_event, split_event};
 ghost use Rattle.fork_tree.specs.Nodes.{HasState, IsLeafRight, StateIs};
 ghost use Rattle.fork_tree.specs.Candidates.{IsNext, kid_candidate};
 ghost use Rattle.fork_tree.specs.Contents.{cut_in};
 ghost use Rattle.fork_tree.specs.Trees.{IsWholeTree, choices_at};
 
 use crate::content::Content;
-use crate::work::Work;
+use crate::work::{Parts, Work};
 use fork_spec::Placed;
 use free_nodes::FreeNodes;
 use std::alloc::{AllocError as NoMemory, Global};
@@ -141,8 +141,8 @@ impl<W: Work> Tree<W> {
         Ok(Claim::Claimed(node, state))
     }
 
-    /// Parts a node that the worker holds into kids.
-    pub fn split(&mut self, by: u32, node: usize, kids: Vec<Kid<Content<W::State, W::Leaf>>>)
+    // Parts a node that the worker holds into kids.
+    fn split(&mut self, by: u32, node: usize, kids: Vec<Kid<Content<W::State, W::Leaf>>>)
         requires fit { IsSplitFit
             (W.rules self.old.worker) W.State.place W.Leaf.place self.old.story by node kids }
         requires room { vec_len kids ≤ self.old.node_room }
@@ -156,8 +156,8 @@ impl<W: Work> Tree<W> {
         note(&mut self.core, Event { by, node, deed });
     }
 
-    /// Makes a node that the worker holds a leaf, where all its runs have ended.
-    pub fn finish(&mut self, by: u32, node: usize, leaf: W::Leaf)
+    // Makes a node that the worker holds a leaf, where all its runs have ended.
+    fn finish(&mut self, by: u32, node: usize, leaf: W::Leaf)
         requires fit { IsEndFit
             (W.rules self.old.worker) W.State.place W.Leaf.place None self.old.story by node leaf }
         ensures worker { self.new.worker ≡ self.old.worker }
@@ -175,8 +175,8 @@ impl<W: Work> Tree<W> {
         self.core.most() <= self.core.len()
     }
 
-    /// Makes a node that the worker holds a leaf, where it has spent its steps, or where it would be parted and the tree is full.
-    pub fn cut(&mut self, by: u32, node: usize, cause: Cause, leaf: W::Leaf)
+    // Makes a node that the worker holds a leaf, where it has spent its steps, or where it would be parted and the tree is full.
+    fn cut(&mut self, by: u32, node: usize, cause: Cause, leaf: W::Leaf)
         requires fit { IsEndFit (W.rules self.old.worker) W.State.place W.Leaf.place
             (Some cause) self.old.story by node leaf }
         requires may { MayCut
@@ -189,10 +189,40 @@ impl<W: Work> Tree<W> {
         note(&mut self.core, Event { by, node, deed });
     }
 
-    /// Parts a node that the worker holds into kids, or makes it a leaf in the place of the run that parts into them, where the
-    /// tree is full. A run that wasn't made a leaf is handed back, so that its memory may be freed later. Where memory is refused
-    /// the node is free again.
-    pub fn part(
+    /// Enters what came of a node that the worker holds: a leaf, or kids, or a leaf in the place of the run that parts into them,
+    /// where the tree is full. A run that wasn't made a leaf is handed back, so that its memory may be freed later. Where memory
+    /// is refused the node is free again.
+    pub fn enter(
+        &mut self,
+        alloc: Global,
+        by: u32,
+        node: usize,
+        parts: Parts<W::State, W::Leaf>,
+    ) -> Result<Option<W::State>, NoMemory>
+        requires fit { IsEnterFit (W.rules self.old.worker) W.State.place W.Leaf.place
+            self.old.story by node parts }
+        ensures worker { self.new.worker ≡ self.old.worker }
+        ensures ok { OnOk result (IsEntered self.old.story by node parts self.new.story) }
+        ensures err { OnErr result (self.new.story
+            ≡ with_event self.old.story (release_event by node)) }
+        ensures there { All (λ e. e.node < length self.old.story.nodes) self.old.story.events }
+    {
+        match parts {
+            Parts::Finished(leaf) => {
+                self.finish(by, node, leaf);
+                Ok(None)
+            }
+            Parts::CutSteps(leaf) => {
+                self.cut(by, node, Cause::Steps, leaf);
+                Ok(None)
+            }
+            Parts::Kids(kids, run) => self.part(alloc, by, node, kids, run),
+        }
+    }
+
+    // Parts the node into the kids, or makes it a leaf in the place of the run, where the tree is full. Where memory is refused the
+    // node is free again.
+    fn part(
         &mut self,
         alloc: Global,
         by: u32,

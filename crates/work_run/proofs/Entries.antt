@@ -1,26 +1,22 @@
 -- What a worker does to the tree in one turn.
 use Rattle.std.proofs.Common.{◌≡◌, ℕ, Bool, true, false, inl, inr, refl, sym, ◌∙◌, subst}
-use Rattle.std.specs.Prelude.{Result, Ok, Err, IfOk, OnErr, OnOk}
+use Rattle.std.specs.Prelude.{Result, Ok, Err, IfOk, OnErr}
 use Rattle.std.specs.Global.{Vec}
-use Rattle.tree_core.specs.Replays.{with_event}
+use Rattle.tree_core.specs.Replays.{kept, with_event}
 use Rattle.tree_core.specs.Stories.{Story}
+use Rattle.tree_core.specs.declared.event.Event.{Event}
 use Rattle.tree_core.specs.declared.event.Kid.{Kid}
-use Rattle.fork_tree.specs.Calls.{IsClaim, IsParted, claim_event, cut_event, release_event, split_event}
+use Rattle.fork_spec.specs.Histories.{is_release}
+use Rattle.fork_tree.specs.Calls.{IsClaim, IsEntered, claim_event, cut_event, finish_event, release_event, split_event}
 use Rattle.fork_tree.specs.Drains.{GrowsBy}
 use Rattle.fork_tree.specs.declared.content.Content.{Content}
 use Rattle.fork_tree.specs.declared.tree.Claim.{Claim}
 use Rattle.fork_tree.specs.declared.tree.Claim.TheVariants.{Claimed, Nothing, Quiet}
+use Rattle.fork_tree.specs.declared.work.Parts.{Parts}
+use Rattle.fork_tree.specs.declared.work.Parts.TheVariants.{CutSteps, Finished, Kids}
 use Rattle.fork_tree.proofs.Entering.{grows-none, grows-one}
 use Rattle.work_run.specs.Entering.{IsClaimEnded, claim_in}
-
--- what follows in either case holds
-pub on_either : {T E A B P : Type 0} (r : Result T E) → OnOk r A → OnErr r B → (A → P) → (B → P) → P
-on_either (Ok x) a b f g = f a
-on_either (Err e) a b f g = g b
-
-pub on_ok-map : {T E A P : Type 0} (r : Result T E) → OnOk r A → (A → P) → OnOk r P
-on_ok-map (Ok x) a f = f a
-on_ok-map (Err e) a f = a
+use Rattle.work_run.specs.Turns.{is_claim}
 
 -- a claim adds events of its worker alone
 pub made-grows : {S L : Type 0} (well : S → Type 0) (s t : Story (Content S L)) (by : ℕ)
@@ -53,25 +49,25 @@ released-ended s t by node (Err e) is = (
   },
 )
 
--- kids, or a leaf, end the claim, and not by a release
-pub parted-ended : {S L : Type 0} (s t : Story (Content S L)) (by node : ℕ)
-    (kids : Vec (Kid (Content S L))) → IsParted s by node kids t → IsClaimEnded false by node s t
-parted-ended s t by node kids (inl is) = record {
-  event = split_event by node kids;
+-- an event that ends a claim, and is no release
+ended-by : {S L : Type 0} (s t : Story (Content S L)) (e : Event (Content S L) (Vec (Kid (Content S L)))) →
+    is_claim (kept e).deed ≡ false → is_release (kept e).deed ≡ false → t ≡ with_event s e → IsClaimEnded false e.by e.node s t
+ended-by s t e ends stays is = record {
+  event = e;
   of_worker = refl;
   of_node = refl;
-  ends = refl;
-  is_released = refl;
+  ends = ends;
+  is_released = stays;
   story = is;
 }
-parted-ended s t by node kids (inr (leaf, is)) = record {
-  event = cut_event by node leaf;
-  of_worker = refl;
-  of_node = refl;
-  ends = refl;
-  is_released = refl;
-  story = is;
-}
+
+-- what is entered ends the claim, and not by a release
+pub entered-ended : {S L : Type 0} (s t : Story (Content S L)) (by node : ℕ) (parts : Parts S L) →
+    IsEntered s by node parts t → IsClaimEnded false by node s t
+entered-ended s t by node (Finished leaf) is = ended-by s t (finish_event by node leaf) refl refl is
+entered-ended s t by node (CutSteps leaf) is = ended-by s t (cut_event by node leaf) refl refl is
+entered-ended s t by node (Kids kids run) (inl is) = ended-by s t (split_event by node kids) refl refl is
+entered-ended s t by node (Kids kids run) (inr (leaf, is)) = ended-by s t (cut_event by node leaf) refl refl is
 
 -- what holds of the claim in an answer
 pub claim_ok : {C R E : Type 0} (P : C → Type 0) (entered : Result (C × R) E) (claimed : Result C E) →

@@ -1,6 +1,6 @@
 //! A tree as a lock hands it out, and what a worker does to it in one turn.
 
-ghost use Rattle.std.specs.Prelude.{◌≡◌, ◌<◌, Bool, IfOk, OnErr, OnOk, false, length};
+ghost use Rattle.std.specs.Prelude.{◌≡◌, ◌<◌, Bool, IfOk, OnErr, length};
 ghost use Rattle.tree_core.specs.declared.node.Status.TheVariants.{Held};
 ghost use Rattle.tree_core.specs.Replays.{with_event};
 ghost use Rattle.tree_core.specs.Stories.{status};
@@ -12,7 +12,7 @@ use crate::ended::Ended;
 use fork_tree::{Claim, Content, Parts, Tree, Work};
 use std::alloc::{AllocError as NoMemory, Global};
 use std::sync::Arc;
-use tree_core::{Cause, Node, Noted};
+use tree_core::{Node, Noted};
 use turn_lock::Growing;
 
 /// A tree as a lock hands it out, with the states that were ended and not let go of yet. Its nodes and events grow, and its worker
@@ -88,43 +88,10 @@ impl<W: Work> TurnTree<W> {
             × IsClaimEnded released by node self.old.tree.story self.new.tree.story) }
         ensures grows { GrowsBy by self.old.tree.story self.new.tree.story }
     {
-        let run = self.enter(alloc, by, node, parts)?;
+        let run = self.tree.enter(alloc, by, node, parts)?;
         self.ended.note(self.tree.len(), by);
         let state = self.ended.exchange(by, node, state);
         Ok((self.claim(by)?, Behind { run, state }))
-    }
-
-    // Enters what came of a node that the worker holds. Where there is no memory for what comes in its place, it is free again.
-    fn enter(
-        &mut self,
-        alloc: Global,
-        by: u32,
-        node: usize,
-        parts: Parts<W::State, W::Leaf>,
-    ) -> Result<Option<W::State>, NoMemory>
-        requires there { node < length self.old.tree.story.nodes }
-        requires held { status self.old.tree.story node ≡ Held by }
-        requires worked { IsResult
-            (W.rules self.old.tree.worker) W.State.place W.Leaf.place self.old.tree.story node
-            parts }
-        ensures worker { self.new.tree.worker ≡ self.old.tree.worker }
-        ensures ok { OnOk result
-            (IsClaimEnded false by node self.old.tree.story self.new.tree.story) }
-        ensures err { OnErr result (self.new.tree.story
-            ≡ with_event self.old.tree.story (release_event by node)) }
-        ensures grows { GrowsBy by self.old.tree.story self.new.tree.story }
-    {
-        match parts {
-            Parts::Finished(leaf) => {
-                self.tree.finish(by, node, leaf);
-                Ok(None)
-            }
-            Parts::CutSteps(leaf) => {
-                self.tree.cut(by, node, Cause::Steps, leaf);
-                Ok(None)
-            }
-            Parts::Kids(kids, run) => self.tree.part(alloc, by, node, kids, run),
-        }
     }
 
     /// Frees a node that the worker holds.
