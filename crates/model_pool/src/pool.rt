@@ -1,45 +1,126 @@
-//! The samples that workers share.
+//! The answers that workers share: the newest of those that were offered.
 
 ghost use Rattle.std.specs.Prelude.{◌≡◌, true, IfOk, IfSome};
 ghost use Rattle.bv_dag.specs.Queries.{holds};
 
+use crate::patch::{Patch, named_inputs};
 use crate::scanning::scan;
-use boxcar::Vec as Places;
+use boxcar::Vec as Block;
 use bv_dag::Query;
 use byte_list::Bytes;
 use std::alloc::{AllocError as NoMemory, Global};
-use std::sync::Wait;
+use std::sync::{Arc, Mutex, Wait};
 
-/// A pool takes no more samples once its last place is filled, of so many.
-pub const PLACES: usize = 1024;
+/// A block takes so many answers.
+pub const BLOCK_SIZE: usize = 16;
 
-/// Samples that threads offer and look through, each behind a `&`.
-#[derive(Drop)]
+/// A pool keeps so many blocks, of which the newest takes answers. The oldest goes where there is one too many.
+pub const MOST_BLOCKS: usize = 4;
+
+/// Answers that threads offer and try, each behind a `&`. The lock is held only while one is put into the newest block, or while
+/// the blocks are shared out: nothing is tried under it.
 pub struct Pool {
-    samples: Places<Bytes>,
+    blocks: Mutex<Vec<Arc<Block<Patch>>>>,
+}
+
+impl Drop for Pool {
+    fn drop(self) {
+        let Self { blocks: _blocks } = self;
+    }
+}
+
+// Whether a block takes no more answers.
+fn is_full(block: &Block<Patch>) -> bool {
+    block.get(BLOCK_SIZE - 1).is_some()
+}
+
+// Makes room for one more answer, where the newest block is full or there is none.
+fn make_room(alloc: Global, blocks: &mut Vec<Arc<Block<Patch>>>) -> Result<(), NoMemory> {
+    if blocks.last().is_some_and(|newest| !is_full(newest)) {
+        return Ok(());
+    }
+    let block = Arc::new(alloc, Block::new(alloc)?)?;
+    if blocks.len() >= MOST_BLOCKS {
+        drop(blocks.remove(0));
+    }
+    blocks.push(block)?;
+    Ok(())
+}
+
+// The sample with the bytes of each answer of a block that shares input bytes with a question, the oldest first.
+fn tries(
+    alloc: Global,
+    block: &Block<Patch>,
+    named: &[bool],
+    sample: &[u8],
+) -> Result<Vec<Bytes>, NoMemory> {
+    let mut all = Vec::with_capacity(alloc, BLOCK_SIZE)?;
+    for (_, patch) in block.iter() {
+        if patch.touches(named) {
+            all.push(patch.put_into(alloc, sample)?)?;
+        }
+    }
+    Ok(all)
 }
 
 impl Pool {
-    /// A pool with no samples yet.
+    /// A pool with no answers yet.
     pub fn new(alloc: Global) -> Result<Pool, NoMemory> {
         Ok(Pool {
-            samples: Places::new(alloc)?,
+            blocks: Mutex::new(Vec::with_capacity(alloc, MOST_BLOCKS)?),
         })
     }
 
-    /// Puts the sample into the pool, or lets it go where the last place is filled or there is no memory. Nothing is said of
-    /// which samples a pool keeps: whoever looks for one tests it.
-    pub fn offer(&self, rt: &impl Wait, sample: Bytes) {
-        if self.samples.get(PLACES - 1).is_none() {
-            let _ = self.samples.push(rt, sample);
+    // Puts the bytes of an answer into the newest block.
+    fn put(&self, rt: &impl Wait, alloc: Global, patch: Patch) -> Result<(), NoMemory> {
+        let mut blocks = self.blocks.lock(rt);
+        make_room(alloc, &mut blocks)?;
+        if let Some(newest) = blocks.last() {
+            let _ = newest.push(rt, patch);
+        }
+        Ok(())
+    }
+
+    /// Puts the bytes that meet a question into the pool, or lets them go where there is no memory. Nothing is said of what a pool
+    /// keeps: whoever finds bytes there tests them.
+    pub fn offer(&self, rt: &impl Wait, alloc: Global, query: &Query, answer: &Bytes) {
+        if let Ok(patch) = Patch::of(alloc, query, answer.as_slice()) {
+            let _ = self.put(rt, alloc, patch);
         }
     }
 
-    /// A copy of a sample of the pool that meets the condition, if the walk through it meets one.
-    pub fn find(&self, alloc: Global, query: &Query) -> Result<Option<Bytes>, NoMemory>
+    // The blocks as they are now, shared.
+    fn shared_blocks(
+        &self,
+        rt: &impl Wait,
+        alloc: Global,
+    ) -> Result<Vec<Arc<Block<Patch>>>, NoMemory> {
+        let blocks = self.blocks.lock(rt);
+        let mut shared = Vec::with_capacity(alloc, blocks.len())?;
+        for block in blocks.iter() {
+            shared.push(Arc::try_clone(block)?)?;
+        }
+        Ok(shared)
+    }
+
+    /// Bytes that meet the condition: the sample with those of an answer of the pool in their places. The newest is tried first.
+    pub fn find(
+        &self,
+        rt: &impl Wait,
+        alloc: Global,
+        query: &Query,
+        sample: &Bytes,
+    ) -> Result<Option<Bytes>, NoMemory>
         ensures { IfOk result (λ found. IfSome found (λ sample. holds query.now sample ≡ true)) }
     {
-        let samples = self.samples.iter().map(|(_, sample)| sample);
-        scan(alloc, samples, query)
+        let named = named_inputs(alloc, query)?;
+        for block in self.shared_blocks(rt, alloc)?.iter().rev() {
+            let tries = tries(alloc, block, &named, sample.as_slice())?;
+            let found = scan(alloc, tries.iter().rev(), query)?;
+            if found.is_some() {
+                return Ok(found);
+            }
+        }
+        Ok(None)
     }
 }

@@ -20,8 +20,8 @@ use query_slice::merge;
 use std::alloc::{AllocError as NoMemory, Global};
 use std::sync::Wait;
 
-// Whether it may cost less to try samples than to decide a question. Of one input byte there are no more values than a pool
-// has places.
+// Whether it may cost less to try samples than to decide a question: it does where a search decides it, and not the values of
+// one input byte.
 fn is_worth_trying(alloc: Global, part: &Query) -> Result<bool, NoMemory> {
     let occurrence = occurring(alloc, part.dag().nodes(), part.asserted())?;
     Ok(matches!(occurrence, Occurrence::MoreInputs))
@@ -41,7 +41,7 @@ fn known(
     if found.is_some() || !is_worth_trying(alloc, part.query())? {
         return Ok(found);
     }
-    match shared.sample(alloc, part.query(), sample)? {
+    match shared.sample(rt, alloc, part.query(), sample)? {
         Some(input) => Ok(Some(Satisfiability::Sat(input))),
         None => Ok(None),
     }
@@ -79,7 +79,7 @@ fn decided(
     match decide(alloc, part.query(), sample.as_slice(), budget)? {
         Decision::Sat(input) => {
             let merged = merge(alloc, sample, &input, part.query())?;
-            shared.offer(rt, alloc, &merged);
+            shared.offer(rt, alloc, part.query(), &input);
             shared.keep(rt, Solved::new(part, Satisfiability::Sat(input)));
             Ok(Asked::Sat(merged))
         }

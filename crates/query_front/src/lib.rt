@@ -2,7 +2,7 @@
 //!
 //! - `asked`: what is answered
 //! - `spents`: the questions on which a budget was spent
-//! - `shared`: the answers and samples that workers share
+//! - `shared`: the answers that workers share
 //! - `part`: the part of a question that matters
 //! - `asking`: `ask`
 #![tactic(auto)]

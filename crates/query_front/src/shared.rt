@@ -1,4 +1,4 @@
-//! What workers share: the questions that were answered, those on which a budget was spent, and samples that met one.
+//! What workers share: the questions that were answered, those on which a budget was spent, and answers to try.
 
 ghost use Rattle.std.specs.Prelude.{◌≡◌, true, IfOk, IfSome, length};
 ghost use Rattle.bv_dag.specs.Queries.{holds};
@@ -20,7 +20,7 @@ use std::sync::{Mutex, Wait};
 pub struct Counts {
     /// They had been answered before, or others had whose answers serve; or the same budget was spent on them before.
     pub cached: u64,
-    /// A sample met them.
+    /// The run's sample met them, or did so with the bytes of an earlier answer.
     pub sampled: u64,
     /// They had to be decided: by all values of one byte, or by a search, which may have spent its budget.
     pub decided: u64,
@@ -28,11 +28,11 @@ pub struct Counts {
     pub spent: u64,
 }
 
-/// Answers, each true of its question, and samples. Threads look through them and add to them behind a `&`.
+/// Answers, each true of its question, and the newest ones to try. Threads look through them and add to them behind a `&`.
 pub struct Shared {
     answers: Cache,
     spents: Mutex<SpentQuestions>,
-    samples: Pool,
+    found: Pool,
     cached: AtomicU64,
     sampled: AtomicU64,
     decided: AtomicU64,
@@ -44,7 +44,7 @@ impl Drop for Shared {
         let Self {
             answers: _answers,
             spents: _spents,
-            samples: _samples,
+            found: _found,
             cached: _cached,
             sampled: _sampled,
             decided: _decided,
@@ -59,12 +59,12 @@ fn count(counter: &AtomicU64) {
 }
 
 impl Shared {
-    /// No answers and no samples yet.
+    /// No answers yet.
     pub fn new(alloc: Global) -> Result<Shared, NoMemory> {
         Ok(Shared {
             answers: Cache::new(alloc)?,
             spents: Mutex::new(SpentQuestions::new(alloc)?),
-            samples: Pool::new(alloc)?,
+            found: Pool::new(alloc)?,
             cached: AtomicU64::new(0),
             sampled: AtomicU64::new(0),
             decided: AtomicU64::new(0),
@@ -98,9 +98,10 @@ impl Shared {
         Ok(found)
     }
 
-    /// A copy of a sample that meets a question, this one or one of the pool.
+    /// Bytes that meet a question: the sample, or the sample with those of an answer of the pool in their places.
     pub(crate) fn sample(
         &self,
+        rt: &impl Wait,
         alloc: Global,
         query: &Query,
         sample: &Bytes,
@@ -111,7 +112,7 @@ impl Shared {
             count(&self.sampled);
             return Ok(Some(Bytes::from_slice(alloc, sample.as_slice())?));
         }
-        let found = self.samples.find(alloc, query)?;
+        let found = self.found.find(rt, alloc, query, sample)?;
         if found.is_some() {
             count(&self.sampled);
         }
@@ -173,10 +174,8 @@ impl Shared {
         let _ = self.answers.put(rt, solved);
     }
 
-    /// Offers a copy of a sample to the pool, unless there is no memory for it.
-    pub(crate) fn offer(&self, rt: &impl Wait, alloc: Global, sample: &Bytes) {
-        if let Ok(copy) = Bytes::from_slice(alloc, sample.as_slice()) {
-            self.samples.offer(rt, copy);
-        }
+    /// Offers the bytes that meet a question to the pool, unless there is no memory for them.
+    pub(crate) fn offer(&self, rt: &impl Wait, alloc: Global, query: &Query, answer: &Bytes) {
+        self.found.offer(rt, alloc, query, answer);
     }
 }

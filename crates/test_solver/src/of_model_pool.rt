@@ -1,22 +1,31 @@
-//! Samples that are offered and found.
+//! Answers that are offered, and what is found by them.
 
 use bv_dag::{Comparison, Dag, Node, Query};
 use byte_list::Bytes;
-use model_pool::Pool;
+use model_pool::{BLOCK_SIZE, MOST_BLOCKS, Pool};
 use std::alloc::{AllocError as NoMemory, Global};
 use std::process::Abort;
 use std::sync::Wait;
 use std::test::Fail;
 
-/// Whether the one input byte is 65.
-const IS_65: &[Node] = &[
+/// Whether the first input byte is 65, and whether the second is 7.
+const TESTS: &[Node] = &[
     Node::Input(0),
     Node::Num {
         width: 8,
         value: 65,
     },
     Node::Compare(Comparison::Eq, 0, 1),
+    Node::Input(1),
+    Node::Num { width: 8, value: 7 },
+    Node::Compare(Comparison::Eq, 3, 4),
 ];
+
+/// Where the first test stands.
+const IS_65: usize = 2;
+
+/// Where the second does.
+const IS_7: usize = 5;
 
 fn push_all(rt: &impl Abort, dag: &mut Dag, nodes: &[Node]) -> Result<(), NoMemory> {
     for node in nodes {
@@ -32,58 +41,95 @@ fn ask(rt: &impl Abort, query: &mut Query, id: usize) -> Result<(), NoMemory> {
     query.assert(id)
 }
 
-fn is_65(rt: &impl Abort, alloc: Global) -> Result<Query, NoMemory> {
-    let mut dag = Dag::new(alloc, 1);
-    push_all(rt, &mut dag, IS_65)?;
+// The question whether the first byte is 65, which names no other.
+fn of_one(rt: &impl Abort, alloc: Global) -> Result<Query, NoMemory> {
+    let mut dag = Dag::new(alloc, 2);
+    push_all(rt, &mut dag, &TESTS[..=IS_65])?;
     let mut query = Query::new(dag, Vec::new(alloc));
-    ask(rt, &mut query, 2)?;
+    ask(rt, &mut query, IS_65)?;
+    Ok(query)
+}
+
+// The question whether both tests hold.
+fn of_both(rt: &impl Abort, alloc: Global) -> Result<Query, NoMemory> {
+    let mut dag = Dag::new(alloc, 2);
+    push_all(rt, &mut dag, TESTS)?;
+    let mut query = Query::new(dag, Vec::new(alloc));
+    ask(rt, &mut query, IS_7)?;
+    ask(rt, &mut query, IS_65)?;
     Ok(query)
 }
 
 // What workers share is `Send` and `Sync`.
 fn takes_shared<T: Send + Sync>(_value: &T) {}
 
-fn offer(rt: &impl Wait, alloc: Global, pool: &Pool, byte: u8) -> Result<(), NoMemory> {
-    let sample = Bytes::from_slice(alloc, &[byte])?;
-    pool.offer(rt, sample);
-    Ok(())
-}
-
-// Whether just this is found.
-fn is_found(
+// Offers an answer to a question so many times.
+fn offer(
+    rt: &impl Wait,
     alloc: Global,
     pool: &Pool,
     query: &Query,
+    answer: [u8; 2],
+    times: usize,
+) -> Result<(), NoMemory> {
+    let answer = Bytes::from_slice(alloc, &answer)?;
+    for _ in 0..times {
+        pool.offer(rt, alloc, query, &answer);
+    }
+    Ok(())
+}
+
+// Whether just this is found for a question and a sample.
+fn is_found(
+    rt: &impl Wait,
+    alloc: Global,
+    pool: &Pool,
+    query: &Query,
+    sample: [u8; 2],
     want: Option<&[u8]>,
 ) -> Result<bool, NoMemory> {
-    let found = pool.find(alloc, query)?;
+    let sample = Bytes::from_slice(alloc, &sample)?;
+    let found = pool.find(rt, alloc, query, &sample)?;
     let bytes = match &found {
-        Some(sample) => Some(sample.as_slice()),
+        Some(found) => Some(found.as_slice()),
         None => None,
     };
     Ok(bytes == want)
 }
 
-// Of two samples that are offered, the one that meets a question is found.
-fn check_pool(
-    rt: &(impl Abort + Wait),
-    alloc: Global,
-    pool: &Pool,
-    query: &Query,
-) -> Result<(), NoMemory> {
-    assert!(rt; is_found(alloc, pool, query, None)?);
-    offer(rt, alloc, pool, 66)?;
-    assert!(rt; is_found(alloc, pool, query, None)?);
-    offer(rt, alloc, pool, 65)?;
-    assert!(rt; is_found(alloc, pool, query, Some(&[65]))?);
+// The byte that one question names is put into the sample of the other, and the one that it doesn't name isn't.
+fn check_put(rt: &(impl Abort + Wait), alloc: Global) -> Result<(), NoMemory> {
+    let (one, both, pool) = (of_one(rt, alloc)?, of_both(rt, alloc)?, Pool::new(alloc)?);
+    takes_shared(&pool);
+    assert!(rt; is_found(rt, alloc, &pool, &both, [0, 7], None)?);
+    offer(rt, alloc, &pool, &one, [66, 7], 1)?;
+    assert!(rt; is_found(rt, alloc, &pool, &both, [0, 7], None)?);
+    offer(rt, alloc, &pool, &one, [65, 0], 1)?;
+    assert!(rt; is_found(rt, alloc, &pool, &both, [0, 7], Some(&[65, 7]))?);
+    assert!(rt; is_found(rt, alloc, &pool, &both, [0, 0], None)?);
     Ok(())
 }
 
 #[test]
-fn a_sample_is_offered_and_found(rt: HostRuntime) -> Result<(), Fail> {
-    let query = is_65(&rt, rt.alloc())?;
-    let pool = Pool::new(rt.alloc())?;
-    takes_shared(&pool);
-    check_pool(&rt, rt.alloc(), &pool, &query)?;
+fn an_answer_is_put_into_a_sample(rt: HostRuntime) -> Result<(), Fail> {
+    check_put(&rt, rt.alloc())?;
+    Ok(())
+}
+
+// A full pool takes another answer, and lets it go once as many came after it as it keeps.
+fn check_renewed(rt: &(impl Abort + Wait), alloc: Global) -> Result<(), NoMemory> {
+    let (one, pool) = (of_one(rt, alloc)?, Pool::new(alloc)?);
+    let most = BLOCK_SIZE * MOST_BLOCKS;
+    offer(rt, alloc, &pool, &one, [66, 0], most)?;
+    offer(rt, alloc, &pool, &one, [65, 0], 1)?;
+    assert!(rt; is_found(rt, alloc, &pool, &one, [0, 0], Some(&[65, 0]))?);
+    offer(rt, alloc, &pool, &one, [66, 0], most)?;
+    assert!(rt; is_found(rt, alloc, &pool, &one, [0, 0], None)?);
+    Ok(())
+}
+
+#[test]
+fn a_pool_renews(rt: HostRuntime) -> Result<(), Fail> {
+    check_renewed(&rt, rt.alloc())?;
     Ok(())
 }
