@@ -46,7 +46,7 @@ use Rattle.fork_tree.specs.Trees.{choices_at}
 use Rattle.fork_tree.specs.Works.{Rules}
 use Rattle.fork_tree.specs.declared.content.Content.{Content}
 use Rattle.fork_tree.specs.declared.content.Content.TheVariants.{Shut}
-use Rattle.report_text.specs.Claims.{ArePartedAll, Beside, Entry, Filling, HasHistory, HasSpent, IsExactCover, IsReport, IsRun, IsTested, Learning, Report, Spending, Tested, bounds_of, leaf_nodes_of, leaves_of}
+use Rattle.report_text.specs.Claims.{ArePartedAll, Bare, Beside, Entry, Filling, HasHistory, HasSpent, IsExactCover, IsReport, IsRun, IsTested, Learning, Report, Spending, Tested, bounds_of, leaf_nodes_of, leaves_of}
 use Rattle.report_text.specs.Entries.{AreEntries, AskAsClaimed, IsBeside, IsEntry, IsLeafAt, leaf_numbers, numbers_where}
 use Rattle.report_text.specs.Files.{test_of}
 
@@ -153,24 +153,28 @@ run_beside image regions leaf rank most input test sample is faithful = subst (I
 tested_beside : (image : Image) (regions : List Region) (budgets : Budgets) (sides : List Choice) (nodes : Option ℕ) (leaf : Leaf) (rank : ℕ) (end : LeafEnd) (sample : Option (List ℕ)) (evidence : Option Evidence) (beside : Beside)
     → IsFaithful image regions budgets.steps leaf → Shows regions budgets sides nodes leaf end sample evidence → IsBeside regions rank leaf sample evidence beside → IsTested image regions leaf end rank beside
 tested_beside image regions budgets sides nodes leaf rank (Exits status) (Some input) None (Tested test) faithful shows is = run_beside image regions leaf rank budgets.steps input test shows is faithful
+tested_beside image regions budgets sides nodes leaf rank (Exits status) (Some input) None Bare faithful shows is = absurd is
 tested_beside image regions budgets sides nodes leaf rank (Exits status) (Some input) None (Spending spent) faithful shows is = absurd is
 tested_beside image regions budgets sides nodes leaf rank (Exits status) (Some input) None (Learning learnt) faithful shows is = absurd is
 tested_beside image regions budgets sides nodes leaf rank (Exits status) (Some input) None (Filling count) faithful shows is = absurd is
 tested_beside image regions budgets sides nodes leaf rank (Exits status) (Some input) (Some e) beside faithful shows is = absurd shows
 tested_beside image regions budgets sides nodes leaf rank (Exits status) None evidence beside faithful shows is = absurd shows
 tested_beside image regions budgets sides nodes leaf rank (Traps trap) (Some input) None (Tested test) faithful shows is = run_beside image regions leaf rank budgets.steps input test shows is faithful
+tested_beside image regions budgets sides nodes leaf rank (Traps trap) (Some input) None Bare faithful shows is = absurd is
 tested_beside image regions budgets sides nodes leaf rank (Traps trap) (Some input) None (Spending spent) faithful shows is = absurd is
 tested_beside image regions budgets sides nodes leaf rank (Traps trap) (Some input) None (Learning learnt) faithful shows is = absurd is
 tested_beside image regions budgets sides nodes leaf rank (Traps trap) (Some input) None (Filling count) faithful shows is = absurd is
 tested_beside image regions budgets sides nodes leaf rank (Traps trap) (Some input) (Some e) beside faithful shows is = absurd shows
 tested_beside image regions budgets sides nodes leaf rank (Traps trap) None evidence beside faithful shows is = absurd shows
 tested_beside image regions budgets sides nodes leaf rank (Cut Steps) (Some input) None (Tested test) faithful shows is = run_beside image regions leaf rank budgets.steps input test shows is faithful
+tested_beside image regions budgets sides nodes leaf rank (Cut Steps) (Some input) None Bare faithful shows is = absurd is
 tested_beside image regions budgets sides nodes leaf rank (Cut Steps) (Some input) None (Spending spent) faithful shows is = absurd is
 tested_beside image regions budgets sides nodes leaf rank (Cut Steps) (Some input) None (Learning learnt) faithful shows is = absurd is
 tested_beside image regions budgets sides nodes leaf rank (Cut Steps) (Some input) None (Filling count) faithful shows is = absurd is
 tested_beside image regions budgets sides nodes leaf rank (Cut Steps) (Some input) (Some e) beside faithful shows is = absurd shows
 tested_beside image regions budgets sides nodes leaf rank (Cut Steps) None evidence beside faithful shows is = absurd shows
 tested_beside image regions budgets sides nodes leaf rank (Cut Targets) (Some input) (Some (OnTargets spent)) (Spending written) faithful shows is = tt
+tested_beside image regions budgets sides nodes leaf rank (Cut Targets) (Some input) (Some (OnTargets spent)) Bare faithful shows is = absurd is
 tested_beside image regions budgets sides nodes leaf rank (Cut Targets) (Some input) (Some (OnTargets spent)) (Tested test) faithful shows is = absurd is
 tested_beside image regions budgets sides nodes leaf rank (Cut Targets) (Some input) (Some (OnTargets spent)) (Learning learnt) faithful shows is = absurd is
 tested_beside image regions budgets sides nodes leaf rank (Cut Targets) (Some input) (Some (OnTargets spent)) (Filling count) faithful shows is = absurd is
@@ -180,6 +184,7 @@ tested_beside image regions budgets sides nodes leaf rank (Cut Targets) (Some in
 tested_beside image regions budgets sides nodes leaf rank (Cut Targets) None evidence beside faithful shows is = absurd shows
 tested_beside image regions budgets sides nodes leaf rank (Cut Conflicts) None (Some (OnConflicts learnt)) (Learning written) faithful shows is = tt
 tested_beside image regions budgets sides nodes leaf rank (Cut Conflicts) None (Some (OnConflicts learnt)) (Tested test) faithful shows is = absurd is
+tested_beside image regions budgets sides nodes leaf rank (Cut Conflicts) None (Some (OnConflicts learnt)) Bare faithful shows is = absurd is
 tested_beside image regions budgets sides nodes leaf rank (Cut Conflicts) None (Some (OnConflicts learnt)) (Spending spent) faithful shows is = absurd is
 tested_beside image regions budgets sides nodes leaf rank (Cut Conflicts) None (Some (OnConflicts learnt)) (Filling count) faithful shows is = absurd is
 tested_beside image regions budgets sides nodes leaf rank (Cut Conflicts) None (Some (OnTargets spent)) beside faithful shows is = absurd shows
@@ -188,6 +193,7 @@ tested_beside image regions budgets sides nodes leaf rank (Cut Conflicts) None N
 tested_beside image regions budgets sides nodes leaf rank (Cut Conflicts) (Some input) evidence beside faithful shows is = absurd shows
 tested_beside image regions budgets sides (Some count) leaf rank (Cut Nodes) None (Some (OnNodes shown)) (Filling written) faithful shows is = tt
 tested_beside image regions budgets sides (Some count) leaf rank (Cut Nodes) None (Some (OnNodes shown)) (Tested test) faithful shows is = absurd is
+tested_beside image regions budgets sides (Some count) leaf rank (Cut Nodes) None (Some (OnNodes shown)) Bare faithful shows is = absurd is
 tested_beside image regions budgets sides (Some count) leaf rank (Cut Nodes) None (Some (OnNodes shown)) (Spending spent) faithful shows is = absurd is
 tested_beside image regions budgets sides (Some count) leaf rank (Cut Nodes) None (Some (OnNodes shown)) (Learning learnt) faithful shows is = absurd is
 tested_beside image regions budgets sides (Some count) leaf rank (Cut Nodes) None (Some (OnTargets spent)) beside faithful shows is = absurd shows
@@ -210,6 +216,7 @@ spent_beside image regions budgets lines node sides nodes leaf rank (Cut Steps) 
     subst (AreWithin budgets.steps leaf.steps) is faithful.within
 spent_beside image regions budgets lines node sides nodes leaf rank (Cut Targets) (Some input) (Some (OnTargets spent)) (Spending written) is faithful own own_cut (sampled, spends) beside_is =
     (sides, own_split lines node sides (values_of spent.found) spends.others own, subst (SpendsTargets regions budgets.targets sides leaf) (sym beside_is) spends)
+spent_beside image regions budgets lines node sides nodes leaf rank (Cut Targets) (Some input) (Some (OnTargets spent)) Bare is faithful own own_cut shows beside_is = absurd beside_is
 spent_beside image regions budgets lines node sides nodes leaf rank (Cut Targets) (Some input) (Some (OnTargets spent)) (Tested test) is faithful own own_cut shows beside_is = absurd beside_is
 spent_beside image regions budgets lines node sides nodes leaf rank (Cut Targets) (Some input) (Some (OnTargets spent)) (Learning learnt) is faithful own own_cut shows beside_is = absurd beside_is
 spent_beside image regions budgets lines node sides nodes leaf rank (Cut Targets) (Some input) (Some (OnTargets spent)) (Filling count) is faithful own own_cut shows beside_is = absurd beside_is
@@ -219,6 +226,7 @@ spent_beside image regions budgets lines node sides nodes leaf rank (Cut Targets
 spent_beside image regions budgets lines node sides nodes leaf rank (Cut Targets) None evidence beside is faithful own own_cut shows beside_is = absurd shows
 spent_beside image regions budgets lines node sides nodes leaf rank (Cut Conflicts) None (Some (OnConflicts learnt)) (Learning written) is faithful own own_cut shows beside_is =
     subst (SpendsConflicts regions budgets.conflicts leaf) (sym beside_is) shows
+spent_beside image regions budgets lines node sides nodes leaf rank (Cut Conflicts) None (Some (OnConflicts learnt)) Bare is faithful own own_cut shows beside_is = absurd beside_is
 spent_beside image regions budgets lines node sides nodes leaf rank (Cut Conflicts) None (Some (OnConflicts learnt)) (Tested test) is faithful own own_cut shows beside_is = absurd beside_is
 spent_beside image regions budgets lines node sides nodes leaf rank (Cut Conflicts) None (Some (OnConflicts learnt)) (Spending spent) is faithful own own_cut shows beside_is = absurd beside_is
 spent_beside image regions budgets lines node sides nodes leaf rank (Cut Conflicts) None (Some (OnConflicts learnt)) (Filling count) is faithful own own_cut shows beside_is = absurd beside_is
@@ -228,6 +236,7 @@ spent_beside image regions budgets lines node sides nodes leaf rank (Cut Conflic
 spent_beside image regions budgets lines node sides nodes leaf rank (Cut Conflicts) (Some input) evidence beside is faithful own own_cut shows beside_is = absurd shows
 spent_beside image regions budgets lines node sides (Some count) leaf rank (Cut Nodes) None (Some (OnNodes shown)) (Filling written) is faithful own own_cut (same, enough) beside_is =
     subst (λ n. (budgets.nodes ≤ n) × IsCutAt lines node n) (sym (beside_is ∙ same)) (enough, own_cut)
+spent_beside image regions budgets lines node sides (Some count) leaf rank (Cut Nodes) None (Some (OnNodes shown)) Bare is faithful own own_cut shows beside_is = absurd beside_is
 spent_beside image regions budgets lines node sides (Some count) leaf rank (Cut Nodes) None (Some (OnNodes shown)) (Tested test) is faithful own own_cut shows beside_is = absurd beside_is
 spent_beside image regions budgets lines node sides (Some count) leaf rank (Cut Nodes) None (Some (OnNodes shown)) (Spending spent) is faithful own own_cut shows beside_is = absurd beside_is
 spent_beside image regions budgets lines node sides (Some count) leaf rank (Cut Nodes) None (Some (OnNodes shown)) (Learning learnt) is faithful own own_cut shows beside_is = absurd beside_is

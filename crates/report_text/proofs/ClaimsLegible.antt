@@ -28,7 +28,7 @@ use Rattle.term_trees.proofs.Numbers.{number_fits}
 use Rattle.test_files.specs.Inputs.{bytes_in}
 use Rattle.test_files.specs.Tests.{Test}
 use Rattle.test_files.specs.Writable.{HasStatus, HasTarget, IsLegible}
-use Rattle.report_text.specs.Claims.{Beside, Entry, Filling, HasSpent, IsReport, IsRun, IsTested, Learning, Report, Spending, Tested, bounds_of, leaf_nodes_of, leaves_of}
+use Rattle.report_text.specs.Claims.{Bare, Beside, Entry, Filling, HasSpent, IsReport, IsRun, IsTested, Learning, Report, Spending, Tested, bounds_of, leaf_nodes_of, leaves_of}
 use Rattle.report_text.specs.Legible.{AreLegible, HasSmallCounts, HasSmallLogBeside, IsLegibleBeside, IsLegibleLearnt, IsLegibleSpent}
 use Rattle.report_text.proofs.SpentBack.{bytes_of}
 use Rattle.report_text.proofs.WalkedLines.{legible_from}
@@ -129,26 +129,32 @@ module _ (r : Report) (claims : IsReport r) (counts : HasSmallCounts r) where
   module _ (starts : All (λ (region : Region). region.start < 2 ^ 32) r.regions) where
     beside_legible : (leaf : Leaf) (node rank : ℕ) (end : LeafEnd) (b : Beside) → IsFull leaf → IsFaithful r.image r.regions r.budgets.steps leaf → IsSmall rank →
         IsTested r.image r.regions leaf end rank b → HasSpent r.regions r.budgets r.lines node leaf end b → HasSmallLogBeside b → IsLegibleBeside b
+    beside_legible leaf node rank (Exits status) Bare full faithful low is spent small = absurd is
     beside_legible leaf node rank (Exits status) (Tested test) full faithful low is spent small = test_legible r.image r.regions r.budgets.steps leaf rank test full faithful starts low is
     beside_legible leaf node rank (Exits status) (Spending found) full faithful low is spent small = absurd is
     beside_legible leaf node rank (Exits status) (Learning learnt) full faithful low is spent small = absurd is
     beside_legible leaf node rank (Exits status) (Filling count) full faithful low is spent small = absurd is
+    beside_legible leaf node rank (Traps trap) Bare full faithful low is spent small = absurd is
     beside_legible leaf node rank (Traps trap) (Tested test) full faithful low is spent small = test_legible r.image r.regions r.budgets.steps leaf rank test full faithful starts low is
     beside_legible leaf node rank (Traps trap) (Spending found) full faithful low is spent small = absurd is
     beside_legible leaf node rank (Traps trap) (Learning learnt) full faithful low is spent small = absurd is
     beside_legible leaf node rank (Traps trap) (Filling count) full faithful low is spent small = absurd is
+    beside_legible leaf node rank (Cut Steps) Bare full faithful low is spent small = absurd is
     beside_legible leaf node rank (Cut Steps) (Tested test) full faithful low is spent small = test_legible r.image r.regions r.budgets.steps leaf rank test full faithful starts low is
     beside_legible leaf node rank (Cut Steps) (Spending found) full faithful low is spent small = absurd is
     beside_legible leaf node rank (Cut Steps) (Learning learnt) full faithful low is spent small = absurd is
     beside_legible leaf node rank (Cut Steps) (Filling count) full faithful low is spent small = absurd is
+    beside_legible leaf node rank (Cut Targets) Bare full faithful low is spent small = absurd is
     beside_legible leaf node rank (Cut Targets) (Tested test) full faithful low is spent small = absurd is
     beside_legible leaf node rank (Cut Targets) (Spending found) full faithful low is spent small = spent_legible r.regions r.budgets.targets spent.0 leaf found full counts.few_targets spent.2
     beside_legible leaf node rank (Cut Targets) (Learning learnt) full faithful low is spent small = absurd is
     beside_legible leaf node rank (Cut Targets) (Filling count) full faithful low is spent small = absurd is
+    beside_legible leaf node rank (Cut Conflicts) Bare full faithful low is spent small = absurd is
     beside_legible leaf node rank (Cut Conflicts) (Tested test) full faithful low is spent small = absurd is
     beside_legible leaf node rank (Cut Conflicts) (Spending found) full faithful low is spent small = absurd is
     beside_legible leaf node rank (Cut Conflicts) (Learning learnt) full faithful low is spent small = learnt_legible r.regions r.budgets.conflicts leaf learnt counts.few_conflicts small spent
     beside_legible leaf node rank (Cut Conflicts) (Filling count) full faithful low is spent small = absurd is
+    beside_legible leaf node rank (Cut Nodes) Bare full faithful low is spent small = absurd is
     beside_legible leaf node rank (Cut Nodes) (Tested test) full faithful low is spent small = absurd is
     beside_legible leaf node rank (Cut Nodes) (Spending found) full faithful low is spent small = absurd is
     beside_legible leaf node rank (Cut Nodes) (Learning learnt) full faithful low is spent small = absurd is

@@ -14,7 +14,7 @@ use Rattle.fork_tree.specs.declared.content.Content.{Content}
 use Rattle.report_text.specs.Claims.{Entry, leaf_nodes_of, leaves_of}
 use Rattle.report_text.specs.Legible.{HasSmallLog, HasSmallLogBeside}
 use Rattle.report_text.specs.Entries.{AreByRank, beside_of, entries_of, entry_of, leaf_numbers, leaf_node_of, numbers_where}
-use Rattle.report_text.specs.Files.{beside_put, files_from, leaf_put}
+use Rattle.report_text.specs.Files.{beside_put, files_from, leaf_put, put_before}
 use Rattle.report_text.specs.declared.leaves.LeafAt.{LeafAt}
 
 pub leaf_nodes_of_entries : (regions : List Region) (rank : ℕ) (leaves : List LeafAt) → leaf_nodes_of (entries_of regions rank leaves) ≡ map leaf_node_of leaves
@@ -27,14 +27,22 @@ unfolding entries_of
 leaves_of_nodes regions rank [] = refl
 leaves_of_nodes regions rank (l ∷ ls) = ap (λ ks. l.part.now.leaf ∷ ks) (leaves_of_nodes regions (rank + 1) ls)
 
+before_more : (put : Option Put) (rest : List Put) → put_before put [] ++ rest ≡ put_before put rest
+before_more None rest = refl
+before_more (Some put) rest = refl
+
 -- the files of one leaf more, and those of the rest
 pub files_next : (out : List ℕ) (regions : List Region) (leaves : List LeafAt) (rank : ℕ) (l : LeafAt) (files : List Put) → rank < length leaves → l ≡ get_or leaves rank l →
-    (files ++ leaf_put out rank l.part.now.leaf ∷ beside_put out rank (beside_of regions rank l.part.now.leaf l.part.now.sample l.part.now.evidence) ∷ []) ++ files_from out (rank + 1) (entries_of regions (rank + 1) (drop (rank + 1) leaves))
+    (files ++ leaf_put out rank l.part.now.leaf ∷ put_before (beside_put out rank (beside_of regions rank l.part.now.leaf l.part.now.sample l.part.now.evidence)) []) ++ files_from out (rank + 1) (entries_of regions (rank + 1) (drop (rank + 1) leaves))
     ≡ files ++ files_from out rank (entries_of regions rank (drop rank leaves))
 unfolding entries_of files_from
 files_next out regions leaves rank l files h e =
     let rest : drop rank leaves ≡ l ∷ drop (rank + 1) leaves = rw add-one (drop-cons leaves rank l h ∙ ap (λ q. q ∷ drop (suc rank) leaves) (sym e)) in
-    append_assoc files (leaf_put out rank l.part.now.leaf ∷ beside_put out rank (beside_of regions rank l.part.now.leaf l.part.now.sample l.part.now.evidence) ∷ []) (files_from out (rank + 1) (entries_of regions (rank + 1) (drop (rank + 1) leaves)))
+    let own : Put = leaf_put out rank l.part.now.leaf in
+    let beside : Option Put = beside_put out rank (beside_of regions rank l.part.now.leaf l.part.now.sample l.part.now.evidence) in
+    let others : List Put = files_from out (rank + 1) (entries_of regions (rank + 1) (drop (rank + 1) leaves)) in
+    append_assoc files (own ∷ put_before beside []) others
+    ∙ ap (λ puts. files ++ own ∷ puts) (before_more beside others)
     ∙ ap (λ ls. files ++ files_from out rank (entries_of regions rank ls)) (sym rest)
 
 pub files_end : (out : List ℕ) (regions : List Region) (leaves : List LeafAt) (rank : ℕ) (files : List Put) → length leaves ≤ rank →

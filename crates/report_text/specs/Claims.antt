@@ -20,6 +20,8 @@ use Rattle.test_files.specs.Tests.{Test}
 
 -- what stands beside a leaf
 pub data Beside : Type 0 where
+  -- nothing, as beside no leaf of which the claims hold
+  Bare : Beside
   -- a run of it
   Tested : Test → Beside
   -- the values on which the budget of targets was spent
@@ -94,7 +96,8 @@ pub record IsRun (image : Image) (regions : List Region) (leaf : Leaf) (rank : �
   pub runs : IsRunOf (run image regions test.input test.steps) test.steps test.path test.end
       test.output
 
--- beside a leaf stands a run of it, unless it was cut where it had spent its targets or its conflicts, or for want of nodes
+-- beside a leaf stands a run of it, unless it was cut where it had spent its targets or its conflicts, or for want of nodes; no leaf
+-- is bare
 abbrev pub IsTested : Image → List Region → Leaf → LeafEnd → (rank : ℕ) → Beside → Type 0
 IsTested image regions leaf (Exits status) rank (Tested test) = IsRun image regions leaf rank test
 IsTested image regions leaf (Traps trap) rank (Tested test) = IsRun image regions leaf rank test

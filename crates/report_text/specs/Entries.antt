@@ -21,7 +21,7 @@ use Rattle.fork_tree.specs.Works.{Rules}
 use Rattle.tool_io.specs.Told.{Put}
 use Rattle.fork_tree.specs.declared.content.Content.{Content}
 use Rattle.fork_tree.specs.declared.content.Content.TheVariants.{Shut}
-use Rattle.report_text.specs.Claims.{Beside, Entry, Filling, Learning, Spending, Tested, leaves_of}
+use Rattle.report_text.specs.Claims.{Bare, Beside, Entry, Filling, Learning, Spending, Tested, leaves_of}
 use Rattle.report_text.specs.Files.{files_of, summary_of, test_of}
 use Rattle.report_text.specs.Legible.{HasSmallLog}
 use Rattle.report_text.specs.declared.leaves.LeafAt.{LeafAt}
@@ -36,13 +36,13 @@ IsBeside regions rank leaf sample (Some (OnNodes count)) (Filling written) = wri
 IsBeside regions rank leaf (Some input) None (Tested test) = test ≡ test_of regions rank leaf input
 IsBeside regions rank leaf _ _ _ = ⊥
 
--- what stands beside a leaf: its evidence, or the test that its sample makes; each leaf has one or the other
+-- what stands beside a leaf: its evidence, else the test that its sample makes, else nothing
 abbrev pub beside_of : List Region → (rank : ℕ) → Leaf → Option (List ℕ) → Option Evidence → Beside
 beside_of regions rank leaf sample (Some (OnTargets spent)) = Spending spent
 beside_of regions rank leaf sample (Some (OnConflicts learnt)) = Learning learnt
 beside_of regions rank leaf sample (Some (OnNodes count)) = Filling count
 beside_of regions rank leaf (Some input) None = Tested (test_of regions rank leaf input)
-beside_of regions rank leaf None None = Spending (record { term = 0; found = [] })
+beside_of regions rank leaf None None = Bare
 
 -- the entry of a leaf at this node, of this rank
 abbrev pub entry_of : List Region → (rank : ℕ) → LeafAt → Entry

@@ -1,5 +1,5 @@
 -- The files of a report, which stand in a folder, and the line that is said.
-use Rattle.std.specs.Prelude.{ℕ, ◌+◌, List, [], ◌∷◌, ◌++◌, map}
+use Rattle.std.specs.Prelude.{ℕ, ◌+◌, List, [], ◌∷◌, ◌++◌, map, Option, None, Some}
 use Rattle.elf_load.specs.declared.region.Region.{Region}
 use Rattle.tool_io.specs.Told.{Put}
 use Rattle.tree_core.specs.declared.budgets.Budgets.{Budgets}
@@ -9,7 +9,7 @@ use Rattle.fork_spec.specs.Runs.{end_on}
 use Rattle.fork_spec.specs.Walks.{Line}
 use Rattle.smt_text.specs.LeafLines.{leaf_text}
 use Rattle.test_files.specs.Tests.{Test, test_text}
-use Rattle.report_text.specs.Claims.{Beside, Entry, Filling, Learning, Spending, Tested, leaf_nodes_of, leaves_of}
+use Rattle.report_text.specs.Claims.{Bare, Beside, Entry, Filling, Learning, Spending, Tested, leaf_nodes_of, leaves_of}
 use Rattle.report_text.specs.Events.{events_text}
 use Rattle.report_text.specs.FileNames.{events_name, leaf_name, report_name, test_name, spent_name}
 use Rattle.report_text.specs.Learnt.{conflicts_text}
@@ -20,20 +20,28 @@ use Rattle.report_text.specs.Summaries.{count, summary_text}
 abbrev pub leaf_put : List ℕ → ℕ → Leaf → Put
 leaf_put out rank leaf = record { name = leaf_name out rank; bytes = leaf_text leaf }
 
-abbrev pub beside_put : List ℕ → ℕ → Beside → Put
-beside_put out rank (Tested test) = record { name = test_name out rank; bytes = test_text test }
+abbrev pub beside_put : List ℕ → ℕ → Beside → Option Put
+beside_put out rank Bare = None
+beside_put out rank (Tested test) =
+    Some (record { name = test_name out rank; bytes = test_text test })
 beside_put out rank (Spending spent) =
-    record { name = spent_name out rank; bytes = targets_text spent }
+    Some (record { name = spent_name out rank; bytes = targets_text spent })
 beside_put out rank (Learning learnt) =
-    record { name = spent_name out rank; bytes = conflicts_text learnt }
+    Some (record { name = spent_name out rank; bytes = conflicts_text learnt })
 beside_put out rank (Filling count) =
-    record { name = spent_name out rank; bytes = nodes_text count }
+    Some (record { name = spent_name out rank; bytes = nodes_text count })
 
--- two for each leaf, whose ranks begin with this one
+-- a file, if there is one, before others
+abbrev pub put_before : Option Put → List Put → List Put
+put_before None puts = puts
+put_before (Some put) puts = put ∷ puts
+
+-- that of each leaf, and of what stands beside it; their ranks begin with this one
 unfoldable pub files_from : List ℕ → ℕ → List Entry → List Put
 files_from out rank [] = []
 files_from out rank (e ∷ es) =
-    leaf_put out rank e.leaf ∷ beside_put out rank e.beside ∷ files_from out (rank + 1) es
+    leaf_put out rank e.leaf
+    ∷ put_before (beside_put out rank e.beside) (files_from out (rank + 1) es)
 
 abbrev pub events_put : List ℕ → List Line → Put
 events_put out lines = record { name = events_name out; bytes = events_text lines }

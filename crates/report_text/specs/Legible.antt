@@ -11,7 +11,7 @@ use Rattle.fork_spec.specs.Leaves.{IsCount, IsSmall, IsSmallChoice}
 use Rattle.fork_spec.specs.Parts.{Evidence, OnConflicts, OnNodes, OnTargets}
 use Rattle.fork_spec.specs.Walks.{Line, Side, Sides, Standing, walk}
 use Rattle.test_files.specs.Writable.{IsLegible}
-use Rattle.report_text.specs.Claims.{Beside, Entry, Filling, Learning, Report, Spending, Tested, bounds_of}
+use Rattle.report_text.specs.Claims.{Bare, Beside, Entry, Filling, Learning, Report, Spending, Tested, bounds_of}
 
 -- the numbers of sides and their values have 32 bits, and the line of what is finished says of no cut
 abbrev pub IsLegibleDeed : Deed (Option Cause) Sides → Type 0
@@ -59,6 +59,7 @@ pub record IsLegibleLearnt (learnt : Learnt) : Type 0 where
 
 -- what stands beside a leaf
 abbrev pub IsLegibleBeside : Beside → Type 0
+IsLegibleBeside Bare = ⊥
 IsLegibleBeside (Tested test) = IsLegible test
 IsLegibleBeside (Spending spent) = IsLegibleSpent spent
 IsLegibleBeside (Learning learnt) = IsLegibleLearnt learnt
@@ -66,6 +67,7 @@ IsLegibleBeside (Filling count) = IsSmall count
 
 -- its steps, where a log stands there, and its number, where one does
 abbrev pub HasSmallLogBeside : Beside → Type 0
+HasSmallLogBeside Bare = Unit {0}
 HasSmallLogBeside (Tested test) = Unit {0}
 HasSmallLogBeside (Spending spent) = Unit {0}
 HasSmallLogBeside (Learning learnt) = All HasSmallNumbers learnt.log

@@ -1,12 +1,12 @@
 //! The report of a tree that is done: its files, and the line that is said.
 
-ghost use Rattle.std.specs.Prelude.{◌≡◌, ◌<◌, ◌^◌, ◌++◌, ◌∷◌, [], All, IfOk, OnOk, length, map};
+ghost use Rattle.std.specs.Prelude.{◌≡◌, ◌<◌, ◌^◌, ◌++◌, ◌∷◌, [], All, IfOk, OnOk, Some, length, map};
 ghost use Rattle.fork_tree.specs.Written.{lines_of, nodes_after};
 ghost use Rattle.fork_tree.specs.Contents.{cut_in};
 ghost use Rattle.fork_tree.specs.Drains.{IsDrained};
 ghost use Rattle.report_text.specs.Entries.{AreReportable, IsPlacedByPart, IsReportOfTree, IsReportable, beside_of, entries_of, leaf_node_of};
 ghost use Rattle.report_text.specs.Legible.{HasSmallLog};
-ghost use Rattle.report_text.specs.Files.{beside_put, events_put, files_from, leaf_put, report_put};
+ghost use Rattle.report_text.specs.Files.{beside_put, events_put, files_from, leaf_put, put_before, report_put};
 
 use crate::event_lines::write_events;
 use crate::file_names::{events_name, leaf_name, report_name, spent_name, test_name};
@@ -77,9 +77,9 @@ fn beside_file(
     part: &LeafPart,
 ) -> Result<NamedFile, NoMemory>
     requires { IsReportable part.now }
-    ensures file { IfOk result (λ file. file
-        ≡ beside_put out.now rank
-        (beside_of regions.now rank part.now.leaf part.now.sample part.now.evidence)) }
+    ensures file { IfOk result (λ file. beside_put out.now rank
+        (beside_of regions.now rank part.now.leaf part.now.sample part.now.evidence)
+        ≡ Some file) }
     ensures small { IfOk result (λ file. HasSmallLog part.now.evidence) }
 {
     match (part.evidence(), part.sample()) {
@@ -116,8 +116,8 @@ fn push_files(
     requires { IsReportable part.now }
     ensures files { OnOk result (files.new.items
         ≡ files.old.items ++ leaf_put out.now rank part.now.leaf
-        ∷ beside_put out.now rank
-        (beside_of regions.now rank part.now.leaf part.now.sample part.now.evidence) ∷ []) }
+        ∷ put_before (beside_put out.now rank
+        (beside_of regions.now rank part.now.leaf part.now.sample part.now.evidence)) []) }
     ensures small { OnOk result (HasSmallLog part.now.evidence) }
 {
     files.push(leaf_file(alloc, out, rank, part)?)?;

@@ -1,10 +1,10 @@
 -- What the files that were put read as.
-use Rattle.std.specs.Prelude.{◌≡◌, ℕ, List, Some, slice_get}
+use Rattle.std.specs.Prelude.{◌≡◌, ℕ, List, Option, None, Some, slice_get}
 use Rattle.std.specs.List.{Contains}
 use Rattle.fork_spec.specs.Evidence.{Learnt, Spent}
 use Rattle.fork_spec.specs.Leaves.{IsSmall, Leaf}
 use Rattle.fork_spec.specs.Walks.{Line}
-use Rattle.report_text.specs.Claims.{Beside, Entry, Filling, Learning, Spending, Tested}
+use Rattle.report_text.specs.Claims.{Bare, Beside, Entry, Filling, Learning, Spending, Tested}
 use Rattle.report_text.specs.Events.{events_text}
 use Rattle.report_text.specs.FileNames.{leaf_name}
 use Rattle.report_text.specs.Files.{beside_put, events_put}
@@ -35,6 +35,7 @@ HaveOwnText lines = (others : List Line) → AreLegible others
 -- the text of what stands beside a leaf is that of no other test, of no other values, of no other question and clauses, or of no other
 -- number of nodes
 abbrev pub HasOwnText : Beside → Type 0
+HasOwnText Bare = ⊥
 HasOwnText (Tested test) = (other : Test) → IsLegible other → test_text other ≡ test_text test
     → other ≡ test
 HasOwnText (Spending spent) = (other : Spent) → IsLegibleSpent other
@@ -44,10 +45,15 @@ HasOwnText (Learning learnt) = (other : Learnt) → IsLegibleLearnt other
 HasOwnText (Filling count) = (other : ℕ) → IsSmall other → nodes_text other ≡ nodes_text count
     → other ≡ count
 
+-- there is a file, and it was put
+abbrev pub IsPut : List Put → Option Put → Type 0
+IsPut puts None = ⊥
+IsPut puts (Some put) = Contains puts put
+
 -- the leaf is what the file of its rank reads as, and what stands beside it is what the other file of that rank has
 pub record IsEntryRead (out : List ℕ) (puts : List Put) (rank : ℕ) (e : Entry) : Type 0 where
   pub leaf : IsReadFrom out puts rank e.leaf
-  pub beside : Contains puts (beside_put out rank e.beside)
+  pub beside : IsPut puts (beside_put out rank e.beside)
   pub alone : HasOwnText e.beside
 
 -- the events, each of the leaves, and what stands beside each, are what the files that were put have, and nothing else has these texts
