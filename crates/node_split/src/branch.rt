@@ -1,7 +1,7 @@
 //! Branches that may go both ways: the run goes on along the side of its sample where the other has no assignment, and else parts
 //! into two. A side of which the budget of conflicts leaves open whether it has one is a leaf.
 
-ghost use Rattle.std.specs.Prelude.{◌≡◌, ◌∷◌, [], ◌≤◌, ℕ, List, IfNone, IfOk, IfSome, if◌then◌else◌, length, true, false};
+ghost use Rattle.std.specs.Prelude.{◌≡◌, ◌∷◌, [], ◌<◌, ◌≤◌, ℕ, List, All, IfNone, IfOk, IfSome, OnOk, if◌then◌else◌, length, true, false};
 ghost use Rattle.bv_dag.specs.Graphs.{number_of, width_of};
 ghost use Rattle.query_front.specs.Asks.{IsAsked};
 ghost use Rattle.query_front.specs.declared.asked.Asked.TheVariants.{Spent};
@@ -15,7 +15,7 @@ ghost use Rattle.node_split.specs.Splits.{IsBranchSide, IsForked, IsSide, IsSide
 
 use crate::asking::ask_run;
 use crate::cut::cut_conflicts;
-use crate::forked::{Forked, are_bytes, narrow, run_kid, sample_of, sampled};
+use crate::forked::{Forked, narrow, run_kid, sample_of, sampled};
 use byte_list::Bytes;
 use fork_tree::Content;
 use leaf_part::{LeafPart, Learnt};
@@ -85,7 +85,8 @@ fn open_side(
 ) -> Result<Kid<Content<State, LeafPart>>, NoMemory>
     requires bit { width_of tested.run.terms tested.test ≡ 1 }
     requires each_input { length sample ≡ tested.run.terms.inputs }
-    ensures { IfOk result (λ kid. (s : Symbolic) (term : ℕ) → IsBranch s term
+    ensures bytes { OnOk result (All (λ b. b < 256) sample) }
+    ensures side { IfOk result (λ kid. (s : Symbolic) (term : ℕ) → IsBranch s term
         → IsSideTested s term side tested
         → stands_for s sample ≡ true → is_side side (number_of s.terms term sample) ≡ true
         → IsSide s (branch_choice side)
@@ -144,10 +145,7 @@ fn other_side(
         budgets.conflicts,
     )? {
         Asked::Unsat => Ok(None),
-        Asked::Sat(input) => {
-            are_bytes(input.as_slice());
-            Ok(Some(open_side(alloc, tested, side, input)?))
-        }
+        Asked::Sat(input) => Ok(Some(open_side(alloc, tested, side, input)?)),
         Asked::Spent(question, log) => {
             let learnt = Learnt { question, log };
             Ok(Some(spent_side(alloc, &mut tested, side, learnt)?))

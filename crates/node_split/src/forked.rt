@@ -42,21 +42,16 @@ pub(crate) fn sample_of(alloc: Global, state: &State) -> Result<Bytes, NoMemory>
     Ok(Bytes::from_slice(alloc, state.sample().as_slice())?)
 }
 
-/// A list of bytes has no greater numbers.
-pub(crate) fn are_bytes(bytes: &[u8])
-    ensures { All (λ b. b < 256) bytes.now }
-{}
-
 /// Narrows a run to the side of a fork on which a term is 1, as it is on this sample.
 pub fn narrow(state: &mut State, choice: Choice, term: usize, sample: Bytes) -> Result<(), NoMemory>
     requires small { IsSmallChoice choice }
     requires bit { width_of state.old.terms term ≡ 1 }
     requires each_input { length sample ≡ state.old.terms.inputs }
-    ensures { OnOk result (state.new ≡ narrowed state.old choice term sample) }
+    ensures narrowed { OnOk result (state.new ≡ narrowed state.old choice term sample) }
+    ensures bytes { OnOk result (All (λ b. b < 256) sample) }
 {
     state.choose(choice)?;
     state.assert(term)?;
-    are_bytes(sample.as_slice());
     state.sample_by(sample);
     Ok(())
 }

@@ -1,10 +1,10 @@
 //! The run of all assignments, before its first step.
 
-ghost use Rattle.std.specs.Prelude.{◌≡◌, ◌+◌, ◌<◌, ◌≤◌, ℕ, All, IfOk, OnOk, drop};
+ghost use Rattle.std.specs.Prelude.{◌≡◌, ◌+◌, ◌≤◌, IfOk, OnOk, drop};
 ghost use Rattle.cow_pages.specs.SymbolicMemory.{memory_flags};
 ghost use Rattle.rv_machine.specs.Pages.{AreMapped, IsMapped, filled};
 ghost use Rattle.rv_spec.specs.Machine as machine;
-ghost use Rattle.rv_spec.specs.Memory.{byte_of, count_of, placed};
+ghost use Rattle.rv_spec.specs.Memory.{count_of, placed};
 ghost use Rattle.sym_state.specs.Placing.{HasBytes, PutsBytes, bytes_expressed, bytes_worth, first_run, inputs_filled, number_values};
 ghost use Rattle.sym_state.specs.Runs.{IsFirst, IsOpen};
 ghost use Rattle.sym_state.specs.Unfolded.{inputs_placed};
@@ -16,7 +16,7 @@ use crate::value::Value;
 use byte_list::Bytes;
 use cow_pages::{Byte, Pages};
 use cow_vec::CowVec;
-use elf_load::{Image, Region};
+use elf_load::Region;
 use rv_machine::STACK_POINTER;
 use std::alloc::{AllocError as NoMemory, Global};
 use term_simplify::Builder;

@@ -17,6 +17,11 @@ use rv_decode::{PathStep, Register};
 use std::alloc::AllocError as NoMemory;
 use tree_core::Choice;
 
+// A list of bytes has no greater numbers.
+fn are_bytes(bytes: &[u8])
+    ensures { All (λ b. b < 256) bytes.now }
+{}
+
 impl State {
     /// Writes a register; x0 is never written.
     pub fn set(&mut self, register: Register, value: Value)
@@ -125,10 +130,11 @@ impl State {
     /// Takes another assignment as the sample.
     pub fn sample_by(&mut self, sample: Bytes)
         requires each_input { length sample ≡ self.old.terms.inputs }
-        requires bytes { All (λ b. b < 256) sample }
         ensures value { self.new ≡ record self.old { sample = sample } }
         ensures formed { IsFormed self.new }
+        ensures bytes { All (λ b. b < 256) sample }
     {
+        are_bytes(sample.as_slice());
         self.sample = sample;
     }
 }

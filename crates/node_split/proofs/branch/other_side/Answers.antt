@@ -1,5 +1,3 @@
-use Rattle.std.proofs.Common.{ℕ, List, ◌<◌, subst}
-use Rattle.std.specs.Prelude.{All}
 use Rattle.node_split.proofs.Branching.{answered_each, branch_side, side_answered, side_unanswered, tested_sampled}
 use Rattle.node_split.proofs.branch.other_side.Goals as goal
 
@@ -18,9 +16,9 @@ returns-in-Unsat-clause-none g c =
 pub returns-in_ok-open_side-in-Sat-clause-some : goal.returns-in_ok-open_side-in-Sat-clause-some
 returns-in_ok-open_side-in-Sat-clause-some g c =
     let on = side_answered c.args.state.now c.args.term c.args.side c.in_ok-tested.tested c.in_ok-tested.ensures c.in-Sat.input
-    (subst (λ (bs : List ℕ). All (λ b. b < 256) bs) c.as_slice.ensures c.are_bytes.ensures) (rw c.in-Sat.is at c.in_ok-ask_run.ensures) in
+    c.in_ok-open_side-in-Sat.ensures.bytes (rw c.in-Sat.is at c.in_ok-ask_run.ensures) in
     branch_side c.args.budgets.now c.args.state.now c.args.term c.args.side c.in_ok-open_side-in-Sat.field-0
-    (c.in_ok-open_side-in-Sat.ensures c.args.state.now c.args.term c.requires.at c.in_ok-tested.ensures on.0 on.1)
+    (c.in_ok-open_side-in-Sat.ensures.side c.args.state.now c.args.term c.requires.at c.in_ok-tested.ensures on.0 on.1)
 
 pub spent_side-requires-clause-bit : goal.spent_side-requires-clause-bit
 spent_side-requires-clause-bit g c = c.in_ok-tested.ensures.bit

@@ -14,7 +14,7 @@ narrow-requires-clause-each_input c =
 
 pub returns : goal.returns
 returns c =
-    rw (c.know.ensures.value, c.in_ok-narrow.ensures, c.in_ok-equal.ensures.ok.grown.same, c.in_ok-side.ensures.same, c.in_ok-sample.ensures, c.as_slice.ensures, ← c.at.view_is)
+    rw (c.know.ensures.value, c.in_ok-narrow.ensures.narrowed, c.in_ok-equal.ensures.ok.grown.same, c.in_ok-side.ensures.same, c.in_ok-sample.ensures, c.as_slice.ensures, ← c.at.view_is)
     (value_narrower c.args.state.now c.tested.new.self.terms c.args.pin.now.place c.args.pin.now.term c.in_ok-equal.equal _ c.in_ok-side.ensures.formed c.requires.at
     (rw (← c.at.view_is) at c.requires.has)
     (rw c.in_ok-side.ensures.same at c.in_ok-equal.ensures.ok.gives))
