@@ -2,12 +2,14 @@
 //!
 //! - `patch`: the bytes of an answer, and how they are put into a sample
 //! - `scanning`: a sample that meets a condition, among those that an iterator gives
+//! - `wanted`: which answers are tried
 //! - `pool`: the answers that workers share
 #![tactic(auto)]
 
 mod patch;
 mod pool;
 mod scanning;
+mod wanted;
 
-pub use pool::{BLOCK_SIZE, MOST_BLOCKS, Pool};
+pub use pool::{BLOCK_SIZE, MOST_BLOCKS, Pool, TRIED_BLOCKS};
 pub use scanning::scan;

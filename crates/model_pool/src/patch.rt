@@ -13,15 +13,19 @@ struct PlacedByte {
     byte: u8,
 }
 
-/// The input bytes that a question's graph names, as they met the question.
+/// The input bytes that a question's graph names, as they met the question, and the question's digest.
 #[derive(Debug)]
 pub struct Patch {
+    digest: u64,
     bytes: Vec<PlacedByte>,
 }
 
 impl Drop for Patch {
     fn drop(self) {
-        let Self { bytes: _bytes } = self;
+        let Self {
+            digest: _digest,
+            bytes: _bytes,
+        } = self;
     }
 }
 
@@ -39,8 +43,13 @@ pub(crate) fn named_inputs(alloc: Global, query: &Query) -> Result<Vec<bool>, No
 }
 
 impl Patch {
-    /// The bytes of an answer to a question.
-    pub(crate) fn of(alloc: Global, query: &Query, answer: &[u8]) -> Result<Patch, NoMemory> {
+    /// The bytes of an answer to a question with this digest.
+    pub(crate) fn of(
+        alloc: Global,
+        query: &Query,
+        digest: u64,
+        answer: &[u8],
+    ) -> Result<Patch, NoMemory> {
         let mut bytes = Vec::new(alloc);
         for node in query.dag().nodes() {
             if let Node::Input(place) = *node {
@@ -50,7 +59,12 @@ impl Patch {
                 }
             }
         }
-        Ok(Patch { bytes })
+        Ok(Patch { digest, bytes })
+    }
+
+    /// Whether its question has this digest.
+    pub(crate) fn answers(&self, digest: u64) -> bool {
+        self.digest == digest
     }
 
     /// Whether it has one of the input bytes that are named.

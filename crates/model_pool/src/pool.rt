@@ -5,6 +5,7 @@ ghost use Rattle.bv_dag.specs.Queries.{holds};
 
 use crate::patch::{Patch, named_inputs};
 use crate::scanning::scan;
+use crate::wanted::Wanted;
 use boxcar::Vec as Block;
 use bv_dag::Query;
 use byte_list::Bytes;
@@ -12,10 +13,13 @@ use std::alloc::{AllocError as NoMemory, Global};
 use std::sync::{Arc, Mutex, Wait};
 
 /// A block takes so many answers.
-pub const BLOCK_SIZE: usize = 16;
+pub const BLOCK_SIZE: usize = 64;
 
 /// A pool keeps so many blocks, of which the newest takes answers. The oldest goes where there is one too many.
-pub const MOST_BLOCKS: usize = 4;
+pub const MOST_BLOCKS: usize = 16;
+
+/// The answers of so many blocks, the newest, are tried on any question, and those of the others on their own alone.
+pub const TRIED_BLOCKS: usize = 2;
 
 /// Answers that threads offer and try, each behind a `&`. The lock is held only while one is put into the newest block, or while
 /// the blocks are shared out: nothing is tried under it.
@@ -47,20 +51,45 @@ fn make_room(alloc: Global, blocks: &mut Vec<Arc<Block<Patch>>>) -> Result<(), N
     Ok(())
 }
 
-// The sample with the bytes of each answer of a block that shares input bytes with a question, the oldest first.
+// The sample with the bytes of each answer of a block that is wanted, the oldest first.
 fn tries(
     alloc: Global,
     block: &Block<Patch>,
-    named: &[bool],
+    wanted: &Wanted,
     sample: &[u8],
 ) -> Result<Vec<Bytes>, NoMemory> {
-    let mut all = Vec::with_capacity(alloc, BLOCK_SIZE)?;
+    let mut all = Vec::new(alloc);
     for (_, patch) in block.iter() {
-        if patch.touches(named) {
+        if wanted.takes(patch) {
             all.push(patch.put_into(alloc, sample)?)?;
         }
     }
     Ok(all)
+}
+
+// The newest blocks, so many at most.
+fn newest(blocks: &[Arc<Block<Patch>>], most: usize) -> &[Arc<Block<Patch>>] {
+    &blocks[blocks.len().saturating_sub(most)..]
+}
+
+// Bytes that meet the condition: the sample with those of a wanted answer in their places. The newest is tried first.
+fn first_met(
+    alloc: Global,
+    blocks: &[Arc<Block<Patch>>],
+    wanted: &Wanted,
+    query: &Query,
+    sample: &Bytes,
+) -> Result<Option<Bytes>, NoMemory>
+    ensures { IfOk result (λ found. IfSome found (λ sample. holds query.now sample ≡ true)) }
+{
+    for block in blocks.iter().rev() {
+        let tries = tries(alloc, block, wanted, sample.as_slice())?;
+        let found = scan(alloc, tries.iter().rev(), query)?;
+        if found.is_some() {
+            return Ok(found);
+        }
+    }
+    Ok(None)
 }
 
 impl Pool {
@@ -81,10 +110,10 @@ impl Pool {
         Ok(())
     }
 
-    /// Puts the bytes that meet a question into the pool, or lets them go where there is no memory. Nothing is said of what a pool
-    /// keeps: whoever finds bytes there tests them.
-    pub fn offer(&self, rt: &impl Wait, alloc: Global, query: &Query, answer: &Bytes) {
-        if let Ok(patch) = Patch::of(alloc, query, answer.as_slice()) {
+    /// Puts the bytes that meet a question with this digest into the pool, or lets them go where there is no memory. Nothing is
+    /// said of what a pool keeps: whoever finds bytes there tests them.
+    pub fn offer(&self, rt: &impl Wait, alloc: Global, query: &Query, digest: u64, answer: &Bytes) {
+        if let Ok(patch) = Patch::of(alloc, query, digest, answer.as_slice()) {
             let _ = self.put(rt, alloc, patch);
         }
     }
@@ -103,24 +132,25 @@ impl Pool {
         Ok(shared)
     }
 
-    /// Bytes that meet the condition: the sample with those of an answer of the pool in their places. The newest is tried first.
+    /// Bytes that meet a condition with this digest: the sample with those of an answer of the pool in their places. All answers
+    /// to the same question are tried first, and then the newest that share input bytes with it.
     pub fn find(
         &self,
         rt: &impl Wait,
         alloc: Global,
         query: &Query,
+        digest: u64,
         sample: &Bytes,
     ) -> Result<Option<Bytes>, NoMemory>
         ensures { IfOk result (λ found. IfSome found (λ sample. holds query.now sample ≡ true)) }
     {
-        let named = named_inputs(alloc, query)?;
-        for block in self.shared_blocks(rt, alloc)?.iter().rev() {
-            let tries = tries(alloc, block, &named, sample.as_slice())?;
-            let found = scan(alloc, tries.iter().rev(), query)?;
-            if found.is_some() {
-                return Ok(found);
-            }
+        let blocks = self.shared_blocks(rt, alloc)?;
+        let again = first_met(alloc, &blocks, &Wanted::Same(digest), query, sample)?;
+        if again.is_some() {
+            return Ok(again);
         }
-        Ok(None)
+        let tried = newest(&blocks, TRIED_BLOCKS);
+        let sharing = Wanted::Sharing(named_inputs(alloc, query)?);
+        first_met(alloc, tried, &sharing, query, sample)
     }
 }

@@ -42,6 +42,7 @@ impl Model for Fingerprinted {
 }
 
 impl Fingerprinted {
+    ghost use Rattle.query_cache.specs.Fingerprints.{digest_of};
     ghost use Rattle.term_trees.specs.Subsets.{AsksNoMore};
 
     /// It costs one walk over the query's terms.
@@ -77,6 +78,13 @@ impl Fingerprinted {
         ensures { result.now ≡ self.now }
     {
         &self.query
+    }
+
+    /// The fingerprints of what it asserts, in one.
+    pub fn digest(&self) -> u64
+        ensures { result ≡ digest_of (prints_of self.now) }
+    {
+        self.digest
     }
 
     pub fn into_query(self) -> Query

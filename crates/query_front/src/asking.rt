@@ -41,7 +41,7 @@ fn known(
     if found.is_some() || !is_worth_trying(alloc, part.query())? {
         return Ok(found);
     }
-    match shared.sample(rt, alloc, part.query(), sample)? {
+    match shared.sample(rt, alloc, part, sample)? {
         Some(input) => Ok(Some(Satisfiability::Sat(input))),
         None => Ok(None),
     }
@@ -79,7 +79,7 @@ fn decided(
     match decide(alloc, part.query(), sample.as_slice(), budget)? {
         Decision::Sat(input) => {
             let merged = merge(alloc, sample, &input, part.query())?;
-            shared.offer(rt, alloc, part.query(), &input);
+            shared.offer(rt, alloc, &part, &input);
             shared.keep(rt, Solved::new(part, Satisfiability::Sat(input)));
             Ok(Asked::Sat(merged))
         }

@@ -6,7 +6,6 @@ ghost use Rattle.circuit_spec.specs.Budgets.{IsSpent};
 ghost use Rattle.query_cache.specs.Answers.{IsAnswer};
 
 use crate::spents::{SpentQuestions, copy_of};
-use bv_dag::Query;
 use byte_list::Bytes;
 use cnf_form::Log;
 use model_pool::Pool;
@@ -103,16 +102,17 @@ impl Shared {
         &self,
         rt: &impl Wait,
         alloc: Global,
-        query: &Query,
+        question: &Fingerprinted,
         sample: &Bytes,
     ) -> Result<Option<Bytes>, NoMemory>
-        ensures { IfOk result (λ found. IfSome found (λ input. holds query.now input ≡ true)) }
+        ensures { IfOk result (λ found. IfSome found (λ input. holds question.now input ≡ true)) }
     {
+        let (query, digest) = (question.query(), question.digest());
         if query.holds(alloc, sample.as_slice())? {
             count(&self.sampled);
             return Ok(Some(Bytes::from_slice(alloc, sample.as_slice())?));
         }
-        let found = self.found.find(rt, alloc, query, sample)?;
+        let found = self.found.find(rt, alloc, query, digest, sample)?;
         if found.is_some() {
             count(&self.sampled);
         }
@@ -175,7 +175,14 @@ impl Shared {
     }
 
     /// Offers the bytes that meet a question to the pool, unless there is no memory for them.
-    pub(crate) fn offer(&self, rt: &impl Wait, alloc: Global, query: &Query, answer: &Bytes) {
-        self.found.offer(rt, alloc, query, answer);
+    pub(crate) fn offer(
+        &self,
+        rt: &impl Wait,
+        alloc: Global,
+        question: &Fingerprinted,
+        answer: &Bytes,
+    ) {
+        self.found
+            .offer(rt, alloc, question.query(), question.digest(), answer);
     }
 }

@@ -2,7 +2,7 @@
 
 use bv_dag::{Comparison, Dag, Node, Query};
 use byte_list::Bytes;
-use model_pool::{BLOCK_SIZE, MOST_BLOCKS, Pool};
+use model_pool::{BLOCK_SIZE, MOST_BLOCKS, Pool, TRIED_BLOCKS};
 use std::alloc::{AllocError as NoMemory, Global};
 use std::process::Abort;
 use std::sync::Wait;
@@ -26,6 +26,12 @@ const IS_65: usize = 2;
 
 /// Where the second does.
 const IS_7: usize = 5;
+
+/// The digest with which answers are offered.
+const OFFERED: u64 = 1;
+
+/// The digest of another question.
+const OTHER: u64 = 2;
 
 fn push_all(rt: &impl Abort, dag: &mut Dag, nodes: &[Node]) -> Result<(), NoMemory> {
     for node in nodes {
@@ -74,22 +80,23 @@ fn offer(
 ) -> Result<(), NoMemory> {
     let answer = Bytes::from_slice(alloc, &answer)?;
     for _ in 0..times {
-        pool.offer(rt, alloc, query, &answer);
+        pool.offer(rt, alloc, query, OFFERED, &answer);
     }
     Ok(())
 }
 
-// Whether just this is found for a question and a sample.
+// Whether just this is found for a question with this digest and a sample.
 fn is_found(
     rt: &impl Wait,
     alloc: Global,
     pool: &Pool,
     query: &Query,
+    digest: u64,
     sample: [u8; 2],
     want: Option<&[u8]>,
 ) -> Result<bool, NoMemory> {
     let sample = Bytes::from_slice(alloc, &sample)?;
-    let found = pool.find(rt, alloc, query, &sample)?;
+    let found = pool.find(rt, alloc, query, digest, &sample)?;
     let bytes = match &found {
         Some(found) => Some(found.as_slice()),
         None => None,
@@ -101,12 +108,12 @@ fn is_found(
 fn check_put(rt: &(impl Abort + Wait), alloc: Global) -> Result<(), NoMemory> {
     let (one, both, pool) = (of_one(rt, alloc)?, of_both(rt, alloc)?, Pool::new(alloc)?);
     takes_shared(&pool);
-    assert!(rt; is_found(rt, alloc, &pool, &both, [0, 7], None)?);
+    assert!(rt; is_found(rt, alloc, &pool, &both, OTHER, [0, 7], None)?);
     offer(rt, alloc, &pool, &one, [66, 7], 1)?;
-    assert!(rt; is_found(rt, alloc, &pool, &both, [0, 7], None)?);
+    assert!(rt; is_found(rt, alloc, &pool, &both, OTHER, [0, 7], None)?);
     offer(rt, alloc, &pool, &one, [65, 0], 1)?;
-    assert!(rt; is_found(rt, alloc, &pool, &both, [0, 7], Some(&[65, 7]))?);
-    assert!(rt; is_found(rt, alloc, &pool, &both, [0, 0], None)?);
+    assert!(rt; is_found(rt, alloc, &pool, &both, OTHER, [0, 7], Some(&[65, 7]))?);
+    assert!(rt; is_found(rt, alloc, &pool, &both, OTHER, [0, 0], None)?);
     Ok(())
 }
 
@@ -116,15 +123,19 @@ fn an_answer_is_put_into_a_sample(rt: HostRuntime) -> Result<(), Fail> {
     Ok(())
 }
 
-// A full pool takes another answer, and lets it go once as many came after it as it keeps.
+// A full pool takes another answer, tries it on another question until some came after it, and lets it go once as many did as it
+// keeps.
 fn check_renewed(rt: &(impl Abort + Wait), alloc: Global) -> Result<(), NoMemory> {
     let (one, pool) = (of_one(rt, alloc)?, Pool::new(alloc)?);
-    let most = BLOCK_SIZE * MOST_BLOCKS;
-    offer(rt, alloc, &pool, &one, [66, 0], most)?;
+    let (tried, kept) = (BLOCK_SIZE * TRIED_BLOCKS, BLOCK_SIZE * MOST_BLOCKS);
+    offer(rt, alloc, &pool, &one, [66, 0], kept)?;
     offer(rt, alloc, &pool, &one, [65, 0], 1)?;
-    assert!(rt; is_found(rt, alloc, &pool, &one, [0, 0], Some(&[65, 0]))?);
-    offer(rt, alloc, &pool, &one, [66, 0], most)?;
-    assert!(rt; is_found(rt, alloc, &pool, &one, [0, 0], None)?);
+    assert!(rt; is_found(rt, alloc, &pool, &one, OTHER, [0, 0], Some(&[65, 0]))?);
+    offer(rt, alloc, &pool, &one, [66, 0], tried)?;
+    assert!(rt; is_found(rt, alloc, &pool, &one, OTHER, [0, 0], None)?);
+    assert!(rt; is_found(rt, alloc, &pool, &one, OFFERED, [0, 0], Some(&[65, 0]))?);
+    offer(rt, alloc, &pool, &one, [66, 0], kept)?;
+    assert!(rt; is_found(rt, alloc, &pool, &one, OFFERED, [0, 0], None)?);
     Ok(())
 }
 
