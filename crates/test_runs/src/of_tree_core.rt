@@ -221,16 +221,11 @@ const PARTED: [Row; 4] = [
 
 const CUT_AFTER: [Row; 2] = [(8, 1, Does::Claim, None), (8, 1, Does::Cut, None)];
 
-type Seen = (Status, Option<usize>, Option<Choice>, Option<Band>);
+type Seen = (Status, Option<Band>);
 
 fn seen(rt: &impl Abort, core: &Core<Band>, node: usize) -> Seen {
     assert!(rt; node < core.len());
-    (
-        core.status(node),
-        core.parent(node),
-        core.choice(node),
-        core.content(node).copied(),
-    )
+    (core.status(node), core.content(node).copied())
 }
 
 const LOW: Band = Band { low: 0, high: 4 };
@@ -238,9 +233,9 @@ const LOW: Band = Band { low: 0, high: 4 };
 const HIGH: Band = Band { low: 4, high: 9 };
 
 const NODES: [Seen; 3] = [
-    (Status::Parted, None, None, None),
-    (Status::Leaf, Some(0), Some(Choice::No), Some(LOW)),
-    (Status::Leaf, Some(0), Some(Choice::Yes), Some(HIGH)),
+    (Status::Parted, None),
+    (Status::Leaf, Some(LOW)),
+    (Status::Leaf, Some(HIGH)),
 ];
 
 // What is seen of each node.

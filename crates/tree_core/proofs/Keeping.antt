@@ -1,5 +1,5 @@
 -- What a core's fields keep, when it opens and when an event is noted.
-use Rattle.std.proofs.Common.{◌≡◌, ◌≢◌, ℕ, zero, suc, ◌+◌, ◌-◌, ◌<◌, ◌≤◌, ◌&&◌, eqb, Bool, true, false, cond, IsTrue, Option, Some, None, IfSome, List, [], ◌∷◌, ◌++◌, map, length, set, option_map, sym, refl, ap, ◌∙◌, subst, arith, eq-eqb, ne_eqb, length-append, length-set}
+use Rattle.std.proofs.Common.{◌≡◌, ◌≢◌, ℕ, zero, suc, ◌+◌, ◌-◌, ◌<◌, ◌≤◌, ◌&&◌, eqb, Bool, true, false, cond, IsTrue, Option, Some, None, List, [], ◌∷◌, ◌++◌, map, length, set, sym, refl, ap, ◌∙◌, subst, arith, eq-eqb, ne_eqb, length-append, length-set}
 use mathlib.Core.Logic.{dite}
 use native.Mathlib.Decide.{ℕ_discrete, dec_le}
 use Rattle.std.proofs.lemmas.List.{length-map}
@@ -9,8 +9,6 @@ use Rattle.std.specs.List.{All, slice_get}
 use Rattle.std.specs.Global.{Vec}
 use Rattle.tree_core.specs.declared.event.Event.{Event}
 use Rattle.tree_core.specs.declared.event.Kid.{Kid}
-use Rattle.tree_core.specs.Nodes.{Node}
-use Rattle.tree_core.specs.declared.node.Origin.{Origin}
 use Rattle.tree_core.specs.declared.node.Status.TheVariants.{Free, Leaf}
 use Rattle.tree_core.specs.Stories.{Story, status, last_on}
 use Rattle.tree_core.specs.Covers.{one_if, is_live}
@@ -54,18 +52,6 @@ module _ {R : Type 0} where
   named-noted s e named there = let long = long-noted s e in
       All-push (λ (x : Event R ℕ). x.node < length (with_event s e).nodes) s.events (kept e) (λ k d lt. let low = named k d lt in omega arith) (omega arith)
 
-  born_older : (n m i : ℕ) (kids : List (Kid R)) (x : Node R) → n < m → slice_get (map (node_of n) kids) i ≡ Some x → IfSome x.origin (λ (o : Origin). o.parent < m)
-  born_older n m i [] x lt at = cc
-  born_older n m zero (kid ∷ kids) x lt at = let is : node_of n kid ≡ x = cc in subst (λ (y : Node R). IfSome y.origin (λ (o : Origin). o.parent < m)) is lt
-  born_older n m (suc i) (kid ∷ kids) x lt at = born_older n m i kids x lt at
-
-  older-noted : (s : Story R) (e : Event R (Vec (Kid R))) → ((m : ℕ) (x : Node R) → slice_get s.nodes m ≡ Some x → IfSome x.origin (λ (o : Origin). o.parent < m)) → e.node < length s.nodes
-      → (m : ℕ) (x : Node R) → slice_get (with_event s e).nodes m ≡ Some x → IfSome x.origin (λ (o : Origin). o.parent < m)
-  older-noted s e older there m x at = let n : ℕ = length s.nodes in dite (dec_le n m)
-      (λ le. let split : n + (m - n) ≡ m = omega arith in
-      born_older e.node m (m - n) (kids_of e.deed) x (omega arith) (sym (get_behind s.nodes (births e.node e.deed) (m - n)) ∙ (ap (slice_get (s.nodes ++ births e.node e.deed)) split ∙ at)))
-      (λ apart. older m x (sym (get_before s.nodes (births e.node e.deed) m (Rattle.std.proofs.Common.lt_of_not-le apart)) ∙ at))
-
   last_stays : (s : Story R) (e : Event R (Vec (Kid R))) (k : ℕ) (o : Option ℕ) → eqb e.node k ≡ false → IsLast s k o → IsLast (with_event s e) k o
   last_stays s e k None apart l = last_on-push k s.events (kept e) ∙ (ap (λ b. cond b (Some (kept e)) (last_on k s.events)) apart ∙ l)
   last_stays s e k (Some j) apart l = (l.0, get_before s.events (kept e ∷ []) j (slice_get_within s.events j l.0 l.1) ∙ l.1, last_on-push k s.events (kept e) ∙ (ap (λ b. cond b (Some (kept e)) (last_on k s.events)) apart ∙ l.2))
@@ -102,7 +88,6 @@ module _ {R : Type 0} (covers : R → List ℕ → Bool) (by_nodes : R → Bool)
     replays = replays-noted covers by_nodes most s e t.replays fit may;
     partition = partition-noted covers s e t.partition t.named fit (allowed-may by_nodes most s e may);
     named = named-noted s e t.named fit.0;
-    older = older-noted s e t.older fit.0;
     long = length-set (latest ++ map (λ _. None) (kids_of e.deed)) e.node (Some (length s.events)) ∙ (length-append latest (map (λ _. None) (kids_of e.deed)) ∙ ((λ i. t.long i + length-map {B = Option ℕ} (kids_of e.deed) (λ _. None) i) ∙ sym (long-noted s e)));
     last = last-noted s e latest t.last t.long t.named fit.0;
     wide = wide-noted s e contents t.wide;
@@ -132,11 +117,6 @@ module _ {R : Type 0} (covers : R → List ℕ → Bool) (by_nodes : R → Bool)
   none_held true = refl
   none_held false = refl
 
-  only_root : (root : R) (is_leaf : Bool) (m : ℕ) (x : Node R) → slice_get (opening root is_leaf).nodes m ≡ Some x → IfSome x.origin (λ (o : Origin). o.parent < m)
-  only_root root is_leaf zero x at = let first : Node R = record { origin = None; content = root; is_leaf = is_leaf } in let is : first ≡ x = cc in
-      subst (λ (y : Node R). IfSome y.origin (λ (o : Origin). o.parent < 0)) is tt
-  only_root root is_leaf (suc m) x at = cc
-
   no_last : (root : R) (is_leaf : Bool) (m : ℕ) (o : Option ℕ) → slice_get (None ∷ []) m ≡ Some o → IsLast (opening root is_leaf) m o
   no_last root is_leaf zero None at = refl
   no_last root is_leaf zero (Some k) at = cc
@@ -151,7 +131,6 @@ module _ {R : Type 0} (covers : R → List ℕ → Bool) (by_nodes : R → Bool)
     replays = (root, is_leaf, [], tt, refl);
     partition = λ input. birth_shared input root is_leaf;
     named = λ k d lt. absurd (omega arith);
-    older = only_root root is_leaf;
     long = refl;
     last = no_last root is_leaf;
     wide = refl;

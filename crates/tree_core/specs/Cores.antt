@@ -1,5 +1,5 @@
 -- A core as a story with room for more, and what its fields keep.
-use Rattle.std.specs.Prelude.{vec_len, vec_capacity, min, ◌-◌, ◌+◌, ◌≡◌, ℕ, ◌<◌, Bool, true, false, Option, Some, None, IfSome, List, length, slice_get, slice_set}
+use Rattle.std.specs.Prelude.{vec_len, vec_capacity, min, ◌-◌, ◌+◌, ◌≡◌, ℕ, ◌<◌, Bool, true, false, Option, Some, None, List, length, slice_get, slice_set}
 use Rattle.std.specs.Global.{Vec}
 use Rattle.std.specs.List.{All}
 use Rattle.tree_core.specs.Stories.{Story, status, content, last_on}
@@ -78,8 +78,6 @@ pub record IsCore {R : Type 0} (covers : R → List ℕ → Bool) (by_nodes : R 
   pub replays : Replays covers by_nodes most s
   pub partition : Partition covers s
   pub named : All (λ (e : Event R ℕ). e.node < length s.nodes) s.events
-  pub older : (m : ℕ) (n : Node R) → slice_get s.nodes m ≡ Some n
-      → IfSome n.origin (λ o. o.parent < m)
   pub long : length latest ≡ length s.nodes
   pub last : (m : ℕ) (o : Option ℕ) → slice_get latest m ≡ Some o → IsLast s m o
   pub wide : length contents ≡ length s.nodes

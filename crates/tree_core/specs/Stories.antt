@@ -1,10 +1,9 @@
 -- The story of a fork tree, which only grows: its nodes at their birth, and the events noted. How a node stands is read from it.
-use Rattle.std.specs.Prelude.{option_and_then, ◌≡◌, ℕ, ◌==◌, Bool, if◌then◌else◌, Option, Some, None, option_map, List, [], ◌∷◌, slice_get}
+use Rattle.std.specs.Prelude.{◌≡◌, ℕ, ◌==◌, Bool, if◌then◌else◌, Option, Some, None, option_map, List, [], ◌∷◌, slice_get}
 use Rattle.tree_core.specs.declared.event.Event.{Event}
 use Rattle.tree_core.specs.declared.event.Deed.{Deed}
 use Rattle.tree_core.specs.declared.event.Deed.TheVariants.{Claim, Split, Finish, Cut, Release}
 use Rattle.tree_core.specs.Nodes.{Node}
-use Rattle.tree_core.specs.declared.node.Origin.{Origin}
 use Rattle.tree_core.specs.declared.node.Status.{Status}
 use Rattle.tree_core.specs.declared.node.Status.TheVariants.{Free, Held, Parted, Leaf}
 
@@ -72,7 +71,3 @@ IsClaimBy w (Some e) = (e.deed ≡ Claim) × (e.by ≡ w)
 -- the last event that names the node is a claim of this worker
 abbrev pub LastIsClaim : {R : Type 0} → Story R → ℕ → ℕ → Type 0
 LastIsClaim s m w = IsClaimBy w (last_on m s.events)
-
--- whose kid a node is, and on which side
-abbrev pub origin : {R : Type 0} → Story R → ℕ → Option Origin
-origin s m = option_and_then (λ n. n.origin) (slice_get s.nodes m)

@@ -1,12 +1,11 @@
 //! The core of a fork tree: its nodes and events, both of which only grow, and what the nodes hold on which there is work left.
 
-ghost use Rattle.std.specs.Prelude.{◌≡◌, ◌≢◌, ◌+◌, ◌^◌, ◌<◌, ◌≤◌, ◌↔◌, Some, Err, IsTrue, IsFalse, All, length, option_map, OnOk, OnErr, IfOk, IfSome, IsNone, vec_capacity, vec_len};
-ghost use Rattle.tree_core.specs.Stories.{status, content, origin};
+ghost use Rattle.std.specs.Prelude.{◌≡◌, ◌≢◌, ◌+◌, ◌^◌, ◌<◌, ◌≤◌, ◌↔◌, Some, Err, IsTrue, IsFalse, All, length, OnOk, OnErr, IfOk, IfSome, IsNone, vec_capacity, vec_len};
+ghost use Rattle.tree_core.specs.Stories.{status, content};
 ghost use Rattle.tree_core.specs.declared.node.Status.TheVariants.{Parted};
 ghost use Rattle.tree_core.specs.Replays.{IsFit, Replays, after_event, is_allowed, is_early, is_full, kids_of, may_come, opening, with_event};
 ghost use Rattle.tree_core.specs.Cores.{LacksRoom, NoRoom, ends, held_count, takes};
 
-use crate::choice::Choice;
 use crate::cover::Cover;
 use crate::deed::held_after;
 use crate::event::{Deed, Event, Noted};
@@ -132,25 +131,6 @@ impl<R: Cover> Core<R> {
             Some(leaf) => Some(leaf),
             None => self.shelves.unworked(node),
         }
-    }
-
-    /// Whose kid the node is: None for the root alone. A parent's number is below its kids'.
-    pub fn parent(&self, node: usize) -> Option<usize>
-        requires there { node < length self.now.story.nodes }
-        ensures value { result ≡ option_map (λ o. o.parent) (origin self.now.story node) }
-        ensures older { IfSome result (λ parent. parent < node) }
-    {
-        let node = &self.shelves.nodes()[node];
-        node.origin().map(|origin| origin.parent)
-    }
-
-    /// On which side of its parent's fork the node is: None for the root alone.
-    pub fn choice(&self, node: usize) -> Option<Choice>
-        requires there { node < length self.now.story.nodes }
-        ensures { result ≡ option_map (λ o. o.choice) (origin self.now.story node) }
-    {
-        let node = &self.shelves.nodes()[node];
-        node.origin().map(|origin| origin.choice)
     }
 
     /// Finds room for so many kids, for a claim and for the event that ends it.
