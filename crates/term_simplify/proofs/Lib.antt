@@ -51,3 +51,5 @@ pub mod OffsetRules
 pub mod OffsetReading
 pub mod RunNumbers
 pub mod RunSteps
+pub mod DivisionNumbers
+pub mod DivisionSteps

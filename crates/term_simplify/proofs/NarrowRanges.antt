@@ -1,15 +1,17 @@
 -- How many low bits tell a term is true of its value.
-use Rattle.std.proofs.Common.{ℕ, ◌+◌, ◌-◌, ◌^◌, ◌<◌, ◌≤◌, true, false, cond, List, arith}
+use Rattle.std.proofs.Common.{◌≡◌, ◌∙◌, ℕ, ◌+◌, ◌-◌, ◌*◌, ◌^◌, ◌<◌, ◌≤◌, true, false, cond, List, ap, arith, inl, inr}
 use Rattle.std.specs.Int.{leading_zeros, w64}
 use Rattle.std.specs.List.{All}
-use Rattle.std.proofs.Math.Nat.{le-max_left, le-max_right}
-use Rattle.std.proofs.lemmas.Nat.{leading_length}
+use Rattle.std.proofs.Math.Nat.{le-max_left, le-max_right, max-eq_left}
+use Rattle.std.proofs.lemmas.Nat.{leading_length, pow-add}
 use Rattle.bv_dag.specs.BitVectors.{BitVector, IsBitVector, bvnot, is_negative, zero_extend}
 use Rattle.bv_dag.proofs.Numbers.{wider}
 use Rattle.term_trees.specs.Trees.{Tree, Constant, Widened, tree_width, tree_value, IsTerm}
 use Rattle.term_trees.proofs.Ranges.{in_range}
 use Rattle.term_simplify.specs.Narrowing.{length_of, number_reach, reach_of}
 use Rattle.term_simplify.specs.declared.narrowing.Reach.{Reach}
+use Rattle.term_simplify.proofs.Multiples.{has_bits}
+use Rattle.term_simplify.proofs.Words.{le_tells}
 use Rattle.term_simplify.proofs.SignedRange.{IsWithin, within_all, within_large, within_sign_extend, within_small}
 
 -- so many low bits tell a bit-vector of w bits
@@ -20,15 +22,41 @@ pub record IsReach (w : ℕ) (r : Reach) (x : BitVector) : Type 0 where
   pub within : r.signed ≤ w → IsWithin w r.signed x
 
 -- ---- a number has as many bits as write it
-length_some : (n : ℕ) → 0 < length_of n
+pub length_some : (n : ℕ) → 0 < length_of n
 unfolding length_of
 length_some n = omega (arith, le-max_right (64 - leading_zeros w64 n) 1)
 
-length_holds : (n : ℕ) → n < 2 ^ 64 → n < 2 ^ length_of n
+pub length_holds : (n : ℕ) → n < 2 ^ 64 → n < 2 ^ length_of n
 unfolding length_of
 length_holds n h =
     let parts = leading_length 64 n h in
     omega (arith, parts.2, wider parts.0 (length_of n) (omega (arith, parts.1, le-max_left (64 - leading_zeros w64 n) 1)))
+
+pub length_above : (n : ℕ) → 0 < n → n < 2 ^ 64 → 2 ^ (length_of n - 1) ≤ n
+unfolding length_of
+length_above n some h =
+    let parts = leading_length 64 n h in
+    let m = parts.0 in
+    let all : 64 - leading_zeros w64 n ≡ m = omega (arith, parts.1) in
+    let one : 0 < m = has_bits m n some parts.2 in
+    let e : m ≡ (m - 1) + 1 = omega (arith, one) in
+    let double : 2 ^ m ≡ 2 ^ (m - 1) * 2 = ap (λ k. 2 ^ k) e ∙ pow-add 2 (m - 1) 1 in
+    rw (all, max-eq_left one) (omega (arith, double, parts.3))
+
+pub length_more : (n : ℕ) → 1 < n → n < 2 ^ 64 → 1 < length_of n
+length_more n more h =
+    let enough = length_holds n h in
+    elim (le_tells (length_of n) 1) [
+      | inl few ↦ absurd (omega (arith, more, enough, wider (length_of n) 1 few.1))
+      | inr many ↦ many.1
+    ]
+
+pub length_within : (w n : ℕ) → 0 < n → n < 2 ^ 64 → n < 2 ^ w → length_of n ≤ w
+length_within w n some h small =
+    elim (le_tells (length_of n) w) [
+      | inl few ↦ few.1
+      | inr many ↦ absurd (omega (arith, small, length_above n some h, wider w (length_of n - 1) (omega (arith, many.1))))
+    ]
 
 number_told : (w v : ℕ) → IsBitVector w v → IsReach w (number_reach (record { width = w; number = v })) (record { width = w; number = v })
 unfolding bvnot

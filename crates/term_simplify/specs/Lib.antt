@@ -13,3 +13,4 @@ pub mod Equalities
 pub mod Told
 pub mod Offsets
 pub mod Runs
+pub mod Divisions

@@ -60,11 +60,6 @@ pieced_by op x y s t otherwise = otherwise
 abbrev pub pieced : BinaryOp → Tree → Tree → Tree
 pieced op s t = pieced_by op (tree_number s) (tree_number t) s t (joint_of op s t)
 
--- the tree at its own width of a node that multiplies nothing by a number
-abbrev pub unmultiplied : (operand : ℕ → Tree) → Node → Tree
-unmultiplied operand (Binary op a b) = pieced op (operand a) (operand b)
-unmultiplied operand node = plain operand node
-
 -- ---- Such a term and number as the code finds them.
 pub record IsMask (graph : Graph) (m : Mask) : Type 0 where
   pub wide : width_of graph m.operand ≡ m.width

@@ -11,7 +11,7 @@ use Rattle.bv_dag.specs.declared.nodes.Node.{Node}
 use Rattle.bv_dag.specs.declared.nodes.Node.TheVariants.{Binary}
 use Rattle.term_trees.specs.Trees.{Tree, Constant}
 use Rattle.term_simplify.specs.Plain.{plain, plain_binary, plain_negative, part_of, joined_of, tree_number}
-use Rattle.term_simplify.specs.Runs.{pieced}
+use Rattle.term_simplify.specs.Divisions.{by_divisor}
 use Rattle.term_simplify.specs.declared.times.Product.{Product}
 
 -- a term above so many zeros
@@ -51,7 +51,7 @@ multiplied op x y s t otherwise = otherwise
 
 -- an operation at its own width
 abbrev pub own_binary : BinaryOp → Tree → Tree → Tree
-own_binary op s t = multiplied op (tree_number s) (tree_number t) s t (pieced op s t)
+own_binary op s t = multiplied op (tree_number s) (tree_number t) s t (by_divisor op s t)
 
 -- the tree of a node at its own width
 abbrev pub own : (operand : ℕ → Tree) → Node → Tree

@@ -2,9 +2,10 @@
 //!
 //! A call finds its answer first, without a change: a term that stands already or one node to be pushed, and how many bits
 //! stand above it. Only then is the table written. A shift by a number is made of two or three such terms, an operation of two
-//! terms without a bit in common likewise, and a product by a number of a few for each of its digits that is not 0. An operation
-//! or a test of which few low bits tell the result is made of as many bits of its operands, which are up to two terms more, and
-//! widened. A test that another term tells is made of that term.
+//! terms without a bit in common likewise, a product by a number of a few for each of its digits that is not 0, and a quotient or a
+//! remainder by a number of some ten for each bit of the dividend. An operation or a test of which few low bits tell the result
+//! is made of as many bits of its operands, which are up to two terms more, and widened. A test that another term tells is made
+//! of that term.
 #![tactic(auto)]
 
 mod binaries;
@@ -12,6 +13,7 @@ mod builder;
 mod calls;
 mod choices;
 mod comparisons;
+mod divisions;
 mod equalities;
 mod extensions;
 mod joints;

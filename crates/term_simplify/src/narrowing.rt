@@ -28,9 +28,10 @@ struct Reach {
 }
 
 /// The least number of bits, at least one, that write a number.
-fn length_of(value: u64) -> u32
+pub(crate) fn length_of(value: u64) -> u32
     ensures is { result ≡ narrowings.length_of value }
     ensures few { result ≤ 64 }
+    ensures some { 0 < result }
 {
     (64 - value.leading_zeros()).max(1)
 }

@@ -9,7 +9,7 @@ ghost use Rattle.term_trees.specs.Growth.{Continues};
 ghost use Rattle.term_trees.specs.Trees.{tree_of, node_tree, IsTerm};
 ghost use Rattle.term_simplify.specs.Joints.{joint_of};
 ghost use Rattle.term_simplify.specs.Plain.{masks_nothing, tree_number};
-ghost use Rattle.term_simplify.specs.Runs.{IsMask, cut, is_bitwise, pieced, run, run_word, under_run, unmultiplied};
+ghost use Rattle.term_simplify.specs.Runs.{IsMask, cut, is_bitwise, pieced, run, run_word, under_run};
 ghost use Rattle.term_simplify.specs.Steps.{Stands};
 
 use crate::binaries::ones;
@@ -221,7 +221,12 @@ impl Builder {
     }
 
     /// The term that an operation of two terms is at their own width.
-    fn pieced_step(&mut self, op: BinaryOp, a: usize, b: usize) -> Result<usize, NoMemory>
+    pub(crate) fn pieced_step(
+        &mut self,
+        op: BinaryOp,
+        a: usize,
+        b: usize,
+    ) -> Result<usize, NoMemory>
         requires { Fits self.old.inputs (widths_of self.old.nodes) (Node.Binary op a b) }
         ensures continues { Continues self.old self.new }
         ensures ok { IfOk result (λ id. Stands self.new id
@@ -232,21 +237,6 @@ impl Builder {
         match mask_by(self.terms(), op, a, b) {
             Some(m) => self.cut(RUNS, op, m.width, m.number, m.operand),
             None => self.operation_step(op, a, b),
-        }
-    }
-
-    /// The term at its own width of a node that multiplies nothing by a number, on the way to another.
-    pub(crate) fn unmultiplied_step(&mut self, node: Node) -> Result<usize, NoMemory>
-        requires { Fits self.old.inputs (widths_of self.old.nodes) node }
-        ensures continues { Continues self.old self.new }
-        ensures ok { IfOk result (λ id. Stands self.new id (unmultiplied (tree_of self.old) node)
-            (node_width (widths_of self.old.nodes) node)
-            (λ input. node_value input (λ k. val self.old k input) node)) }
-        ensures term { IsTerm self.old.inputs (node_tree (tree_of self.old) node) }
-    {
-        match node {
-            Node::Binary(op, a, b) => self.pieced_step(op, a, b),
-            _ => self.plain_step(node),
         }
     }
 }

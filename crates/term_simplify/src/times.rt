@@ -6,7 +6,7 @@ ghost use Rattle.bv_dag.specs.Nodes.{Fits, node_value, node_width, widths_of};
 ghost use Rattle.term_trees.specs.Growth.{Continues};
 ghost use Rattle.term_trees.specs.Trees.{tree_of, node_tree, IsTerm};
 ghost use Rattle.term_simplify.specs.Builds.{BuildsAs};
-ghost use Rattle.term_simplify.specs.Runs.{unmultiplied};
+ghost use Rattle.term_simplify.specs.Divisions.{unmultiplied};
 ghost use Rattle.term_simplify.specs.Steps.{Stands};
 ghost use Rattle.term_simplify.specs.Times.{digit_op, other_digits, own, raised, raised_word, times, times_word, IsProduct};
 

@@ -1,6 +1,7 @@
 //! Operations of which few low bits tell the result: they are made of as many low bits of their operands, and widened.
 
 mod bits;
+mod divisions;
 mod joints;
 mod offsets;
 mod products;
@@ -9,6 +10,7 @@ mod tests;
 
 use crate::of_term_simplify::calls::{build, is_node};
 use crate::of_term_simplify::narrow::bits::{BITWISE, FULL, SETTLED};
+use crate::of_term_simplify::narrow::divisions::{POWERS, STAGES};
 use crate::of_term_simplify::narrow::joints::JOINTS;
 use crate::of_term_simplify::narrow::offsets::OFFSETS;
 use crate::of_term_simplify::narrow::products::{PRODUCTS, QUOTIENTS, REMAINDERS};
@@ -140,6 +142,8 @@ fn few_low_bits_tell_a_result(rt: HostRuntime) -> Result<(), Fail> {
         FULL,
         JOINTS,
         OFFSETS,
+        POWERS,
+        STAGES,
     ];
     for (table, rows) in tables.iter().enumerate() {
         for (at, row) in rows.iter().enumerate() {

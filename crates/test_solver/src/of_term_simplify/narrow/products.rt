@@ -137,30 +137,17 @@ pub(crate) const PRODUCTS: &[Row] = &[
 ];
 
 pub(crate) const QUOTIENTS: &[Row] = &[
-    // By 3, and by 1000, which has 10 bits.
+    // By 3.
     (
         &[3],
         &[Binary(Udiv, 2, 9)],
         &[Number(8, 3), Is(Binary(Udiv, 0, 10)), Zeros(24, 11)],
         12,
     ),
-    (
-        &[1000],
-        &[Binary(Udiv, 2, 9)],
-        &[
-            Zeros(2, 0),
-            Number(10, 1000),
-            Is(Binary(Udiv, 10, 11)),
-            Zeros(22, 12),
-        ],
-        13,
-    ),
     // By a term, which may be 0: a quotient of 32 ones.
     (&[], &[Binary(Udiv, 2, 3)], &[Is(Binary(Udiv, 2, 3))], 9),
     // By 0.
     (&[0], &[Binary(Udiv, 2, 9)], &[Number(32, 0xFFFF_FFFF)], 10),
-    // A byte with its sign, which may be a large number.
-    (&[3], &[Binary(Udiv, 4, 9)], &[Is(Binary(Udiv, 4, 9))], 10),
 ];
 
 pub(crate) const REMAINDERS: &[Row] = &[
