@@ -1,5 +1,5 @@
 -- What a call makes of a graph.
-use Rattle.std.proofs.Common.{◌≡◌, ◌++◌, ◌∷◌, [], ℕ, ◌+◌, ◌<◌, true, List, length, ap, sym, subst, ◌∙◌, arith, Some}
+use Rattle.std.proofs.Common.{◌≡◌, ◌++◌, ◌∷◌, [], refl, ℕ, ◌+◌, ◌<◌, true, List, length, ap, sym, subst, ◌∙◌, arith, Some}
 use Rattle.std.proofs.lemmas.Grind.{common_steps}
 use Rattle.std.proofs.lemmas.Option.{slice_get_within}
 use Rattle.std.specs.Prelude.{Result, Ok, Err}
@@ -9,12 +9,14 @@ use Rattle.bv_dag.specs.BitVectors.{BitVector}
 use Rattle.bv_dag.specs.Graphs.{Graph, IsDag, val, width_of, with_node}
 use Rattle.bv_dag.specs.Nodes.{Fits, node_value, node_width, widths_of}
 use Rattle.bv_dag.specs.declared.nodes.Node.{Node}
+use Rattle.bv_dag.specs.declared.nodes.Node.TheVariants.{Num, Input, Not, Neg, Binary, Compare, Ite, Extract, Extend, Concat}
 use Rattle.bv_dag.proofs.TermLaws.{IsDag-with_node, width_of-new, val-new, width-val}
 use Rattle.term_trees.specs.Growth.{Continues}
 use Rattle.term_trees.specs.Trees.{Tree, tree_of, node_tree, tree_value, tree_width, IsTerm}
 use Rattle.term_trees.proofs.Terms.{is_term}
 use Rattle.term_trees.proofs.TreeLaws.{tree_by_cases, tree_of-new, value-tree_of, width-tree_of}
 use Rattle.term_simplify.specs.Builds.{BuildsAs, BuildsNode}
+use Rattle.term_simplify.specs.Lifting.{unlifted}
 use Rattle.term_simplify.specs.Moves.{move_tree}
 use Rattle.term_simplify.specs.Plans.{Follows, HasRoom, Makes, recipe_tree}
 use Rattle.term_simplify.specs.Plain.{further, plain}
@@ -104,16 +106,30 @@ planned : {E : Type 0} (g more : Graph) (r : Result ℕ E) (recipe : Recipe) (tr
 planned g more (Ok id) recipe tree makes is = is ∙ makes.is
 planned g more (Err x) recipe tree makes is = tt
 
+-- a node that is no bits of a term
+all_but_bits : (f : ℕ → Tree) (n : Node) → ((high low a : ℕ) → n ≡ Extract high low a → ⊥) → unlifted f n ≡ plain f n
+all_but_bits f (Extract high low a) other = absurd (other high low a refl)
+all_but_bits f (Num w v) other = refl
+all_but_bits f (Input i) other = refl
+all_but_bits f (Not a) other = refl
+all_but_bits f (Neg a) other = refl
+all_but_bits f (Binary op a b) other = refl
+all_but_bits f (Compare op a b) other = refl
+all_but_bits f (Ite c a b) other = refl
+all_but_bits f (Extend by signed a) other = refl
+all_but_bits f (Concat a b) other = refl
+
 -- the same, where the plan was made of an equal graph
-pub built : {E : Type 0} (h g more : Graph) (r : Result ℕ E) (recipe : Recipe) (n : Node) → h ≡ g →
-    IsTerm h.inputs (node_tree (tree_of h) n) → Follows h recipe (plain (tree_of h) n) →
+pub built : {E : Type 0} (h g more : Graph) (r : Result ℕ E) (recipe : Recipe) (n : Node) →
+    ((high low a : ℕ) → n ≡ Extract high low a → ⊥) → h ≡ g →
+    IsTerm h.inputs (node_tree (tree_of h) n) → Follows h recipe (unlifted (tree_of h) n) →
     IfOk r (λ id. id < length more.nodes) → IfOk r (λ id. tree_of more id ≡ recipe_tree g recipe) →
     OnOk r (Continues g more) → IfOk r (BuildsAs (plain (tree_of g) n) g more n)
-built h g more r recipe n e term makes there tree ok =
-    let here : Follows g recipe (plain (tree_of g) n) = subst (λ (k : Graph). Follows k recipe (plain (tree_of k) n)) e makes in
+built h g more r recipe n other e term makes there tree ok =
+    let here : Follows g recipe (unlifted (tree_of g) n) = subst (λ (k : Graph). Follows k recipe (unlifted (tree_of k) n)) e makes in
     let own : IsTerm g.inputs (node_tree (tree_of g) n) = subst (λ (k : Graph). IsTerm k.inputs (node_tree (tree_of k) n)) e term in
     built_as g more r n (plain (tree_of g) n) (λ input bytes. value-plain g.inputs input bytes (tree_of g) n own) there
-    (planned g more r recipe (plain (tree_of g) n) here tree) ok
+    (planned g more r recipe (plain (tree_of g) n) (rw (← all_but_bits (tree_of g) n other) here) tree) ok
 
 -- a tree by another name
 pub named : {E : Type 0} (g more : Graph) (r : Result ℕ E) (n : Node) (s t : Tree) → s ≡ t →

@@ -11,6 +11,8 @@ pub mod Uppers
 pub mod JoinTerms
 pub mod ExtensionRules
 pub mod PartRules
+pub mod LiftRules
+pub mod Lifts
 pub mod Stacking
 pub mod Moving
 pub mod MovedRules

@@ -16,8 +16,8 @@ use Rattle.term_simplify.specs.declared.moves.Way.{Way}
 use Rattle.term_simplify.proofs.ExtensionRules.{value-extension_by, value-joined_of}
 use Rattle.term_simplify.proofs.Moved.{moves_so}
 use Rattle.term_simplify.proofs.Moving.{ashr_moves, lshr_moves, shl_moves}
-use Rattle.term_simplify.proofs.PartRules.{value-part_of}
-use Rattle.term_simplify.proofs.PartTerms.{term-part_of, width-part_of, zero_fits}
+use Rattle.term_simplify.proofs.LiftRules.{term-part_of, value-part_of, width-part_of}
+use Rattle.term_simplify.proofs.PartTerms.{zero_fits}
 use Rattle.term_simplify.proofs.Words.{number_value, value_by_test}
 
 module _ (inputs : ℕ) (input : List ℕ) (bytes : All (λ b. b < 256) input) (s t : Tree) (term : IsTerm inputs (Two Shl s t)) (y : BitVector) (is : tree_number t ≡ Some y) where

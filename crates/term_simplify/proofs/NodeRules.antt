@@ -8,7 +8,7 @@ use Rattle.term_simplify.specs.Plain.{plain}
 use Rattle.term_simplify.proofs.BinaryRules.{value-plain_binary}
 use Rattle.term_simplify.proofs.TestRules.{value-complement_of, value-plain_negative, value-plain_comparison}
 use Rattle.term_simplify.proofs.ChoiceRules.{value-plain_choice}
-use Rattle.term_simplify.proofs.PartRules.{value-part_of}
+use Rattle.term_simplify.proofs.LiftRules.{value-part_of}
 use Rattle.term_simplify.proofs.ExtensionRules.{value-extension_by, value-joined_of}
 
 pub value-plain : (inputs : ℕ) (input : List ℕ) → All (λ b. b < 256) input →

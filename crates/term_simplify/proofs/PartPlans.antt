@@ -11,12 +11,12 @@ use Rattle.term_trees.specs.Trees.{Tree, Constant, Joined, Part, Widened, tree_o
 use Rattle.term_trees.proofs.Terms.{is_term}
 use Rattle.term_trees.proofs.TreeLaws.{tree_by_cases, width-tree_of}
 use Rattle.term_simplify.specs.Plans.{Follows, IsSpan, IsInner, Makes, plan_tree, rest_of, same, stacked, under, under_zeros, within_widened}
-use Rattle.term_simplify.specs.Plain.{extension_by, further, tree_number, number_tree, span_of, part_of}
+use Rattle.term_simplify.specs.Plain.{extension_by, further, tree_number, number_tree, span_of, inner_part}
 use Rattle.term_simplify.specs.declared.parts.Inner.{Inner}
 use Rattle.term_simplify.specs.declared.parts.Span.{Span}
 use Rattle.term_simplify.specs.declared.plan.Plan.{Plan}
 use Rattle.term_simplify.specs.declared.recipe.Above.{Above}
-use Rattle.term_simplify.proofs.PartTerms.{some_bits, term-part_of, width-part_of}
+use Rattle.term_simplify.proofs.PartTerms.{some_bits, term-inner_part, width-inner_part}
 use Rattle.term_simplify.proofs.Reading.{IsOperand, operand, has_bits, term_at, width_at}
 use Rattle.term_simplify.proofs.Stacking.{under_stacked}
 use Rattle.term_simplify.proofs.Words.{is_number, lt_tells, most_false, most_true, tests_below, tests_not_below, tests_equal, tests_unequal}
@@ -38,9 +38,9 @@ module _ (g : Graph) (id : ℕ) (dag : IsDag g) (high low : ℕ)
         let t : IsTerm g.inputs (node_tree (tree_of g) (Extract h l a)) = term_at g id (Extract h l a) dag is in
         (t.1, omega (arith, t.2, width-tree_of g a), width_at g id (Extract h l a) dag is, (has_bits g a dag cut_operand.there).1)
 
-    through_cut : part_of high low (tree_of g id) ≡ part_of (high + l) (low + l) (tree_of g a)
-    unfolding part_of
-    through_cut = ap (part_of high low) (tree_by_cases g id (Extract h l a) dag is) ∙ rw (not_all (Extract h l a) is) refl
+    through_cut : inner_part high low (tree_of g id) ≡ inner_part (high + l) (low + l) (tree_of g a)
+    unfolding inner_part
+    through_cut = ap (inner_part high low) (tree_by_cases g id (Extract h l a) dag is) ∙ rw (not_all (Extract h l a) is) refl
 
     pub cut_sums : (high + l < 64) × (low + l < 64)
     cut_sums = let w = cut_widths in (
@@ -73,27 +73,27 @@ module _ (g : Graph) (id : ℕ) (dag : IsDag g) (high low : ℕ)
     narrower : Tree
     narrower = tree_of g a
 
-    as_widened : part_of high low (tree_of g id) ≡ part_of high low (Widened by signed (tree_of g a))
-    as_widened = ap (part_of high low) (tree_by_cases g id (Extend by signed a) dag is)
+    as_widened : inner_part high low (tree_of g id) ≡ inner_part high low (Widened by signed (tree_of g a))
+    as_widened = ap (inner_part high low) (tree_by_cases g id (Extend by signed a) dag is)
 
     apart : (low == 0 && high + 1 == tree_width (tree_of g a) + by) ≡ false
     apart = not_all (Extend by signed a) is
 
-    inside : nat_lt high (tree_width (tree_of g a)) ≡ true → part_of high low (Widened by signed (tree_of g a)) ≡ part_of high low (tree_of g a)
-    unfolding part_of
+    inside : nat_lt high (tree_width (tree_of g a)) ≡ true → inner_part high low (Widened by signed (tree_of g a)) ≡ inner_part high low (tree_of g a)
+    unfolding inner_part
     inside below = rw (apart, below) refl
 
     across : nat_lt high (tree_width (tree_of g a)) ≡ false → nat_lt low (tree_width (tree_of g a)) ≡ true →
-        part_of high low (Widened by signed (tree_of g a)) ≡
-        extension_by (high + 1 - tree_width (tree_of g a)) signed (part_of (tree_width (tree_of g a) - 1) low (tree_of g a))
-    unfolding part_of
+        inner_part high low (Widened by signed (tree_of g a)) ≡
+        extension_by (high + 1 - tree_width (tree_of g a)) signed (inner_part (tree_width (tree_of g a) - 1) low (tree_of g a))
+    unfolding inner_part
     across above begins = rw (apart, above, begins) refl
 
     over : nat_lt high (tree_width (tree_of g a)) ≡ false → nat_lt low (tree_width (tree_of g a)) ≡ false →
-        part_of high low (Widened by signed (tree_of g a)) ≡
-        cond signed (further (high - low) true (part_of (tree_width (tree_of g a) - 1) (tree_width (tree_of g a) - 1) (tree_of g a)))
+        inner_part high low (Widened by signed (tree_of g a)) ≡
+        cond signed (further (high - low) true (inner_part (tree_width (tree_of g a) - 1) (tree_width (tree_of g a) - 1) (tree_of g a)))
         (Constant (high - low + 1) 0)
-    unfolding part_of
+    unfolding inner_part
     over above past = rw (apart, above, past) refl
 
     narrower_bits : 0 < tree_width (tree_of g a)
@@ -162,12 +162,12 @@ module _ (g : Graph) (id : ℕ) (dag : IsDag g) (high low : ℕ)
           span = record { high = tree_width (tree_of g a) - 1; low = tree_width (tree_of g a) - 1; operand = a };
           by = high - low;
           signed = true;
-        })) None) (part_of high low (tree_of g id) ≡ rest_of high low (tree_of g id))
+        })) None) (inner_part high low (tree_of g id) ≡ rest_of high low (tree_of g id))
     past_over true e above past at_least = tt
     past_over false e above past at_least =
         as_widened ∙ over above past ∙ rw e (sym (ap (rest_of high low) (tree_by_cases g id (Extend by signed a) dag is) ∙ rw e (rw (most_true _ _ at_least) refl)))
 
-    past_widened : IfNone (within_widened high low signed (tree_width (tree_of g a)) a) (part_of high low (tree_of g id) ≡ rest_of high low (tree_of g id))
+    past_widened : IfNone (within_widened high low signed (tree_width (tree_of g a)) a) (inner_part high low (tree_of g id) ≡ rest_of high low (tree_of g id))
     past_widened =
         elim (lt_tells high (tree_width (tree_of g a))) [
           | inl below ↦ rw below.0 tt
@@ -178,9 +178,9 @@ module _ (g : Graph) (id : ℕ) (dag : IsDag g) (high low : ℕ)
         ]
 
     pub none_widened : (r : Option Inner) (w : ℕ) → w ≡ width_of g a → r ≡ within_widened high low signed w a →
-        IfNone r (part_of high low (tree_of g id) ≡ rest_of high low (tree_of g id))
+        IfNone r (inner_part high low (tree_of g id) ≡ rest_of high low (tree_of g id))
     none_widened r w e is =
-        subst (λ o. IfNone o (part_of high low (tree_of g id) ≡ rest_of high low (tree_of g id)))
+        subst (λ o. IfNone o (inner_part high low (tree_of g id) ≡ rest_of high low (tree_of g id)))
         (sym (is ∙ ap (λ k. within_widened high low signed k a) (e ∙ sym (width-tree_of g a)))) past_widened
 
   module _ (u l : ℕ) (is : slice_get g.nodes id ≡ Some (Concat u l)) where
@@ -194,20 +194,20 @@ module _ (g : Graph) (id : ℕ) (dag : IsDag g) (high low : ℕ)
     joined_width = omega (arith, width_at g id (Concat u l) dag is, width-tree_of g u, width-tree_of g l)
 
     through_lower : nat_lt high (tree_width (tree_of g l)) ≡ true →
-        part_of high low (tree_of g id) ≡ part_of high low (tree_of g l)
-    unfolding part_of
-    through_lower e = ap (part_of high low) (tree_by_cases g id (Concat u l) dag is) ∙ rw (not_all (Concat u l) is, e) refl
+        inner_part high low (tree_of g id) ≡ inner_part high low (tree_of g l)
+    unfolding inner_part
+    through_lower e = ap (inner_part high low) (tree_by_cases g id (Concat u l) dag is) ∙ rw (not_all (Concat u l) is, e) refl
 
     through_upper : nat_lt high (tree_width (tree_of g l)) ≡ false →
         nat_le (tree_width (tree_of g l)) low ≡ true →
-        part_of high low (tree_of g id) ≡ part_of (high - tree_width (tree_of g l)) (low - tree_width (tree_of g l)) (tree_of g u)
-    unfolding part_of
-    through_upper e f = ap (part_of high low) (tree_by_cases g id (Concat u l) dag is) ∙ rw (not_all (Concat u l) is, e, f) refl
+        inner_part high low (tree_of g id) ≡ inner_part (high - tree_width (tree_of g l)) (low - tree_width (tree_of g l)) (tree_of g u)
+    unfolding inner_part
+    through_upper e f = ap (inner_part high low) (tree_by_cases g id (Concat u l) dag is) ∙ rw (not_all (Concat u l) is, e, f) refl
 
     across_both : nat_lt high (tree_width (tree_of g l)) ≡ false →
         nat_le (tree_width (tree_of g l)) low ≡ false →
-        part_of high low (tree_of g id) ≡ rest_of high low (tree_of g id)
-    unfolding part_of
+        inner_part high low (tree_of g id) ≡ rest_of high low (tree_of g id)
+    unfolding inner_part
     across_both e f = rw (tree_by_cases g id (Concat u l) dag is) (rw (not_all (Concat u l) is, e, f) refl)
 
     pub in_lower : (w : ℕ) → w ≡ width_of g l → high < w →
@@ -233,21 +233,21 @@ module _ (g : Graph) (id : ℕ) (dag : IsDag g) (high low : ℕ)
       same =
           through_upper (tests_not_below _ _ (omega (arith, h, e, width-tree_of g l)))
           (most_true _ _ (omega (arith, k, e, width-tree_of g l)))
-          ∙ ap (λ j. part_of (high - j) (low - j) (tree_of g u)) (width-tree_of g l ∙ sym e);
+          ∙ ap (λ j. inner_part (high - j) (low - j) (tree_of g u)) (width-tree_of g l ∙ sym e);
       wide = omega (arith, k, span.order);
       some = λ f. absurd (true≢false f);
     }
 
     pub across_halves : (w : ℕ) → w ≡ width_of g l → w ≤ high → low < w →
-        part_of high low (tree_of g id) ≡ rest_of high low (tree_of g id)
+        inner_part high low (tree_of g id) ≡ rest_of high low (tree_of g id)
     across_halves w e h k = across_both (tests_not_below _ _
         (omega (arith, h, e, width-tree_of g l))) (most_false _ _
         (omega (arith, k, e, width-tree_of g l)))
 
 -- ---- all bits
 whole_rest : (inputs : ℕ) (t : Tree) (high low : ℕ) → IsTerm inputs t → (low == 0 && high + 1 == tree_width t) ≡ true →
-    part_of high low t ≡ rest_of high low t
-unfolding part_of
+    inner_part high low t ≡ rest_of high low t
+unfolding inner_part
 whole_rest inputs (Part h l t) high low term all = rw all refl
 whole_rest inputs (Joined s t) high low term all = rw all refl
 whole_rest inputs (Widened by true t) high low term all = rw all refl
@@ -258,14 +258,14 @@ whole_rest inputs t high low term all = refl
 
 pub all_of_it : (g : Graph) (id high low : ℕ) (b : Bool) → IsDag g → id < length g.nodes →
     b ≡ (low == 0 && high + 1 == tree_width (tree_of g id)) → b ≡ true →
-    part_of high low (tree_of g id) ≡ rest_of high low (tree_of g id)
+    inner_part high low (tree_of g id) ≡ rest_of high low (tree_of g id)
 all_of_it g id high low b dag there is all = whole_rest g.inputs (tree_of g id) high low (is_term g id dag there) (sym is ∙ all)
 
 part_none : (f : ℕ → Tree) (n : Node) (high low : ℕ) → ((h l a : ℕ) → n ≡ Extract h l a → ⊥) →
     ((by : ℕ) (signed : Bool) (a : ℕ) → n ≡ Extend by signed a → ⊥) →
     ((u l : ℕ) → n ≡ Concat u l → ⊥) →
-    part_of high low (node_tree f n) ≡ rest_of high low (node_tree f n)
-unfolding part_of
+    inner_part high low (node_tree f n) ≡ rest_of high low (node_tree f n)
+unfolding inner_part
 part_none f (Extract h l a) high low x y z = absurd (x h l a refl)
 part_none f (Extend by signed a) high low x y z = absurd (y by signed a refl)
 part_none f (Concat u l) high low x y z = absurd (z u l refl)
@@ -281,7 +281,7 @@ pub in_none : (g : Graph) (id : ℕ) (n : Node) (high low : ℕ) → IsDag g →
     slice_get g.nodes id ≡ Some n → ((h l a : ℕ) → n ≡ Extract h l a → ⊥) →
     ((by : ℕ) (signed : Bool) (a : ℕ) → n ≡ Extend by signed a → ⊥) →
     ((u l : ℕ) → n ≡ Concat u l → ⊥) →
-    part_of high low (tree_of g id) ≡ rest_of high low (tree_of g id)
+    inner_part high low (tree_of g id) ≡ rest_of high low (tree_of g id)
 in_none g id n high low dag is x y z = rw (tree_by_cases g id n dag is) (part_none (tree_of g) n high low x y z)
 
 -- ---- bits that are not those of an operand alone
@@ -344,7 +344,7 @@ span_number g id high low r x y is e f = rw (← e, is, f) refl
 -- ---- how far the walk has come: the bits that are wanted are these, under further ones
 pub record HasCome (g : Graph) (high low id : ℕ) (span : Span) (above : Above) : Type 0 where
   pub is_span : IsSpan g span
-  pub same : part_of high low (tree_of g id) ≡ under above (part_of span.high span.low (tree_of g span.operand))
+  pub same : inner_part high low (tree_of g id) ≡ under above (inner_part span.high span.low (tree_of g span.operand))
   pub wide : high - low ≡ span.high - span.low + above.signs + above.zeros
   pub start : IsSpan g (record { high = high; low = low; operand = id })
 
@@ -370,23 +370,23 @@ module _ (g : Graph) (dag : IsDag g) (high low id : ℕ) (span : Span) (above : 
         is_span = at;
         same =
             come.same ∙ ap (under above) is.same
-            ∙ under_stacked g.inputs above inner.by inner.signed (part_of inner.span.high inner.span.low t)
-            (term-part_of g.inputs t inner.span.high inner.span.low term at.order top) is.some
-            (omega (arith, width-part_of g.inputs t inner.span.high inner.span.low term at.order top, come.wide, few, is.wide));
+            ∙ under_stacked g.inputs above inner.by inner.signed (inner_part inner.span.high inner.span.low t)
+            (term-inner_part g.inputs t inner.span.high inner.span.low term at.order top) is.some
+            (omega (arith, width-inner_part g.inputs t inner.span.high inner.span.low term at.order top, come.wide, few, is.wide));
         wide = omega (arith, come.wide, is.wide, stacked_sum inner.by inner.signed);
         start = come.start;
       })
 
   pub come_home : (plan : Plan) → Makes g plan (rest_of span.high span.low (tree_of g span.operand)) →
-      part_of span.high span.low (tree_of g span.operand) ≡ rest_of span.high span.low (tree_of g span.operand) →
-      Follows g (record { core = plan; above = above }) (part_of high low (tree_of g id))
+      inner_part span.high span.low (tree_of g span.operand) ≡ rest_of span.high span.low (tree_of g span.operand) →
+      Follows g (record { core = plan; above = above }) (inner_part high low (tree_of g id))
   come_home plan makes rest =
       let t = tree_of g span.operand in
       let at = come.is_span in
       let term : IsTerm g.inputs t = is_term g span.operand dag at.there in
       let top : span.high < tree_width t = omega (arith, at.within, width-tree_of g span.operand) in
-      let made : plan_tree g plan ≡ part_of span.high span.low t = makes.is ∙ sym rest in
-      let bits : tree_width (plan_tree g plan) ≡ span.high - span.low + 1 = ap tree_width made ∙ width-part_of g.inputs t span.high span.low term at.order top in
+      let made : plan_tree g plan ≡ inner_part span.high span.low t = makes.is ∙ sym rest in
+      let bits : tree_width (plan_tree g plan) ≡ span.high - span.low + 1 = ap tree_width made ∙ width-inner_part g.inputs t span.high span.low term at.order top in
       record {
         is = ap (under above) made ∙ sym come.same;
         fits = record { core = makes.fits; room = λ _. (omega (arith, bits), omega (arith, bits, come.wide, few)) };

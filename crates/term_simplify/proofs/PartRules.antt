@@ -13,9 +13,9 @@ use Rattle.bv_dag.specs.Nodes.{extend}
 use Rattle.bv_dag.proofs.Numbers.{wider}
 use Rattle.term_trees.specs.Trees.{Tree, Constant, Part, Widened, Joined, tree_width, tree_value, IsTerm, IsOfWidth}
 use Rattle.term_trees.proofs.Ranges.{in_range}
-use Rattle.term_simplify.specs.Plain.{tree_number, further, span_by, part_of}
+use Rattle.term_simplify.specs.Plain.{tree_number, further, span_by, inner_part}
 use Rattle.term_simplify.proofs.ExtensionRules.{extend_again, value-extension_by, value-further}
-use Rattle.term_simplify.proofs.PartTerms.{some_bits, term-part_of, width-part_of}
+use Rattle.term_simplify.proofs.PartTerms.{some_bits, term-inner_part, width-inner_part}
 use Rattle.term_simplify.proofs.Uppers.{above_signs, ones_over, upper_signs, upper_zeros}
 use Rattle.term_simplify.proofs.Words.{by_parts, value_by_test, number_value, lt_tells, le_tells}
 
@@ -181,54 +181,54 @@ module _ (inputs : ℕ) (input : List ℕ) (bytes : All (λ b. b < 256) input) (
       ∙ ap (λ j. extract high low (extend signed j v)) (omega (arith, above, within))
 
 -- bits of a term are worth those bits of its value
-pub value-part_of : (inputs : ℕ) (input : List ℕ) → All (λ b. b < 256) input →
+pub value-inner_part : (inputs : ℕ) (input : List ℕ) → All (λ b. b < 256) input →
     (t : Tree) (high low : ℕ) → IsTerm inputs t → low ≤ high → high < tree_width t →
-    tree_value input (part_of high low t) ≡ extract high low (tree_value input t)
-unfolding part_of
-value-part_of inputs input bytes (Part h l t) high low term order within =
-    value_by_test input (low == 0 && high + 1 == tree_width (Part h l t)) (Part h l t) (part_of (high + l) (low + l) t) _
+    tree_value input (inner_part high low t) ≡ extract high low (tree_value input t)
+unfolding inner_part
+value-inner_part inputs input bytes (Part h l t) high low term order within =
+    value_by_test input (low == 0 && high + 1 == tree_width (Part h l t)) (Part h l t) (inner_part (high + l) (low + l) t) _
     (λ all. all_bits high low _ (tree_value input (Part h l t)) all (in_range inputs input bytes (Part h l t) term))
-    (λ _. value-part_of inputs input bytes t (high + l) (low + l) term.0 (omega (arith, order)) (omega (arith, term.1, term.2, within))
+    (λ _. value-inner_part inputs input bytes t (high + l) (low + l) term.0 (omega (arith, order)) (omega (arith, term.1, term.2, within))
     ∙ of_part h l high low (tree_value input t) order within)
-value-part_of inputs input bytes (Widened by signed t) high low term order within =
+value-inner_part inputs input bytes (Widened by signed t) high low term order within =
     let some = some_bits inputs t term.0 in
     value_by_test input (low == 0 && high + 1 == tree_width (Widened by signed t)) (Widened by signed t) _ _
     (λ h. all_bits high low _ (tree_value input (Widened by signed t)) h (in_range inputs input bytes (Widened by signed t) term))
     (λ _. elim (lt_tells high (tree_width t)) [
       | inl below ↦
-          rw below.0 (value-part_of inputs input bytes t high low term.0 order below.1
+          rw below.0 (value-inner_part inputs input bytes t high low term.0 order below.1
           ∙ of_widened signed by (tree_width t) high low (tree_value input t) (in_range inputs input bytes t term.0) order below.1)
       | inr above ↦
           let under_it : tree_width t - 1 < tree_width t = omega (arith, some) in
           rw above.0 (elim (lt_tells low (tree_width t)) [
             | inl across ↦
                 let top : low ≤ tree_width t - 1 = omega (arith, across.1) in
-                rw across.0 (value-extension_by inputs input (high + 1 - tree_width t) signed (part_of (tree_width t - 1) low t) bytes (
-                  term-part_of inputs t (tree_width t - 1) low term.0 top under_it,
+                rw across.0 (value-extension_by inputs input (high + 1 - tree_width t) signed (inner_part (tree_width t - 1) low t) bytes (
+                  term-inner_part inputs t (tree_width t - 1) low term.0 top under_it,
                   omega (arith, above.1),
-                  omega (arith, width-part_of inputs t (tree_width t - 1) low term.0 top under_it, above.1, across.1, within, term.2),
+                  omega (arith, width-inner_part inputs t (tree_width t - 1) low term.0 top under_it, above.1, across.1, within, term.2),
                 )
-                ∙ ap (extend signed (high + 1 - tree_width t)) (value-part_of inputs input bytes t (tree_width t - 1) low term.0 top under_it)
+                ∙ ap (extend signed (high + 1 - tree_width t)) (value-inner_part inputs input bytes t (tree_width t - 1) low term.0 top under_it)
                 ∙ across_widened inputs input bytes by t high low signed term across.1 above.1 within)
             | inr over ↦
-                rw over.0 (over_widened inputs input bytes by t high low signed (part_of (tree_width t - 1) (tree_width t - 1) t) term order over.1 within
-                (term-part_of inputs t (tree_width t - 1) (tree_width t - 1) term.0 (omega arith) under_it)
-                (width-part_of inputs t (tree_width t - 1) (tree_width t - 1) term.0 (omega arith) under_it ∙ omega arith)
-                (value-part_of inputs input bytes t (tree_width t - 1) (tree_width t - 1) term.0 (omega arith) under_it))
+                rw over.0 (over_widened inputs input bytes by t high low signed (inner_part (tree_width t - 1) (tree_width t - 1) t) term order over.1 within
+                (term-inner_part inputs t (tree_width t - 1) (tree_width t - 1) term.0 (omega arith) under_it)
+                (width-inner_part inputs t (tree_width t - 1) (tree_width t - 1) term.0 (omega arith) under_it ∙ omega arith)
+                (value-inner_part inputs input bytes t (tree_width t - 1) (tree_width t - 1) term.0 (omega arith) under_it))
           ])
     ])
-value-part_of inputs input bytes (Joined s t) high low term order within =
+value-inner_part inputs input bytes (Joined s t) high low term order within =
     value_by_test input (low == 0 && high + 1 == tree_width (Joined s t)) (Joined s t) _ _
     (λ h. all_bits high low _ (tree_value input (Joined s t)) h (in_range inputs input bytes (Joined s t) term))
     (λ _. elim (lt_tells high (tree_width t)) [
       | inl below ↦
-          rw below.0 (value-part_of inputs input bytes t high low term.1 order below.1
+          rw below.0 (value-inner_part inputs input bytes t high low term.1 order below.1
           ∙ of_low (tree_width s) (tree_width t) high low (tree_value input s) (tree_value input t)
           (in_range inputs input bytes t term.1) order below.1)
       | inr above ↦
           rw above.0 (elim (le_tells (tree_width t) low) [
             | inl over ↦
-                rw over.0 (value-part_of inputs input bytes s (high - tree_width t)
+                rw over.0 (value-inner_part inputs input bytes s (high - tree_width t)
                 (low - tree_width t) term.0 (omega (arith, order))
                 (omega (arith, within, above.1, over.1))
                 ∙ of_high (tree_width t) high low (tree_value input s) (tree_value input t)
@@ -236,5 +236,5 @@ value-part_of inputs input bytes (Joined s t) high low term order within =
             | inr across ↦ rw across.0 refl
           ])
     ])
-value-part_of inputs input bytes t high low term order within = span_value input _ high low t refl
+value-inner_part inputs input bytes t high low term order within = span_value input _ high low t refl
     order within (in_range inputs input bytes t term)

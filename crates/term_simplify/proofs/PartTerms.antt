@@ -8,7 +8,7 @@ use Rattle.std.proofs.lemmas.Nat.{mod_below, pow_pos}
 use Rattle.bv_dag.specs.BitVectors.{BitVector, IsBitVector, extract, sign_extend, zero_extend}
 use Rattle.term_trees.specs.Trees.{Tree, Constant, Part, Widened, Joined, tree_width, IsTerm, IsOfWidth}
 use Rattle.term_trees.proofs.Ranges.{in_range}
-use Rattle.term_simplify.specs.Plain.{extension_by, further, part_of, span_by, tree_number}
+use Rattle.term_simplify.specs.Plain.{extension_by, further, inner_part, span_by, tree_number}
 use Rattle.term_simplify.proofs.Words.{is_number, le_tells, lt_tells}
 
 -- a number of no more bits than fit
@@ -108,83 +108,83 @@ span_term inputs (Some x) t high low term order within =
 span_term inputs None t high low term order within =
     chosen inputs (low == 0 && high + 1 == tree_width t) t (Part high low t) (λ _. term) (λ _. (term, order, within))
 
-pub width-part_of : (inputs : ℕ) (t : Tree) (high low : ℕ) → IsTerm inputs t → low ≤ high → high < tree_width t →
-    tree_width (part_of high low t) ≡ high - low + 1
-unfolding part_of
-width-part_of inputs (Part h l t) high low term order within =
-    chosen_width (high - low + 1) (low == 0 && high + 1 == tree_width (Part h l t)) (Part h l t) (part_of (high + l) (low + l) t)
+pub width-inner_part : (inputs : ℕ) (t : Tree) (high low : ℕ) → IsTerm inputs t → low ≤ high → high < tree_width t →
+    tree_width (inner_part high low t) ≡ high - low + 1
+unfolding inner_part
+width-inner_part inputs (Part h l t) high low term order within =
+    chosen_width (high - low + 1) (low == 0 && high + 1 == tree_width (Part h l t)) (Part h l t) (inner_part (high + l) (low + l) t)
     (all_width high low (Part h l t))
-    (λ _. width-part_of inputs t (high + l) (low + l) term.0 (omega (arith, order)) (omega (arith, term.1, term.2, within)) ∙ omega (arith, order))
-width-part_of inputs (Widened by signed t) high low term order within =
+    (λ _. width-inner_part inputs t (high + l) (low + l) term.0 (omega (arith, order)) (omega (arith, term.1, term.2, within)) ∙ omega (arith, order))
+width-inner_part inputs (Widened by signed t) high low term order within =
     let some = some_bits inputs t term.0 in
     chosen_width (high - low + 1) (low == 0 && high + 1 == tree_width (Widened by signed t)) (Widened by signed t) _
     (all_width high low (Widened by signed t))
     (λ _. elim (lt_tells high (tree_width t)) [
-      | inl below ↦ rw below.0 (width-part_of inputs t high low term.0 order below.1)
+      | inl below ↦ rw below.0 (width-inner_part inputs t high low term.0 order below.1)
       | inr above ↦
           rw above.0 (elim (lt_tells low (tree_width t)) [
             | inl across ↦
-                rw across.0 (width-extension_by (high + 1 - tree_width t) signed (part_of (tree_width t - 1) low t)
-                ∙ omega (arith, width-part_of inputs t (tree_width t - 1) low term.0 (omega (arith, across.1)) (omega (arith, some)), above.1, across.1))
+                rw across.0 (width-extension_by (high + 1 - tree_width t) signed (inner_part (tree_width t - 1) low t)
+                ∙ omega (arith, width-inner_part inputs t (tree_width t - 1) low term.0 (omega (arith, across.1)) (omega (arith, some)), above.1, across.1))
             | inr over ↦
                 rw over.0 (above_width signed high low _
-                (width-part_of inputs t (tree_width t - 1) (tree_width t - 1) term.0 (omega arith) (omega (arith, some)) ∙ omega arith))
+                (width-inner_part inputs t (tree_width t - 1) (tree_width t - 1) term.0 (omega arith) (omega (arith, some)) ∙ omega arith))
           ])
     ])
-width-part_of inputs (Joined s t) high low term order within =
+width-inner_part inputs (Joined s t) high low term order within =
     chosen_width (high - low + 1) (low == 0 && high + 1 == tree_width (Joined s t)) (Joined s t) _
     (all_width high low (Joined s t))
     (λ _. elim (lt_tells high (tree_width t)) [
-      | inl below ↦ rw below.0 (width-part_of inputs t high low term.1 order below.1)
+      | inl below ↦ rw below.0 (width-inner_part inputs t high low term.1 order below.1)
       | inr above ↦
           rw above.0 (elim (le_tells (tree_width t) low) [
             | inl over ↦
-                rw over.0 (width-part_of inputs s (high - tree_width t) (low - tree_width t) term.0 (omega (arith, order))
+                rw over.0 (width-inner_part inputs s (high - tree_width t) (low - tree_width t) term.0 (omega (arith, order))
                 (omega (arith, within, above.1, over.1)) ∙ omega (arith, order, over.1))
             | inr across ↦ rw across.0 refl
           ])
     ])
-width-part_of inputs t high low term order within = span_width (tree_number t) t high low
+width-inner_part inputs t high low term order within = span_width (tree_number t) t high low
 
-pub term-part_of : (inputs : ℕ) (t : Tree) (high low : ℕ) → IsTerm inputs t → low ≤ high → high < tree_width t →
-    IsTerm inputs (part_of high low t)
-unfolding part_of
-term-part_of inputs (Part h l t) high low term order within =
-    chosen inputs (low == 0 && high + 1 == tree_width (Part h l t)) (Part h l t) (part_of (high + l) (low + l) t) (λ _. term)
-    (λ _. term-part_of inputs t (high + l) (low + l) term.0 (omega (arith, order)) (omega (arith, term.1, term.2, within)))
-term-part_of inputs (Widened by signed t) high low term order within =
+pub term-inner_part : (inputs : ℕ) (t : Tree) (high low : ℕ) → IsTerm inputs t → low ≤ high → high < tree_width t →
+    IsTerm inputs (inner_part high low t)
+unfolding inner_part
+term-inner_part inputs (Part h l t) high low term order within =
+    chosen inputs (low == 0 && high + 1 == tree_width (Part h l t)) (Part h l t) (inner_part (high + l) (low + l) t) (λ _. term)
+    (λ _. term-inner_part inputs t (high + l) (low + l) term.0 (omega (arith, order)) (omega (arith, term.1, term.2, within)))
+term-inner_part inputs (Widened by signed t) high low term order within =
     let some = some_bits inputs t term.0 in
     chosen inputs (low == 0 && high + 1 == tree_width (Widened by signed t)) (Widened by signed t) _ (λ _. term)
     (λ _. elim (lt_tells high (tree_width t)) [
-      | inl below ↦ rw below.0 (term-part_of inputs t high low term.0 order below.1)
+      | inl below ↦ rw below.0 (term-inner_part inputs t high low term.0 order below.1)
       | inr above ↦
           rw above.0 (elim (lt_tells low (tree_width t)) [
             | inl across ↦
                 let top : low ≤ tree_width t - 1 = omega (arith, across.1) in
                 let under_it : tree_width t - 1 < tree_width t = omega (arith, some) in
-                rw across.0 (term-extension_by inputs (high + 1 - tree_width t) signed (part_of (tree_width t - 1) low t) (
-                  term-part_of inputs t (tree_width t - 1) low term.0 top under_it,
+                rw across.0 (term-extension_by inputs (high + 1 - tree_width t) signed (inner_part (tree_width t - 1) low t) (
+                  term-inner_part inputs t (tree_width t - 1) low term.0 top under_it,
                   omega (arith, above.1),
-                  omega (arith, width-part_of inputs t (tree_width t - 1) low term.0 top under_it, above.1, across.1, within, term.2),
+                  omega (arith, width-inner_part inputs t (tree_width t - 1) low term.0 top under_it, above.1, across.1, within, term.2),
                 ))
             | inr over ↦
                 let under_it : tree_width t - 1 < tree_width t = omega (arith, some) in
-                rw over.0 (above_term inputs signed high low (part_of (tree_width t - 1) (tree_width t - 1) t)
-                (term-part_of inputs t (tree_width t - 1) (tree_width t - 1) term.0 (omega arith) under_it)
-                (width-part_of inputs t (tree_width t - 1) (tree_width t - 1) term.0 (omega arith) under_it ∙ omega arith)
+                rw over.0 (above_term inputs signed high low (inner_part (tree_width t - 1) (tree_width t - 1) t)
+                (term-inner_part inputs t (tree_width t - 1) (tree_width t - 1) term.0 (omega arith) under_it)
+                (width-inner_part inputs t (tree_width t - 1) (tree_width t - 1) term.0 (omega arith) under_it ∙ omega arith)
                 (omega (arith, order, within, term.2)))
           ])
     ])
-term-part_of inputs (Joined s t) high low term order within =
+term-inner_part inputs (Joined s t) high low term order within =
     chosen inputs (low == 0 && high + 1 == tree_width (Joined s t)) (Joined s t) _ (λ _. term)
     (λ _. elim (lt_tells high (tree_width t)) [
-      | inl below ↦ rw below.0 (term-part_of inputs t high low term.1 order below.1)
+      | inl below ↦ rw below.0 (term-inner_part inputs t high low term.1 order below.1)
       | inr above ↦
           rw above.0 (elim (le_tells (tree_width t) low) [
             | inl over ↦
-                rw over.0 (term-part_of inputs s (high - tree_width t) (low - tree_width t) term.0 (omega (arith, order))
+                rw over.0 (term-inner_part inputs s (high - tree_width t) (low - tree_width t) term.0 (omega (arith, order))
                 (omega (arith, within, above.1, over.1)))
             | inr across ↦ rw across.0 (term, order, within)
           ])
     ])
-term-part_of inputs t high low term order within = span_term inputs (tree_number t) t high low term order within
+term-inner_part inputs t high low term order within = span_term inputs (tree_number t) t high low term order within

@@ -20,7 +20,7 @@ use Rattle.term_simplify.specs.Runs.{IsMask, is_bitwise}
 use Rattle.term_simplify.specs.Steps.{Stands}
 use Rattle.term_simplify.specs.declared.runs.Mask.{Mask}
 use Rattle.term_simplify.proofs.Multiplying.{worth_as}
-use Rattle.term_simplify.proofs.PartTerms.{term-part_of}
+use Rattle.term_simplify.proofs.LiftRules.{term-part_of}
 use Rattle.term_simplify.proofs.Words.{by_parts}
 
 pub own_word : (g : Graph) (a w : ℕ) (input : List ℕ) → All (λ b. b < 256) input → IsTerm g.inputs (tree_of g a) → width_of g a ≡ w → IsOfWidth w (val g a input)

@@ -26,7 +26,7 @@ pub Stands-itself : (g : Graph) (a w : ℕ) → width_of g a ≡ w → 0 < w →
     Stands g a (tree_of g a) w (λ input. val g a input)
 Stands-itself g a w e some = record { there = there g a w e some; tree = refl; width = e; value = λ input bytes. refl }
 
-there_still : (g h : Graph) (a : ℕ) → Continues g h → a < length g.nodes → a < length h.nodes
+pub there_still : (g h : Graph) (a : ℕ) → Continues g h → a < length g.nodes → a < length h.nodes
 there_still g h a grown at = omega (arith, ap length grown.front, at, length-take (length g.nodes) h.nodes)
 
 pub Stands-kept : {g h : Graph} {a : ℕ} {t : Tree} {w : ℕ} {F : List ℕ → BitVector} → Continues g h →

@@ -23,7 +23,7 @@ less_one a b h =
 pub ones_over : (w by : ℕ) → 2 ^ (w + by) - 2 ^ w ≡ (2 ^ by - 1) * 2 ^ w
 ones_over w by = ap (λ k. k - 2 ^ w) (pow-add 2 w by) ∙ less_one (2 ^ w) (2 ^ by) (pow_pos by)
 
-ones_split : (a b : ℕ) → 2 ^ (a + b) - 1 ≡ (2 ^ a - 1) * 2 ^ b + (2 ^ b - 1)
+pub ones_split : (a b : ℕ) → 2 ^ (a + b) - 1 ≡ (2 ^ a - 1) * 2 ^ b + (2 ^ b - 1)
 ones_split a b =
     let e : 2 ^ (b + a) - 2 ^ b ≡ (2 ^ a - 1) * 2 ^ b = ones_over b a in
     let turned : 2 ^ (b + a) ≡ 2 ^ (a + b) = ap (λ k. 2 ^ k) (omega arith) in

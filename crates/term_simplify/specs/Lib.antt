@@ -14,3 +14,4 @@ pub mod Told
 pub mod Offsets
 pub mod Runs
 pub mod Divisions
+pub mod Lifting

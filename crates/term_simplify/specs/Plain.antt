@@ -1,7 +1,7 @@
 -- What a term is simplified to at its own width: a tree, from the trees of its operands. Each rule
 -- is decided by the numbers that operands are and by their top nodes. None compares two subtrees, and
 -- none decides a relation between two input bytes.
-use Rattle.std.specs.Prelude.{ℕ, ◌+◌, ◌-◌, ◌^◌, ◌==◌, ◌&&◌, Bool, true, false, not, nat_lt, nat_le, Option, Some, None, if◌then◌else◌}
+use Rattle.std.specs.Prelude.{ℕ, zero, suc, ◌+◌, ◌-◌, ◌^◌, ◌==◌, ◌&&◌, ◌||◌, Bool, true, false, is_some, not, nat_lt, nat_le, Option, Some, None, if◌then◌else◌}
 use Rattle.std.specs.Int.Bits.{bit_and}
 use Rattle.bv_dag.specs.BitVectors.{BitVector, bit, is_negative, bvnot, bvneg, extract, concat}
 use Rattle.bv_dag.specs.Nodes.{binary, compare, extend}
@@ -12,6 +12,7 @@ use Rattle.bv_dag.specs.declared.nodes.Comparison.TheVariants.{Ult, Slt, Eq}
 use Rattle.bv_dag.specs.declared.nodes.Node.{Node}
 use Rattle.bv_dag.specs.declared.nodes.Node.TheVariants.{Num, Input, Not, Neg, Binary, Compare, Ite, Extract, Extend, Concat}
 use Rattle.term_trees.specs.Trees.{Tree, Constant, Byte, Complement, Negated, Two, Test, Choice, Part, Widened, Joined, tree_width}
+use Rattle.term_simplify.specs.declared.lifting.TheConstants.{LEVELS}
 
 -- the number that a tree is
 abbrev pub tree_number : Tree → Option BitVector
@@ -204,26 +205,39 @@ further by signed t = if by == 0 then t else extension_by by signed t
 -- Where they are bits of a smaller term, they are taken of that. Those of a widened term that begin
 -- in the narrower one and end above it are its upper bits, widened; those above it are zeros, or
 -- copies of its sign.
-unfoldable pub part_of : (high low : ℕ) → Tree → Tree
-part_of high low (Part h l t) = whole high low (Part h l t) (part_of (high + l) (low + l) t)
-part_of high low (Widened by signed t) =
+unfoldable pub inner_part : (high low : ℕ) → Tree → Tree
+inner_part high low (Part h l t) = whole high low (Part h l t) (inner_part (high + l) (low + l) t)
+inner_part high low (Widened by signed t) =
     whole high low (Widened by signed t) (
-    if nat_lt high (tree_width t) then part_of high low t
+    if nat_lt high (tree_width t) then inner_part high low t
     else (
     if nat_lt low (tree_width t) then
-    extension_by (high + 1 - tree_width t) signed (part_of (tree_width t - 1) low t)
+    extension_by (high + 1 - tree_width t) signed (inner_part (tree_width t - 1) low t)
     else (
-    if signed then further (high - low) true (part_of (tree_width t - 1) (tree_width t - 1) t)
+    if signed then further (high - low) true (inner_part (tree_width t - 1) (tree_width t - 1) t)
     else Constant (high - low + 1) 0
     )))
-part_of high low (Joined s t) =
+inner_part high low (Joined s t) =
     whole high low (Joined s t) (
-    if nat_lt high (tree_width t) then part_of high low t
+    if nat_lt high (tree_width t) then inner_part high low t
     else (
-    if nat_le (tree_width t) low then part_of (high - tree_width t) (low - tree_width t) s
+    if nat_le (tree_width t) low then inner_part (high - tree_width t) (low - tree_width t) s
     else Part high low (Joined s t)
     ))
-part_of high low t = span_of high low t
+inner_part high low t = span_of high low t
+
+-- Bits of a complement are the complement of those bits. Bits of a choice of a number, or of two, are
+-- a choice of those bits. They are taken through so many complements and choices.
+unfoldable pub lifted : (levels : ℕ) → Tree → Tree
+lifted (suc k) (Part high low (Complement t)) = complement_of (lifted k (inner_part high low t))
+lifted (suc k) (Part high low (Choice c s t)) =
+    if is_some (tree_number s) || is_some (tree_number t)
+    then plain_choice c (lifted k (inner_part high low s)) (lifted k (inner_part high low t))
+    else Part high low (Choice c s t)
+lifted levels t = t
+
+unfoldable pub part_of : (high low : ℕ) → Tree → Tree
+part_of high low t = lifted LEVELS (inner_part high low t)
 
 -- ---- Two terms, one above the other.
 -- A term below the number 0 is widened by zeros.

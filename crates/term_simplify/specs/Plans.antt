@@ -6,7 +6,7 @@ use Rattle.bv_dag.specs.declared.nodes.Node.TheVariants.{Num}
 use Rattle.bv_dag.specs.Graphs.{Graph, width_of}
 use Rattle.bv_dag.specs.Nodes.{Fits, widths_of}
 use Rattle.term_trees.specs.Trees.{Tree, Constant, Widened, tree_of, node_tree, tree_width}
-use Rattle.term_simplify.specs.Plain.{further, span_of, part_of}
+use Rattle.term_simplify.specs.Plain.{further, span_of, inner_part}
 use Rattle.term_simplify.specs.declared.plan.Plan.{Plan}
 use Rattle.term_simplify.specs.declared.plan.Plan.TheVariants.{Term, Push}
 use Rattle.term_simplify.specs.declared.parts.Inner.{Inner}
@@ -87,9 +87,9 @@ pub record IsSpan (graph : Graph) (span : Span) : Type 0 where
 pub record IsInner (graph : Graph) (span : Span) (inner : Inner) : Type 0 where
   pub is_span : IsSpan graph inner.span
   pub earlier : inner.span.operand < span.operand
-  pub same : part_of span.high span.low (tree_of graph span.operand) ≡
+  pub same : inner_part span.high span.low (tree_of graph span.operand) ≡
       further inner.by inner.signed
-      (part_of inner.span.high inner.span.low (tree_of graph inner.span.operand))
+      (inner_part inner.span.high inner.span.low (tree_of graph inner.span.operand))
   pub wide : span.high - span.low ≡ inner.span.high - inner.span.low + inner.by
   pub some : inner.signed ≡ false → 1 ≤ inner.by
 

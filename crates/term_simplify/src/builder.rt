@@ -5,6 +5,7 @@ ghost use Rattle.bv_dag.specs.Graphs.{Graph, val, width_of};
 ghost use Rattle.bv_dag.specs.Nodes.{Fits, node_value, node_width, widths_of};
 ghost use Rattle.term_trees.specs.Trees.{tree_of, node_tree, IsTerm};
 ghost use Rattle.term_simplify.specs.Plans.{Follows, Makes, PlanFits};
+ghost use Rattle.term_simplify.specs.Lifting.{unlifted};
 ghost use Rattle.term_simplify.specs.Plain.{plain};
 ghost use Rattle.term_simplify.specs.Steps.{Stands};
 
@@ -47,10 +48,10 @@ fn recent(terms: &Terms, node: &Node) -> Option<usize>
     None
 }
 
-/// What the node is simplified to at its own width.
+/// What the node is simplified to at its own width, bits not taken through complements and choices.
 fn plan(terms: &Terms, node: Node) -> Recipe
     requires { Fits terms.now.inputs (widths_of terms.now.nodes) node }
-    ensures makes { Follows terms.now result (plain (tree_of terms.now) node) }
+    ensures makes { Follows terms.now result (unlifted (tree_of terms.now) node) }
     ensures term { IsTerm terms.now.inputs (node_tree (tree_of terms.now) node) }
 {
     match node {
@@ -152,7 +153,7 @@ impl Builder {
     }
 
     /// What a plan makes.
-    fn stand(&mut self, plan: Plan) -> Result<usize, NoMemory>
+    pub(crate) fn stand(&mut self, plan: Plan) -> Result<usize, NoMemory>
         requires { PlanFits self.old plan }
         ensures there { IfOk result (λ id. id < length self.new.nodes) }
         ensures tree { IfOk result (λ id. tree_of self.new id ≡ plan_tree self.old plan) }
@@ -179,7 +180,7 @@ impl Builder {
     }
 
     /// What a recipe makes, or only some of the terms on the way.
-    fn followed(&mut self, recipe: Recipe) -> Result<usize, NoMemory>
+    pub(crate) fn followed(&mut self, recipe: Recipe) -> Result<usize, NoMemory>
         requires { RecipeFits self.old recipe }
         ensures there { IfOk result (λ id. id < length self.new.nodes) }
         ensures tree { IfOk result (λ id. tree_of self.new id ≡ recipe_tree self.old recipe) }
@@ -210,8 +211,13 @@ impl Builder {
         ensures err { OnErr result (self.new ≡ self.old) }
         ensures term { IsTerm self.old.inputs (node_tree (tree_of self.old) node) }
     {
-        let recipe = plan(&self.terms, node);
-        self.carry_out(recipe)
+        match node {
+            Node::Extract { high, low, operand } => self.bits(high, low, operand),
+            _ => {
+                let recipe = plan(&self.terms, node);
+                self.carry_out(recipe)
+            }
+        }
     }
 
     /// Such a term on the way.

@@ -17,6 +17,7 @@ mod divisions;
 mod equalities;
 mod extensions;
 mod joints;
+mod lifting;
 mod machine;
 mod masks;
 mod moves;

@@ -5,7 +5,7 @@ ghost use Rattle.bv_dag.specs.Graphs.{IsDag};
 ghost use Rattle.bv_dag.specs.Nodes.{Fits, widths_of};
 ghost use Rattle.term_trees.specs.Trees.{tree_of, tree_width};
 ghost use Rattle.term_simplify.specs.Plans.{Follows, Makes, IsSpan, IsInner, rest_of, within_widened};
-ghost use Rattle.term_simplify.specs.Plain.{part_of, span_of};
+ghost use Rattle.term_simplify.specs.Plain.{inner_part, span_of};
 
 use crate::plan::{Plan, number, number_at, under_zeros, zero};
 use crate::recipe::{Above, Recipe, stacked};
@@ -90,7 +90,7 @@ fn within_operand(terms: &Terms, span: Span) -> Option<Inner>
     requires { IsSpan terms.now span }
     ensures some { IfSome result (λ inner. IsInner terms.now span inner) }
     ensures none { IfNone result
-        (part_of span.high span.low (tree_of terms.now span.operand)
+        (inner_part span.high span.low (tree_of terms.now span.operand)
         ≡ rest_of span.high span.low (tree_of terms.now span.operand)) }
     ensures fit { IsDag terms.now }
 {
@@ -179,7 +179,7 @@ fn rest(terms: &Terms, span: Span) -> Plan
 /// The bits of a term from `high` down to `low`.
 pub(crate) fn part(terms: &Terms, high: u32, low: u32, operand: usize) -> Recipe
     requires { Fits terms.now.inputs (widths_of terms.now.nodes) (Node.Extract high low operand) }
-    ensures makes { Follows terms.now result (part_of high low (tree_of terms.now operand)) }
+    ensures makes { Follows terms.now result (inner_part high low (tree_of terms.now operand)) }
     ensures fit { IsDag terms.now }
 {
     let mut span = Span { high, low, operand };

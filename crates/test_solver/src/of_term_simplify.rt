@@ -3,6 +3,7 @@
 mod bits;
 mod bytes;
 mod calls;
+mod lifted;
 mod narrow;
 mod numbers;
 mod steps;

@@ -16,7 +16,7 @@ use crate::of_term_simplify::narrow::offsets::OFFSETS;
 use crate::of_term_simplify::narrow::products::{PRODUCTS, QUOTIENTS, REMAINDERS};
 use crate::of_term_simplify::narrow::sums::{DIFFERENCES, SUMS};
 use crate::of_term_simplify::narrow::tests::{ALIKE, CHOICES, TESTS};
-use bv_dag::{Comparison, Node};
+use bv_dag::{BinaryOp, Comparison, Node};
 use std::alloc::AllocError as NoMemory;
 use std::process::Abort;
 use std::test::Fail;
@@ -51,7 +51,7 @@ const OPERANDS: &[New] = &[
     New::Zeros(24, 1),
     New::Signs(24, 0),
     New::Signs(24, 1),
-    New::Is(Node::Not(2)),
+    New::Is(Node::Binary(BinaryOp::Udiv, 4, 2)),
     New::Is(Node::Compare(Comparison::Ult, 1, 0)),
     New::Zeros(31, 7),
 ];

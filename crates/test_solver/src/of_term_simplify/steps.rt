@@ -3,6 +3,7 @@
 use crate::of_term_simplify::bits::{MOVED, PARTS};
 use crate::of_term_simplify::bytes::{MASKED, REMAINDERS, SIMPLIFIED};
 use crate::of_term_simplify::calls::{Call, called, is_node};
+use crate::of_term_simplify::lifted::LIFTED;
 use bv_dag::Node;
 use std::alloc::AllocError as NoMemory;
 use std::process::Abort;
@@ -53,7 +54,7 @@ fn goes_on_alone(builder: &mut Builder) -> Result<bool, NoMemory> {
 
 #[test]
 fn terms_of_an_input_byte(rt: HostRuntime) -> Result<(), Fail> {
-    for steps in [SIMPLIFIED, MASKED, REMAINDERS, MOVED, PARTS] {
+    for steps in [SIMPLIFIED, MASKED, REMAINDERS, MOVED, PARTS, LIFTED] {
         let mut builder = Builder::new(Terms::new(rt.alloc(), 2));
         check_steps(&rt, &mut builder, steps)?;
         assert!(rt; goes_on_alone(&mut builder)?);

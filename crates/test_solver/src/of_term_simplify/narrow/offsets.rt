@@ -3,7 +3,7 @@
 use crate::of_term_simplify::narrow::New::{Is, Number, Signs, Zeros};
 use crate::of_term_simplify::narrow::Row;
 use bv_dag::BinaryOp::{Add, Mul, Sub};
-use bv_dag::Node::{Binary, Neg};
+use bv_dag::Node::{Binary, Neg, Not};
 
 pub(crate) const OFFSETS: &[Row] = &[
     // A word and 5 and 7; 5 less it and 7; 5 less it and 7 together; it less 5 and less 7.
@@ -72,27 +72,29 @@ pub(crate) const OFFSETS: &[Row] = &[
     // The complement of a byte in 32 bits and 5 is 4 less the byte, in 9 bits; and 1, its negative.
     (
         &[5],
-        &[Binary(Add, 6, 9)],
+        &[Not(2), Binary(Add, 10, 9)],
         &[
+            Is(Not(2)),
             Number(32, 4),
             Number(9, 4),
             Zeros(1, 0),
-            Is(Binary(Sub, 11, 12)),
-            Signs(23, 13),
+            Is(Binary(Sub, 12, 13)),
+            Signs(23, 14),
         ],
-        14,
+        15,
     ),
     (
         &[1],
-        &[Binary(Add, 6, 9)],
+        &[Not(2), Binary(Add, 10, 9)],
         &[
+            Is(Not(2)),
             Number(32, 0),
             Number(9, 0),
             Zeros(1, 0),
-            Is(Neg(12)),
-            Signs(23, 13),
+            Is(Neg(13)),
+            Signs(23, 14),
         ],
-        14,
+        15,
     ),
     // A negative is taken off where it would be added, on either side, and added where it would be taken off.
     (

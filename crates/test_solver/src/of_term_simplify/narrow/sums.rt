@@ -3,7 +3,7 @@
 use crate::of_term_simplify::narrow::New::{Is, Number, Signs, Zeros};
 use crate::of_term_simplify::narrow::Row;
 use bv_dag::BinaryOp::{Add, Sub};
-use bv_dag::Node::{Binary, Neg};
+use bv_dag::Node::{Binary, Neg, Not};
 
 pub(crate) const SUMS: &[Row] = &[
     // Two bytes: the numbers below 511 take 9 bits.
@@ -142,15 +142,16 @@ pub(crate) const DIFFERENCES: &[Row] = &[
     ),
     (
         &[0],
-        &[Binary(Sub, 9, 6)],
+        &[Not(2), Binary(Sub, 9, 10)],
         &[
+            Is(Not(2)),
             Number(32, 1),
             Zeros(1, 0),
             Number(9, 1),
-            Is(Binary(Add, 11, 12)),
-            Zeros(23, 13),
+            Is(Binary(Add, 12, 13)),
+            Zeros(23, 14),
         ],
-        14,
+        15,
     ),
     // The negative of a byte without and with sign: -(-128) takes 9 bits.
     (

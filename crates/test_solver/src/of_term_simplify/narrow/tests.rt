@@ -100,20 +100,25 @@ pub(crate) const ALIKE: &[Row] = &[
     // A complement: of a byte, of which the upper bits are ones, and so never 0.
     (
         &[0xFFFF_FFBE],
-        &[Compare(Comparison::Eq, 6, 9)],
-        &[Number(8, 65), Is(Compare(Comparison::Eq, 0, 10))],
-        11,
+        &[Not(2), Compare(Comparison::Eq, 10, 9)],
+        &[
+            Is(Not(2)),
+            Number(8, 65),
+            Is(Compare(Comparison::Eq, 0, 11)),
+        ],
+        12,
     ),
     (
         &[0],
-        &[Compare(Comparison::Eq, 9, 6)],
+        &[Not(2), Compare(Comparison::Eq, 9, 10)],
         &[
+            Is(Not(2)),
             Number(32, 0xFFFF_FFFF),
             Zeros(1, 0),
             Number(9, 0x1FF),
             Number(1, 0),
         ],
-        13,
+        14,
     ),
     // A sum is 70 where the byte in it is 65; it is never 3, since the byte would be below 0.
     (
