@@ -1,8 +1,9 @@
--- Quotients and remainders by a number. By a power of two they are the upper bits and the lower ones,
--- which takes no gate. By another number c, of k bits, long division is written out. Each remainder on
--- the way is below c, so k bits hold it; the first is the k - 1 upper bits. For each further bit of the
--- dividend, from the top: of the remainder and the bit, less c, at k + 1 bits, the top bit says whether
--- they are below c. It chooses the next remainder, and its complement is a bit of the quotient.
+-- Quotients and remainders by a number. By a power of two they are the upper bits and the lower
+-- ones, which takes no gate. By another number c, of k bits, long division is written out. Each
+-- remainder on the way is below c, so k bits hold it; the first is the k - 1 upper bits. For each
+-- further bit of the dividend, from the top: of the remainder and the bit, less c, at k + 1 bits,
+-- the top bit says whether they are below c. It chooses the next remainder, and its complement is a
+-- bit of the quotient.
 use Rattle.std.specs.Prelude.{ℕ, zero, suc, ◌+◌, ◌-◌, ◌/◌, ◌%◌, ◌^◌, ◌<◌, ◌≤◌, ◌≡◌, ◌==◌, ◌&&◌, ◌||◌, Bool, true, false, Option, Some, None, nat_lt, if◌then◌else◌}
 use Rattle.bv_dag.specs.BitVectors.{BitVector, bvsub, concat, extract, ite}
 use Rattle.bv_dag.specs.Graphs.{Graph, width_of}
@@ -66,8 +67,8 @@ abbrev pub long_remainder : (width bits divisor : ℕ) → Tree → Tree
 long_remainder w k c t =
     further (w - k) false (remainder_from (w - k + 1) k c t (first_remainder w k t))
 
--- ---- Where the divisor alone is a number, and not 0 or 1. A short term is divided by other numbers
--- than powers of two in one operation.
+-- ---- Where the divisor alone is a number, and not 0 or 1. A short term is divided in one operation
+-- by other numbers than powers of two.
 abbrev pub is_power : (bits divisor : ℕ) → Bool
 is_power k c = c == 2 ^ (k - 1)
 
@@ -87,7 +88,8 @@ abbrev pub divided_at : BinaryOp → (width bits divisor : ℕ) → Tree → Tre
 divided_at Udiv w k c t = quotient_by w k c t
 divided_at op w k c t = remainder_by w k c t
 
-abbrev pub divided_by : BinaryOp → Option BitVector → Option BitVector → (s otherwise : Tree) → Tree
+abbrev pub divided_by : BinaryOp → Option BitVector → Option BitVector → (s otherwise : Tree) →
+    Tree
 divided_by op None (Some y) s otherwise =
     if is_division op && is_divisor y.width (length_of y.number) y.number
     then divided_at op y.width (length_of y.number) y.number s else otherwise
