@@ -47,6 +47,9 @@ pub mod NarrowSteps
 pub mod Magnitudes
 pub mod EqualityNumbers
 pub mod Undoing
+pub mod IntervalNumbers
+pub mod IntervalRules
+pub mod Intervening
 pub mod Telling
 pub mod OffsetNumbers
 pub mod OffsetRules

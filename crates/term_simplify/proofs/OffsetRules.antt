@@ -19,11 +19,11 @@ use Rattle.term_simplify.proofs.Words.{number_value}
 
 module _ (inputs : ℕ) (input : List ℕ) (bytes : All (λ b. b < 256) input) where
   -- a term and a number of one width, which are worth this together
-  record Reads (w : ℕ) (v : BitVector) (o : Offset) : Type 0 where
-    term : IsTerm inputs o.term
-    wide : tree_width o.term ≡ w
-    number : IsOfWidth w o.number
-    worth : v ≡ offset_word o.taken (tree_value input o.term) o.number
+  pub record Reads (w : ℕ) (v : BitVector) (o : Offset) : Type 0 where
+    pub term : IsTerm inputs o.term
+    pub wide : tree_width o.term ≡ w
+    pub number : IsOfWidth w o.number
+    pub worth : v ≡ offset_word o.taken (tree_value input o.term) o.number
 
   own : (t : Tree) → IsTerm inputs t → IsOfWidth (tree_width t) (tree_value input t)
   own t term = in_range inputs input bytes t term
@@ -78,7 +78,7 @@ module _ (inputs : ℕ) (input : List ℕ) (bytes : All (λ b. b < 256) input) w
   reads_by Lshr x y s t e f term = tt
   reads_by Ashr x y s t e f term = tt
 
-  reads : (t : Tree) → IsTerm inputs t → IfSome (offset_of t) (Reads (tree_width t) (tree_value input t))
+  pub reads : (t : Tree) → IsTerm inputs t → IfSome (offset_of t) (Reads (tree_width t) (tree_value input t))
   reads (Complement t) term =
       let ones : IsOfWidth (tree_width t) (record { width = tree_width t; number = 2 ^ tree_width t - 1 }) =
       small t (2 ^ tree_width t - 1) term (omega (arith, pow_pos (tree_width t))) in

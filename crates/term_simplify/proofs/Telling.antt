@@ -4,7 +4,7 @@ use Rattle.std.specs.Prelude.{Option, Result, Ok, Err, IfSome}
 use Rattle.std.specs.Result.{IfOk}
 use Rattle.std.specs.List.{All, slice_get}
 use Rattle.std.proofs.lemmas.Nat.{le-div, pow_pos, shr_below}
-use Rattle.bv_dag.specs.BitVectors.{BitVector, bit, bvslt, equal, extract, is_negative}
+use Rattle.bv_dag.specs.BitVectors.{BitVector, bit, bvslt, bvult, equal, extract, is_negative}
 use Rattle.bv_dag.specs.Graphs.{Graph, IsDag, val, width_of}
 use Rattle.bv_dag.specs.Nodes.{Fits, extend, widths_of}
 use Rattle.bv_dag.specs.declared.nodes.BinaryOp.{BinaryOp}
@@ -12,20 +12,23 @@ use Rattle.bv_dag.specs.declared.nodes.Comparison.{Comparison}
 use Rattle.bv_dag.specs.declared.nodes.Comparison.TheVariants.{Ult, Slt, Eq}
 use Rattle.bv_dag.specs.declared.nodes.Node.{Node}
 use Rattle.bv_dag.specs.declared.nodes.Node.TheVariants.{Num, Input, Not, Neg, Binary, Compare, Ite, Extract, Extend, Concat}
-use Rattle.term_trees.specs.Trees.{Widened, Tree, Constant, IsOfWidth, IsTerm, node_tree, tree_of, tree_width}
+use Rattle.term_trees.specs.Trees.{Joined, Widened, Tree, Constant, IsOfWidth, IsTerm, node_tree, tree_of, tree_width}
 use Rattle.term_trees.proofs.Ranges.{in_range}
 use Rattle.term_trees.proofs.Terms.{is_term}
 use Rattle.term_trees.proofs.TreeLaws.{tree_by_cases, value-tree_of, width-tree_of}
 use Rattle.term_simplify.specs.Builds.{Builds, BuildsAs}
-use Rattle.term_simplify.specs.Equalities.{Peeled, is_widened, low_bits, peeled, undone}
+use Rattle.term_simplify.specs.Equalities.{Peeled, bits_above, is_widened, low_bits, peeled, undone}
+use Rattle.term_simplify.specs.Intervals.{IsBetween, between_at, interval_of, interval_word}
 use Rattle.term_simplify.specs.Moves.{unmoved}
 use Rattle.term_simplify.specs.Plain.{number_tree, tree_number}
 use Rattle.term_simplify.specs.Simplified.{compared, comparison_of, equal_to, told_by}
 use Rattle.term_simplify.specs.Told.{IsEquality, Tells, peeled_at, told_tree, told_word, untold}
 use Rattle.term_simplify.specs.declared.equalities.Equality.{Equality}
 use Rattle.term_simplify.specs.declared.equalities.Told.{Told}
-use Rattle.term_simplify.specs.declared.equalities.Told.TheVariants.{Sign, Equal}
+use Rattle.term_simplify.specs.declared.equalities.Told.TheVariants.{Sign, Equal, Within}
+use Rattle.term_simplify.specs.declared.intervals.Between.{Between}
 use Rattle.term_simplify.proofs.EqualityNumbers.{same_tests}
+use Rattle.term_simplify.proofs.IntervalRules.{interval_worth}
 use Rattle.term_simplify.proofs.Reading.{IsOperand, has_second_term, has_term, operand, term_at, width_at}
 use Rattle.term_simplify.proofs.Undoing.{undone_none, undone_peeled, undone_worth}
 use Rattle.term_simplify.proofs.Words.{by_parts, is_number, le_tells, most_false, number_value, tests_not_below, tests_equal, tests_unequal}
@@ -112,19 +115,34 @@ module _ (g : Graph) (id : ℕ) (dag : IsDag g) where
   pub first_wide : (op : BinaryOp) (a b : ℕ) (n : BitVector) → slice_get g.nodes id ≡ Some (Binary op a b) → IsOfWidth (width_of g id) n → n.width ≡ width_of g a
   first_wide op a b n is p = p.width ∙ width_at g id (Binary op a b) dag is ∙ width-tree_of g a
 
+  pub upper_operand : (a b : ℕ) → slice_get g.nodes id ≡ Some (Concat a b) → IsOperand g id a
+  upper_operand a b is = operand g id a (Concat a b) dag is (dag.all_fit id (Concat a b) is).0
+
+  pub lower_operand : (a b : ℕ) → slice_get g.nodes id ≡ Some (Concat a b) → IsOperand g id b
+  lower_operand a b is = operand g id b (Concat a b) dag is (dag.all_fit id (Concat a b) is).1
+
+  pub joined_fit : (a b : ℕ) → slice_get g.nodes id ≡ Some (Concat a b) → Fits g.inputs (widths_of g.nodes) (Concat a b)
+  joined_fit a b is =
+      ((upper_operand a b is).wide, (lower_operand a b is).wide, omega (arith, (term_at g id (Concat a b) dag is).2, width-tree_of g a, width-tree_of g b))
+
+  pub joined_wide : (a b : ℕ) (n : BitVector) → slice_get g.nodes id ≡ Some (Concat a b) → IsOfWidth (width_of g id) n →
+      n.width ≡ width_of g a + width_of g b
+  joined_wide a b n is p = omega (arith, p.width, width_at g id (Concat a b) dag is, width-tree_of g a, width-tree_of g b)
+
   not_undone : (n : BitVector) (node : Node) → ((a : ℕ) → node ≡ Not a → ⊥) → ((a : ℕ) → node ≡ Neg a → ⊥) →
       ((op : BinaryOp) (a b : ℕ) → node ≡ Binary op a b → ⊥) →
-      ((by : ℕ) (signed : Bool) (a : ℕ) → node ≡ Extend by signed a → ⊥) → None ≡ undone (node_tree (tree_of g) node) n
-  not_undone n (Not a) x y z u = absurd (x a refl)
-  not_undone n (Neg a) x y z u = absurd (y a refl)
-  not_undone n (Binary op a b) x y z u = absurd (z op a b refl)
-  not_undone n (Num w v) x y z u = refl
-  not_undone n (Input i) x y z u = refl
-  not_undone n (Compare op a b) x y z u = refl
-  not_undone n (Ite c a b) x y z u = refl
-  not_undone n (Extract high low a) x y z u = refl
-  not_undone n (Extend by signed a) x y z u = absurd (u by signed a refl)
-  not_undone n (Concat a b) x y z u = refl
+      ((by : ℕ) (signed : Bool) (a : ℕ) → node ≡ Extend by signed a → ⊥) → ((a b : ℕ) → node ≡ Concat a b → ⊥) →
+      None ≡ undone (node_tree (tree_of g) node) n
+  not_undone n (Not a) x y z u v = absurd (x a refl)
+  not_undone n (Neg a) x y z u v = absurd (y a refl)
+  not_undone n (Binary op a b) x y z u v = absurd (z op a b refl)
+  not_undone n (Num w m) x y z u v = refl
+  not_undone n (Input i) x y z u v = refl
+  not_undone n (Compare op a b) x y z u v = refl
+  not_undone n (Ite c a b) x y z u v = refl
+  not_undone n (Extract high low a) x y z u v = refl
+  not_undone n (Extend by signed a) x y z u v = absurd (u by signed a refl)
+  not_undone n (Concat a b) x y z u v = absurd (v a b refl)
 
   pub undone_here : (n : BitVector) (node : Node) → slice_get g.nodes id ≡ Some node → {p : Option Peeled} →
       p ≡ undone (node_tree (tree_of g) node) n → p ≡ undone (tree_of g id) n
@@ -132,8 +150,9 @@ module _ (g : Graph) (id : ℕ) (dag : IsDag g) where
 
   pub other_here : (n : BitVector) (node : Node) → slice_get g.nodes id ≡ Some node → ((a : ℕ) → node ≡ Not a → ⊥) → ((a : ℕ) → node ≡ Neg a → ⊥) →
       ((op : BinaryOp) (a b : ℕ) → node ≡ Binary op a b → ⊥) →
-      ((by : ℕ) (signed : Bool) (a : ℕ) → node ≡ Extend by signed a → ⊥) → None ≡ undone (tree_of g id) n
-  other_here n node is x y z u = not_undone n node x y z u ∙ undone_at n node is
+      ((by : ℕ) (signed : Bool) (a : ℕ) → node ≡ Extend by signed a → ⊥) → ((a b : ℕ) → node ≡ Concat a b → ⊥) →
+      None ≡ undone (tree_of g id) n
+  other_here n node is x y z u v = not_undone n node x y z u v ∙ undone_at n node is
 
 -- ---- low bits that are widened to a number, or not
 module _ (g : Graph) (by : ℕ) (signed : Bool) (a w : ℕ) (n m : BitVector) (wide : w ≡ width_of g a) (is : m ≡ extract (w - 1) 0 n) where
@@ -153,6 +172,32 @@ module _ (g : Graph) (by : ℕ) (signed : Bool) (a w : ℕ) (n m : BitVector) (w
   widened_no h =
       let no : is_widened by signed (tree_of g a) n ≡ false = tests_unequal _ _ (λ e. h (ap (λ v. (extend signed by v).number) low_at ∙ e)) in
       rw no refl
+
+-- ---- bits of a number above and below
+module _ (g : Graph) (a b w : ℕ) (n upper lower : BitVector) (wide : w ≡ width_of g b) (above : upper ≡ extract (n.width - 1) w n)
+    (below : lower ≡ extract (w - 1) 0 n) where
+  above_is : bits_above (tree_of g b) n ≡ upper
+  above_is = sym (above ∙ ap (λ k. extract (n.width - 1) k n) (wide ∙ sym (width-tree_of g b)))
+
+  below_is : low_bits (tree_of g b) n ≡ lower
+  below_is = sym (below ∙ ap (λ k. extract (k - 1) 0 n) (wide ∙ sym (width-tree_of g b)))
+
+  -- the other one is left, or the number tells that they are apart
+  pub upper_left : (y : BitVector) → None ≡ tree_number (tree_of g a) → Some y ≡ tree_number (tree_of g b) → y.number ≡ lower.number →
+      with_word (tree_of g a) upper ≡ undone (Joined (tree_of g a) (tree_of g b)) n
+  upper_left y e f same = rw (above_is, below_is, ← e, ← f, tests_equal y.number lower.number same) refl
+
+  pub lower_apart : (y : BitVector) → None ≡ tree_number (tree_of g a) → Some y ≡ tree_number (tree_of g b) → (y.number ≡ lower.number → ⊥) →
+      with_word (tree_of g b) lower ≡ undone (Joined (tree_of g a) (tree_of g b)) n
+  lower_apart y e f other = rw (above_is, below_is, ← e, ← f, tests_unequal y.number lower.number other) refl
+
+  pub lower_left : (x : BitVector) → Some x ≡ tree_number (tree_of g a) → None ≡ tree_number (tree_of g b) → x.number ≡ upper.number →
+      with_word (tree_of g b) lower ≡ undone (Joined (tree_of g a) (tree_of g b)) n
+  lower_left x e f same = rw (above_is, below_is, ← e, ← f, tests_equal x.number upper.number same) refl
+
+  pub upper_apart : (x : BitVector) → Some x ≡ tree_number (tree_of g a) → None ≡ tree_number (tree_of g b) → (x.number ≡ upper.number → ⊥) →
+      with_word (tree_of g a) upper ≡ undone (Joined (tree_of g a) (tree_of g b)) n
+  upper_apart x e f other = rw (above_is, below_is, ← e, ← f, tests_unequal x.number upper.number other) refl
 
 -- ---- tests of a term and a number
 pub number_at_second : (g : Graph) (dag : IsDag g) (a b : ℕ) (y : BitVector) → a < length g.nodes → b < length g.nodes → width_of g a ≡ width_of g b →
@@ -235,6 +280,24 @@ sign_second g dag a b y fits first second zero =
           ∙ ap (bvslt (val g a input)) (sym (worth_number g b y input second));
     }
 
+-- ---- an interval
+pub within_second : (g : Graph) (dag : IsDag g) (a b : ℕ) (y : BitVector) (w : Between) → Fits g.inputs (widths_of g.nodes) (Compare Ult a b) →
+    tree_number (tree_of g a) ≡ None → tree_number (tree_of g b) ≡ Some y → IsBetween g w → Some (between_at g w) ≡ interval_of (tree_of g a) y →
+    Tells g (Compare Ult a b) (Within w)
+unfolding comparison_of
+within_second g dag a b y w fits first second is found =
+    let there : a < length g.nodes = has_term g a fits.0 in
+    let e = number_at_second g dag a b y there (has_second_term g a b fits.0 fits.1) fits.1 second in
+    record {
+      is_told = is;
+      tree = rw (first, second, ← found) refl;
+      bits = refl;
+      worth = λ input bytes.
+          ap (λ v. interval_word v w.low w.high) (sym (value-tree_of g w.term input))
+          ∙ interval_worth g.inputs input bytes (tree_of g a) y (between_at g w) (is_term g a dag there) (rw (width-tree_of g a) e.number) (sym found)
+          ∙ ap (λ v. bvult v y) (value-tree_of g a input) ∙ ap (bvult (val g a input)) (sym (worth_number g b y input second));
+    }
+
 -- ---- any other test is as it is asked
 as_number : (t : Tree) (y : BitVector) → tree_number t ≡ Some y → number_tree y ≡ t
 as_number (Constant w v) y e = let same : record { width = w; number = v } ≡ y = cc in ap number_tree (sym same)
@@ -246,11 +309,11 @@ unfolding comparison_of
 stays f op a b x y first second e =
     ap (λ o. told_by op o (tree_number (f b)) (f a) (f b)) first ∙ ap (λ o. told_by op x o (f a) (f b)) second ∙ e
 
-pub ult_stays : (x y : Option BitVector) (s t : Tree) → told_by Ult x y s t ≡ compared Ult s t
-ult_stays None None s t = refl
-ult_stays None (Some y) s t = refl
-ult_stays (Some x) None s t = refl
-ult_stays (Some x) (Some y) s t = refl
+pub ult_stays : (y : BitVector) (s t : Tree) → None ≡ interval_of s y → told_by Ult None (Some y) s t ≡ compared Ult s t
+ult_stays y s t none = rw (← none) refl
+
+pub first_stays : (x : BitVector) (s t : Tree) → told_by Ult (Some x) None s t ≡ compared Ult s t
+first_stays x s t = refl
 
 pub slt_stays : (x : BitVector) (s t : Tree) → told_by Slt (Some x) None s t ≡ compared Slt s t
 slt_stays x s t = refl

@@ -1,18 +1,19 @@
 -- A term is a number exactly where what it is made of is another.
-use Rattle.std.proofs.Common.{◌≡◌, ◌∙◌, ◌+◌, ◌^◌, ◌<◌, ℕ, List, Some, None, ap, sym, refl, arith, ◌-◌, Bool, true, false, inl, inr, subst}
-use Rattle.std.proofs.lemmas.Nat.{xor_comm}
+use Rattle.std.proofs.Common.{◌≡◌, ◌==◌, ◌∙◌, ◌+◌, ◌*◌, ◌/◌, ◌%◌, ◌^◌, ◌<◌, ℕ, List, Some, None, ap, sym, refl, arith, ◌-◌, Bool, true, false, inl, inr, subst}
+use Rattle.std.proofs.Math.Nat.{add-mul-mod_self_right, div-one, mod-eq_of_lt}
+use Rattle.std.proofs.lemmas.Nat.{mod_below, pow_pos, shr_below, shr_high, shr_split, xor_comm}
 use Rattle.std.specs.Prelude.{Option, if◌then◌else◌}
 use Rattle.std.specs.List.{All}
-use Rattle.bv_dag.specs.BitVectors.{BitVector, bit, bvadd, bvneg, bvnot, bvsub, bvxor, equal, extract, sign_extend, zero_extend}
+use Rattle.bv_dag.specs.BitVectors.{BitVector, bit, bvadd, bvneg, bvnot, bvsub, bvxor, concat, equal, extract, sign_extend, zero_extend}
 use Rattle.bv_dag.specs.Nodes.{binary, extend}
 use Rattle.bv_dag.specs.declared.nodes.BinaryOp.{BinaryOp}
 use Rattle.bv_dag.specs.declared.nodes.BinaryOp.TheVariants.{Add, Sub, Xor}
-use Rattle.term_trees.specs.Trees.{Tree, Constant, Complement, Negated, Part, Two, Widened, tree_width, tree_value, IsTerm, IsOfWidth}
+use Rattle.term_trees.specs.Trees.{Tree, Constant, Complement, Joined, Negated, Part, Two, Widened, tree_width, tree_value, IsTerm, IsOfWidth}
 use Rattle.term_trees.proofs.Ranges.{in_range}
-use Rattle.term_simplify.specs.Equalities.{Peeled, is_widened, low_bits, on_some, peeled, undone, undone_by, undone_first, undone_second}
+use Rattle.term_simplify.specs.Equalities.{Peeled, bits_above, is_widened, low_bits, on_some, peeled, split_by, undone, undone_by, undone_first, undone_second}
 use Rattle.term_simplify.specs.Plain.{tree_number}
 use Rattle.term_simplify.proofs.EqualityNumbers.{complement_test, from_test, less_test, negative_test, plus_test, same_tests, xor_test}
-use Rattle.term_simplify.proofs.Words.{by_parts, is_number, le_tells, number_value}
+use Rattle.term_simplify.proofs.Words.{by_parts, is_apart, is_number, le_tells, number_value}
 
 -- ---- one operation undone is the first of those that are
 some_is : (p q : Peeled) → Some p ≡ Some q → p ≡ q
@@ -35,6 +36,19 @@ by_two op (Some x) None n s t p other e = by_some (undone_first op n x) t p othe
 by_two op (Some x) (Some y) n s t p other e = cc
 by_two op None None n s t p other e = cc
 
+-- of two terms, as a test tells
+by_either : (b : Bool) (s t : Tree) (m k : BitVector) (p : Peeled) → (if b then with_number s m else with_number t k) ≡ Some p →
+    (if b then peeled s m else peeled t k) ≡ onward p
+by_either true s t m k p e = ap onward (some_is (record { term = s; number = m }) p e)
+by_either false s t m k p e = ap onward (some_is (record { term = t; number = k }) p e)
+
+by_split : (x y : Option BitVector) (upper lower : BitVector) (s t : Tree) (p other : Peeled) →
+    split_by x y upper lower (with_number s) (with_number t) None ≡ Some p → split_by x y upper lower (λ m. peeled s m) (λ m. peeled t m) other ≡ onward p
+by_split None (Some y) upper lower s t p other e = by_either (y.number == lower.number) s t upper lower p e
+by_split (Some x) None upper lower s t p other e = by_either (x.number == upper.number) t s lower upper p e
+by_split (Some x) (Some y) upper lower s t p other e = cc
+by_split None None upper lower s t p other e = cc
+
 by_test : (b : Bool) (t : Tree) (m : BitVector) (p other : Peeled) → (if b then with_number t m else None) ≡ Some p →
     (if b then peeled t m else other) ≡ onward p
 by_test true t m p other e = ap onward (some_is (record { term = t; number = m }) p e)
@@ -47,6 +61,8 @@ undone_peeled (Negated t) n p e = ap onward (some_is (record { term = t; number 
 undone_peeled (Two op s t) n p e = by_two op (tree_number s) (tree_number t) n s t p (record { term = Two op s t; number = n }) e
 undone_peeled (Widened by signed t) n p e =
     by_test (is_widened by signed t n) t (low_bits t n) p (record { term = Widened by signed t; number = n }) e
+undone_peeled (Joined s t) n p e =
+    by_split (tree_number s) (tree_number t) (bits_above t n) (low_bits t n) s t p (record { term = Joined s t; number = n }) e
 undone_peeled t n p e = cc
 
 none_of : (o : Option BitVector) (t : Tree) (other : Peeled) → on_some o (with_number t) None ≡ None → on_some o (λ m. peeled t m) other ≡ other
@@ -65,6 +81,17 @@ none_by_test : (b : Bool) (t : Tree) (m : BitVector) (other : Peeled) → (if b 
 none_by_test true t m other e = cc
 none_by_test false t m other e = refl
 
+none_of_either : (b : Bool) (s t : Tree) (m k : BitVector) → (if b then with_number s m else with_number t k) ≡ None → {X : Type 0} → X
+none_of_either true s t m k e = cc
+none_of_either false s t m k e = cc
+
+none_by_split : (x y : Option BitVector) (upper lower : BitVector) (s t : Tree) (other : Peeled) →
+    split_by x y upper lower (with_number s) (with_number t) None ≡ None → split_by x y upper lower (λ m. peeled s m) (λ m. peeled t m) other ≡ other
+none_by_split None (Some y) upper lower s t other e = none_of_either (y.number == lower.number) s t upper lower e
+none_by_split (Some x) None upper lower s t other e = none_of_either (x.number == upper.number) t s lower upper e
+none_by_split (Some x) (Some y) upper lower s t other e = refl
+none_by_split None None upper lower s t other e = refl
+
 pub undone_none : (t : Tree) (n : BitVector) → undone t n ≡ None → peeled t n ≡ record { term = t; number = n }
 unfolding peeled
 undone_none (Complement t) n e = cc
@@ -72,6 +99,8 @@ undone_none (Negated t) n e = cc
 undone_none (Two op s t) n e = none_of_two op (tree_number s) (tree_number t) n s t (record { term = Two op s t; number = n }) e
 undone_none (Widened by signed t) n e =
     none_by_test (is_widened by signed t n) t (low_bits t n) (record { term = Widened by signed t; number = n }) e
+undone_none (Joined s t) n e =
+    none_by_split (tree_number s) (tree_number t) (bits_above t n) (low_bits t n) s t (record { term = Joined s t; number = n }) e
 undone_none t n e = refl
 
 -- ---- what it is worth
@@ -88,7 +117,7 @@ module _ (input : List ℕ) (bytes : All (λ b. b < 256) input) (w : ℕ) (n : B
   not_in : IsOfWidth w (bvnot n)
   not_in = rw (← r.width) (in_range 0 input bytes (Complement (Constant n.width n.number)) (word_term 0 w n r))
 
-  neg_in : IsOfWidth w (bvneg n)
+  pub neg_in : IsOfWidth w (bvneg n)
   neg_in = rw (← r.width) (in_range 0 input bytes (Negated (Constant n.width n.number)) (word_term 0 w n r))
 
   two_in : (op : BinaryOp) (y : BitVector) → IsOfWidth w y → IsOfWidth w (binary op n y)
@@ -147,6 +176,65 @@ tested_widened w by signed x m n p q e =
     (λ f. ap (λ (v : BitVector). (extend signed by v).number) (own ∙ ap (λ k. record { width = w; number = k }) f ∙ sym other) ∙ e)
     (λ f. as_widened w by x.number m.number p.in_range q.in_range signed
     (ap (λ (v : BitVector). (extend signed by v).number) (sym own) ∙ f ∙ sym e ∙ ap (λ (v : BitVector). (extend signed by v).number) other)))
+
+low_sum : (a b c : ℕ) → (a * b + c) % b ≡ c % b
+low_sum a b c = ap (λ k. k % b) (plus_comm (a * b) c) ∙ add-mul-mod_self_right c a b
+
+-- two bit-vectors joined are a number where each is as that has its bits
+module _ (v w : ℕ) (x y n : BitVector) (p : IsOfWidth v x) (q : IsOfWidth w y) (r : IsOfWidth (v + w) n) where
+  upper_is : extract (n.width - 1) w n ≡ record { width = v; number = n.number / 2 ^ w }
+  unfolding extract
+  upper_is =
+      let wide : n.width - 1 - w + 1 ≡ v = omega (arith, r.width, p.not_empty) in
+      by_parts v (n.number / 2 ^ w) _ wide (ap (λ k. n.number / 2 ^ w % 2 ^ k) wide ∙ mod-eq_of_lt (shr_below n.number v w r.in_range))
+
+  lower_is : extract (w - 1) 0 n ≡ record { width = w; number = n.number % 2 ^ w }
+  unfolding extract
+  lower_is =
+      let wide : w - 1 - 0 + 1 ≡ w = omega (arith, q.not_empty) in
+      by_parts w (n.number % 2 ^ w) _ wide (ap (λ k. n.number / 1 % 2 ^ k) wide ∙ ap (λ k. k % 2 ^ w) (div-one n.number))
+
+  upper_in : IsOfWidth v (extract (n.width - 1) w n)
+  upper_in = rw upper_is (record { width = refl; not_empty = p.not_empty; at_most_64 = p.at_most_64; in_range = shr_below n.number v w r.in_range })
+
+  lower_in : IsOfWidth w (extract (w - 1) 0 n)
+  lower_in = rw lower_is (record { width = refl; not_empty = q.not_empty; at_most_64 = q.at_most_64; in_range = mod_below n.number (2 ^ w) (pow_pos w) })
+
+  -- the number of the two, by its parts
+  whole_number : x.number * 2 ^ w + y.number ≡ n.number → (x.number ≡ n.number / 2 ^ w) × (y.number ≡ n.number % 2 ^ w)
+  whole_number e = (
+    sym (shr_high x.number w y.number q.in_range) ∙ ap (λ k. k / 2 ^ w) e,
+    sym (mod-eq_of_lt q.in_range) ∙ sym (low_sum x.number (2 ^ w) y.number) ∙ ap (λ k. k % 2 ^ w) e,
+  )
+
+  two_parts : x.number ≡ n.number / 2 ^ w → y.number ≡ n.number % 2 ^ w → x.number * 2 ^ w + y.number ≡ n.number
+  two_parts e f = rw (e, f) (shr_split n.number w)
+
+  tested_upper : y.number ≡ (extract (w - 1) 0 n).number → equal x (extract (n.width - 1) w n) ≡ equal (concat x y) n
+  unfolding concat equal
+  tested_upper e =
+      let same : y.number ≡ n.number % 2 ^ w = e ∙ ap (λ (k : BitVector). k.number) lower_is in
+      rw (q.width, upper_is) (ap bit (same_tests x.number (n.number / 2 ^ w) (x.number * 2 ^ w + y.number) n.number
+      (λ f. two_parts f same) (λ f. (whole_number f).0)))
+
+  tested_lower : x.number ≡ (extract (n.width - 1) w n).number → equal y (extract (w - 1) 0 n) ≡ equal (concat x y) n
+  unfolding concat equal
+  tested_lower e =
+      let same : x.number ≡ n.number / 2 ^ w = e ∙ ap (λ (k : BitVector). k.number) upper_is in
+      rw (q.width, lower_is) (ap bit (same_tests y.number (n.number % 2 ^ w) (x.number * 2 ^ w + y.number) n.number
+      (λ f. two_parts same f) (λ f. (whole_number f).1)))
+
+  apart_lower : (y.number ≡ (extract (w - 1) 0 n).number → ⊥) → equal y (extract (w - 1) 0 n) ≡ equal (concat x y) n
+  unfolding concat equal
+  apart_lower other =
+      rw q.width (ap bit (same_tests y.number (extract (w - 1) 0 n).number (x.number * 2 ^ w + y.number) n.number
+      (λ f. absurd (other f)) (λ f. absurd (other ((whole_number f).1 ∙ sym (ap (λ (k : BitVector). k.number) lower_is))))))
+
+  apart_upper : (x.number ≡ (extract (n.width - 1) w n).number → ⊥) → equal x (extract (n.width - 1) w n) ≡ equal (concat x y) n
+  unfolding concat equal
+  apart_upper other =
+      rw q.width (ap bit (same_tests x.number (extract (n.width - 1) w n).number (x.number * 2 ^ w + y.number) n.number
+      (λ f. absurd (other f)) (λ f. absurd (other ((whole_number f).0 ∙ sym (ap (λ (k : BitVector). k.number) upper_is))))))
 
 where_so : (b : Bool) (o p : Peeled) → (if b then Some o else None) ≡ Some p → (b ≡ true) × (o ≡ p)
 where_so true o p e = (refl, some_is o p e)
@@ -222,6 +310,43 @@ module _ (inputs : ℕ) (input : List ℕ) (bytes : All (λ b. b < 256) input) w
         worth = tested_widened (tree_width t) by signed (tree_value input t) (low_bits t n) n own low (is_number _ _ fits);
       })
 
+  module _ (s t : Tree) (n : BitVector) (term : IsTerm inputs (Joined s t)) (r : IsOfWidth (tree_width s + tree_width t) n) where
+    left : IsOfWidth (tree_width s) (tree_value input s)
+    left = in_range inputs input bytes s term.0
+
+    right : IsOfWidth (tree_width t) (tree_value input t)
+    right = in_range inputs input bytes t term.1
+
+    to_upper : equal (tree_value input s) (bits_above t n) ≡ equal (concat (tree_value input s) (tree_value input t)) n →
+        IsUndone input (Joined s t) n (record { term = s; number = bits_above t n })
+    to_upper worth = record { number = upper_in (tree_width s) (tree_width t) (tree_value input s) (tree_value input t) n left right r; worth = worth }
+
+    to_lower : equal (tree_value input t) (low_bits t n) ≡ equal (concat (tree_value input s) (tree_value input t)) n →
+        IsUndone input (Joined s t) n (record { term = t; number = low_bits t n })
+    to_lower worth = record { number = lower_in (tree_width s) (tree_width t) (tree_value input s) (tree_value input t) n left right r; worth = worth }
+
+    of_either : (b : Bool) (u v p : Peeled) → (b ≡ true → IsUndone input (Joined s t) n u) → (b ≡ false → IsUndone input (Joined s t) n v) →
+        (if b then Some u else Some v) ≡ Some p → IsUndone input (Joined s t) n p
+    of_either true u v p f g e = subst (IsUndone input (Joined s t) n) (some_is u p e) (f refl)
+    of_either false u v p f g e = subst (IsUndone input (Joined s t) n) (some_is v p e) (g refl)
+
+    of_joined : (p : Peeled) (x y : Option BitVector) → tree_number s ≡ x → tree_number t ≡ y →
+        split_by x y (bits_above t n) (low_bits t n) (with_number s) (with_number t) None ≡ Some p → IsUndone input (Joined s t) n p
+    of_joined p None (Some y) e f is =
+        let own : y.number ≡ (tree_value input t).number = ap (λ (v : BitVector). v.number) (sym (number_value input t y f)) in
+        of_either (y.number == (low_bits t n).number) (record { term = s; number = bits_above t n }) (record { term = t; number = low_bits t n }) p
+        (λ h. to_upper (tested_upper (tree_width s) (tree_width t) (tree_value input s) (tree_value input t) n left right r (sym own ∙ is_number _ _ h)))
+        (λ h. to_lower (apart_lower (tree_width s) (tree_width t) (tree_value input s) (tree_value input t) n left right r
+        (λ k. is_apart _ _ h (own ∙ k)))) is
+    of_joined p (Some x) None e f is =
+        let own : x.number ≡ (tree_value input s).number = ap (λ (v : BitVector). v.number) (sym (number_value input s x e)) in
+        of_either (x.number == (bits_above t n).number) (record { term = t; number = low_bits t n }) (record { term = s; number = bits_above t n }) p
+        (λ h. to_lower (tested_lower (tree_width s) (tree_width t) (tree_value input s) (tree_value input t) n left right r (sym own ∙ is_number _ _ h)))
+        (λ h. to_upper (apart_upper (tree_width s) (tree_width t) (tree_value input s) (tree_value input t) n left right r
+        (λ k. is_apart _ _ h (own ∙ k)))) is
+    of_joined p (Some x) (Some y) e f is = cc
+    of_joined p None None e f is = cc
+
   pub undone_worth : (t : Tree) (n : BitVector) (p : Peeled) → IsTerm inputs t → IsOfWidth (tree_width t) n → undone t n ≡ Some p → IsUndone input t n p
   undone_worth (Complement t) n p term r e =
       rw (← some_is (record { term = t; number = bvnot n }) p e) (record {
@@ -235,4 +360,5 @@ module _ (inputs : ℕ) (input : List ℕ) (bytes : All (λ b. b < 256) input) w
       })
   undone_worth (Two op s t) n p term r e = of_two op s t n p (tree_number s) (tree_number t) refl refl term r e
   undone_worth (Widened by signed t) n p term r e = of_widened by signed t n p term r e
+  undone_worth (Joined s t) n p term r e = of_joined s t n term r p (tree_number s) (tree_number t) refl refl e
   undone_worth t n p term r e = cc

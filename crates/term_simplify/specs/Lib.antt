@@ -15,3 +15,4 @@ pub mod Offsets
 pub mod Runs
 pub mod Divisions
 pub mod Lifting
+pub mod Intervals

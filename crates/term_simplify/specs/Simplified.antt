@@ -13,9 +13,10 @@ use Rattle.bv_dag.specs.declared.nodes.Node.{Node}
 use Rattle.bv_dag.specs.declared.nodes.Node.TheVariants.{Num, Input, Not, Neg, Binary, Compare, Ite, Extract, Extend, Concat}
 use Rattle.term_trees.specs.Trees.{Tree, Constant, Byte, tree_width}
 use Rattle.term_simplify.specs.Equalities.{Peeled, peeled}
+use Rattle.term_simplify.specs.Intervals.{Interval, interval_of, joining}
 use Rattle.term_simplify.specs.Narrowing.{negative_narrowing, binary_narrowing, pair_narrowing, choice_narrowing}
 use Rattle.term_simplify.specs.Offsets.{Sum, sum_of}
-use Rattle.term_simplify.specs.Plain.{tree_number, number_tree, complement_of, plain_negative, plain_comparison, plain_choice, extension_by, part_of, joined_of}
+use Rattle.term_simplify.specs.Plain.{tree_number, number_tree, complement_of, plain_binary, plain_negative, plain_comparison, plain_choice, extension_by, part_of, joined_of}
 use Rattle.term_simplify.specs.Times.{own_binary}
 use Rattle.term_simplify.specs.declared.narrowing.Narrow.{Narrow}
 
@@ -85,7 +86,23 @@ compared op s t = comparison_at (pair_narrowing s t) op s t
 abbrev pub equal_to : Peeled → Tree
 equal_to p = compared Eq p.term (number_tree p.number)
 
+abbrev pub below_number : Tree → BitVector → Tree
+below_number t n = compared Ult t (number_tree n)
+
+-- A term in an interval is not below its one end, and below the other; or one of the two, where the
+-- interval goes round; or not below its one end, where it ends at 0.
+abbrev pub in_interval : Interval → Tree
+in_interval i =
+    if i.high.number == 0 then complement_of (below_number i.term i.low)
+    else plain_binary (joining i.low i.high) (complement_of (below_number i.term i.low))
+    (below_number i.term i.high)
+
+abbrev pub in_interval_if : Option Interval → (otherwise : Tree) → Tree
+in_interval_if (Some i) otherwise = in_interval i
+in_interval_if None otherwise = otherwise
+
 abbrev pub told_by : Comparison → Option BitVector → Option BitVector → (s t : Tree) → Tree
+told_by Ult None (Some y) s t = in_interval_if (interval_of s y) (compared Ult s t)
 told_by Slt None (Some y) s t =
     if y.number == 0 then part_of (y.width - 1) (y.width - 1) s else compared Slt s t
 told_by Eq None (Some y) s t = equal_to (peeled s y)

@@ -7,12 +7,13 @@ use Rattle.bv_dag.specs.declared.nodes.Node.{Node}
 use Rattle.bv_dag.specs.declared.nodes.Node.TheVariants.{Binary, Compare}
 use Rattle.term_trees.specs.Trees.{Tree, IsOfWidth, tree_of}
 use Rattle.term_simplify.specs.Equalities.{Peeled}
+use Rattle.term_simplify.specs.Intervals.{IsBetween, between_at, interval_word}
 use Rattle.term_simplify.specs.Moves.{unmoved}
 use Rattle.term_simplify.specs.Plain.{part_of}
-use Rattle.term_simplify.specs.Simplified.{compared, equal_to, narrowed}
+use Rattle.term_simplify.specs.Simplified.{compared, equal_to, in_interval, narrowed}
 use Rattle.term_simplify.specs.declared.equalities.Equality.{Equality}
 use Rattle.term_simplify.specs.declared.equalities.Told.{Told}
-use Rattle.term_simplify.specs.declared.equalities.Told.TheVariants.{Sign, Equal}
+use Rattle.term_simplify.specs.declared.equalities.Told.TheVariants.{Sign, Equal, Within}
 
 abbrev pub peeled_at : Graph → Equality → Peeled
 peeled_at graph e = record { term = tree_of graph e.term; number = e.number }
@@ -25,14 +26,17 @@ pub record IsEquality (graph : Graph) (e : Equality) : Type 0 where
 abbrev pub IsTold : Graph → Told → Type 0
 IsTold graph (Sign operand width) = (0 < width) × (width_of graph operand ≡ width)
 IsTold graph (Equal e) = IsEquality graph e
+IsTold graph (Within b) = IsBetween graph b
 
 abbrev pub told_tree : Graph → Told → Tree
 told_tree graph (Sign operand width) = part_of (width - 1) (width - 1) (tree_of graph operand)
 told_tree graph (Equal e) = equal_to (peeled_at graph e)
+told_tree graph (Within b) = in_interval (between_at graph b)
 
 abbrev pub told_word : Graph → Told → List ℕ → BitVector
 told_word graph (Sign operand width) input = extract (width - 1) (width - 1) (val graph operand input)
 told_word graph (Equal e) input = equal (val graph e.term input) e.number
+told_word graph (Within b) input = interval_word (val graph b.term input) b.low b.high
 
 -- the simplified tree of a node that moves no bits and is no such test
 abbrev pub untold : (operand : ℕ → Tree) → Node → Tree

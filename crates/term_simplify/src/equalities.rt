@@ -1,4 +1,5 @@
-//! Tests that another term tells: a term is below 0 by its sign, and is a number where what it is made of is another.
+//! Tests that another term tells: a term is below 0 by its sign, is a number where what it is made of is another, and as a sum
+//! is below a number where its term lies between two.
 
 ghost use Rattle.std.specs.Prelude.{◌≡◌, ◌<◌, ◌≤◌, ◌+◌, ◌⊎◌, ℕ, List, All, Some, None, IfOk, IfSome, OnErr, length, option_map};
 ghost use Rattle.bv_dag.specs.Graphs.{IsDag, val, width_of};
@@ -14,6 +15,7 @@ ghost use Rattle.term_simplify.specs.Told.{IsEquality, IsTold, Tells, peeled_at,
 
 use crate::builder::Builder;
 use crate::extensions::extended;
+use crate::intervals::{Between, interval_of};
 use crate::plan::number_at;
 use bv_dag::{BinaryOp, Comparison, Node, Word};
 use std::alloc::AllocError as NoMemory;
@@ -22,15 +24,16 @@ use term_table::Terms;
 /// A term and the number that it is compared with.
 #[derive(Clone, Copy, Debug)]
 pub(crate) struct Equality {
-    term: usize,
-    number: Word,
+    pub term: usize,
+    pub number: Word,
 }
 
-/// What tells a test: the sign of a term, or whether a term is a number.
+/// What tells a test: the sign of a term, whether a term is a number, or whether it lies between two.
 #[derive(Clone, Copy, Debug)]
 pub(crate) enum Told {
     Sign { operand: usize, width: u32 },
     Equal(Equality),
+    Within(Between),
 }
 
 /// What the first operand is where an operation of it and this number is `n`.
@@ -119,8 +122,44 @@ fn undone_widened(terms: &Terms, by: u32, signed: bool, a: usize, n: Word) -> Op
     }
 }
 
+/// Which of two joined terms is which number, exactly where they are `n`, or tells by itself that they are not.
+fn undone_joined(terms: &Terms, a: usize, b: usize, n: Word) -> Option<Equality>
+    requires fits { Fits terms.now.inputs (widths_of terms.now.nodes) (Node.Concat a b) }
+    requires wide { n.width ≡ width_of terms.now a + width_of terms.now b }
+    ensures is { option_map (peeled_at terms.now) result
+        ≡ equalities.undone (node_tree (tree_of terms.now) (Node.Concat a b)) n }
+    ensures there { IfSome result (λ e. (e.term ≡ a) ⊎ (e.term ≡ b)) }
+{
+    let width = terms.width_of(b);
+    let upper = Equality {
+        term: a,
+        number: n.extracted(n.width() - 1, width),
+    };
+    let lower = Equality {
+        term: b,
+        number: n.extracted(width - 1, 0),
+    };
+    match (number_at(terms, a), number_at(terms, b)) {
+        (None, Some(y)) => {
+            if y.number() == lower.number.number() {
+                Some(upper)
+            } else {
+                Some(lower)
+            }
+        }
+        (Some(x), None) => {
+            if x.number() == upper.number.number() {
+                Some(lower)
+            } else {
+                Some(upper)
+            }
+        }
+        _ => None,
+    }
+}
+
 /// What is a number exactly where a term is one, by the term's top operation.
-fn undone(terms: &Terms, e: Equality) -> Option<Equality>
+pub(crate) fn undone(terms: &Terms, e: Equality) -> Option<Equality>
     requires { IsEquality terms.now e }
     ensures is { option_map (peeled_at terms.now) result
         ≡ equalities.undone (tree_of terms.now e.term) e.number }
@@ -143,6 +182,7 @@ fn undone(terms: &Terms, e: Equality) -> Option<Equality>
             signed,
             operand,
         } => undone_widened(terms, by, signed, operand, e.number),
+        Node::Concat { high, low } => undone_joined(terms, high, low, e.number),
         _ => None,
     }
 }
@@ -166,6 +206,23 @@ fn peeled(terms: &Terms, e: Equality) -> Equality
     Equality { term, number }
 }
 
+/// A term that is below a number.
+fn told_below(terms: &Terms, a: usize, y: Word, b: usize) -> Option<Told>
+    requires fits { Fits terms.now.inputs (widths_of terms.now.nodes)
+        (Node.Compare Comparison.Ult a b) }
+    requires first { tree_number (tree_of terms.now a) ≡ None }
+    requires second { tree_number (tree_of terms.now b) ≡ Some y }
+    requires dag { IsDag terms.now }
+    ensures some { IfSome result (λ t. Tells terms.now (Node.Compare Comparison.Ult a b) t) }
+    ensures none { result ≡ None → unmoved (tree_of terms.now) (Node.Compare Comparison.Ult a b)
+        ≡ untold (tree_of terms.now) (Node.Compare Comparison.Ult a b) }
+{
+    match interval_of(terms, Equality { term: a, number: y }) {
+        Some(interval) => Some(Told::Within(interval)),
+        None => None,
+    }
+}
+
 /// A term and then a number.
 fn told_second(terms: &Terms, op: Comparison, a: usize, y: Word, b: usize) -> Option<Told>
     requires fits { Fits terms.now.inputs (widths_of terms.now.nodes) (Node.Compare op a b) }
@@ -177,7 +234,7 @@ fn told_second(terms: &Terms, op: Comparison, a: usize, y: Word, b: usize) -> Op
         ≡ untold (tree_of terms.now) (Node.Compare op a b) }
 {
     match op {
-        Comparison::Ult => None,
+        Comparison::Ult => told_below(terms, a, y, b),
         Comparison::Slt => {
             if y.number() == 0 {
                 Some(Told::Sign {
@@ -244,7 +301,7 @@ pub(crate) fn told_of(terms: &Terms, node: Node) -> Option<Told>
 
 impl Builder {
     /// A term on the way that is no test which another tells.
-    fn untold_step(&mut self, node: Node) -> Result<usize, NoMemory>
+    pub(crate) fn untold_step(&mut self, node: Node) -> Result<usize, NoMemory>
         requires { Fits self.old.inputs (widths_of self.old.nodes) node }
         ensures continues { Continues self.old self.new }
         ensures ok { IfOk result (λ id. Stands self.new id (untold (tree_of self.old) node)
@@ -277,6 +334,7 @@ impl Builder {
                 })?;
                 self.untold_step(Node::Compare(Comparison::Eq, e.term, number))
             }
+            Told::Within(b) => self.between(b),
         }
     }
 

@@ -16,6 +16,7 @@ mod comparisons;
 mod divisions;
 mod equalities;
 mod extensions;
+mod intervals;
 mod joints;
 mod lifting;
 mod machine;

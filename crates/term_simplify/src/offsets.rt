@@ -23,9 +23,9 @@ use term_table::Terms;
 /// A number that a term is added to, or taken from.
 #[derive(Clone, Copy, Debug)]
 pub(crate) struct Summand {
-    taken: bool,
-    term: usize,
-    number: Word,
+    pub taken: bool,
+    pub term: usize,
+    pub number: Word,
 }
 
 /// An operation of two terms.
@@ -64,7 +64,7 @@ fn offset_by(terms: &Terms, op: BinaryOp, a: usize, b: usize) -> Option<Summand>
 }
 
 /// What a term is of a term and a number, if it is a sum or difference of them.
-fn offset_of(terms: &Terms, id: usize) -> Option<Summand>
+pub(crate) fn offset_of(terms: &Terms, id: usize) -> Option<Summand>
     requires { id < length terms.now.nodes }
     ensures some { IfSome result (λ o. IsSummand terms.now (width_of terms.now id) o) }
     ensures is { option_map (offset_at terms.now) result

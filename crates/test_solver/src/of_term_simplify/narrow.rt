@@ -2,6 +2,7 @@
 
 mod bits;
 mod divisions;
+mod intervals;
 mod joints;
 mod offsets;
 mod products;
@@ -11,6 +12,7 @@ mod tests;
 use crate::of_term_simplify::calls::{build, is_node};
 use crate::of_term_simplify::narrow::bits::{BITWISE, FULL, SETTLED};
 use crate::of_term_simplify::narrow::divisions::{POWERS, STAGES};
+use crate::of_term_simplify::narrow::intervals::{HALVES, INTERVALS};
 use crate::of_term_simplify::narrow::joints::JOINTS;
 use crate::of_term_simplify::narrow::offsets::OFFSETS;
 use crate::of_term_simplify::narrow::products::{PRODUCTS, QUOTIENTS, REMAINDERS};
@@ -144,6 +146,8 @@ fn few_low_bits_tell_a_result(rt: HostRuntime) -> Result<(), Fail> {
         OFFSETS,
         POWERS,
         STAGES,
+        INTERVALS,
+        HALVES,
     ];
     for (table, rows) in tables.iter().enumerate() {
         for (at, row) in rows.iter().enumerate() {

@@ -1,7 +1,7 @@
 use Rattle.std.proofs.Common.{sym, Some, None}
 use Rattle.term_trees.specs.Trees.{tree_of}
 use Rattle.term_simplify.proofs.Reading.{has_second_term, has_term}
-use Rattle.term_simplify.proofs.Telling.{equal_first, number_at_second, slt_stays, stays, ult_stays}
+use Rattle.term_simplify.proofs.Telling.{equal_first, first_stays, number_at_second, slt_stays, stays}
 use Rattle.term_simplify.proofs.equalities.told_first.Goals as goal
 
 pub peeled-requires : goal.peeled-requires
@@ -13,7 +13,7 @@ peeled-requires c =
 pub returns-in-Ult-clause-none : goal.returns-in-Ult-clause-none
 returns-in-Ult-clause-none c = λ none.
     rw c.in-Ult.is (stays (tree_of c.args.terms.now) _ c.args.a c.args.b _ _ c.requires.first c.requires.second
-    (ult_stays (Some c.args.x) None (tree_of c.args.terms.now c.args.a) (tree_of c.args.terms.now c.args.b)))
+    (first_stays c.args.x (tree_of c.args.terms.now c.args.a) (tree_of c.args.terms.now c.args.b)))
 
 pub returns-in-Slt-clause-none : goal.returns-in-Slt-clause-none
 returns-in-Slt-clause-none c = λ none.

@@ -20,11 +20,6 @@ peeled-requires c =
     (has_second_term g c.args.a c.args.b c.requires.fits.0 c.requires.fits.1) c.requires.fits.1 c.requires.second in
     (come_on g c.requires.dag start start c.in-Some.inner (come_here g start is) c.in-Some.ensures.is c.in-Some.ensures.there).is_equality
 
-pub returns-in-Ult-clause-none : goal.returns-in-Ult-clause-none
-returns-in-Ult-clause-none c = λ none.
-    rw c.in-Ult.is (stays (tree_of c.args.terms.now) _ c.args.a c.args.b _ _ c.requires.first c.requires.second
-    (ult_stays None (Some c.args.y) (tree_of c.args.terms.now c.args.a) (tree_of c.args.terms.now c.args.b)))
-
 pub returns-then-number-eq0-clause-some : goal.returns-then-number-eq0-clause-some
 returns-then-number-eq0-clause-some c =
     let zero : (c.args.y.number == 0) ≡ true =

@@ -1,7 +1,7 @@
 use Rattle.std.proofs.Common.{◌<◌, arith, ap, length, subst, sym}
 use Rattle.term_trees.specs.Trees.{tree_of}
 use Rattle.term_simplify.specs.declared.equalities.Equality.{Equality}
-use Rattle.term_simplify.proofs.Telling.{either, first_operand, first_wide, if_some, neg_operand, not_operand, operands_fit, other_here, second_operand, undone_here, widened_more, widened_operand, widened_wide, with_word}
+use Rattle.term_simplify.proofs.Telling.{either, first_operand, first_wide, if_some, joined_fit, joined_wide, lower_operand, neg_operand, not_operand, operands_fit, other_here, second_operand, undone_here, upper_operand, widened_more, widened_operand, widened_wide, with_word}
 use Rattle.term_simplify.proofs.equalities.undone.Goals as goal
 
 pub undone_by-requires-clause-fits : goal.undone_by-requires-clause-fits
@@ -78,10 +78,34 @@ returns-in-Extend-clause-earlier c =
     if_some _ _ (λ (f : Equality). f.term < c.args.e.term) c.undone_widened.ensures.there
     (λ f at. subst (λ k. k < c.args.e.term) (sym at) inner.earlier)
 
+pub undone_joined-requires-clause-fits : goal.undone_joined-requires-clause-fits
+undone_joined-requires-clause-fits c = joined_fit c.args.terms.now c.args.e.term c.node.ensures.fit _ _ c.in-Concat.ensures.is
+
+pub undone_joined-requires-clause-wide : goal.undone_joined-requires-clause-wide
+undone_joined-requires-clause-wide c = joined_wide c.args.terms.now c.args.e.term c.node.ensures.fit _ _ _ c.in-Concat.ensures.is c.requires.number
+
+pub returns-in-Concat-clause-is : goal.returns-in-Concat-clause-is
+returns-in-Concat-clause-is c =
+    undone_here c.args.terms.now c.args.e.term c.node.ensures.fit c.args.e.number _ c.in-Concat.ensures.is c.undone_joined.ensures.is
+
+pub returns-in-Concat-clause-there : goal.returns-in-Concat-clause-there
+returns-in-Concat-clause-there c =
+    let first = upper_operand c.args.terms.now c.args.e.term c.node.ensures.fit _ _ c.in-Concat.ensures.is in
+    let second = lower_operand c.args.terms.now c.args.e.term c.node.ensures.fit _ _ c.in-Concat.ensures.is in
+    if_some _ _ (λ (f : Equality). f.term < length c.args.terms.now.nodes) c.undone_joined.ensures.there
+    (λ f at. either (λ k. k < length c.args.terms.now.nodes) f.term _ _ at first.there second.there)
+
+pub returns-in-Concat-clause-earlier : goal.returns-in-Concat-clause-earlier
+returns-in-Concat-clause-earlier c =
+    let first = upper_operand c.args.terms.now c.args.e.term c.node.ensures.fit _ _ c.in-Concat.ensures.is in
+    let second = lower_operand c.args.terms.now c.args.e.term c.node.ensures.fit _ _ c.in-Concat.ensures.is in
+    if_some _ _ (λ (f : Equality). f.term < c.args.e.term) c.undone_joined.ensures.there
+    (λ f at. either (λ k. k < c.args.e.term) f.term _ _ at first.earlier second.earlier)
+
 pub returns-in_default : goal.returns-in_default
 returns-in_default c = record {
   is = other_here c.args.terms.now c.args.e.term c.node.ensures.fit c.args.e.number c.node.result c.node.ensures.is
-      c.in_default.not-Not c.in_default.not-Neg c.in_default.not-Binary c.in_default.not-Extend;
+      c.in_default.not-Not c.in_default.not-Neg c.in_default.not-Binary c.in_default.not-Extend c.in_default.not-Concat;
   there = tt;
   earlier = tt;
   fit = c.node.ensures.fit;
