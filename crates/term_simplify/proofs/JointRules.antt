@@ -15,8 +15,7 @@ use Rattle.term_trees.specs.Trees.{Tree, Constant, Joined, Two, Widened, tree_wi
 use Rattle.term_trees.proofs.Ranges.{in_range}
 use Rattle.term_simplify.specs.Joints.{joint_by, joint_of, joins}
 use Rattle.term_simplify.specs.Narrowing.{is_zero}
-use Rattle.term_simplify.specs.Plain.{further, joined_of, plain_binary, tree_number}
-use Rattle.term_simplify.proofs.BinaryRules.{value-plain_binary}
+use Rattle.term_simplify.specs.Plain.{further, joined_of, tree_number}
 use Rattle.term_simplify.proofs.ExtensionRules.{value-further, value-joined_of}
 use Rattle.term_simplify.proofs.PartTerms.{term-further, width-further}
 use Rattle.term_simplify.proofs.Words.{by_parts, is_at_most, is_number, value_by_test}
@@ -64,7 +63,7 @@ module _ (u z v : BitVector) (none : z.number ≡ 0) (few : v.width ≤ z.width)
       (ap (λ k. u.number * 2 ^ k + v.number) wide ∙ ap (λ n. n + v.number) (sym number_above))
 
 -- a number that is 0
-is_0 : (input : List ℕ) (z : Tree) → is_zero (tree_number z) ≡ true → (tree_value input z).number ≡ 0
+pub is_0 : (input : List ℕ) (z : Tree) → is_zero (tree_number z) ≡ true → (tree_value input z).number ≡ 0
 is_0 input (Constant w n) h = is_number n 0 h
 is_0 input z h = cc
 
@@ -138,17 +137,16 @@ module _ (inputs : ℕ) (input : List ℕ) (bytes : All (λ b. b < 256) input) w
       (λ _. plain)
   value-joint_by s t otherwise word upper wide plain sum = plain
 
-  pub value-joint_of : (op : BinaryOp) (s t : Tree) → IsTerm inputs (Two op s t) → tree_value input (joint_of op s t) ≡ tree_value input (Two op s t)
+  pub value-joint_of : (op : BinaryOp) (s t : Tree) → IsTerm inputs (Two op s t) → tree_value input (joint_of op s t (Two op s t)) ≡ tree_value input (Two op s t)
   unfolding joint_of
   value-joint_of op s t term =
-      let plain = value-plain_binary inputs input op s t bytes term in
       let first = in_range inputs input bytes s term.0 in
       let x = tree_value input s in
       let y = tree_value input t in
-      value_by_test input (joins op) (joint_by s t (joint_by t s (plain_binary op s t))) (plain_binary op s t) (tree_value input (Two op s t))
-      (λ h. value-joint_by s t (joint_by t s (plain_binary op s t)) (tree_value input (Two op s t)) term.0 term.1
-      (value-joint_by t s (plain_binary op s t) (tree_value input (Two op s t)) term.1 term.0 plain
+      value_by_test input (joins op) (joint_by s t (joint_by t s (Two op s t))) (Two op s t) (tree_value input (Two op s t))
+      (λ h. value-joint_by s t (joint_by t s (Two op s t)) (tree_value input (Two op s t)) term.0 term.1
+      (value-joint_by t s (Two op s t) (tree_value input (Two op s t)) term.1 term.0 refl
       (λ p. by_parts (tree_width t) (x.number + y.number) (record { width = tree_width t; number = y.number + x.number }) refl (omega arith)
       ∙ sym (together op (tree_width t) x y h (first.width ∙ term.2) (other_way (tree_width t) y x p))))
       (λ p. sym (together op (tree_width s) x y h first.width p)))
-      (λ _. plain)
+      (λ _. refl)

@@ -58,3 +58,6 @@ pub mod RunNumbers
 pub mod RunSteps
 pub mod DivisionNumbers
 pub mod DivisionSteps
+pub mod ZeroNumbers
+pub mod ZeroRules
+pub mod ZeroReading

@@ -30,7 +30,7 @@ low_fits n x some fits =
     rw (low_is n x some) (record { width = refl; not_empty = some; at_most_64 = fits; in_range = mod_below x.number (2 ^ n) (pow_pos n) })
 
 -- ---- an operation modulo 2 ^ w and then modulo 2 ^ n
-cut_again : (w n m : ℕ) → n ≤ w → m % 2 ^ w % 2 ^ n ≡ m % 2 ^ n
+pub cut_again : (w n m : ℕ) → n ≤ w → m % 2 ^ w % 2 ^ n ≡ m % 2 ^ n
 cut_again w n m fits =
     let e : w ≡ (w - n) + n = omega (arith, fits) in
     ap (λ k. m % 2 ^ k % 2 ^ n) e ∙ mod-mod-pow m (w - n) n

@@ -6,7 +6,7 @@ use Rattle.bv_dag.specs.declared.nodes.BinaryOp.{BinaryOp}
 use Rattle.bv_dag.specs.declared.nodes.BinaryOp.TheVariants.{Add, Or, Xor}
 use Rattle.term_trees.specs.Trees.{Tree, Joined, tree_of, tree_width}
 use Rattle.term_simplify.specs.Narrowing.{is_zero}
-use Rattle.term_simplify.specs.Plain.{further, joined_of, plain_binary, tree_number}
+use Rattle.term_simplify.specs.Plain.{further, joined_of, tree_number}
 use Rattle.term_simplify.specs.Plans.{under_zeros}
 use Rattle.term_simplify.specs.declared.joints.Joint.{Joint}
 
@@ -28,10 +28,10 @@ joint_over s v otherwise = otherwise
 abbrev pub joint_by : Tree → Tree → (otherwise : Tree) → Tree
 joint_by s t otherwise = joint_over s (under_zeros t) otherwise
 
--- an operation of two terms at their own width
-unfoldable pub joint_of : BinaryOp → Tree → Tree → Tree
-joint_of op s t =
-    if joins op then joint_by s t (joint_by t s (plain_binary op s t)) else plain_binary op s t
+-- an operation of two terms at their own width, which may be another one where they are not such
+unfoldable pub joint_of : BinaryOp → (s t otherwise : Tree) → Tree
+joint_of op s t otherwise =
+    if joins op then joint_by s t (joint_by t s otherwise) else otherwise
 
 -- ---- Such terms as the code finds them.
 abbrev pub joint_tree : Graph → Joint → Tree

@@ -16,3 +16,4 @@ pub mod Runs
 pub mod Divisions
 pub mod Lifting
 pub mod Intervals
+pub mod Zeros

@@ -1,8 +1,9 @@
 -- What a term is simplified to: a tree, from the trees of its operands. A shift by a number moves
--- bits; the numbers of sums are one (`Offsets`); an operation of which few low bits tell the result is
--- made of as many bits of its operands, and widened. At its own width a product by a number is as `Times` has it, two terms without a bit
--- in common are the one above the other (`Joints`), and any other term is as `Plain` has it. Each
--- rule is decided by the numbers that operands are and by their top nodes.
+-- bits; the numbers of sums are one (`Offsets`); an operation of which few low bits tell the
+-- result is made of as many bits of its operands, and widened. At its own width a product by a
+-- number is as `Times` has it, two terms without a bit in common are the one above the other
+-- (`Joints`), zeros at the low end are left out (`Zeros`), and any other term is as `Plain` has
+-- it. Each rule is decided by the numbers that operands are and by their top nodes.
 use Rattle.std.specs.Prelude.{ℕ, ◌-◌, ◌==◌, ◌&&◌, Bool, true, false, nat_lt, Option, Some, None, if◌then◌else◌}
 use Rattle.bv_dag.specs.BitVectors.{BitVector}
 use Rattle.bv_dag.specs.declared.nodes.BinaryOp.{BinaryOp}
@@ -16,8 +17,9 @@ use Rattle.term_simplify.specs.Equalities.{Peeled, peeled}
 use Rattle.term_simplify.specs.Intervals.{Interval, interval_of, joining}
 use Rattle.term_simplify.specs.Narrowing.{negative_narrowing, binary_narrowing, pair_narrowing, choice_narrowing}
 use Rattle.term_simplify.specs.Offsets.{Sum, sum_of}
-use Rattle.term_simplify.specs.Plain.{tree_number, number_tree, complement_of, plain_binary, plain_negative, plain_comparison, plain_choice, extension_by, part_of, joined_of}
+use Rattle.term_simplify.specs.Plain.{tree_number, number_tree, complement_of, plain_binary, plain_negative, plain_choice, extension_by, part_of, joined_of}
 use Rattle.term_simplify.specs.Times.{own_binary}
+use Rattle.term_simplify.specs.Zeros.{lifted_comparison}
 use Rattle.term_simplify.specs.declared.narrowing.Narrow.{Narrow}
 
 -- ---- A shift of a term by a number below its width moves its bits, which takes no circuit: the lower
@@ -75,8 +77,8 @@ comparison_by_low signed op = op
 
 abbrev pub comparison_at : Option Narrow → Comparison → Tree → Tree → Tree
 comparison_at (Some n) op s t =
-    plain_comparison (comparison_by_low n.signed op) (low_of n s) (low_of n t)
-comparison_at None op s t = plain_comparison op s t
+    lifted_comparison (comparison_by_low n.signed op) (low_of n s) (low_of n t)
+comparison_at None op s t = lifted_comparison op s t
 
 abbrev pub compared : Comparison → Tree → Tree → Tree
 compared op s t = comparison_at (pair_narrowing s t) op s t

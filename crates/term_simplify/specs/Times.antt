@@ -10,8 +10,8 @@ use Rattle.bv_dag.specs.declared.nodes.BinaryOp.TheVariants.{Add, Sub, Mul}
 use Rattle.bv_dag.specs.declared.nodes.Node.{Node}
 use Rattle.bv_dag.specs.declared.nodes.Node.TheVariants.{Binary}
 use Rattle.term_trees.specs.Trees.{Tree, Constant}
-use Rattle.term_simplify.specs.Plain.{plain, plain_binary, plain_negative, part_of, joined_of, tree_number}
-use Rattle.term_simplify.specs.Divisions.{by_divisor}
+use Rattle.term_simplify.specs.Divisions.{by_divisor, unmultiplied}
+use Rattle.term_simplify.specs.Plain.{plain_binary, plain_negative, part_of, joined_of, tree_number}
 use Rattle.term_simplify.specs.declared.times.Product.{Product}
 
 -- a term above so many zeros
@@ -56,7 +56,7 @@ own_binary op s t = multiplied op (tree_number s) (tree_number t) s t (by_diviso
 -- the tree of a node at its own width
 abbrev pub own : (operand : ℕ → Tree) → Node → Tree
 own operand (Binary op a b) = own_binary op (operand a) (operand b)
-own operand node = plain operand node
+own operand node = unmultiplied operand node
 
 -- ---- What they are worth.
 abbrev pub raised_word : (by : ℕ) → BitVector → BitVector

@@ -477,6 +477,7 @@ impl Builder {
     {
         match node {
             Node::Binary(op, a, b) => self.by_divisor_step(op, a, b),
+            Node::Compare(op, a, b) => self.comparison_step(op, a, b),
             _ => self.plain_step(node),
         }
     }

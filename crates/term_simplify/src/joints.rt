@@ -6,8 +6,8 @@ ghost use Rattle.bv_dag.specs.Nodes.{Fits, binary, widths_of};
 ghost use Rattle.term_trees.specs.Growth.{Continues};
 ghost use Rattle.term_trees.specs.Trees.{Tree, tree_of, node_tree, IsTerm};
 ghost use Rattle.term_simplify.specs.Joints.{IsJoint, joins, joint_by, joint_of, joint_tree};
-ghost use Rattle.term_simplify.specs.Plain.{plain_binary};
 ghost use Rattle.term_simplify.specs.Steps.{Stands};
+ghost use Rattle.term_simplify.specs.Zeros.{lifted_binary};
 
 use crate::builder::Builder;
 use crate::narrowing::is_zero;
@@ -78,10 +78,11 @@ fn joint_by(terms: &Terms, a: usize, b: usize) -> Option<Joint>
 fn joint_of(terms: &Terms, op: BinaryOp, a: usize, b: usize) -> Option<Joint>
     requires { Fits terms.now.inputs (widths_of terms.now.nodes) (Node.Binary op a b) }
     ensures some { IfSome result (λ j. IsJoint terms.now j) }
-    ensures tree { IfSome result (λ j. joint_of op (tree_of terms.now a) (tree_of terms.now b)
+    ensures tree { IfSome result (λ j. (otherwise : Tree)
+        → joint_of op (tree_of terms.now a) (tree_of terms.now b) otherwise
         ≡ joint_tree terms.now j) }
-    ensures none { result ≡ None → joint_of op (tree_of terms.now a) (tree_of terms.now b)
-        ≡ plain_binary op (tree_of terms.now a) (tree_of terms.now b) }
+    ensures none { result ≡ None → (otherwise : Tree)
+        → joint_of op (tree_of terms.now a) (tree_of terms.now b) otherwise ≡ otherwise }
     ensures fit { IfSome result (λ _. IsDag terms.now) }
 {
     if !joins(op) {
@@ -118,13 +119,14 @@ impl Builder {
         requires { Fits self.old.inputs (widths_of self.old.nodes) (Node.Binary op a b) }
         ensures continues { Continues self.old self.new }
         ensures ok { IfOk result (λ id. Stands self.new id
-            (joint_of op (tree_of self.old a) (tree_of self.old b)) (width_of self.old a)
+            (joint_of op (tree_of self.old a) (tree_of self.old b)
+            (lifted_binary op (tree_of self.old a) (tree_of self.old b))) (width_of self.old a)
             (λ input. binary op (val self.old a input) (val self.old b input))) }
         ensures term { IsTerm self.old.inputs (node_tree (tree_of self.old) (Node.Binary op a b)) }
     {
         match joint_of(self.terms(), op, a, b) {
             Some(joint) => self.one_above(joint),
-            None => self.plain_step(Node::Binary(op, a, b)),
+            None => self.lifted_step(op, a, b),
         }
     }
 }

@@ -4,8 +4,8 @@
 //! stand above it. Only then is the table written. A shift by a number is made of two or three such terms, an operation of two
 //! terms without a bit in common likewise, a product by a number of a few for each of its digits that is not 0, and a quotient or a
 //! remainder by a number of some ten for each bit of the dividend. An operation or a test of which few low bits tell the result
-//! is made of as many bits of its operands, which are up to two terms more, and widened. A test that another term tells is made
-//! of that term.
+//! is made of as many bits of its operands, which are up to two terms more, and widened. Where operands have zeros at their low
+//! end, it is made of what stands above these. A test that another term tells is made of that term.
 #![tactic(auto)]
 
 mod binaries;
@@ -31,5 +31,6 @@ mod plan;
 mod recipe;
 mod runs;
 mod times;
+mod zeros;
 
 pub use builder::Builder;

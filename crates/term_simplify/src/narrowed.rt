@@ -117,7 +117,7 @@ impl Builder {
     {
         let left = self.low(n, a)?;
         let right = self.low(n, b)?;
-        self.plain_step(Node::Compare(comparison_by_low(n.signed, op), left, right))
+        self.own_step(Node::Compare(comparison_by_low(n.signed, op), left, right))
     }
 
     /// A choice between two terms.

@@ -179,7 +179,7 @@ fn is_zero_first(op: BinaryOp, left: Option<Word>) -> bool
 }
 
 /// Whether an operation of two terms is made at their width.
-fn is_settled(terms: &Terms, op: BinaryOp, a: usize, b: usize) -> bool
+pub(crate) fn is_settled(terms: &Terms, op: BinaryOp, a: usize, b: usize) -> bool
     requires first { a < length terms.now.nodes }
     requires second { b < length terms.now.nodes }
     ensures is { result ≡ narrowings.is_settled op (tree_of terms.now a) (tree_of terms.now b) }

@@ -1,5 +1,5 @@
 use Rattle.std.proofs.Common.{◌≡◌, ◌∙◌, true, refl, sym}
-use Rattle.term_trees.specs.Trees.{tree_of}
+use Rattle.term_trees.specs.Trees.{Tree, tree_of}
 use Rattle.term_simplify.specs.Joints.{joint_of, joint_tree, joins}
 use Rattle.term_simplify.proofs.JointReading.{if_some}
 use Rattle.term_simplify.proofs.Reading.{has_second_term, has_term}
@@ -19,21 +19,21 @@ joint_by-requires-in-None-clause-second c = has_term c.args.terms.now c.args.a c
 
 pub returns-then-not-joins-clause-none : goal.returns-then-not-joins-clause-none
 unfolding joint_of
-returns-then-not-joins-clause-none c = λ none. rw (← c.joins.ensures, c.if-not-joins.true) refl
+returns-then-not-joins-clause-none c = λ none otherwise. rw (← c.joins.ensures, c.if-not-joins.true) refl
 
 pub returns-in-Some-clause-tree : goal.returns-in-Some-clause-tree
 unfolding joint_of
-returns-in-Some-clause-tree c = rw (← c.joins.ensures, c.if-not-joins.false) (c.in-Some.ensures.tree _)
+returns-in-Some-clause-tree c = λ otherwise. rw (← c.joins.ensures, c.if-not-joins.false) (c.in-Some.ensures.tree _)
 
 pub returns-in-None-clause-tree : goal.returns-in-None-clause-tree
 unfolding joint_of
 returns-in-None-clause-tree c =
     let joined : joins c.args.op ≡ true = sym c.joins.ensures ∙ c.if-not-joins.false in
-    if_some _ _ (λ j. joint_of c.args.op (tree_of c.args.terms.now c.args.a) (tree_of c.args.terms.now c.args.b) ≡ joint_tree c.args.terms.now j)
-    c.joint_by-in-None.ensures.tree (λ j is. rw joined (c.in-None.ensures.none refl _ ∙ is _))
+    if_some _ _ (λ j. (otherwise : Tree) → joint_of c.args.op (tree_of c.args.terms.now c.args.a) (tree_of c.args.terms.now c.args.b) otherwise ≡ joint_tree c.args.terms.now j)
+    c.joint_by-in-None.ensures.tree (λ j is otherwise. rw joined (c.in-None.ensures.none refl _ ∙ is _))
 
 pub returns-in-None-clause-none : goal.returns-in-None-clause-none
 unfolding joint_of
-returns-in-None-clause-none c = λ none.
+returns-in-None-clause-none c = λ none otherwise.
     let joined : joins c.args.op ≡ true = sym c.joins.ensures ∙ c.if-not-joins.false in
     rw joined (c.in-None.ensures.none refl _ ∙ c.joint_by-in-None.ensures.none none _)
