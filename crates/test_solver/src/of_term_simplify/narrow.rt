@@ -8,6 +8,7 @@ mod offsets;
 mod products;
 mod sums;
 mod tests;
+mod zeros;
 
 use crate::of_term_simplify::calls::{build, is_node};
 use crate::of_term_simplify::narrow::bits::{BITWISE, FULL, SETTLED};
@@ -18,7 +19,8 @@ use crate::of_term_simplify::narrow::offsets::OFFSETS;
 use crate::of_term_simplify::narrow::products::{PRODUCTS, QUOTIENTS, REMAINDERS};
 use crate::of_term_simplify::narrow::sums::{DIFFERENCES, SUMS};
 use crate::of_term_simplify::narrow::tests::{ALIKE, CHOICES, TESTS};
-use bv_dag::{BinaryOp, Comparison, Node};
+use crate::of_term_simplify::narrow::zeros::ZEROS;
+use bv_dag::{BinaryOp, Comparison, Comparison, Node, Node};
 use std::alloc::AllocError as NoMemory;
 use std::process::Abort;
 use std::test::Fail;
@@ -148,6 +150,7 @@ fn few_low_bits_tell_a_result(rt: HostRuntime) -> Result<(), Fail> {
         STAGES,
         INTERVALS,
         HALVES,
+        ZEROS,
     ];
     for (table, rows) in tables.iter().enumerate() {
         for (at, row) in rows.iter().enumerate() {
