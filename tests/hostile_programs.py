@@ -83,14 +83,24 @@ def writes():
                    written=written, output="00" * written, is_large=True)
 
 
-def terms():
-    """It divides two words by one another 100,000 times, 15 terms each time, writes what comes of it and exits."""
-    turns, body = 100_000, [register_word(1, T2, T1, QUOTIENT, T1), register_word(0, T2, T1, 0, T1)]
+def quotients(name, turns, each, divisor, region):
+    """It divides a word again and again, so many terms each time, writes what comes of it and exits."""
+    body = [register_word(1, T2, T1, QUOTIENT, T1), register_word(0, T2, T1, 0, T1)]
     show = [store_word(8, T1, T0, WORD), add(1, ZERO, A0), add(8, T0, A1), add(4, ZERO, A2), add(64, ZERO, A7), ECALL]
-    words = [*base(), load_word(0, T0, WORD, T1), load_word(4, T0, WORD, T2), *number(T3, turns)]
+    words = [*base(), load_word(0, T0, WORD, T1), divisor, *number(T3, turns)]
     count = len(words) + 4 * turns + len(show) + len(EXIT)
-    return Hostile("terms", program([*words, *loop(body, T3), *show, *EXIT]), "00011000:8", ["--steps", "1000000"],
-                   f"leaves 1 finished 1 cut 0 tests 1 steps {count}", steps=count, terms=15 * turns, is_large=True)
+    return Hostile(name, program([*words, *loop(body, T3), *show, *EXIT]), region, ["--steps", "1000000"],
+                   f"leaves 1 finished 1 cut 0 tests 1 steps {count}", steps=count, terms=each * turns, is_large=True)
+
+
+def terms():
+    """It divides by another word, 15 terms each time."""
+    return quotients("terms", 100_000, 15, load_word(4, T0, WORD, T2), "00011000:8")
+
+
+def stages():
+    """It divides by a number, which is written out in 400 terms at most."""
+    return quotients("stages", 2_000, 400, add(3, ZERO, T2), "00011000:4")
 
 
 def branches():
@@ -183,5 +193,5 @@ def returns():
                    terms=316 * 100)
 
 
-MAKERS = [writes, terms, branches, thresholds, pairs, pointers, near_pointers, pages, products, code, stack, returns]
+MAKERS = [writes, terms, stages, branches, thresholds, pairs, pointers, near_pointers, pages, products, code, stack, returns]
 PROGRAMS = [make() for make in MAKERS]

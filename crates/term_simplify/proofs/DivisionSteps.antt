@@ -1,6 +1,6 @@
 -- Terms that are divided by a number, found and made step by step.
-use Rattle.std.proofs.Common.{◌≡◌, ◌∙◌, ◌==◌, ℕ, zero, suc, ◌+◌, ◌-◌, ◌^◌, ◌<◌, Bool, true, false, List, Some, None, refl, ap, sym, subst, arith}
-use Rattle.std.specs.Prelude.{Option, nat_lt, ◌&&◌, ◌||◌}
+use Rattle.std.proofs.Common.{◌≡◌, ◌∙◌, ℕ, zero, suc, ◌+◌, ◌-◌, ◌^◌, ◌<◌, true, false, List, Some, None, refl, ap, sym, subst, arith}
+use Rattle.std.specs.Prelude.{Option, nat_lt, ◌||◌}
 use Rattle.std.specs.Option.{IfSome}
 use Rattle.std.proofs.lemmas.Bool.{and_parts, ltb-true}
 use Rattle.std.proofs.lemmas.Nat.{pow_pos}

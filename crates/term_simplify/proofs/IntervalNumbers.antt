@@ -2,10 +2,10 @@
 use Rattle.std.proofs.Common.{◌≡◌, ◌==◌, ◌∙◌, ◌⊎◌, ℕ, ◌+◌, ◌-◌, ◌%◌, ◌^◌, ◌<◌, ◌≤◌, Bool, true, false, cond, not, ap, sym, refl, arith, inl, inr}
 use Rattle.std.specs.Prelude.{◌&&◌, ◌||◌, nat_lt}
 use Rattle.std.proofs.lemmas.Bool.Decides.{eqb_tells}
-use Rattle.bv_dag.specs.BitVectors.{BitVector, bit, bvadd, bvand, bvneg, bvnot, bvor, bvsub, bvult, is_negative, sign_extend, zero_extend}
+use Rattle.bv_dag.specs.BitVectors.{BitVector, bit, bvadd, bvand, bvneg, bvor, bvsub, bvult, sign_extend, zero_extend}
 use Rattle.bv_dag.specs.Nodes.{extend}
 use Rattle.term_trees.specs.Trees.{IsOfWidth}
-use Rattle.term_simplify.specs.Intervals.{interval_word, joining}
+use Rattle.term_simplify.specs.Intervals.{interval_word}
 use Rattle.term_simplify.proofs.EqualityNumbers.{mod_once}
 use Rattle.term_simplify.proofs.OperationNumbers.{not_number}
 use Rattle.term_simplify.proofs.Words.{by_parts, le_tells, lt_tells, tests_below, tests_not_below}

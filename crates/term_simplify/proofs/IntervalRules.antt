@@ -1,11 +1,10 @@
 -- A test of an interval is worth that of the sum.
 use Rattle.std.proofs.Common.{◌≡◌, ◌∙◌, ◌==◌, ℕ, ◌<◌, Bool, true, false, cond, List, [], Some, None, sym, subst, refl, arith}
-use Rattle.std.specs.Prelude.{Option, ◌||◌, option_and_then}
+use Rattle.std.specs.Prelude.{Option, option_and_then}
 use Rattle.std.specs.List.{All, slice_get}
 use Rattle.std.specs.Option.{IfSome}
 use Rattle.bv_dag.specs.BitVectors.{BitVector, bvneg, bvsub, bvult}
 use Rattle.bv_dag.specs.Graphs.{Graph, IsDag}
-use Rattle.bv_dag.specs.Nodes.{extend}
 use Rattle.bv_dag.specs.declared.nodes.BinaryOp.TheVariants.{Sub}
 use Rattle.bv_dag.specs.declared.nodes.Node.{Node}
 use Rattle.bv_dag.specs.declared.nodes.Node.TheVariants.{Num, Input, Not, Neg, Binary, Compare, Ite, Extract, Extend, Concat}

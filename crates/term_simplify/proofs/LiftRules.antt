@@ -1,5 +1,5 @@
 -- Bits taken through complements and choices are worth those bits of the term's value.
-use Rattle.std.proofs.Common.{◌≡◌, ◌∙◌, ℕ, zero, suc, ◌+◌, ◌-◌, ◌*◌, ◌/◌, ◌%◌, ◌^◌, ◌<◌, ◌≤◌, Bool, true, false, cond, bit_and, bit_xor, List, [], Some, None, refl, ap, sym, arith}
+use Rattle.std.proofs.Common.{◌≡◌, ◌∙◌, ℕ, suc, ◌+◌, ◌-◌, ◌/◌, ◌%◌, ◌^◌, ◌<◌, ◌≤◌, Bool, true, false, cond, bit_and, bit_xor, List, [], Some, None, refl, ap, sym, arith}
 use Rattle.std.specs.Prelude.{Option, ◌||◌, ◌&&◌, ◌==◌, is_some}
 use Rattle.std.specs.List.{All}
 use Rattle.std.specs.Int.Bits.{xor_add_and}
@@ -10,7 +10,7 @@ use Rattle.std.proofs.lemmas.Nat.Bits.{ones_shr}
 use Rattle.bv_dag.specs.BitVectors.{BitVector, bvnot, extract, ite}
 use Rattle.term_trees.specs.Trees.{Tree, Constant, Complement, Choice, Part, tree_value, tree_width, IsTerm, IsOfWidth}
 use Rattle.term_trees.proofs.Ranges.{in_range}
-use Rattle.term_simplify.specs.Plain.{bit_choice, choice_between, choice_on, complement_of, inner_part, lifted, part_of, plain_choice, tree_number}
+use Rattle.term_simplify.specs.Plain.{choice_between, choice_on, complement_of, inner_part, lifted, part_of, plain_choice, tree_number}
 use Rattle.term_simplify.specs.declared.lifting.TheConstants.{LEVELS}
 use Rattle.term_simplify.proofs.ChoiceRules.{value-plain_choice}
 use Rattle.term_simplify.proofs.PartRules.{value-inner_part}

@@ -1,17 +1,16 @@
 -- Bits taken through complements and choices, as the code goes down.
-use Rattle.std.proofs.Common.{◌≡◌, ◌∙◌, ◌==◌, ℕ, zero, suc, ◌+◌, ◌-◌, ◌<◌, ◌≤◌, Bool, true, false, cond, length, Some, None, add-one, refl, ap, sym, subst, arith, inl, inr}
+use Rattle.std.proofs.Common.{◌≡◌, ◌∙◌, ℕ, zero, suc, ◌+◌, ◌-◌, ◌<◌, ◌≤◌, Bool, true, false, length, Some, None, add-one, refl, ap, sym, subst, arith, inl, inr}
 use Rattle.std.specs.Prelude.{Option, Result, Ok, Err, IfNone, IfSome, ◌||◌, is_some}
 use Rattle.std.specs.Result.{IfOk, OnOk}
 use Rattle.std.specs.List.{slice_get}
 use Rattle.std.proofs.lemmas.Bool.Decides.{eqb_tells}
-use Rattle.bv_dag.specs.BitVectors.{BitVector}
 use Rattle.bv_dag.specs.Graphs.{Graph, IsDag, width_of}
 use Rattle.bv_dag.specs.Nodes.{Fits, widths_of}
 use Rattle.bv_dag.specs.declared.nodes.Node.{Node}
 use Rattle.bv_dag.specs.declared.nodes.Node.TheVariants.{Num, Input, Not, Neg, Binary, Compare, Ite, Extract, Extend, Concat}
 use Rattle.bv_dag.proofs.TermLaws.{there}
 use Rattle.term_trees.specs.Growth.{Continues}
-use Rattle.term_trees.specs.Trees.{Tree, Constant, Complement, Choice, Part, Widened, tree_of, node_tree, tree_width, IsTerm}
+use Rattle.term_trees.specs.Trees.{Tree, Constant, Choice, Part, Widened, tree_of, node_tree, tree_width}
 use Rattle.term_trees.proofs.Terms.{is_term}
 use Rattle.term_trees.proofs.TreeLaws.{tree_by_cases, tree-grown, width-grown, width-tree_of}
 use Rattle.term_simplify.specs.Lifting.{AreChosen, lifted_at, lifting_tree, node_span, part_tree}
@@ -241,8 +240,7 @@ module _ (g h k : Graph) (dag : IsDag g) (up : Continues g h) (on : Continues h 
   pub choice_fits : (width_of k c ≡ 1) × (0 < width_of k first) × (width_of k first ≡ width_of k second)
   choice_fits =
       let yes = lifted_width g k dag levels a first chosen.first first_is in
-      let no = lifted_width g k dag levels b second chosen.second second_is in
-      (
+      let no = lifted_width g k dag levels b second chosen.second second_is in (
         width-grown h k c on (there_still g h c up condition_at) ∙ width-grown g h c up condition_at ∙ chosen.condition,
         omega (arith, yes),
         omega (arith, yes, no, chosen.high, chosen.low),

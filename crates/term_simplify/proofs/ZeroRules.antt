@@ -14,7 +14,7 @@ use Rattle.term_trees.proofs.Ranges.{in_range}
 use Rattle.term_trees.proofs.TreeLaws.{value-tree_of, width-tree_of}
 use Rattle.term_simplify.specs.Narrowing.{is_zero}
 use Rattle.term_simplify.specs.Plain.{tree_number}
-use Rattle.term_simplify.specs.Zeros.{alike, binary_above, binary_zeros, common_zeros, comparison_above, comparison_zeros, joined_zeros, leaving_some, lifted_binary, lifted_comparison, low_zeros, test_above, word_above, LeavesSome}
+use Rattle.term_simplify.specs.Zeros.{alike, binary_above, binary_zeros, common_zeros, comparison_above, comparison_zeros, joined_zeros, leaving_some, binary_over_zeros, comparison_over_zeros, low_zeros, test_above, word_above, LeavesSome}
 use Rattle.term_simplify.specs.declared.zeros.Zeros.{Zeros}
 use Rattle.term_simplify.proofs.JointRules.{is_0}
 use Rattle.term_simplify.proofs.ZeroNumbers.{EndsIn, difference_above, ends_in_fewer, ends_in_none, ends_in_signs, ends_in_sum, ends_in_times, ends_in_trailing, product_above, sum_above, tests_above}
@@ -152,13 +152,13 @@ binary_leaves Lshr s t z is = cc
 binary_leaves Ashr s t z is = cc
 
 -- ---- trees by the zeros that are found
-pub binary_lifted : (op : BinaryOp) (s t : Tree) (z : Option Zeros) → z ≡ binary_zeros op s t → binary_above z op s t ≡ lifted_binary op s t
-unfolding lifted_binary
-binary_lifted op s t z is = ap (λ y. binary_above y op s t) is
+pub binary_is_over : (op : BinaryOp) (s t : Tree) (z : Option Zeros) → z ≡ binary_zeros op s t → binary_above z op s t ≡ binary_over_zeros op s t
+unfolding binary_over_zeros
+binary_is_over op s t z is = ap (λ y. binary_above y op s t) is
 
-pub comparison_lifted : (op : Comparison) (s t : Tree) (z : Option Zeros) → z ≡ comparison_zeros s t → comparison_above z op s t ≡ lifted_comparison op s t
-unfolding lifted_comparison
-comparison_lifted op s t z is = ap (λ y. comparison_above y op s t) is
+pub comparison_is_over : (op : Comparison) (s t : Tree) (z : Option Zeros) → z ≡ comparison_zeros s t → comparison_above z op s t ≡ comparison_over_zeros op s t
+unfolding comparison_over_zeros
+comparison_is_over op s t z is = ap (λ y. comparison_above y op s t) is
 
 -- ---- terms of a graph
 module _ (g : Graph) (a b : ℕ) (z : Zeros) where

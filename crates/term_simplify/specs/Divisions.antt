@@ -15,7 +15,7 @@ use Rattle.term_trees.specs.Trees.{Tree, Constant}
 use Rattle.term_simplify.specs.Narrowing.{length_of}
 use Rattle.term_simplify.specs.Plain.{complement_of, extension_by, further, joined_of, part_of, plain, plain_binary, plain_choice, tree_number}
 use Rattle.term_simplify.specs.Runs.{pieced}
-use Rattle.term_simplify.specs.Zeros.{lifted_comparison}
+use Rattle.term_simplify.specs.Zeros.{comparison_over_zeros}
 use Rattle.term_simplify.specs.declared.divisions.TheConstants.{FEW_BITS}
 use Rattle.term_simplify.specs.declared.divisions.Dividend.{Dividend}
 
@@ -103,7 +103,7 @@ by_divisor op s t = divided_by op (tree_number s) (tree_number t) s (pieced op s
 -- the tree at its own width of a node that multiplies nothing by a number
 abbrev pub unmultiplied : (operand : ℕ → Tree) → Node → Tree
 unmultiplied operand (Binary op a b) = by_divisor op (operand a) (operand b)
-unmultiplied operand (Compare op a b) = lifted_comparison op (operand a) (operand b)
+unmultiplied operand (Compare op a b) = comparison_over_zeros op (operand a) (operand b)
 unmultiplied operand node = plain operand node
 
 -- ---- What they are worth, and such a term as the code finds it.

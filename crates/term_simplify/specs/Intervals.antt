@@ -1,6 +1,6 @@
 -- Where the sum of a term and a number is below a number: where the term lies in an interval, which may
 -- go round through 0. That takes no adder.
-use Rattle.std.specs.Prelude.{◌<◌, ℕ, ◌==◌, ◌||◌, length, option_and_then, nat_lt, Option, Some, None, if◌then◌else◌}
+use Rattle.std.specs.Prelude.{◌<◌, ◌==◌, ◌||◌, length, option_and_then, nat_lt, Option, Some, None, if◌then◌else◌}
 use Rattle.bv_dag.specs.BitVectors.{BitVector, bvneg, bvnot, bvsub, bvult}
 use Rattle.bv_dag.specs.Graphs.{Graph, width_of}
 use Rattle.bv_dag.specs.Nodes.{binary}

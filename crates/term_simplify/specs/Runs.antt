@@ -9,7 +9,7 @@ use Rattle.bv_dag.specs.declared.nodes.BinaryOp.TheVariants.{And, Or, Xor}
 use Rattle.term_trees.specs.Trees.{Tree, Constant, IsTerm, tree_of}
 use Rattle.term_simplify.specs.Joints.{joint_of}
 use Rattle.term_simplify.specs.Plain.{complement_of, joined_of, masks_nothing, part_of, plain_binary, tree_number}
-use Rattle.term_simplify.specs.Zeros.{lifted_binary}
+use Rattle.term_simplify.specs.Zeros.{binary_over_zeros}
 use Rattle.term_simplify.specs.declared.runs.TheConstants.{RUNS}
 use Rattle.term_simplify.specs.declared.runs.Mask.{Mask}
 
@@ -58,7 +58,7 @@ pieced_by op x y s t otherwise = otherwise
 -- an operation of two terms at their own width
 abbrev pub pieced : BinaryOp → Tree → Tree → Tree
 pieced op s t =
-    pieced_by op (tree_number s) (tree_number t) s t (joint_of op s t (lifted_binary op s t))
+    pieced_by op (tree_number s) (tree_number t) s t (joint_of op s t (binary_over_zeros op s t))
 
 -- ---- Such a term and number as the code finds them.
 pub record IsMask (graph : Graph) (m : Mask) : Type 0 where

@@ -19,7 +19,7 @@ use Rattle.term_simplify.specs.Narrowing.{negative_narrowing, binary_narrowing, 
 use Rattle.term_simplify.specs.Offsets.{Sum, sum_of}
 use Rattle.term_simplify.specs.Plain.{tree_number, number_tree, complement_of, plain_binary, plain_negative, plain_choice, extension_by, part_of, joined_of}
 use Rattle.term_simplify.specs.Times.{own_binary}
-use Rattle.term_simplify.specs.Zeros.{lifted_comparison}
+use Rattle.term_simplify.specs.Zeros.{comparison_over_zeros}
 use Rattle.term_simplify.specs.declared.narrowing.Narrow.{Narrow}
 
 -- ---- A shift of a term by a number below its width moves its bits, which takes no circuit: the lower
@@ -77,8 +77,8 @@ comparison_by_low signed op = op
 
 abbrev pub comparison_at : Option Narrow → Comparison → Tree → Tree → Tree
 comparison_at (Some n) op s t =
-    lifted_comparison (comparison_by_low n.signed op) (low_of n s) (low_of n t)
-comparison_at None op s t = lifted_comparison op s t
+    comparison_over_zeros (comparison_by_low n.signed op) (low_of n s) (low_of n t)
+comparison_at None op s t = comparison_over_zeros op s t
 
 abbrev pub compared : Comparison → Tree → Tree → Tree
 compared op s t = comparison_at (pair_narrowing s t) op s t

@@ -71,11 +71,11 @@ comparison_above (Some z) op s t =
 comparison_above None op s t = plain_comparison op s t
 
 -- an operation and a comparison of two terms at their own width
-unfoldable pub lifted_binary : BinaryOp → Tree → Tree → Tree
-lifted_binary op s t = binary_above (binary_zeros op s t) op s t
+unfoldable pub binary_over_zeros : BinaryOp → Tree → Tree → Tree
+binary_over_zeros op s t = binary_above (binary_zeros op s t) op s t
 
-unfoldable pub lifted_comparison : Comparison → Tree → Tree → Tree
-lifted_comparison op s t = comparison_above (comparison_zeros s t) op s t
+unfoldable pub comparison_over_zeros : Comparison → Tree → Tree → Tree
+comparison_over_zeros op s t = comparison_above (comparison_zeros s t) op s t
 
 -- ---- What they are worth.
 abbrev pub word_from : (low bits : ℕ) → BitVector → BitVector

@@ -21,8 +21,8 @@ use bv_dag::{BinaryOp, Node, Word};
 use std::alloc::AllocError as NoMemory;
 use term_table::Terms;
 
-/// A term of so many bits is divided in one operation: all its values are soon tried, and one node is cheaper to evaluate than
-/// the many of a long division.
+/// A term of so many bits or fewer is divided in one operation: all its values are soon tried, and one node is cheaper to evaluate
+/// than the many of a long division.
 pub(crate) const FEW_BITS: u32 = 8;
 
 /// A term of this width that is divided by a number of so many bits.

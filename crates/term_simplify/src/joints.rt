@@ -7,7 +7,7 @@ ghost use Rattle.term_trees.specs.Growth.{Continues};
 ghost use Rattle.term_trees.specs.Trees.{Tree, tree_of, node_tree, IsTerm};
 ghost use Rattle.term_simplify.specs.Joints.{IsJoint, joins, joint_by, joint_of, joint_tree};
 ghost use Rattle.term_simplify.specs.Steps.{Stands};
-ghost use Rattle.term_simplify.specs.Zeros.{lifted_binary};
+ghost use Rattle.term_simplify.specs.Zeros.{binary_over_zeros};
 
 use crate::builder::Builder;
 use crate::narrowing::is_zero;
@@ -120,13 +120,13 @@ impl Builder {
         ensures continues { Continues self.old self.new }
         ensures ok { IfOk result (λ id. Stands self.new id
             (joint_of op (tree_of self.old a) (tree_of self.old b)
-            (lifted_binary op (tree_of self.old a) (tree_of self.old b))) (width_of self.old a)
+            (binary_over_zeros op (tree_of self.old a) (tree_of self.old b))) (width_of self.old a)
             (λ input. binary op (val self.old a input) (val self.old b input))) }
         ensures term { IsTerm self.old.inputs (node_tree (tree_of self.old) (Node.Binary op a b)) }
     {
         match joint_of(self.terms(), op, a, b) {
             Some(joint) => self.one_above(joint),
-            None => self.lifted_step(op, a, b),
+            None => self.over_zeros_step(op, a, b),
         }
     }
 }

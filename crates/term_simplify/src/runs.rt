@@ -11,7 +11,7 @@ ghost use Rattle.term_simplify.specs.Joints.{joint_of};
 ghost use Rattle.term_simplify.specs.Plain.{masks_nothing, tree_number};
 ghost use Rattle.term_simplify.specs.Runs.{IsMask, cut, is_bitwise, pieced, run, run_word, under_run};
 ghost use Rattle.term_simplify.specs.Steps.{Stands};
-ghost use Rattle.term_simplify.specs.Zeros.{lifted_binary};
+ghost use Rattle.term_simplify.specs.Zeros.{binary_over_zeros};
 
 use crate::binaries::ones;
 use crate::builder::Builder;
@@ -106,7 +106,7 @@ fn mask_by(terms: &Terms, op: BinaryOp, a: usize, b: usize) -> Option<Mask>
     ensures width { IfSome result (λ m. m.width ≡ width_of terms.now a) }
     ensures none { result ≡ None → pieced op (tree_of terms.now a) (tree_of terms.now b)
         ≡ joint_of op (tree_of terms.now a) (tree_of terms.now b)
-        (lifted_binary op (tree_of terms.now a) (tree_of terms.now b)) }
+        (binary_over_zeros op (tree_of terms.now a) (tree_of terms.now b)) }
     ensures fit { IfSome result (λ _. IsDag terms.now) }
 {
     match (number_at(terms, a), number_at(terms, b)) {

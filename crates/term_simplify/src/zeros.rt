@@ -234,7 +234,7 @@ impl Builder {
     }
 
     /// The term that an operation of two terms with a bit in common is at their own width.
-    pub(crate) fn lifted_step(
+    pub(crate) fn over_zeros_step(
         &mut self,
         op: BinaryOp,
         a: usize,
@@ -243,7 +243,7 @@ impl Builder {
         requires { Fits self.old.inputs (widths_of self.old.nodes) (Node.Binary op a b) }
         ensures continues { Continues self.old self.new }
         ensures ok { IfOk result (λ id. Stands self.new id
-            (zeros.lifted_binary op (tree_of self.old a) (tree_of self.old b))
+            (zeros.binary_over_zeros op (tree_of self.old a) (tree_of self.old b))
             (width_of self.old a)
             (λ input. binary op (val self.old a input) (val self.old b input))) }
         ensures term { IsTerm self.old.inputs (node_tree (tree_of self.old) (Node.Binary op a b)) }
@@ -264,7 +264,7 @@ impl Builder {
         requires { Fits self.old.inputs (widths_of self.old.nodes) (Node.Compare op a b) }
         ensures continues { Continues self.old self.new }
         ensures ok { IfOk result (λ id. Stands self.new id
-            (zeros.lifted_comparison op (tree_of self.old a) (tree_of self.old b)) 1
+            (zeros.comparison_over_zeros op (tree_of self.old a) (tree_of self.old b)) 1
             (λ input. compare op (val self.old a input) (val self.old b input))) }
         ensures term { IsTerm self.old.inputs (node_tree (tree_of self.old) (Node.Compare op a b)) }
     {

@@ -20,7 +20,7 @@ use crate::of_term_simplify::narrow::products::{PRODUCTS, QUOTIENTS, REMAINDERS}
 use crate::of_term_simplify::narrow::sums::{DIFFERENCES, SUMS};
 use crate::of_term_simplify::narrow::tests::{ALIKE, CHOICES, TESTS};
 use crate::of_term_simplify::narrow::zeros::ZEROS;
-use bv_dag::{BinaryOp, Comparison, Comparison, Node, Node};
+use bv_dag::{BinaryOp, Comparison, Node};
 use std::alloc::AllocError as NoMemory;
 use std::process::Abort;
 use std::test::Fail;

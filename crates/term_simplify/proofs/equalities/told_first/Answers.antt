@@ -1,4 +1,4 @@
-use Rattle.std.proofs.Common.{sym, Some, None}
+use Rattle.std.proofs.Common.{sym}
 use Rattle.term_trees.specs.Trees.{tree_of}
 use Rattle.term_simplify.proofs.Reading.{has_second_term, has_term}
 use Rattle.term_simplify.proofs.Telling.{equal_first, first_stays, number_at_second, slt_stays, stays}

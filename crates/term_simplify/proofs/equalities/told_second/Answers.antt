@@ -1,8 +1,8 @@
-use Rattle.std.proofs.Common.{◌≡◌, ◌==◌, ◌∙◌, ap, sym, true, false, Some, None}
+use Rattle.std.proofs.Common.{◌≡◌, ◌==◌, ◌∙◌, ap, sym, true, false}
 use Rattle.term_trees.specs.Trees.{tree_of}
 use Rattle.term_simplify.specs.declared.equalities.Equality.{Equality}
 use Rattle.term_simplify.proofs.Reading.{has_second_term, has_term}
-use Rattle.term_simplify.proofs.Telling.{HasPeeled, come_here, come_on, equal_second, equal_stays, number_at_second, sign_second, some_stays, stays, ult_stays}
+use Rattle.term_simplify.proofs.Telling.{HasPeeled, come_here, come_on, equal_second, equal_stays, number_at_second, sign_second, some_stays, stays}
 use Rattle.term_simplify.proofs.Words.{tests_equal, tests_unequal}
 use Rattle.term_simplify.proofs.equalities.told_second.Goals as goal
 

@@ -1,4 +1,3 @@
-use Rattle.std.proofs.Common.{◌≡◌, ◌∙◌, ap, sym, refl}
 use Rattle.term_trees.specs.Trees.{tree_of}
 use Rattle.term_simplify.specs.Plans.{plan_tree}
 use Rattle.term_simplify.proofs.Lifts.{lifted_signs, lifted_zeros, no_further, none_stands, span_fits, span_none, span_stands, span_tree, tree_stands}

@@ -1,8 +1,8 @@
-use Rattle.std.proofs.Common.{◌∙◌, ◌-◌, ap, subst, arith, sym}
-use Rattle.bv_dag.specs.Graphs.{Graph, IsDag}
+use Rattle.std.proofs.Common.{◌∙◌, ◌-◌, subst, arith}
+use Rattle.bv_dag.specs.Graphs.{Graph}
 use Rattle.term_trees.specs.Trees.{tree_of}
 use Rattle.term_simplify.specs.Lifting.{AreChosen, lifted_at}
-use Rattle.term_simplify.specs.Plain.{inner_part, plain_choice}
+use Rattle.term_simplify.specs.Plain.{plain_choice}
 use Rattle.term_simplify.specs.Plans.{Makes, plan_tree}
 use Rattle.term_simplify.specs.declared.lifting.Lifting.TheVariants.{OfChoice}
 use Rattle.term_simplify.proofs.Lifts.{IsSpan-grown, choice_fits, choice_is, made_of, stood}

@@ -1,4 +1,4 @@
-use Rattle.std.proofs.Common.{◌∙◌, ◌+◌, ◌-◌, ◌<◌, ap, arith, sym}
+use Rattle.std.proofs.Common.{◌∙◌, ◌-◌, ap, arith, sym}
 use Rattle.bv_dag.specs.BitVectors.{bvnot}
 use Rattle.bv_dag.specs.Graphs.{val}
 use Rattle.term_trees.specs.Trees.{tree_of}

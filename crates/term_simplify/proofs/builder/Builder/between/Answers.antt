@@ -1,8 +1,7 @@
 use Rattle.std.proofs.Common.{◌∙◌, arith, refl, sym}
 use Rattle.bv_dag.specs.BitVectors.{bvnot, bvult}
-use Rattle.bv_dag.specs.Graphs.{val, width_of}
+use Rattle.bv_dag.specs.Graphs.{width_of}
 use Rattle.bv_dag.specs.Nodes.{binary}
-use Rattle.term_trees.specs.Trees.{tree_of}
 use Rattle.term_simplify.specs.Intervals.{joining}
 use Rattle.term_simplify.specs.Plain.{complement_of, plain_binary}
 use Rattle.term_simplify.specs.Simplified.{below_number}

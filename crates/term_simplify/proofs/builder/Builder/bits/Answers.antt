@@ -1,4 +1,4 @@
-use Rattle.std.proofs.Common.{◌≡◌, ◌<◌, ◌∙◌, length, arith, sym}
+use Rattle.std.proofs.Common.{◌≡◌, ◌<◌, length, arith}
 use Rattle.bv_dag.specs.declared.nodes.Node.TheVariants.{Extract}
 use Rattle.term_trees.specs.Trees.{tree_of}
 use Rattle.term_simplify.specs.Plain.{inner_part, lifted, part_of}

@@ -1,4 +1,4 @@
-use Rattle.std.proofs.Common.{◌+◌, ◌<◌, arith}
+use Rattle.std.proofs.Common.{◌<◌, arith}
 use Rattle.term_simplify.proofs.Stepping.{Stands-grown, at_width, concat_step, if_ok}
 use Rattle.term_simplify.proofs.builder.Builder.brought.Goals as goal
 

@@ -6,7 +6,7 @@ use Rattle.term_simplify.specs.Zeros.{comparison_zeros}
 use Rattle.term_simplify.proofs.Building.{is_term_of}
 use Rattle.term_simplify.proofs.Reading.{has_bits, has_second_term, has_term}
 use Rattle.term_simplify.proofs.Stepping.{Stands-worth, at_tree, if_ok}
-use Rattle.term_simplify.proofs.ZeroRules.{comparison_here, comparison_leaves_here, comparison_lifted}
+use Rattle.term_simplify.proofs.ZeroRules.{comparison_here, comparison_leaves_here, comparison_is_over}
 use Rattle.term_simplify.proofs.builder.Builder.comparison_step.Goals as goal
 
 pub comparison_zeros-requires-clause-first : goal.comparison_zeros-requires-clause-first
@@ -34,7 +34,7 @@ returns-in-Some-clause-ok c =
     let is : Some z ≡ comparison_zeros (tree_of g a) (tree_of g b) =
     subst (λ (h : Graph). Some z ≡ comparison_zeros (tree_of h a) (tree_of h b)) c.terms.ensures c.in-Some.ensures.is in
     let term = is_term_of g (Compare op a b) (subst IsDag c.terms.ensures c.in-Some.ensures.fit) c.requires in
-    if_ok _ _ _ c.comparison_above.ensures.ok (λ id n. at_tree (comparison_lifted op (tree_of g a) (tree_of g b) (Some z) is)
+    if_ok _ _ _ c.comparison_above.ensures.ok (λ id n. at_tree (comparison_is_over op (tree_of g a) (tree_of g b) (Some z) is)
     (Stands-worth (λ input bytes. comparison_here g a b z input bytes op term (sym is)) n))
 
 pub returns-in-Some-clause-term : goal.returns-in-Some-clause-term
@@ -49,4 +49,4 @@ returns-in-None-clause-ok c =
     let b = c.args.b in
     let is : None ≡ comparison_zeros (tree_of g a) (tree_of g b) =
     subst (λ (h : Graph). None ≡ comparison_zeros (tree_of h a) (tree_of h b)) c.terms.ensures c.in-None.ensures.is in
-    if_ok _ _ _ c.plain_step.ensures.ok (λ id n. at_tree (comparison_lifted op (tree_of g a) (tree_of g b) None is) n)
+    if_ok _ _ _ c.plain_step.ensures.ok (λ id n. at_tree (comparison_is_over op (tree_of g a) (tree_of g b) None is) n)

@@ -1,4 +1,4 @@
-use Rattle.std.proofs.Common.{◌∙◌, ◌+◌, ◌<◌, sym, arith}
+use Rattle.std.proofs.Common.{◌∙◌, ◌+◌, sym, arith}
 use Rattle.bv_dag.specs.BitVectors.{bvsub}
 use Rattle.bv_dag.specs.declared.nodes.BinaryOp.TheVariants.{Sub}
 use Rattle.term_simplify.specs.Plain.{plain_binary}

@@ -1,4 +1,4 @@
-use Rattle.std.proofs.Common.{◌+◌, ◌-◌, ◌<◌, ◌∙◌, ap, arith, sym}
+use Rattle.std.proofs.Common.{◌+◌, ◌-◌, ◌∙◌, ap, arith, sym}
 use Rattle.bv_dag.specs.Graphs.{val}
 use Rattle.bv_dag.proofs.TermLaws.{width-val}
 use Rattle.term_simplify.specs.Divisions.{quotient_from, upper_quotient, upper_remainder}

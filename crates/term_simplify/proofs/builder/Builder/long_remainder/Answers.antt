@@ -1,4 +1,4 @@
-use Rattle.std.proofs.Common.{◌≡◌, ◌+◌, ◌-◌, ◌<◌, ◌∙◌, ap, arith, false, sym}
+use Rattle.std.proofs.Common.{◌≡◌, ◌+◌, ◌-◌, ◌∙◌, ap, arith, false, sym}
 use Rattle.bv_dag.specs.Graphs.{val}
 use Rattle.bv_dag.specs.Nodes.{extend}
 use Rattle.bv_dag.proofs.TermLaws.{width-val}

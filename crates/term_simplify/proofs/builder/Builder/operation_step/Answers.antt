@@ -3,7 +3,7 @@ use Rattle.bv_dag.specs.Graphs.{Graph, IsDag}
 use Rattle.bv_dag.specs.declared.nodes.Node.TheVariants.{Binary}
 use Rattle.term_trees.specs.Trees.{Tree, Two, tree_of, tree_value}
 use Rattle.term_simplify.specs.Joints.{joint_of, joint_tree}
-use Rattle.term_simplify.specs.Zeros.{lifted_binary}
+use Rattle.term_simplify.specs.Zeros.{binary_over_zeros}
 use Rattle.term_simplify.proofs.Building.{built_as, is_term_of, named, stands_as}
 use Rattle.term_simplify.proofs.JointRules.{value-joint_of}
 use Rattle.term_simplify.proofs.Stepping.{if_ok, on_ok}
@@ -16,7 +16,7 @@ returns-in-Some-clause-ok c =
     let node = Binary op c.args.a c.args.b in
     let s = tree_of g c.args.a in
     let t = tree_of g c.args.b in
-    let made = joint_of op s t (lifted_binary op s t) in
+    let made = joint_of op s t (binary_over_zeros op s t) in
     let term = is_term_of g node (subst IsDag c.terms.ensures c.in-Some.ensures.fit) c.requires in
     let is : (otherwise : Tree) → joint_of op s t otherwise ≡ joint_tree g c.in-Some.joint =
     subst (λ (h : Graph). (otherwise : Tree) → joint_of op (tree_of h c.args.a) (tree_of h c.args.b) otherwise ≡ joint_tree h c.in-Some.joint)

@@ -1,4 +1,4 @@
-use Rattle.std.proofs.Common.{◌+◌, ◌-◌, ◌<◌, false, arith}
+use Rattle.std.proofs.Common.{◌-◌, false, arith}
 use Rattle.bv_dag.specs.Graphs.{val}
 use Rattle.term_simplify.proofs.DivisionNumbers.{power_quotient}
 use Rattle.term_simplify.proofs.RunSteps.{own_word}

@@ -6,8 +6,8 @@ use Rattle.term_simplify.specs.Zeros.{binary_zeros}
 use Rattle.term_simplify.proofs.Building.{is_term_of}
 use Rattle.term_simplify.proofs.Reading.{has_bits, has_second_term, has_term}
 use Rattle.term_simplify.proofs.Stepping.{Stands-worth, at_tree, if_ok}
-use Rattle.term_simplify.proofs.ZeroRules.{binary_here, binary_leaves_here, binary_lifted}
-use Rattle.term_simplify.proofs.builder.Builder.lifted_step.Goals as goal
+use Rattle.term_simplify.proofs.ZeroRules.{binary_here, binary_leaves_here, binary_is_over}
+use Rattle.term_simplify.proofs.builder.Builder.over_zeros_step.Goals as goal
 
 pub binary_zeros-requires-clause-first : goal.binary_zeros-requires-clause-first
 binary_zeros-requires-clause-first c = rw c.terms.ensures (has_term c.args.self.now c.args.a c.requires.0)
@@ -34,7 +34,7 @@ returns-in-Some-clause-ok c =
     let is : Some z ≡ binary_zeros op (tree_of g a) (tree_of g b) =
     subst (λ (h : Graph). Some z ≡ binary_zeros op (tree_of h a) (tree_of h b)) c.terms.ensures c.in-Some.ensures.is in
     let term = is_term_of g (Binary op a b) (subst IsDag c.terms.ensures c.in-Some.ensures.fit) c.requires in
-    if_ok _ _ _ c.binary_above.ensures.ok (λ id n. at_tree (binary_lifted op (tree_of g a) (tree_of g b) (Some z) is)
+    if_ok _ _ _ c.binary_above.ensures.ok (λ id n. at_tree (binary_is_over op (tree_of g a) (tree_of g b) (Some z) is)
     (Stands-worth (λ input bytes. binary_here g a b z input bytes op term (sym is)) n))
 
 pub returns-in-Some-clause-term : goal.returns-in-Some-clause-term
@@ -49,4 +49,4 @@ returns-in-None-clause-ok c =
     let b = c.args.b in
     let is : None ≡ binary_zeros op (tree_of g a) (tree_of g b) =
     subst (λ (h : Graph). None ≡ binary_zeros op (tree_of h a) (tree_of h b)) c.terms.ensures c.in-None.ensures.is in
-    if_ok _ _ _ c.plain_step.ensures.ok (λ id n. at_tree (binary_lifted op (tree_of g a) (tree_of g b) None is) n)
+    if_ok _ _ _ c.plain_step.ensures.ok (λ id n. at_tree (binary_is_over op (tree_of g a) (tree_of g b) None is) n)
