@@ -149,11 +149,10 @@ pub(crate) const ZEROS: &[Row] = &[
             Number(8, 0),
             Above(0, 12),
             Zeros(16, 13),
-            Number(16, 0x300),
             Number(8, 3),
-            Is(Compare(Eq, 0, 16)),
+            Is(Compare(Eq, 0, 15)),
         ],
-        17,
+        16,
     ),
     // The number 0 has all the zeros of a byte, eight places up.
     (
