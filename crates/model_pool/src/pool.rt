@@ -1,4 +1,4 @@
-//! The answers that workers share: the newest of those that were offered.
+//! The answers that workers share: the newest of those that were offered, one for each question.
 
 ghost use Rattle.std.specs.Prelude.{◌≡◌, true, IfOk, IfSome};
 ghost use Rattle.bv_dag.specs.Queries.{holds};
@@ -21,10 +21,53 @@ pub const MOST_BLOCKS: usize = 16;
 /// The answers of so many blocks, the newest, are tried on any question, and those of the others on their own alone.
 pub const TRIED_BLOCKS: usize = 2;
 
-/// Answers that threads offer and try, each behind a `&`. The lock is held only while one is put into the newest block, or while
-/// the blocks are shared out: nothing is tried under it.
+// A block, and the digests of the questions that it has answers to, apart from these since they are compared under the lock.
+struct KeptBlock {
+    block: Arc<Block<Patch>>,
+    digests: Vec<u64>,
+}
+
+impl Drop for KeptBlock {
+    fn drop(self) {
+        let Self {
+            block: _block,
+            digests: _digests,
+        } = self;
+    }
+}
+
+impl KeptBlock {
+    // A block with no answers yet.
+    fn new(alloc: Global) -> Result<KeptBlock, NoMemory> {
+        let digests = Vec::with_capacity(alloc, BLOCK_SIZE)?;
+        let block = Arc::new(alloc, Block::new(alloc)?)?;
+        Ok(KeptBlock { block, digests })
+    }
+
+    // Whether it takes no more answers.
+    fn is_full(&self) -> bool {
+        self.digests.len() >= BLOCK_SIZE
+    }
+
+    // Whether it has an answer to a question with this digest.
+    fn has_answer(&self, digest: u64) -> bool {
+        self.digests.contains(&digest)
+    }
+
+    // Takes an answer to a question with this digest.
+    fn push(&mut self, rt: &impl Wait, digest: u64, patch: Patch) -> Result<(), NoMemory> {
+        if self.block.push(rt, patch).is_ok() {
+            self.digests.push(digest)?;
+        }
+        Ok(())
+    }
+}
+
+/// Answers that threads offer and try, each behind a `&`. Where one to the same question is kept, as its digest tells, another is
+/// left out: else a question that is decided often would push out the answers to others. The lock is held only while digests are
+/// compared and one is put into the newest block, or while the blocks are shared out: nothing is tried under it.
 pub struct Pool {
-    blocks: Mutex<Vec<Arc<Block<Patch>>>>,
+    blocks: Mutex<Vec<KeptBlock>>,
 }
 
 impl Drop for Pool {
@@ -33,17 +76,12 @@ impl Drop for Pool {
     }
 }
 
-// Whether a block takes no more answers.
-fn is_full(block: &Block<Patch>) -> bool {
-    block.get(BLOCK_SIZE - 1).is_some()
-}
-
 // Makes room for one more answer, where the newest block is full or there is none.
-fn make_room(alloc: Global, blocks: &mut Vec<Arc<Block<Patch>>>) -> Result<(), NoMemory> {
-    if blocks.last().is_some_and(|newest| !is_full(newest)) {
+fn make_room(alloc: Global, blocks: &mut Vec<KeptBlock>) -> Result<(), NoMemory> {
+    if blocks.last().is_some_and(|newest| !newest.is_full()) {
         return Ok(());
     }
-    let block = Arc::new(alloc, Block::new(alloc)?)?;
+    let block = KeptBlock::new(alloc)?;
     if blocks.len() >= MOST_BLOCKS {
         drop(blocks.remove(0));
     }
@@ -100,21 +138,30 @@ impl Pool {
         })
     }
 
-    // Puts the bytes of an answer into the newest block.
-    fn put(&self, rt: &impl Wait, alloc: Global, patch: Patch) -> Result<(), NoMemory> {
+    // Puts an answer to a question with this digest into the newest block, unless one to it is kept.
+    fn put(
+        &self,
+        rt: &impl Wait,
+        alloc: Global,
+        digest: u64,
+        patch: Patch,
+    ) -> Result<(), NoMemory> {
         let mut blocks = self.blocks.lock(rt);
-        make_room(alloc, &mut blocks)?;
-        if let Some(newest) = blocks.last() {
-            let _ = newest.push(rt, patch);
+        if blocks.iter().any(|kept| kept.has_answer(digest)) {
+            return Ok(());
         }
-        Ok(())
+        make_room(alloc, &mut blocks)?;
+        match blocks.last_mut() {
+            Some(newest) => newest.push(rt, digest, patch),
+            None => Ok(()),
+        }
     }
 
-    /// Puts the bytes that meet a question with this digest into the pool, or lets them go where there is no memory. Nothing is
-    /// said of what a pool keeps: whoever finds bytes there tests them.
+    /// Puts the bytes that meet a question with this digest into the pool, or lets them go where an answer to it is kept, or there
+    /// is no memory. Nothing is said of what a pool keeps: whoever finds bytes there tests them.
     pub fn offer(&self, rt: &impl Wait, alloc: Global, query: &Query, digest: u64, answer: &Bytes) {
         if let Ok(patch) = Patch::of(alloc, query, digest, answer.as_slice()) {
-            let _ = self.put(rt, alloc, patch);
+            let _ = self.put(rt, alloc, digest, patch);
         }
     }
 
@@ -126,14 +173,14 @@ impl Pool {
     ) -> Result<Vec<Arc<Block<Patch>>>, NoMemory> {
         let blocks = self.blocks.lock(rt);
         let mut shared = Vec::with_capacity(alloc, blocks.len())?;
-        for block in blocks.iter() {
-            shared.push(Arc::try_clone(block)?)?;
+        for kept in blocks.iter() {
+            shared.push(Arc::try_clone(&kept.block)?)?;
         }
         Ok(shared)
     }
 
-    /// Bytes that meet a condition with this digest: the sample with those of an answer of the pool in their places. All answers
-    /// to the same question are tried first, and then the newest that share input bytes with it.
+    /// Bytes that meet a condition with this digest: the sample with those of an answer of the pool in their places. The one to the
+    /// same question is tried first, and then the newest that share input bytes with it.
     pub fn find(
         &self,
         rt: &impl Wait,

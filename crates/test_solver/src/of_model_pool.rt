@@ -27,11 +27,17 @@ const IS_65: usize = 2;
 /// Where the second does.
 const IS_7: usize = 5;
 
-/// The digest with which answers are offered.
+/// The digest of the question whose answer is looked for.
 const OFFERED: u64 = 1;
 
-/// The digest of another question.
+/// The digest of a question to which no answer is offered.
 const OTHER: u64 = 2;
+
+/// A pool keeps so many answers.
+const KEPT: u64 = (BLOCK_SIZE * MOST_BLOCKS) as u64;
+
+/// So many of them, the newest, are tried on any question.
+const TRIED: u64 = (BLOCK_SIZE * TRIED_BLOCKS) as u64;
 
 fn push_all(rt: &impl Abort, dag: &mut Dag, nodes: &[Node]) -> Result<(), NoMemory> {
     for node in nodes {
@@ -69,18 +75,19 @@ fn of_both(rt: &impl Abort, alloc: Global) -> Result<Query, NoMemory> {
 // What workers share is `Send` and `Sync`.
 fn takes_shared<T: Send + Sync>(_value: &T) {}
 
-// Offers an answer to a question so many times.
+// Offers the same answer to so many questions: their digests are this one and those after it.
 fn offer(
     rt: &impl Wait,
     alloc: Global,
     pool: &Pool,
     query: &Query,
+    digest: u64,
+    count: u64,
     answer: [u8; 2],
-    times: usize,
 ) -> Result<(), NoMemory> {
     let answer = Bytes::from_slice(alloc, &answer)?;
-    for _ in 0..times {
-        pool.offer(rt, alloc, query, OFFERED, &answer);
+    for later in 0..count {
+        pool.offer(rt, alloc, query, digest.wrapping_add(later), &answer);
     }
     Ok(())
 }
@@ -109,9 +116,9 @@ fn check_put(rt: &(impl Abort + Wait), alloc: Global) -> Result<(), NoMemory> {
     let (one, both, pool) = (of_one(rt, alloc)?, of_both(rt, alloc)?, Pool::new(alloc)?);
     takes_shared(&pool);
     assert!(rt; is_found(rt, alloc, &pool, &both, OTHER, [0, 7], None)?);
-    offer(rt, alloc, &pool, &one, [66, 7], 1)?;
+    offer(rt, alloc, &pool, &one, 10, 1, [66, 7])?;
     assert!(rt; is_found(rt, alloc, &pool, &both, OTHER, [0, 7], None)?);
-    offer(rt, alloc, &pool, &one, [65, 0], 1)?;
+    offer(rt, alloc, &pool, &one, OFFERED, 1, [65, 0])?;
     assert!(rt; is_found(rt, alloc, &pool, &both, OTHER, [0, 7], Some(&[65, 7]))?);
     assert!(rt; is_found(rt, alloc, &pool, &both, OTHER, [0, 0], None)?);
     Ok(())
@@ -127,14 +134,13 @@ fn an_answer_is_put_into_a_sample(rt: HostRuntime) -> Result<(), Fail> {
 // keeps.
 fn check_renewed(rt: &(impl Abort + Wait), alloc: Global) -> Result<(), NoMemory> {
     let (one, pool) = (of_one(rt, alloc)?, Pool::new(alloc)?);
-    let (tried, kept) = (BLOCK_SIZE * TRIED_BLOCKS, BLOCK_SIZE * MOST_BLOCKS);
-    offer(rt, alloc, &pool, &one, [66, 0], kept)?;
-    offer(rt, alloc, &pool, &one, [65, 0], 1)?;
+    offer(rt, alloc, &pool, &one, 10_000, KEPT, [66, 0])?;
+    offer(rt, alloc, &pool, &one, OFFERED, 1, [65, 0])?;
     assert!(rt; is_found(rt, alloc, &pool, &one, OTHER, [0, 0], Some(&[65, 0]))?);
-    offer(rt, alloc, &pool, &one, [66, 0], tried)?;
+    offer(rt, alloc, &pool, &one, 20_000, TRIED, [66, 0])?;
     assert!(rt; is_found(rt, alloc, &pool, &one, OTHER, [0, 0], None)?);
     assert!(rt; is_found(rt, alloc, &pool, &one, OFFERED, [0, 0], Some(&[65, 0]))?);
-    offer(rt, alloc, &pool, &one, [66, 0], kept)?;
+    offer(rt, alloc, &pool, &one, 30_000, KEPT, [66, 0])?;
     assert!(rt; is_found(rt, alloc, &pool, &one, OFFERED, [0, 0], None)?);
     Ok(())
 }
@@ -142,5 +148,26 @@ fn check_renewed(rt: &(impl Abort + Wait), alloc: Global) -> Result<(), NoMemory
 #[test]
 fn a_pool_renews(rt: HostRuntime) -> Result<(), Fail> {
     check_renewed(&rt, rt.alloc())?;
+    Ok(())
+}
+
+// However often one question is answered anew, an answer before it is still tried on others. An answer that went is taken again.
+fn check_offered_again(rt: &(impl Abort + Wait), alloc: Global) -> Result<(), NoMemory> {
+    let (one, pool) = (of_one(rt, alloc)?, Pool::new(alloc)?);
+    offer(rt, alloc, &pool, &one, OFFERED, 1, [65, 0])?;
+    for _ in 0..KEPT {
+        offer(rt, alloc, &pool, &one, 10, 1, [66, 0])?;
+    }
+    assert!(rt; is_found(rt, alloc, &pool, &one, OTHER, [0, 0], Some(&[65, 0]))?);
+    offer(rt, alloc, &pool, &one, 10_000, KEPT, [66, 0])?;
+    assert!(rt; is_found(rt, alloc, &pool, &one, OFFERED, [0, 0], None)?);
+    offer(rt, alloc, &pool, &one, OFFERED, 1, [65, 0])?;
+    assert!(rt; is_found(rt, alloc, &pool, &one, OFFERED, [0, 0], Some(&[65, 0]))?);
+    Ok(())
+}
+
+#[test]
+fn the_same_question_pushes_none_out(rt: HostRuntime) -> Result<(), Fail> {
+    check_offered_again(&rt, rt.alloc())?;
     Ok(())
 }
