@@ -1,3 +1,4 @@
+pub mod Decisions
 pub mod Leaves
 pub mod Runs
 pub mod Evidence

@@ -3,7 +3,7 @@
 use Rattle.std.specs.Prelude.{◌≡◌, ◌≢◌, ℕ, ◌&&◌, Bool, true, false, List, ◌∷◌, ◌++◌, IsTrue, Option}
 use Rattle.elf_load.specs.Images.{Image}
 use Rattle.elf_load.specs.declared.region.Region.{Region}
-use Rattle.rv_spec.specs.Decisions.{Decision, Side, Number, decisions}
+use Rattle.fork_spec.specs.Decisions.{Decision, Side, Number, decisions}
 use Rattle.rv_spec.specs.Memory.{IsAssignment}
 use Rattle.tree_core.specs.declared.cause.Cause.{Cause}
 use Rattle.tree_core.specs.declared.choice.Choice.{Choice}

@@ -1,7 +1,7 @@
 -- Nodes of a fork tree that have no kids are apart, and what an event makes of a node keeps them so.
 use Rattle.std.specs.Prelude.{◌≡◌, ◌≢◌, ℕ, ◌<◌, true, List, ◌++◌, All, IsTrue, Some, length, slice_get}
 use Rattle.std.specs.Global.{Vec}
-use Rattle.rv_spec.specs.Decisions.{Decision}
+use Rattle.fork_spec.specs.Decisions.{Decision}
 use Rattle.tree_core.specs.declared.choice.Choice.{Choice}
 use Rattle.tree_core.specs.Covers.{is_live}
 use Rattle.tree_core.specs.Stories.{Story, content, status}

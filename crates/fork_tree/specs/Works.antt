@@ -1,7 +1,7 @@
 -- What is asked of a worker's states and leaves, and what comes of a state that is worked.
 use Rattle.std.specs.Prelude.{◌≡◌, ℕ, ◌+◌, ◌<◌, ◌≤◌, true, false, List, [], ◌∷◌, ◌++◌, All, IsTrue, Option, None, Some, length, map, count_by}
 use Rattle.std.specs.Arc.{arc_value}
-use Rattle.rv_spec.specs.Decisions.{Decision}
+use Rattle.fork_spec.specs.Decisions.{Decision}
 use Rattle.tree_core.specs.Covers.{one_if}
 use Rattle.tree_core.specs.declared.cause.Cause.{Cause}
 use Rattle.tree_core.specs.declared.cause.Cause.TheVariants.{Nodes, Steps}

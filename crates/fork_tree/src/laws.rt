@@ -2,7 +2,7 @@
 
 ghost use Rattle.std.specs.Prelude.{◌≡◌, ◌<◌, ◌++◌, ℕ, All, IsTrue, List, [], ◌∷◌, Option, Some, count_by, false, length, true};
 ghost use Rattle.std.specs.Global.{Vec};
-ghost use Rattle.rv_spec.specs.Decisions.{Decision};
+ghost use Rattle.fork_spec.specs.Decisions.{Decision};
 ghost use Rattle.tree_core.specs.Covers.{count_below};
 ghost use Rattle.tree_core.specs.Replays.{is_allowed, may_come, with_event, opening};
 ghost use Rattle.tree_core.specs.Stories.{Story, content, status};

@@ -5,7 +5,7 @@ use Rattle.std.specs.Prelude.{All, IsTrue, None, Some, slice_get}
 use Rattle.std.proofs.lemmas.Bool.{cases_lt}
 use Rattle.std.proofs.lemmas.List.{append_assoc, append-nil}
 use Rattle.std.proofs.lemmas.List.Elements.{All-head, All-tail}
-use Rattle.rv_spec.specs.Decisions.{Decision, decisions, decisions_from, run_decisions, step_decisions}
+use Rattle.fork_spec.specs.Decisions.{Decision, decisions, decisions_from, run_decisions, step_decisions}
 use Rattle.rv_spec.specs.Machine.{State, first_state}
 use Rattle.rv_spec.specs.Runs.{Run, run, run_from}
 use Rattle.fork_spec.specs.Partings.{ArePlacesApart, IsOnSide}

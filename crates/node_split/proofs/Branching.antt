@@ -10,7 +10,7 @@ use Rattle.fork_spec.proofs.ByteLists.{are_bytes-each, are_bytes-of}
 use Rattle.query_front.specs.Asks.{IsAsked, with_term}
 use Rattle.query_front.specs.declared.asked.Asked.TheVariants.{Spent}
 use Rattle.rv_spec.specs.Arithmetic.{one_where}
-use Rattle.rv_spec.specs.Decisions.{Side as OnSide}
+use Rattle.fork_spec.specs.Decisions.{Side as OnSide}
 use Rattle.sym_machine.specs.Stops.{IsBranch}
 use Rattle.sym_state.specs.Moves.{MakesTerm}
 use Rattle.sym_state.specs.Symbolic.{Symbolic, IsFormed, condition_of, stands_for}

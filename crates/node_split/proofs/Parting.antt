@@ -3,7 +3,7 @@ use Rattle.std.proofs.Common.{◌≡◌, ◌≢◌, ℕ, ◌+◌, ◌<◌, ◌�
 use Rattle.std.specs.Prelude.{IsTrue, Option, None, Some, if◌then◌else◌, ◌==◌, not}
 use Rattle.std.proofs.lemmas.List.Elements.{All-nil, All-cons}
 use Rattle.bv_dag.specs.Graphs.{number_of}
-use Rattle.rv_spec.specs.Decisions.{Side as OnSide}
+use Rattle.fork_spec.specs.Decisions.{Side as OnSide}
 use Rattle.tree_core.specs.Covers.{one_if}
 use Rattle.tree_core.specs.declared.budgets.Budgets.{Budgets}
 use Rattle.tree_core.specs.declared.cause.Cause.{Cause}

@@ -4,7 +4,7 @@ use Rattle.std.specs.Prelude.{◌==◌}
 use Rattle.bv_dag.specs.Graphs.{Graph, number_of}
 use Rattle.fork_spec.specs.Evidence.{Found}
 use Rattle.rv_spec.specs.Arithmetic.{one_where}
-use Rattle.rv_spec.specs.Decisions.{Number as Needs}
+use Rattle.fork_spec.specs.Decisions.{Number as Needs}
 use Rattle.sym_machine.specs.Stops.{IsPin}
 use Rattle.sym_state.specs.Symbolic.{Symbolic, IsFormed}
 use Rattle.sym_state.specs.Values.{GivesTerm}

@@ -10,7 +10,7 @@ use Rattle.bv_dag.specs.Graphs.{Graph, number_of}
 use Rattle.bv_dag.specs.Queries.{holds}
 use Rattle.fork_spec.specs.Leaves.{are_bytes}
 use Rattle.fork_spec.proofs.ByteLists.{are_bytes-each}
-use Rattle.rv_spec.specs.Decisions.{Decision, decisions, step_decisions}
+use Rattle.fork_spec.specs.Decisions.{Decision, decisions, step_decisions}
 use Rattle.rv_spec.specs.Machine.{State}
 use Rattle.rv_spec.specs.Runs.{Run, run}
 use Rattle.sym_machine.specs.Stops.{IsOpenAt, StandsAt}

@@ -6,7 +6,7 @@ use Rattle.std.proofs.lemmas.List.{length-map, map-append, length-append}
 use Rattle.std.proofs.lemmas.List.Elements.{All-nil, All-cons, All-head, All-push, All-tail}
 use Rattle.std.proofs.lemmas.List.Sums.{sum_by-append, sum_by-cons}
 use Rattle.bv_dag.specs.Graphs.{number_of}
-use Rattle.rv_spec.specs.Decisions.{Decision, Number as Needs}
+use Rattle.fork_spec.specs.Decisions.{Decision, Number as Needs}
 use Rattle.tree_core.specs.Covers.{one_if}
 use Rattle.tree_core.specs.declared.budgets.Budgets.{Budgets}
 use Rattle.tree_core.specs.declared.cause.Cause.{Cause}

@@ -1,7 +1,7 @@
 -- What is asked of the runs and leaves of a program, within its budgets.
 use Rattle.std.specs.Prelude.{◌≡◌, ℕ, zero, suc, ◌<◌, refl}
 use Rattle.std.specs.Coded.{Coded, code_by, coded×, coded_ℕ}
-use Rattle.rv_spec.specs.Decisions.{decisions}
+use Rattle.fork_spec.specs.Decisions.{decisions}
 use Rattle.tree_core.specs.declared.budgets.Budgets.{Budgets}
 use Rattle.tree_core.specs.declared.event.Kid.{Kid}
 use Rattle.tree_core.specs.declared.order.Order.{Order}

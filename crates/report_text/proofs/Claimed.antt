@@ -11,7 +11,7 @@ use Rattle.std.proofs.lemmas.Option.{slice_get-map}
 use Rattle.elf_load.specs.Images.{Image}
 use Rattle.elf_load.specs.declared.region.Region.{Region}
 use Rattle.rv_spec.specs.Memory.{IsAssignment, count_of}
-use Rattle.rv_spec.specs.Decisions.{decisions}
+use Rattle.fork_spec.specs.Decisions.{decisions}
 use Rattle.test_files.specs.Tests.{Test}
 use Rattle.tree_core.specs.Choices.{is_before, is_same, precedes}
 use Rattle.tree_core.specs.Covers.{count_below, is_live, covered, one_if, root_content}

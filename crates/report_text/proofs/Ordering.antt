@@ -16,7 +16,7 @@ use Rattle.fork_spec.specs.Histories.{is_leaf_status}
 use Rattle.fork_spec.specs.Partings.{ArePlacesApart, FirstDiffer, Place}
 use Rattle.fork_tree.specs.NodesApart.{AreNodesApart}
 use Rattle.fork_spec.specs.Parts.{Part}
-use Rattle.rv_spec.specs.Decisions.{Decision}
+use Rattle.fork_spec.specs.Decisions.{Decision}
 use Rattle.fork_tree.specs.Contents.{place_in}
 use Rattle.fork_tree.specs.declared.content.Content.{Content}
 use Rattle.fork_tree.specs.declared.content.Content.TheVariants.{Shut}

@@ -3,7 +3,7 @@ use Rattle.std.specs.Prelude.{◌≡◌, ℕ, zero, suc, ◌+◌, ◌<◌, Bool,
 use Rattle.std.specs.List.Sorted.{IsPermutation}
 use Rattle.elf_load.specs.Images.{Image}
 use Rattle.elf_load.specs.declared.region.Region.{Region}
-use Rattle.rv_spec.specs.Decisions.{decisions}
+use Rattle.fork_spec.specs.Decisions.{decisions}
 use Rattle.tree_core.specs.Choices.{precedes}
 use Rattle.tree_core.specs.Stories.{Story, content, status}
 use Rattle.tree_core.specs.declared.budgets.Budgets.{Budgets}

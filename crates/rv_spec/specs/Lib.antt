@@ -2,4 +2,3 @@ pub mod Arithmetic
 pub mod Memory
 pub mod Machine
 pub mod Runs
-pub mod Decisions

@@ -12,7 +12,7 @@ use Rattle.rv_decode.specs.declared.ends.Trap.TheVariants.{Call, LoadAccess}
 use Rattle.rv_decode.specs.declared.instr.Instr.TheVariants.{Ecall}
 use Rattle.rv_machine.proofs.Addresses.{bytes_none, bytes-more, length-addresses}
 use Rattle.rv_spec.specs.Arithmetic.{sum32}
-use Rattle.rv_spec.specs.Decisions.{Number as Needs, call_decisions, write_decisions}
+use Rattle.fork_spec.specs.Decisions.{Number as Needs, call_decisions, write_decisions}
 use Rattle.rv_spec.specs.Machine.{State, addresses, trapped, write, x}
 use Rattle.rv_spec.specs.Machine as machine
 use Rattle.rv_spec.specs.Memory.{is_mapped}

@@ -5,7 +5,7 @@ use Rattle.bv_dag.specs.Queries.{holds}
 use Rattle.fork_spec.specs.Leaves.{are_bytes}
 use Rattle.rv_decode.specs.declared.ends.Trap.{Trap}
 use Rattle.rv_decode.specs.declared.instr.Instr.{Instr}
-use Rattle.rv_spec.specs.Decisions.{Number as Needs, instr_decisions, step_decisions}
+use Rattle.fork_spec.specs.Decisions.{Number as Needs, instr_decisions, step_decisions}
 use Rattle.rv_spec.specs.Machine.{State, execute_fetched, fetch, next}
 use Rattle.sym_state.specs.Moves.{IsGrown, counted}
 use Rattle.sym_state.specs.Symbolic.{Symbolic, IsFormed, concrete, stands_for}

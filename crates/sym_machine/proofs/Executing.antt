@@ -9,7 +9,7 @@ use Rattle.rv_decode.specs.declared.ops.ShiftOp.{ShiftOp}
 use Rattle.rv_decode.specs.declared.ops.Test.{Test}
 use Rattle.rv_spec.specs.Arithmetic.{sum32}
 use Rattle.rv_spec.specs.Arithmetic as arithmetic
-use Rattle.rv_spec.specs.Decisions.{Side, Number as Needs, step_decisions}
+use Rattle.fork_spec.specs.Decisions.{Side, Number as Needs, step_decisions}
 use Rattle.rv_spec.specs.Machine.{State, even, to_register, x}
 use Rattle.rv_spec.specs.Machine as machine
 use Rattle.sym_state.specs.Moves.{IsGrown, MakesBit, MakesValue}

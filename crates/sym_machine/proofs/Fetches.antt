@@ -6,7 +6,7 @@ use Rattle.cow_pages.specs.SymbolicMemory.{IsWordAt, memory_byte, memory_flags}
 use Rattle.rv_decode.specs.Instructions.{instr, ShiftsBelow32}
 use Rattle.rv_decode.specs.declared.ends.Trap.TheVariants.{Illegal, FetchAccess, FetchMisaligned}
 use Rattle.rv_decode.specs.declared.instr.Instr.{Instr}
-use Rattle.rv_spec.specs.Decisions.{Number as Needs, instr_decisions, step_decisions}
+use Rattle.fork_spec.specs.Decisions.{Number as Needs, instr_decisions, step_decisions}
 use Rattle.rv_spec.specs.Machine.{State, fetch}
 use Rattle.rv_spec.specs.Memory.{can_execute, word_at}
 use Rattle.sym_state.specs.Moves.{IsGrown}

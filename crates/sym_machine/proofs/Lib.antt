@@ -7,3 +7,4 @@ pub mod Runs
 pub mod Standing
 pub mod Unfolds
 pub mod Transfers
+pub mod Loads

@@ -4,7 +4,7 @@ use Rattle.std.specs.Prelude.{Option, None, Some, is_none, count_by, replicate}
 use Rattle.elf_load.specs.Images.{Image}
 use Rattle.elf_load.specs.declared.region.Region.{Region}
 use Rattle.rv_decode.specs.declared.ends.End.{End}
-use Rattle.rv_spec.specs.Decisions.{decisions, decisions_from, run_decisions, step_decisions}
+use Rattle.fork_spec.specs.Decisions.{decisions, decisions_from, run_decisions, step_decisions}
 use Rattle.rv_spec.specs.Machine.{State, Running as GoesOn, Ended as Stops, first_state, next}
 use Rattle.rv_spec.specs.Runs.{Run, IsRunOf, run, run_from, continued, after_outcome}
 use Rattle.sym_state.specs.Moves.{IsGrown, IsSame}

@@ -3,7 +3,7 @@ use Rattle.std.proofs.Common.{◌≡◌, ℕ, true, false, List, [], ◌∷◌, 
 use Rattle.std.specs.Prelude.{◌==◌, Option, None, Some, if◌then◌else◌, slice_get, slice_set}
 use Rattle.std.proofs.Math.ListN as lists
 use Rattle.std.proofs.lemmas.List.{map-set}
-use Rattle.rv_spec.specs.Decisions.{Decision, Number as Needs, instr_decisions, step_decisions}
+use Rattle.fork_spec.specs.Decisions.{Decision, Number as Needs, instr_decisions, step_decisions}
 use Rattle.rv_decode.specs.declared.instr.Instr.{Instr}
 use Rattle.rv_spec.specs.Arithmetic.{sum32}
 use Rattle.rv_spec.specs.Machine.{State, Outcome, to_register, written, x}

@@ -1,20 +1,22 @@
--- Loads and stores, whose address is known.
+-- Stores, whose address is known, and the sum that an address is.
 use Rattle.std.proofs.Common.{◌≡◌, ℕ, true, List, [], ◌∷◌, refl, sym, ap, ◌∙◌}
-use Rattle.rv_decode.specs.declared.instr.Instr.TheVariants.{Load, Store}
-use Rattle.rv_decode.specs.declared.ops.LoadWidth.{LoadWidth}
+use Rattle.rv_decode.specs.declared.instr.Instr.TheVariants.{Store}
 use Rattle.rv_decode.specs.declared.ops.StoreWidth.{StoreWidth}
 use Rattle.rv_spec.specs.Arithmetic.{sum32}
-use Rattle.rv_spec.specs.Decisions.{Number as Needs}
-use Rattle.rv_spec.specs.Machine.{State, Outcome, load, store, x}
-use Rattle.sym_state.specs.Moves.{IsGrown}
-use Rattle.sym_state.specs.Symbolic.{Symbolic, concrete, stands_for}
+use Rattle.fork_spec.specs.Decisions.{Number as Needs}
+use Rattle.rv_spec.specs.Machine.{State, Outcome, store, x}
+use Rattle.sym_state.specs.Moves.{IsGrown, MakesValue}
+use Rattle.sym_state.specs.Symbolic.{Symbolic, concrete, stands_for, value_at}
 use Rattle.sym_state.specs.Unfolded.{Unfolded, expression_at, unfolded}
 use Rattle.sym_state.specs.Unfolding as symbolic
+use Rattle.sym_state.specs.Values.{worth_of}
+use Rattle.sym_state.specs.declared.value.Value.{Value}
 use Rattle.sym_state.proofs.Grown.{unfolded-grown}
+use Rattle.sym_state.proofs.Opening.{stands-bytes}
 use Rattle.sym_machine.specs.Steps.{AreUniform, Carries, Comes}
 use Rattle.sym_machine.specs.Stops.{DecidesBy, StandsAt}
 use Rattle.sym_machine.specs.declared.outcome.Step.{Step}
-use Rattle.sym_machine.proofs.Standing.{Comes-by, Comes-made, StandsAt-first}
+use Rattle.sym_machine.proofs.Standing.{Comes-by, Comes-made, StandsAt-first, x-worth}
 
 -- the address that a register and an offset make
 abbrev address : State → (rs1 offset : ℕ) → ℕ
@@ -24,6 +26,16 @@ address c rs1 offset = sum32 (x c rs1) offset
 abbrev pub IsAddress : Symbolic → (rs1 offset at : ℕ) → Type 0
 IsAddress s rs1 offset at = (input : List ℕ) → stands_for s input ≡ true
     → address (concrete s input) rs1 offset ≡ at
+
+-- the sum is the address on each assignment
+pub sum_is : (old new : Symbolic) (rs1 offset : ℕ) (base sum : Value)
+    → base ≡ value_at old.registers rs1
+    → MakesValue old new sum (λ input. sum32 (worth_of old.terms input base) offset)
+    → (input : List ℕ) → stands_for old input ≡ true
+    → sum32 (x (concrete old input) rs1) offset ≡ worth_of new.terms input sum
+sum_is old new rs1 offset base sum is made input standing =
+    ap (λ n. sum32 n offset) (x-worth old input rs1 ∙ ap (worth_of old.terms input) (sym is))
+    ∙ sym (made.gives.worth input (stands-bytes old input standing))
 
 alike : (s : Symbolic) (rs1 offset at : ℕ) → IsAddress s rs1 offset at
     → AreUniform s (λ c. Needs (address c rs1 offset) ∷ [])
@@ -46,23 +58,6 @@ terms : (old mid new : Symbolic) (rs1 offset at : ℕ) (makes : Unfolded → ℕ
     → (input : List ℕ) → stands_for old input ≡ true → unfolded new ≡ makes (unfolded old) (address (concrete old input) rs1 offset)
 terms old mid new rs1 offset at makes grown is made input standing =
     made ∙ ap (λ u. makes u at) (unfolded-grown old mid grown) ∙ ap (makes (unfolded old)) (sym (is input standing))
-
-pub load_needs : (s : Symbolic) (width : LoadWidth) (rd rs1 offset : ℕ)
-    → DecidesBy s (Load width rd rs1 offset)
-    → StandsAt s 1 (λ input. Needs (sum32 (x (concrete s input) rs1) offset))
-load_needs s width rd rs1 offset decides =
-    StandsAt-first s (Load width rd rs1 offset)
-    (λ input. Needs (address (concrete s input) rs1 offset)) (λ input. []) (λ input. refl) decides
-
-pub load_carries : (old mid new : Symbolic) (step : Step) (width : LoadWidth)
-    (rd rs1 offset at : ℕ) → IsGrown old mid
-    → IsAddress old rs1 offset at → Comes mid new step (λ c. load c width rd at) → unfolded new ≡ symbolic.load (unfolded mid) width rd at
-    → Carries old new step (Load width rd rs1 offset)
-load_carries old mid new step width rd rs1 offset at grown is makes made = record {
-  comes = comes old mid new step rs1 offset at (λ c n. load c width rd n) grown is makes;
-  alike = alike old rs1 offset at is;
-  terms = terms old mid new rs1 offset at (λ u n. symbolic.load u width rd n) grown is made;
-}
 
 pub store_needs : (s : Symbolic) (width : StoreWidth) (rs1 rs2 offset : ℕ)
     → DecidesBy s (Store width rs1 rs2 offset)

@@ -8,16 +8,15 @@ use Rattle.std.proofs.lemmas.List.{map-append, map-set}
 use Rattle.cow_pages.specs.SymbolicMemory.{memory_byte, memory_flags}
 use Rattle.cow_pages.specs.declared.byte.Byte.{Byte}
 use Rattle.bv_dag.specs.Graphs.{Graph}
-use Rattle.rv_decode.specs.declared.ops.LoadWidth.{LoadWidth}
 use Rattle.rv_decode.specs.declared.ops.StoreWidth.{StoreWidth}
 use Rattle.rv_spec.specs.Arithmetic.{sum32}
-use Rattle.rv_spec.specs.Machine.{addresses, is_load_aligned, is_store_aligned}
+use Rattle.rv_spec.specs.Machine.{addresses, is_store_aligned}
 use Rattle.rv_spec.specs.Memory.{can_write, is_mapped}
 use Rattle.sym_state.specs.Expressions.{Expression, Number as ANumber, byte_expression, register_byte, value_expression}
 use Rattle.sym_state.specs.Moves.{IsGrown, stored_at}
 use Rattle.sym_state.specs.Symbolic.{Symbolic, set_value, value_at}
 use Rattle.sym_state.specs.Unfolded.{Unfolded, expression_at, set_expression, unfolded}
-use Rattle.sym_state.specs.Unfolding.{linked, load, loaded, onward, store, stored, to_register, with_put, write}
+use Rattle.sym_state.specs.Unfolding.{linked, onward, store, stored, to_register, with_put, write}
 use Rattle.sym_state.specs.declared.value.Value.{Value}
 use Rattle.sym_state.specs.declared.value.Value.TheVariants.{Number}
 use Rattle.sym_state.proofs.Grown.{unfolded-grown}
@@ -59,18 +58,6 @@ links u rd target aligned = rw aligned refl
 
 pub links_not : (u : Unfolded) (rd target : ℕ) → (target % 4 == 0) ≡ false → u ≡ linked u rd target
 links_not u rd target other = rw other refl
-
--- ---- Loads.
-pub loads : (u : Unfolded) (width : LoadWidth) (rd address : ℕ) → is_load_aligned width address ≡ true → is_mapped u.flags address ≡ true
-    → to_register u rd (loaded width u.byte address) ≡ load u width rd address
-loads u width rd address aligned mapped = rw (aligned, mapped) refl
-
-pub loads_misaligned : (u : Unfolded) (width : LoadWidth) (rd address : ℕ) → is_load_aligned width address ≡ false → u ≡ load u width rd address
-loads_misaligned u width rd address other = rw other refl
-
-pub loads_unmapped : (u : Unfolded) (width : LoadWidth) (rd address : ℕ) → is_load_aligned width address ≡ true → is_mapped u.flags address ≡ false
-    → u ≡ load u width rd address
-loads_unmapped u width rd address aligned other = rw (aligned, other) refl
 
 -- ---- Stores.
 expression-if : (g : Graph) (t : Bool) (a b : Byte) → byte_expression g (if t then a else b) ≡ (if t then byte_expression g a else byte_expression g b)

@@ -4,7 +4,7 @@ use Rattle.cow_pages.specs.SymbolicMemory.{memory_flags}
 use Rattle.rv_decode.specs.Instructions.{ShiftsBelow32}
 use Rattle.rv_decode.specs.declared.ends.Trap.{Trap}
 use Rattle.rv_decode.specs.declared.instr.Instr.{Instr}
-use Rattle.rv_spec.specs.Decisions.{instr_decisions, step_decisions}
+use Rattle.fork_spec.specs.Decisions.{instr_decisions, step_decisions}
 use Rattle.rv_spec.specs.Machine.{State, fetch}
 use Rattle.rv_spec.specs.Memory.{can_execute, word_at}
 use Rattle.sym_state.specs.Symbolic.{Symbolic, concrete, stands_for}

@@ -4,7 +4,7 @@ use Rattle.cow_pages.specs.SymbolicMemory.{memory_flags}
 use Rattle.rv_decode.specs.declared.ends.End.{End}
 use Rattle.rv_decode.specs.declared.ends.End.TheVariants.{Exit, Trapped}
 use Rattle.rv_decode.specs.declared.instr.Instr.{Instr}
-use Rattle.rv_spec.specs.Decisions.{Decision, instr_decisions, step_decisions}
+use Rattle.fork_spec.specs.Decisions.{Decision, instr_decisions, step_decisions}
 use Rattle.rv_spec.specs.Machine.{State, Outcome, next}
 use Rattle.rv_spec.specs.Machine as machine
 use Rattle.rv_spec.specs.Memory.{with_bytes}

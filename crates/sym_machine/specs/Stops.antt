@@ -3,7 +3,7 @@
 use Rattle.std.specs.Prelude.{◌≡◌, ℕ, ◌<◌, ◌==◌, true, List, ◌∷◌, ◌++◌, length, None, Some}
 use Rattle.bv_dag.specs.Graphs.{number_of}
 use Rattle.rv_decode.specs.declared.instr.Instr.{Instr}
-use Rattle.rv_spec.specs.Decisions.{Decision, Side, Number as Needs, instr_decisions, step_decisions}
+use Rattle.fork_spec.specs.Decisions.{Decision, Side, Number as Needs, instr_decisions, step_decisions}
 use Rattle.sym_state.specs.Moves.{IsGrown}
 use Rattle.sym_state.specs.Symbolic.{Symbolic, concrete, known_at, most_decisions, stands_for}
 use Rattle.sym_state.specs.Values.{IsUnknown}

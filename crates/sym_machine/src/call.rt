@@ -4,7 +4,7 @@ ghost use Rattle.std.specs.Prelude.{◌≡◌, ◌<◌, true, ℕ, List, IfOk, I
 ghost use Rattle.std.specs.List.{list_all};
 ghost use Rattle.cow_pages.specs.SymbolicMemory.{memory_flags};
 ghost use Rattle.rv_decode.specs.declared.instr.Instr.TheVariants.{Ecall};
-ghost use Rattle.rv_spec.specs.Decisions.{Number as Needs};
+ghost use Rattle.fork_spec.specs.Decisions.{Number as Needs};
 ghost use Rattle.rv_spec.specs.Machine as machine;
 ghost use Rattle.rv_spec.specs.Machine.{addresses, x};
 ghost use Rattle.rv_spec.specs.Memory.{is_mapped};

@@ -6,7 +6,8 @@
 //! - `fetch`: the instruction that comes next
 //! - `decoded`: instructions that were decoded lately
 //! - `going`: to the next instruction, or to another
-//! - `transfer`: loads and stores
+//! - `transfer`: bytes of memory and registers
+//! - `loading`: loads
 //! - `call`: the environment call
 //! - `execute`: each instruction
 //! - `stepping`: steps, one after the other
@@ -18,6 +19,7 @@ mod execute;
 mod fetch;
 mod going;
 mod halt;
+mod loading;
 mod needs;
 mod outcome;
 mod stepping;

@@ -2,7 +2,7 @@
 //! step's decisions. It is known where no term decides it, or where the run was told; else the instruction stops.
 
 ghost use Rattle.std.specs.Prelude.{◌≡◌, ◌<◌, ℕ, true, List, IfOk, IfErr};
-ghost use Rattle.rv_spec.specs.Decisions.{Side, Number as Needs};
+ghost use Rattle.fork_spec.specs.Decisions.{Side, Number as Needs};
 ghost use Rattle.sym_state.specs.Runs.{IsReady};
 ghost use Rattle.sym_state.specs.Symbolic.{most_decisions, stands_for};
 ghost use Rattle.sym_state.specs.Values.{IsBit, IsWide, bit_worth, worth_of};

@@ -1,11 +1,11 @@
-//! Loads and stores. Their address has to be known; alignment is tested before the page.
+//! What is loaded from an address, and stores. The address of a store has to be known; alignment is tested before the page.
 
 ghost use Rattle.std.specs.Prelude.{◌≡◌, ◌+◌, ◌*◌, ◌/◌, ◌%◌, ◌^◌, ◌<◌, ◌∷◌, [], true, ℕ, List, IfOk, IfErr, OnOk, OnErr};
 ghost use Rattle.cow_pages.specs.SymbolicMemory.{memory_flags};
-ghost use Rattle.rv_decode.specs.declared.instr.Instr.TheVariants.{Load, Store};
+ghost use Rattle.rv_decode.specs.declared.instr.Instr.TheVariants.{Store};
 ghost use Rattle.rv_decode.specs.declared.ops.StoreWidth.TheVariants.{Sh, Sw};
 ghost use Rattle.rv_spec.specs.Arithmetic.{sum32};
-ghost use Rattle.rv_spec.specs.Decisions.{Number as Needs};
+ghost use Rattle.fork_spec.specs.Decisions.{Number as Needs};
 ghost use Rattle.rv_spec.specs.Machine as machine;
 ghost use Rattle.rv_spec.specs.Machine.{x};
 ghost use Rattle.rv_spec.specs.Memory.{can_write, half_at, is_mapped};
@@ -15,18 +15,19 @@ ghost use Rattle.sym_state.specs.Moves.{IsGrown, MakesValue};
 ghost use Rattle.sym_state.specs.Runs.{IsReady};
 ghost use Rattle.sym_state.specs.Symbolic.{concrete, stands_for};
 ghost use Rattle.sym_state.specs.Unfolded.{expression_at, unfolded};
+ghost use Rattle.sym_state.specs.Loading as loading;
 ghost use Rattle.sym_state.specs.Unfolding as symbolic;
 ghost use Rattle.sym_state.specs.Values.{IsWide, worth_of};
 ghost use Rattle.sym_machine.specs.Steps.{Carries, Comes, Puts};
 ghost use Rattle.sym_machine.specs.Stops.{DecidesBy, StandsAt, Stops};
 
 use crate::fetch::word;
-use crate::going::{go_on, go_on_with};
+use crate::going::go_on;
 use crate::halt::Halt;
 use crate::needs::number_at;
 use crate::outcome::{Step, trapped};
 use rv_decode::{LoadWidth, Register, RegisterOp, StoreWidth, Trap};
-use rv_machine::{PAGE, is_load_aligned, is_store_aligned};
+use rv_machine::{PAGE, is_store_aligned};
 use std::alloc::AllocError as NoMemory;
 use sym_state::{State, Value};
 
@@ -77,13 +78,13 @@ fn half(state: &mut State, signed: bool, address: u32) -> Result<Value, NoMemory
     state.from_half(signed, low, high)
 }
 
-/// What is loaded from an address.
-fn loaded(state: &mut State, width: LoadWidth, address: u32) -> Result<Value, NoMemory>
+/// What is loaded from an address that is known.
+pub(crate) fn loaded(state: &mut State, width: LoadWidth, address: u32) -> Result<Value, NoMemory>
     requires aligned { machine.is_load_aligned width address ≡ true }
     ensures ok { IfOk result (λ value. MakesValue state.old state.new value
         (λ input. machine.loaded width (concrete state.old input).byte address)) }
     ensures expression { IfOk result (λ value. value_expression state.new.terms value
-        ≡ symbolic.loaded width (unfolded state.old).byte address) }
+        ≡ loading.loaded width (unfolded state.old).byte address) }
     ensures err { OnErr result (state.new ≡ state.old) }
 {
     match width {
@@ -93,46 +94,6 @@ fn loaded(state: &mut State, width: LoadWidth, address: u32) -> Result<Value, No
         LoadWidth::Lbu => state.from_byte(false, state.byte(address)),
         LoadWidth::Lhu => half(state, false, address),
     }
-}
-
-/// Loads from an address into a register.
-fn load_from(
-    state: &mut State,
-    width: LoadWidth,
-    rd: Register,
-    address: u32,
-) -> Result<Step, NoMemory>
-    ensures comes { IfOk result (λ step. Comes state.old state.new step
-        (λ c. machine.load c width rd address)) }
-    ensures terms { IfOk result (λ _. unfolded state.new
-        ≡ symbolic.load (unfolded state.old) width rd address) }
-{
-    if !is_load_aligned(width, address) {
-        return Ok(trapped(Trap::LoadMisaligned));
-    }
-    if !is_mapped(state, address) {
-        return Ok(trapped(Trap::LoadAccess));
-    }
-    let value = loaded(state, width, address)?;
-    Ok(go_on_with(state, rd, value))
-}
-
-/// Loads into a register.
-pub(crate) fn load(
-    state: &mut State,
-    width: LoadWidth,
-    rd: Register,
-    rs1: Register,
-    offset: u32,
-) -> Result<Step, Halt>
-    requires ready { IsReady state.old }
-    requires decides { DecidesBy state.old (Load width rd rs1 offset) }
-    ensures ok { IfOk result (λ step. Carries state.old state.new step (Load width rd rs1 offset)) }
-    ensures err { IfErr result (Stops state.old state.new) }
-{
-    let address = address_of(state, rs1, offset)?;
-    let step = load_from(state, width, rd, address)?;
-    Ok(step)
 }
 
 /// Puts the byte of a value that is `at` bytes up, of 4, to an address of a mapped page.

@@ -2,7 +2,7 @@
 use Rattle.std.proofs.Common.{◌≡◌, ℕ, zero, suc, ◌<◌, List, refl, ap, ◌∙◌, arith}
 use Rattle.elf_load.specs.Images.{Image}
 use Rattle.elf_load.specs.declared.region.Region.{Region}
-use Rattle.rv_spec.specs.Decisions.{step_decisions}
+use Rattle.fork_spec.specs.Decisions.{step_decisions}
 use Rattle.rv_spec.specs.Runs.{run}
 use Rattle.sym_state.specs.Unfolding.{next_unfolded, unfolded_run}
 

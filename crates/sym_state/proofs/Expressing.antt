@@ -11,8 +11,10 @@ use Rattle.term_simplify.specs.Builds.{Builds}
 use Rattle.term_trees.specs.Growth.{Continues}
 use Rattle.term_trees.specs.Trees.{Tree, tree_of}
 use Rattle.term_trees.proofs.TreeLaws.{tree_by_cases, tree-grown}
-use Rattle.sym_state.specs.Expressions.{Number, Unknown, byte_expression, settled, settled_by, value_expression}
-use Rattle.sym_state.specs.Values.{IsByte, IsUnknown, IsWide}
+use Rattle.sym_state.specs.Expressions.{Number, Unknown, bit_expression, byte_expression, settled, settled_by, value_expression}
+use Rattle.sym_state.specs.Values.{IsBit, IsByte, IsUnknown, IsWide}
+use Rattle.sym_state.specs.declared.value.Bit.{Bit}
+use Rattle.sym_state.specs.declared.value.Bit.TheVariants.{Known, Term as BitTerm}
 use Rattle.sym_state.specs.declared.value.Value.{Value}
 use Rattle.sym_state.specs.declared.value.Value.TheVariants.{Number as ValueNumber, Term as ValueTerm}
 
@@ -27,6 +29,10 @@ expression-grown g h (ValueTerm id) grown wide = ap (λ t. Unknown t) (tree-kept
 pub byte_expression-grown : (g h : Graph) (b : Byte) → Continues g h → IsByte g b → byte_expression h b ≡ byte_expression g b
 byte_expression-grown g h (ByteNumber n) grown is = refl
 byte_expression-grown g h (ByteTerm id) grown is = ap (λ t. Unknown t) (tree-kept g h id 8 grown is.width (omega arith))
+
+pub bit_expression-grown : (g h : Graph) (b : Bit) → Continues g h → IsBit g b → bit_expression h b ≡ bit_expression g b
+bit_expression-grown g h (Known b) grown is = refl
+bit_expression-grown g h (BitTerm id) grown is = ap (λ t. Unknown t) (tree-kept g h id 1 grown is.width (omega arith))
 
 -- ---- What a node is.
 pub settled_number : (g : Graph) (id w v : ℕ) → IsDag g → slice_get g.nodes id ≡ Some (Num w v) → Number v ≡ settled (tree_of g id)

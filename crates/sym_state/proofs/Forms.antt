@@ -7,7 +7,7 @@ use Rattle.bv_dag.specs.Queries.{AreBits}
 use Rattle.cow_pages.specs.SymbolicMemory.{memory_byte}
 use Rattle.cow_pages.specs.declared.byte.Byte.{Byte}
 use Rattle.term_trees.specs.Growth.{Continues}
-use Rattle.sym_state.specs.Moves.{MakesBit, MakesByte, MakesTerm, MakesValue, with_terms}
+use Rattle.sym_state.specs.Moves.{IsGrown, MakesBit, MakesByte, MakesTerm, MakesValue, with_terms}
 use Rattle.sym_state.specs.Symbolic.{Symbolic, IsFormed}
 use Rattle.sym_state.specs.Values.{GivesBit, GivesByte, GivesTerm, GivesValue, IsByte, IsWide}
 use Rattle.sym_state.specs.declared.value.Bit.{Bit}
@@ -37,6 +37,9 @@ formed-grown s g f grown = record {
   each_input = f.each_input ∙ sym grown.inputs;
   sample_bytes = f.sample_bytes;
 }
+
+pub grows : (s : Symbolic) (g : Graph) → IsFormed s → Continues s.terms g → IsGrown s (with_terms s g)
+grows s g f grown = record { before = f; same = refl; continues = grown; formed = formed-grown s g f grown }
 
 -- where terms were made, or none after want of memory
 pub formed_value : {E : Type 0} (s : Symbolic) (g : Graph) (r : Result Value E) (number : List ℕ → ℕ) → IsFormed s

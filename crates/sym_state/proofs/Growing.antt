@@ -1,7 +1,7 @@
 -- What stays where terms are added, and what is made of terms that were made before.
 use Rattle.std.proofs.Common.{◌≡◌, ℕ, ◌<◌, List, length, refl, ap, ◌∙◌, arith}
 use Rattle.std.proofs.lemmas.List.{take-take, length-take}
-use Rattle.std.specs.Prelude.{All, Result, Ok, Err, IfOk}
+use Rattle.std.specs.Prelude.{◌==◌, All, Result, Ok, Err, IfOk}
 use Rattle.bv_dag.specs.BitVectors.{BitVector}
 use Rattle.bv_dag.specs.Graphs.{Graph, number_of, width_of}
 use Rattle.bv_dag.proofs.TermLaws.{there}
@@ -12,7 +12,9 @@ use Rattle.term_simplify.specs.Plain.{tree_number}
 use Rattle.term_trees.specs.Growth.{Continues}
 use Rattle.term_trees.specs.Trees.{Tree}
 use Rattle.term_trees.proofs.TreeLaws.{tree-grown, value-grown, width-grown}
-use Rattle.sym_state.specs.Values.{GivesTerm, IsByte, IsUnknown, IsWide, byte_worth, worth_of}
+use Rattle.sym_state.specs.Values.{GivesTerm, IsBit, IsByte, IsUnknown, IsWide, bit_worth, byte_worth, worth_of}
+use Rattle.sym_state.specs.declared.value.Bit.{Bit}
+use Rattle.sym_state.specs.declared.value.Bit.TheVariants.{Known, Term as BitTerm}
 use Rattle.sym_state.specs.declared.value.Value.{Value}
 use Rattle.sym_state.specs.declared.value.Value.TheVariants.{Number, Term}
 
@@ -56,6 +58,16 @@ byte_worth-grown g h input (ByteTerm id) grown is = number-grown g h id 8 input 
 pub IsByte-grown : (g h : Graph) (b : Byte) → Continues g h → IsByte g b → IsByte h b
 IsByte-grown g h (ByteNumber n) grown is = is
 IsByte-grown g h (ByteTerm id) grown is = IsUnknown-grown g h 8 id grown (omega arith) is
+
+pub IsBit-grown : (g h : Graph) (b : Bit) → Continues g h → IsBit g b → IsBit h b
+IsBit-grown g h (Known b) grown is = tt
+IsBit-grown g h (BitTerm id) grown is = IsUnknown-grown g h 1 id grown (omega arith) is
+
+pub bit_worth-grown : (g h : Graph) (input : List ℕ) (b : Bit) → Continues g h → IsBit g b
+    → bit_worth h input b ≡ bit_worth g input b
+bit_worth-grown g h input (Known b) grown is = refl
+bit_worth-grown g h input (BitTerm id) grown is =
+    ap (λ n. n == 1) (number-grown g h id 1 input grown is.width (omega arith))
 
 -- what a call of the builder gives, where the terms have grown before
 pub builds_gives : {E : Type 0} {f h : Graph} (k : Graph) (r : Result ℕ E) (t : Tree) (w : ℕ)

@@ -7,3 +7,8 @@ pub mod Naming
 pub mod Expressing
 pub mod Grown
 pub mod Opening
+pub mod Choosing
+pub mod Leading
+pub mod Taking
+pub mod Indices
+pub mod IndexNodes

@@ -72,3 +72,9 @@ not_gives g h id (Ok other) term bit builds = record {
       ap (λ (x : BitVector). x.number) (builds.value input bytes) ∙ number-not (val g id input) (width-val g id input ∙ bit)
       ∙ other_bit (number_of g id input) (number_fits g id 1 input term bit bytes);
 }
+
+-- one bit is the number that it is
+pub number-bit : (v : ℕ) → v < 2 → one_where (v == 1) ≡ v
+number-bit zero small = refl
+number-bit (suc zero) small = refl
+number-bit (suc (suc n)) small = absurd (omega (arith, small))

@@ -19,7 +19,7 @@ use Rattle.fork_spec.specs.Leaves.{IsSmallChoice, IsSmallStep, are_bytes}
 use Rattle.fork_spec.proofs.ByteLists.{are_bytes-each, are_bytes-of}
 use Rattle.rv_machine.proofs.Placing.{fitting_mapped}
 use Rattle.rv_machine.specs.Pages.{AreMapped}
-use Rattle.rv_spec.specs.Decisions.{decisions_from}
+use Rattle.fork_spec.specs.Decisions.{decisions_from}
 use Rattle.rv_spec.specs.Machine.{first_registers, first_state}
 use Rattle.rv_spec.specs.Memory.{byte_of, count_of, flags_of, placed}
 use Rattle.rv_spec.specs.Runs.{run_from}

@@ -1,17 +1,20 @@
 -- What registers and bytes of memory are, whatever table keeps their terms: a number, or the tree of a
 -- term that is none. Each operation of an instruction makes one expression of its operands': of numbers
 -- the number that the machine computes, and else the builder's tree.
-use Rattle.std.specs.Prelude.{ℕ, ◌+◌, ◌*◌, ◌/◌, ◌%◌, ◌^◌, Bool, Option, Some, None}
+use Rattle.std.specs.Prelude.{ℕ, ◌+◌, ◌*◌, ◌/◌, ◌%◌, ◌^◌, ◌==◌, Bool, false, if◌then◌else◌, Option, Some, None}
 use Rattle.bv_dag.specs.BitVectors.{BitVector}
 use Rattle.bv_dag.specs.Graphs.{Graph}
 use Rattle.cow_pages.specs.declared.byte.Byte.{Byte}
 use Rattle.cow_pages.specs.declared.byte.Byte.TheVariants.{Number as ByteNumber, Term as ByteTerm}
 use Rattle.rv_decode.specs.declared.ops.RegisterOp.{RegisterOp}
-use Rattle.rv_spec.specs.Arithmetic.{combined}
+use Rattle.rv_spec.specs.Arithmetic.{combined, one_where}
 use Rattle.rv_spec.specs.Machine.{even}
 use Rattle.term_simplify.specs.Operations.{combined_tree, byte_tree, even_tree, half_tree, widened, word_tree}
-use Rattle.term_simplify.specs.Plain.{extension_by, tree_number}
+use Rattle.term_simplify.specs.Plain.{extension_by, part_of, tree_number}
+use Rattle.term_simplify.specs.Simplified.{choice_of}
 use Rattle.term_trees.specs.Trees.{Tree, Constant, tree_of}
+use Rattle.sym_state.specs.declared.value.Bit.{Bit}
+use Rattle.sym_state.specs.declared.value.Bit.TheVariants.{Known, Term as BitTerm}
 use Rattle.sym_state.specs.declared.value.Value.{Value}
 use Rattle.sym_state.specs.declared.value.Value.TheVariants.{Number as ValueNumber, Term as ValueTerm}
 
@@ -22,6 +25,11 @@ pub data Expression : Type 0 where
 abbrev pub value_expression : Graph → Value → Expression
 value_expression terms (ValueNumber n) = Number n
 value_expression terms (ValueTerm id) = Unknown (tree_of terms id)
+
+-- 1 where it holds
+abbrev pub bit_expression : Graph → Bit → Expression
+bit_expression terms (Known b) = Number (one_where b)
+bit_expression terms (BitTerm id) = Unknown (tree_of terms id)
 
 abbrev pub byte_expression : Graph → Byte → Expression
 byte_expression terms (ByteNumber n) = Number n
@@ -45,6 +53,21 @@ abbrev pub combined_of : RegisterOp → Expression → Expression → Expression
 combined_of op (Number a) (Number b) = Number (combined op a b)
 combined_of op (Number a) (Unknown t) = settled (combined_tree op (Constant 32 a) t)
 combined_of op (Unknown s) b = settled (combined_tree op s (tree_in 32 b))
+
+-- one bit of a term
+abbrev pub bit_in : (at : ℕ) → Tree → Expression
+bit_in at t = settled (part_of at at t)
+
+-- the same number
+abbrev pub are_equal : Expression → Expression → Bool
+are_equal (Number a) (Number b) = a == b
+are_equal s t = false
+
+-- the first of two bytes where a bit is 1, and else the second
+abbrev pub byte_choice : (bit : Tree) → (first second : Expression) → Expression
+byte_choice c first second =
+    if are_equal first second then first
+    else settled (choice_of c (tree_in 8 first) (tree_in 8 second))
 
 -- with the lowest bit cleared
 abbrev pub even_of : Expression → Expression

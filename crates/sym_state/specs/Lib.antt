@@ -6,6 +6,9 @@ pub mod Runs
 pub mod Placing
 pub mod Places
 pub mod Expressions
+pub mod Indexing
+pub mod Loading
+pub mod Selecting
 pub mod Unfolded
 pub mod Unfolding
 pub mod Codes

@@ -1,7 +1,7 @@
 -- When a symbolic run is one of a program: the machine's run of each assignment that it stands for is
 -- where it is, and all of them have decided alike.
 use Rattle.std.specs.Prelude.{◌≡◌, ℕ, ◌+◌, ◌-◌, ◌*◌, ◌≤◌, true, List, [], length, count_by, None, is_none}
-use Rattle.rv_spec.specs.Decisions.{Decision, decisions}
+use Rattle.fork_spec.specs.Decisions.{Decision, decisions}
 use Rattle.rv_spec.specs.Machine.{first_state}
 use Rattle.rv_spec.specs.Memory.{IsAssignment, count_of}
 use Rattle.rv_spec.specs.Runs.{run}

@@ -5,7 +5,7 @@ use Rattle.bv_dag.specs.Queries.{Condition, AreBits, holds}
 use Rattle.cow_pages.specs.SymbolicMemory.{SymbolicMemory, memory_byte, memory_flags}
 use Rattle.cow_pages.specs.declared.byte.Byte.{Byte}
 use Rattle.rv_decode.specs.declared.ends.PathStep.{PathStep}
-use Rattle.rv_spec.specs.Decisions.{Decision, Side, Number as Needs, step_decisions}
+use Rattle.fork_spec.specs.Decisions.{Decision, Side, Number as Needs, step_decisions}
 use Rattle.rv_spec.specs.Machine.{State}
 use Rattle.tree_core.specs.declared.choice.Choice.{Choice}
 use Rattle.fork_spec.specs.Leaves.{IsSmallChoice, IsSmallStep, are_bytes}

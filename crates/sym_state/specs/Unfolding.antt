@@ -1,7 +1,7 @@
 -- What a step of the machine makes of a symbolic run, where it decides so: each instruction makes its
 -- terms in one way. The cases are the machine's. A step that traps makes nothing but what its path
 -- notes before the trap.
-use Rattle.std.specs.Prelude.{ℕ, zero, suc, ◌+◌, ◌%◌, ◌==◌, ◌&&◌, Bool, true, false, min, List, [], ◌∷◌, ◌++◌, map, if◌then◌else◌, Option, Some, None}
+use Rattle.std.specs.Prelude.{ℕ, zero, suc, ◌+◌, ◌%◌, ◌==◌, ◌&&◌, Bool, true, false, min, List, [], ◌∷◌, ◌++◌, map, if◌then◌else◌, is_some, Option, Some, None}
 use Rattle.std.specs.List.{list_all}
 use Rattle.elf_load.specs.Images.{Image}
 use Rattle.elf_load.specs.declared.region.Region.{Region}
@@ -21,11 +21,12 @@ use Rattle.rv_decode.specs.declared.ops.ShiftOp.TheVariants.{Slli, Srli, Srai}
 use Rattle.rv_decode.specs.declared.ops.StoreWidth.{StoreWidth}
 use Rattle.rv_decode.specs.declared.ops.StoreWidth.TheVariants.{Sb, Sh, Sw}
 use Rattle.rv_spec.specs.Arithmetic.{sum32}
-use Rattle.rv_spec.specs.Decisions.{Decision, Side, Number as Needs, step_decisions}
-use Rattle.rv_spec.specs.Machine.{addresses, is_load_aligned, is_store_aligned}
+use Rattle.fork_spec.specs.Decisions.{Decision, Side, Number as Needs, step_decisions}
+use Rattle.rv_spec.specs.Machine.{addresses, is_store_aligned}
 use Rattle.rv_spec.specs.Memory.{can_write, is_mapped}
 use Rattle.rv_spec.specs.Runs.{run}
-use Rattle.sym_state.specs.Expressions.{Expression, Number, register_byte, combined_of, widened_byte, widened_half, word_of}
+use Rattle.sym_state.specs.Expressions.{Expression, Number, register_byte, combined_of}
+use Rattle.sym_state.specs.Loading.{loaded_on}
 use Rattle.sym_state.specs.Unfolded.{Unfolded, expression_at, first_unfolded, set_expression}
 
 -- at the next instruction, with these registers
@@ -36,19 +37,10 @@ onward u registers = record u { pc = sum32 u.pc 4; registers = registers }
 abbrev pub to_register : Unfolded → ℕ → Expression → Unfolded
 to_register u rd e = onward u (set_expression u.registers rd e)
 
--- what is loaded, low byte first
-abbrev pub loaded : LoadWidth → (ℕ → Expression) → ℕ → Expression
-loaded Lb byte address = widened_byte true (byte address)
-loaded Lh byte address = widened_half true (byte address) (byte (address + 1))
-loaded Lw byte address =
-    word_of (byte address) (byte (address + 1)) (byte (address + 2)) (byte (address + 3))
-loaded Lbu byte address = widened_byte false (byte address)
-loaded Lhu byte address = widened_half false (byte address) (byte (address + 1))
-
-abbrev pub load : Unfolded → LoadWidth → (rd address : ℕ) → Unfolded
-load u width rd address =
-    if is_load_aligned width address && is_mapped u.flags address
-    then to_register u rd (loaded width u.byte address) else u
+-- from an address on this page
+abbrev pub load : Unfolded → LoadWidth → (rd page : ℕ) → (address : Expression) → Unfolded
+load u width rd page address =
+    if is_some (u.flags page) then to_register u rd (loaded_on width u.byte page address) else u
 
 -- the bytes that are stored, low byte first
 abbrev pub stored : StoreWidth → Expression → List Expression
@@ -120,6 +112,25 @@ abbrev pub with_number : Unfolded → List Decision → (ℕ → Unfolded) → U
 with_number u (Needs n ∷ decisions) makes = makes n
 with_number u decisions makes = u
 
+-- and with the second
+abbrev pub with_second : Unfolded → List Decision → (ℕ → Unfolded) → Unfolded
+with_second u (first ∷ decisions) makes = with_number u decisions makes
+with_second u [] makes = u
+
+-- what is made with the page that a load decides
+abbrev pub with_page : LoadWidth → Unfolded → List Decision → (ℕ → Unfolded) → Unfolded
+with_page Lb u decisions makes = with_number u decisions makes
+with_page Lh u decisions makes = with_second u decisions makes
+with_page Lw u decisions makes = with_second u decisions makes
+with_page Lbu u decisions makes = with_number u decisions makes
+with_page Lhu u decisions makes = with_second u decisions makes
+
+-- a load, with what it decides
+abbrev pub load_by : Unfolded → LoadWidth → (rd : ℕ) → (address : Expression) → List Decision
+    → Unfolded
+load_by u width rd address decisions =
+    with_page width u decisions (λ page. load u width rd page address)
+
 abbrev pub with_side : Unfolded → List Decision → (Bool → Unfolded) → Unfolded
 with_side u (Side side ∷ decisions) makes = makes side
 with_side u decisions makes = u
@@ -134,7 +145,7 @@ execute_of u (Jalr rd rs1 offset) decisions =
 execute_of u (Branch test rs1 rs2 offset) decisions =
     with_side u decisions (λ taken. branch u taken (sum32 u.pc offset))
 execute_of u (Load width rd rs1 offset) decisions =
-    with_number u decisions (λ address. load u width rd address)
+    load_by u width rd (combined_of Add (expression_at u.registers rs1) (Number offset)) decisions
 execute_of u (Store width rs1 rs2 offset) decisions =
     with_number u decisions (λ address. store u width address (expression_at u.registers rs2))
 execute_of u (Immediate op rd rs1 immediate) decisions =

@@ -1,12 +1,13 @@
 //! Values of bytes, and bytes of values, over a table of terms. After want of memory the table is as it was.
 
-ghost use Rattle.std.specs.Prelude.{◌≡◌, ◌+◌, ◌*◌, ◌/◌, ◌%◌, ◌^◌, ◌<◌, ℕ, List, IfOk, OnErr};
-ghost use Rattle.bv_dag.specs.Graphs.{number_of, width_of};
+ghost use Rattle.std.specs.Prelude.{◌≡◌, ◌==◌, ◌+◌, ◌*◌, ◌/◌, ◌%◌, ◌^◌, ◌<◌, ℕ, List, IfOk, OnErr, if◌then◌else◌};
+ghost use Rattle.bv_dag.specs.Graphs.{Graph, number_of, width_of};
 ghost use Rattle.term_simplify.specs.Operations as operations;
 ghost use Rattle.term_simplify.specs.Plain.{extension_by};
+ghost use Rattle.term_simplify.specs.Simplified.{choice_of};
 ghost use Rattle.term_trees.specs.Growth.{Continues};
 ghost use Rattle.term_trees.specs.Trees.{tree_of};
-ghost use Rattle.sym_state.specs.Expressions.{byte_expression, register_byte, settled, tree_in, value_expression, widened_byte, widened_half, word_of};
+ghost use Rattle.sym_state.specs.Expressions.{are_equal, byte_choice, byte_expression, register_byte, settled, tree_in, value_expression, widened_byte, widened_half, word_of};
 ghost use Rattle.sym_state.specs.Values.{GivesByte, GivesTerm, GivesValue, IsByte, IsWide, byte_worth, worth_of};
 
 use crate::operations::value_of;
@@ -63,6 +64,71 @@ pub(crate) fn byte_at(terms: &mut Builder, value: Value, at: u32) -> Result<Byte
             Ok(known_byte(terms, id))
         }
     }
+}
+
+/// Makes the term of a choice between two bytes, or only some of those that it stands on.
+fn choice_term(
+    terms: &mut Builder,
+    bit: usize,
+    first: Byte,
+    second: Byte,
+) -> Result<usize, NoMemory>
+    requires bit { width_of terms.old bit ≡ 1 }
+    requires first { IsByte terms.old first }
+    requires second { IsByte terms.old second }
+    ensures continues { Continues terms.old terms.new }
+    ensures ok { IfOk result (λ id. GivesTerm terms.old terms.new 8 id
+        (λ input. if number_of terms.old bit input == 1
+        then byte_worth terms.old input first else byte_worth terms.old input second)) }
+    ensures tree { IfOk result (λ id. tree_of terms.new id
+        ≡ choice_of (tree_of terms.old bit) (tree_in 8 (byte_expression terms.old first))
+        (tree_in 8 (byte_expression terms.old second))) }
+{
+    let first = byte_term(terms, first)?;
+    let second = byte_term(terms, second)?;
+    terms.build(Node::Ite {
+        condition: bit,
+        yes: first,
+        no: second,
+    })
+}
+
+/// Whether two bytes are the same number.
+fn are_equal(a: Byte, b: Byte) -> bool
+    ensures { (terms : Graph)
+        → result ≡ are_equal (byte_expression terms a) (byte_expression terms b) }
+{
+    match (a, b) {
+        (Byte::Number(a), Byte::Number(b)) => a == b,
+        _ => false,
+    }
+}
+
+/// The first of two bytes where a term of one bit is 1, and else the second.
+pub(crate) fn choice(
+    terms: &mut Builder,
+    bit: usize,
+    first: Byte,
+    second: Byte,
+) -> Result<Byte, NoMemory>
+    requires bit { width_of terms.old bit ≡ 1 }
+    requires first { IsByte terms.old first }
+    requires second { IsByte terms.old second }
+    ensures ok { IfOk result (λ byte. GivesByte terms.old terms.new byte
+        (λ input. if number_of terms.old bit input == 1
+        then byte_worth terms.old input first else byte_worth terms.old input second)) }
+    ensures expression { IfOk result (λ byte. byte_expression terms.new byte
+        ≡ byte_choice (tree_of terms.old bit) (byte_expression terms.old first)
+        (byte_expression terms.old second)) }
+    ensures err { OnErr result (terms.new ≡ terms.old) }
+{
+    if are_equal(first, second) {
+        return Ok(first);
+    }
+    let before = terms.len();
+    let made = choice_term(terms, bit, first, second);
+    let id = terms.settled(before, made)?;
+    Ok(known_byte(terms, id))
 }
 
 /// A byte in 32 bits, with copies of its sign above it or zeros.

@@ -3,7 +3,7 @@
 ghost use Rattle.std.specs.Prelude.{◌≡◌, ◌<◌, ℕ, List};
 ghost use Rattle.elf_load.specs.Images.{Image};
 ghost use Rattle.elf_load.specs.declared.region.Region.{Region};
-ghost use Rattle.rv_spec.specs.Decisions.{step_decisions};
+ghost use Rattle.fork_spec.specs.Decisions.{step_decisions};
 ghost use Rattle.rv_spec.specs.Runs.{run};
 ghost use Rattle.sym_state.specs.Unfolding.{unfolded_run};
 

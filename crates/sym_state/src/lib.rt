@@ -7,6 +7,7 @@
 //! - `operations`: values made of values
 //! - `values`: the same, of a run's values
 //! - `bytes`: bytes of memory as values, and values as bytes
+//! - `indexing`, `ways`, `selecting`, `loading`: what is loaded from an address that is a term
 //! - `code`: what stands where an instruction is fetched
 //! - `lists`: what copies share, copied out
 //! - `first`: the run of all assignments
@@ -19,15 +20,19 @@ mod bytes;
 mod code;
 mod decided;
 mod first;
+mod indexing;
 mod known;
 pub mod laws;
 mod lists;
+mod loading;
 mod moves;
 mod operations;
 mod program;
+mod selecting;
 mod state;
 mod value;
 mod values;
+mod ways;
 
 pub use code::Code;
 pub use decided::Decided;

@@ -1,14 +1,14 @@
 //! What instructions compute of values, over a table of terms. Numbers give a number and make no term; and a term that is a
 //! number is never a value. After want of memory the table is as it was.
 
-ghost use Rattle.std.specs.Prelude.{◌≡◌, ◌==◌, ◌*◌, ◌/◌, ◌<◌, ℕ, List, IfOk, OnErr, not};
+ghost use Rattle.std.specs.Prelude.{◌≡◌, ◌==◌, ◌*◌, ◌/◌, ◌%◌, ◌^◌, ◌<◌, ℕ, List, IfOk, OnErr, not};
 ghost use Rattle.bv_dag.specs.Graphs.{number_of, width_of};
 ghost use Rattle.rv_spec.specs.Arithmetic as machine;
 ghost use Rattle.rv_spec.specs.Machine.{even};
 ghost use Rattle.term_simplify.specs.Operations.{combined_tree};
 ghost use Rattle.term_trees.specs.Growth.{Continues};
 ghost use Rattle.term_trees.specs.Trees.{tree_of};
-ghost use Rattle.sym_state.specs.Expressions.{combined_of, even_of, settled, tree_in, value_expression};
+ghost use Rattle.sym_state.specs.Expressions.{bit_expression, bit_in, combined_of, even_of, settled, tree_in, value_expression};
 ghost use Rattle.sym_state.specs.Values.{GivesBit, GivesTerm, GivesValue, IsWide, bit_worth, worth_of, IsBit};
 
 use crate::value::{Bit, Value};
@@ -53,6 +53,7 @@ pub(crate) fn bit_of(terms: &Builder, id: usize) -> Bit
     ensures is_bit { IsBit terms.now result }
     ensures worth { (input : List ℕ)
         → bit_worth terms.now input result ≡ bit_worth terms.now input (Bit.Term id) }
+    ensures expression { bit_expression terms.now result ≡ settled (tree_of terms.now id) }
 {
     match terms.terms().node(id) {
         Node::Num { value, .. } => Bit::Known(value == 1),
@@ -171,4 +172,21 @@ pub(crate) fn cleared(terms: &mut Builder, a: Value) -> Result<Value, NoMemory>
             Ok(value_of(terms, id))
         }
     }
+}
+
+/// One bit of a term.
+pub(crate) fn bit_at(terms: &mut Builder, id: usize, at: u32) -> Result<Bit, NoMemory>
+    requires within { at < width_of terms.old id }
+    ensures ok { IfOk result (λ bit. GivesBit terms.old terms.new bit
+        (λ input. number_of terms.old id input / 2 ^ at % 2 == 1)) }
+    ensures expression { IfOk result (λ bit. bit_expression terms.new bit
+        ≡ bit_in at (tree_of terms.old id)) }
+    ensures err { OnErr result (terms.new ≡ terms.old) }
+{
+    let bit = terms.build(Node::Extract {
+        high: at,
+        low: at,
+        operand: id,
+    })?;
+    Ok(bit_of(terms, bit))
 }

@@ -1,7 +1,7 @@
 //! A worker of rungs, which climbs to a top, and the trees that it makes.
 
 ghost use Rattle.std.specs.Prelude.{◌≡◌, ℕ, ◌+◌, ◌-◌, ◌^◌, ◌<◌, ◌≤◌, ◌==◌, ◌++◌, ◌∷◌, [], IfOk, IsTrue, None, OnOk, Some, if◌then◌else◌, true, false, length, nat_le, replicate};
-ghost use Rattle.rv_spec.specs.Decisions.{Side};
+ghost use Rattle.fork_spec.specs.Decisions.{Side};
 ghost use Rattle.tree_core.specs.declared.cause.Cause.TheVariants.{Conflicts};
 ghost use Rattle.tree_core.specs.declared.choice.Choice.TheVariants.{No, Yes};
 ghost use Rattle.tree_core.specs.declared.order.Order.TheVariants.{Deepest};

@@ -1,7 +1,7 @@
 //! A card that is drawn once, of three, and the trees that several workers make of it.
 
 ghost use Rattle.std.specs.Prelude.{◌≡◌, ◌≤◌, ◌==◌, ◌∷◌, [], IfOk, None, Some, false, if◌then◌else◌, length, min, true};
-ghost use Rattle.rv_spec.specs.Decisions.{Number};
+ghost use Rattle.fork_spec.specs.Decisions.{Number};
 ghost use Rattle.tree_core.specs.declared.choice.Choice.TheVariants.{Value};
 ghost use Rattle.tree_core.specs.declared.order.Order.TheVariants.{Deepest};
 ghost use Rattle.fork_tree.specs.Nodes.{StateIs};

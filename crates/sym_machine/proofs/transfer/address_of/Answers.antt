@@ -1,27 +1,17 @@
-use Rattle.std.proofs.Common.{◌≡◌, ℕ, true, List, sym, ap, ◌∙◌}
+use Rattle.std.proofs.Common.{◌≡◌, ℕ, true, List, ap, ◌∙◌}
 use Rattle.std.specs.Prelude.{Result, Ok, Err, IfOk, IfErr}
 use Rattle.rv_spec.specs.Arithmetic.{sum32}
-use Rattle.rv_spec.specs.Decisions.{Number as Needs}
+use Rattle.fork_spec.specs.Decisions.{Number as Needs}
 use Rattle.rv_spec.specs.Machine.{x}
 use Rattle.sym_state.specs.Moves.{IsGrown, MakesValue}
 use Rattle.sym_state.specs.Symbolic.{Symbolic, concrete, stands_for, value_at}
 use Rattle.sym_state.specs.Values.{worth_of}
 use Rattle.sym_state.specs.declared.value.Value.{Value}
-use Rattle.sym_state.proofs.Opening.{stands-bytes}
 use Rattle.sym_machine.specs.Stops.{StandsAt, Stops, StopsAt}
 use Rattle.sym_machine.specs.declared.halt.Halt.{Halt}
-use Rattle.sym_machine.proofs.Standing.{StandsAt-by, StandsAt-grown, Stops-at, ready-grown, still_stands, stood, x-worth}
+use Rattle.sym_machine.proofs.Standing.{StandsAt-by, StandsAt-grown, Stops-at, ready-grown, still_stands, stood}
+use Rattle.sym_machine.proofs.Transfers.{sum_is}
 use Rattle.sym_machine.proofs.transfer.address_of.Goals as goal
-
--- the sum is the address on each assignment
-sum_is : (old new : Symbolic) (rs1 offset : ℕ) (base sum : Value)
-    → base ≡ value_at old.registers rs1
-    → MakesValue old new sum (λ input. sum32 (worth_of old.terms input base) offset)
-    → (input : List ℕ) → stands_for old input ≡ true
-    → sum32 (x (concrete old input) rs1) offset ≡ worth_of new.terms input sum
-sum_is old new rs1 offset base sum is made input standing =
-    ap (λ n. sum32 n offset) (x-worth old input rs1 ∙ ap (worth_of old.terms input) (sym is))
-    ∙ sym (made.gives.worth input (stands-bytes old input standing))
 
 sum_stands : (old new : Symbolic) (rs1 offset : ℕ) (base sum : Value)
     → base ≡ value_at old.registers rs1

@@ -1,15 +1,17 @@
 -- What a run decides, step by step: the numbers on which it depends where memory or registers may hold more than one, and the sides of
 -- its conditional branches. Two runs that decide alike go the same way.
-use Rattle.std.specs.Prelude.{ℕ, zero, suc, ◌%◌, ◌==◌, ◌||◌, Bool, if◌then◌else◌, List, [], ◌∷◌, ◌++◌, Option, Some, None}
+use Rattle.std.specs.Prelude.{ℕ, zero, suc, ◌/◌, ◌%◌, ◌==◌, ◌||◌, Bool, true, false, if◌then◌else◌, List, [], ◌∷◌, ◌++◌, Option, Some, None}
 use Rattle.elf_load.specs.Images.{Image}
 use Rattle.elf_load.specs.declared.region.Region.{Region}
 use Rattle.rv_decode.specs.Instructions.{instr}
 use Rattle.rv_decode.specs.declared.instr.Instr.{Instr}
 use Rattle.rv_decode.specs.declared.instr.Instr.TheVariants.{Jalr, Branch, Load, Store, Ecall}
 use Rattle.rv_decode.specs.declared.ends.End.{End}
+use Rattle.rv_decode.specs.declared.ops.LoadWidth.{LoadWidth}
+use Rattle.rv_decode.specs.declared.ops.LoadWidth.TheVariants.{Lb, Lh, Lw, Lbu, Lhu}
 use Rattle.rv_spec.specs.Arithmetic.{sum32, passes}
 use Rattle.rv_spec.specs.Memory.{can_execute, word_at}
-use Rattle.rv_spec.specs.Machine.{State, x, even, first_state}
+use Rattle.rv_spec.specs.Machine.{State, x, even, first_state, is_load_aligned}
 use Rattle.rv_spec.specs.Runs.{Run, run_from}
 
 pub data Decision : Type 0 where
@@ -28,11 +30,25 @@ write_decisions s =
 abbrev pub call_decisions : State → List Decision
 call_decisions s = Number (x s 17) ∷ (if x s 17 == 64 then write_decisions s else [])
 
+-- an access that may be misaligned needs to know whether it is, 1 or 0, and its page only where it isn't
+abbrev pub aligned_decisions : Bool → (page : ℕ) → List Decision
+aligned_decisions true page = Number 0 ∷ Number page ∷ []
+aligned_decisions false page = Number 1 ∷ []
+
+-- a load needs the page that it loads from, but not the place in it
+abbrev pub load_decisions : LoadWidth → (address : ℕ) → List Decision
+load_decisions Lb address = Number (address / 256) ∷ []
+load_decisions Lh address = aligned_decisions (is_load_aligned Lh address) (address / 256)
+load_decisions Lw address = aligned_decisions (is_load_aligned Lw address) (address / 256)
+load_decisions Lbu address = Number (address / 256) ∷ []
+load_decisions Lhu address = aligned_decisions (is_load_aligned Lhu address) (address / 256)
+
 -- what an instruction decides beside its own word
 abbrev pub instr_decisions : State → Option Instr → List Decision
 instr_decisions s (Some (Jalr rd rs1 offset)) = Number (even (sum32 (x s rs1) offset)) ∷ []
 instr_decisions s (Some (Branch test rs1 rs2 offset)) = Side (passes test (x s rs1) (x s rs2)) ∷ []
-instr_decisions s (Some (Load width rd rs1 offset)) = Number (sum32 (x s rs1) offset) ∷ []
+instr_decisions s (Some (Load width rd rs1 offset)) =
+    load_decisions width (sum32 (x s rs1) offset)
 instr_decisions s (Some (Store width rs1 rs2 offset)) = Number (sum32 (x s rs1) offset) ∷ []
 instr_decisions s (Some Ecall) = call_decisions s
 instr_decisions s _ = []
