@@ -17,15 +17,29 @@ use sym_state::State;
 use tree_core::{Budgets, Cause, Choice, Kid, Order};
 use work_gate::OpenGate;
 
-// It loads from an address to which it adds the low bit of twice its input byte, and exits: LUI x5, 0x11; LBU x7, 0(x5);
-// ADD x8, x7, x7; ANDI x8, x8, 1; ADD x5, x5, x8; LBU x6, 0(x5); ADDI x17, x0, 93; ECALL.
+// It stores to an address to which it adds the low bit of twice its input byte, and exits: LUI x5, 0x11; LBU x7, 0(x5);
+// ADD x8, x7, x7; ANDI x8, x8, 1; ADD x5, x5, x8; SB x6, 0(x5); ADDI x17, x0, 93; ECALL.
 const ALIKE: [u32; 8] = [
     0x0001_12B7,
     0x0002_C383,
     0x0073_8433,
     0x0014_7413,
     0x0082_82B3,
-    0x0002_C303,
+    0x0062_8023,
+    0x05D0_0893,
+    0x0000_0073,
+];
+
+// It loads a half word at an address to which it adds the low two bits of twice its input byte, and exits with it: LUI x5, 0x11;
+// LBU x7, 0(x5); ADD x8, x7, x7; ANDI x8, x8, 3; ADD x5, x5, x8; LHU x10, 6(x5); ADDI x17, x0, 93; ECALL. The address is 0x11006
+// or 0x11008: it is even, and on the page of the input.
+const LOOKED_UP: [u32; 8] = [
+    0x0001_12B7,
+    0x0002_C383,
+    0x0073_8433,
+    0x0034_7413,
+    0x0082_82B3,
+    0x0062_D503,
     0x05D0_0893,
     0x0000_0073,
 ];
@@ -43,12 +57,13 @@ enum Comes {
 
 /// Each row: a program, how many steps a run may make, how many values of a term become sides, and what comes of it. No byte divides -7
 /// into 1.
-const ROWS: [(&[u32], u32, u32, Comes); 7] = [
+const ROWS: [(&[u32], u32, u32, Comes); 8] = [
     (&STRAIGHT, 10, 4, Comes::Finished(3)),
     (&STRAIGHT, 2, 4, Comes::CutSteps(2)),
     (&FORKED, 10, 4, Comes::Kids(&[Choice::No, Choice::Yes])),
     (&DIVIDED, 10, 4, Comes::Finished(8)),
     (&ALIKE, 10, 1, Comes::Finished(8)),
+    (&LOOKED_UP, 10, 1, Comes::Finished(8)),
     (
         &PARITY,
         10,

@@ -35,9 +35,12 @@ fn stops(
     Ok((name_of(&advanced.stop), advanced.run.steps()))
 }
 
+// It loads a half word at an address to which it adds its input byte: LUI x5, 0x11; LBU x7, 0(x5); ADD x7, x5, x7; LH x6, 0(x7).
+const HALF_ADDED: [u32; 4] = [0x0001_12B7, 0x0002_C383, 0x0072_83B3, 0x0003_9303];
+
 /// Each row: a program, how many steps it may make, where it stops, and after how many. A branch on the input, its quotient or a
 /// sum that is an address is not carried out.
-const ROWS: [(&[u32], u32, &str, u32); 10] = [
+const ROWS: [(&[u32], u32, &str, u32); 11] = [
     (&STRAIGHT, 10, "exit", 3),
     (&STRAIGHT, 2, "steps", 2),
     (&FORKED, 10, "branch", 3),
@@ -45,6 +48,7 @@ const ROWS: [(&[u32], u32, &str, u32); 10] = [
     (&CALLED, 10, "pin", 2),
     (&DIVIDED, 10, "branch", 5),
     (&ADDED, 10, "pin", 3),
+    (&HALF_ADDED, 10, "pin", 3),
     (&STORED, 10, "branch", 3),
     (&[], 10, "trap", 1),
     (&[0x0000_0013], 10, "illegal", 2),

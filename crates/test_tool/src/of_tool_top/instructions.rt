@@ -2,7 +2,7 @@
 
 use crate::of_tool_top::rows::{FOUR_TARGETS, Row, check_rows};
 use crate::of_tool_top::runs::EXPLORE;
-use row_files::programs::{DIVIDED, STORED};
+use row_files::programs::{ADDED, DIVIDED, STORED};
 use std::alloc::AllocError as NoMemory;
 
 // It exits with the low byte of 100 divided by its input byte, where both are unsigned: LUI x5, 0x11; LBU x7, 0(x5);
@@ -74,6 +74,17 @@ const TABLE: [u32; 22] = [
     0x00C0_006F,
     0x0050_0513,
     0x0040_006F,
+    0x05D0_0893,
+    0x0000_0073,
+];
+
+// It loads a half word at an address to which it adds its input byte, and exits with 0: LUI x5, 0x11; LBU x7, 0(x5);
+// ADD x7, x5, x7; LH x6, 0(x7); ADDI x17, x0, 93; ECALL. All of these addresses are on one page.
+const HALF_ADDED: [u32; 6] = [
+    0x0001_12B7,
+    0x0002_C383,
+    0x0072_83B3,
+    0x0003_9303,
     0x05D0_0893,
     0x0000_0073,
 ];
@@ -281,6 +292,67 @@ const ROWS: &[Row] = &[
                 4,
                 "out/test-000001.json",
                 "{\"end\":\"exit 0\",\"format\":2,\"inputs\":[{\"at\":\"00011000\",\"bytes\":\"00\"}],",
+            ),
+        ],
+    },
+    // A byte below 128 leads to the second page of data, and another to the page behind, which isn't there.
+    Row {
+        program: &ADDED,
+        words: EXPLORE,
+        said: "leaves 2 finished 2 cut 0 tests 2 steps 10\n",
+        puts: 6,
+        tests: 2,
+        files: &[
+            (
+                0,
+                "out/events.txt",
+                "claim 0 0\nsplit 0 0 1 =00000111 =00000112\nclaim 0 1\nfinish 0 1\nclaim 0 2\nfinish 0 2\n",
+            ),
+            (
+                1,
+                "out/leaf-000000.smt2",
+                "; rvklee leaf 1\n; kind finished\n; choices =00000111.\n; path .\n; steps 6\n; end exit\n",
+            ),
+            (
+                2,
+                "out/test-000000.json",
+                "{\"end\":\"exit 0\",\"format\":2,\"inputs\":[{\"at\":\"00011000\",\"bytes\":\"00\"}],\"leaf\":0,\"output\":\"\",\"path\":\"\",\"steps\":6}\n",
+            ),
+            (
+                3,
+                "out/leaf-000001.smt2",
+                "; rvklee leaf 1\n; kind finished\n; choices =00000112.\n; path .\n; steps 4\n; end LoadAccess\n",
+            ),
+            (4, "out/test-000001.json", "{\"end\":\"trap LoadAccess\","),
+        ],
+    },
+    // Whether the byte is odd is all that differs.
+    Row {
+        program: &HALF_ADDED,
+        words: EXPLORE,
+        said: "leaves 2 finished 2 cut 0 tests 2 steps 10\n",
+        puts: 6,
+        tests: 2,
+        files: &[
+            (
+                1,
+                "out/leaf-000000.smt2",
+                "; rvklee leaf 1\n; kind finished\n; choices =00000000.\n; path .\n; steps 6\n; end exit\n",
+            ),
+            (
+                2,
+                "out/test-000000.json",
+                "{\"end\":\"exit 0\",\"format\":2,\"inputs\":[{\"at\":\"00011000\",\"bytes\":\"00\"}],\"leaf\":0,\"output\":\"\",\"path\":\"\",\"steps\":6}\n",
+            ),
+            (
+                3,
+                "out/leaf-000001.smt2",
+                "; rvklee leaf 1\n; kind finished\n; choices =00000001.\n; path .\n; steps 4\n; end LoadMisaligned\n",
+            ),
+            (
+                4,
+                "out/test-000001.json",
+                "{\"end\":\"trap LoadMisaligned\",",
             ),
         ],
     },
