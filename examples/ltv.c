@@ -1,15 +1,14 @@
 /* Settings in a message: records one behind the other, each a length, a type, and so many bytes of value. The check of the
    length forgets the record's own header, so that a value may pass the end of the message by two bytes: this is planted.
 
-   By hand, for 5 bytes: 23 leaves, 5 of which read past the end. With r bytes left at the top of the loop there are f(r). From
+   By hand, for 5 bytes: 18 leaves, 4 of which read past the end. With r bytes left at the top of the loop there are f(r). From
    2 bytes on one is TOO_LONG; a LEVEL has one of a wrong length and those behind it, f(r - 3), or with r = 2 one that reads past
    the end; a LIMIT has one of a wrong length and f(r - 4), or with r < 4 one that reads past the end; another type has one that
-   ends the loop, since the last line is compiled without a branch, and f(k) for each k from 2 to r - 2 that it leaves. With
-   f(0) = f(1) = 1:
-       f(2) = 1 + (1 + 1) + (1 + 1) + 1                      = 6, of which 2 read past the end
-       f(3) = 1 + (1 + f(0)) + (1 + 1) + 1                   = 6, of which 1 does
-       f(4) = 1 + (1 + f(1)) + (1 + f(0)) + 1 + f(2)         = 12
-       f(5) = 1 + (1 + f(2)) + (1 + f(1)) + 1 + f(3) + f(2)  = 23, of which 2 + 1 + 2 do */
+   ends the loop, since the last line is compiled without a branch, and where it may leave 2 to r - 2 bytes those behind it, which
+   part by whether they read past the end. With f(0) = f(1) = 1:
+       f(2)      = 1 + (1 + 1) + (1 + 1) + 1                  = 6, of which 2 read past the end
+       f(2 or 3) = 1 + (1 + 1 + f(0)) + (1 + 1) + 1           = 7, of which 2 do
+       f(5)      = 1 + (1 + f(2)) + (1 + f(1)) + 1 + f(2 or 3) = 18, of which 2 + 2 do */
 #include <stdint.h>
 
 enum { HEADER = 2 };

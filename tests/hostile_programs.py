@@ -170,6 +170,16 @@ def products():
                    asked=turns * 2 * MEGA, is_large=True)
 
 
+def lookups():
+    """It looks up a byte in a page that is all input, by the one that it found before, 20 times, and branches on the last: one
+    question on all."""
+    turns, body = 20, [register_word(0, T2, T0, 0, T1), load_word(0, T1, BYTE_UNSIGNED, T2)]
+    words = [*base(), load_word(0, T0, BYTE_UNSIGNED, T2), *number(T3, turns), *loop(body, T3)]
+    return Hostile("lookups", program([*words, branch_word(8, ZERO, T2, EQ), *EXIT, *EXIT]), "00011000:256", ["--conflicts", "1"],
+                   r"leaves 2 finished [12] cut [01] tests [12] steps \d+", nodes=3, steps=leaf_steps(2, 500),
+                   terms=2 * 300 * turns, asked=turns * MEGA)
+
+
 def code():
     """It writes each word of its input over the instruction that comes next, and fetches it."""
     turn = [load_word(0, T0, WORD, T1), store_word(24, T1, T3, WORD), add(0, ZERO, ZERO), add(4, T0, T0)]
@@ -193,5 +203,7 @@ def returns():
                    terms=316 * 100)
 
 
-MAKERS = [writes, terms, stages, branches, thresholds, pairs, pointers, near_pointers, pages, products, code, stack, returns]
+MAKERS = [
+    writes, terms, stages, branches, thresholds, pairs, pointers, near_pointers, pages, products, lookups, code, stack, returns,
+]
 PROGRAMS = [make() for make in MAKERS]

@@ -17,8 +17,8 @@ PATCH = TOP / "bench/routines/patch.elf"
 DEAD = ("1017c", "10194", "101a4")
 # By traps.s, which inputs trap at which instruction: the lowest four bits of an input say where.
 TRAPPED = {
-    "10154": ["LoadMisaligned: 3 leaves"], "10160": ["StoreMisaligned: 2 leaves"],
-    "10178": ["LoadAccess: 2 leaves", "LoadMisaligned: 2 leaves"], "10190": ["StoreAccess: 1 leaf", "StoreMisaligned: 1 leaf"],
+    "10154": ["LoadMisaligned: 1 leaf"], "10160": ["StoreMisaligned: 2 leaves"],
+    "10178": ["LoadAccess: 1 leaf", "LoadMisaligned: 1 leaf"], "10190": ["StoreAccess: 1 leaf", "StoreMisaligned: 1 leaf"],
     "1019c": ["FetchAccess: 1 leaf", "FetchMisaligned: 1 leaf"], "101a0": ["FetchMisaligned: 1 leaf"],
     "101ac": ["Call: 3 leaves"], "101b8": ["Break: 1 leaf"],
 }
@@ -89,7 +89,7 @@ class Pages:
     def whole(self):
         """Nothing is cut, so what no test reaches no input reaches."""
         page = self.page(TRAPS, "traps", "00011000:1")
-        head = "each of the 256 inputs is in one of the 24 leaves"
+        head = "each of the 256 inputs is in one of the 20 leaves"
         self.has("traps", page.head(), head, "46 of 49 instructions", "19 of 20 sides")
         self.has("traps", page.section("unreached"), "no input goes there not taken beq s1, s1, 0x101a6 0x101a0")
         dead = {address for address, row in page.rows.items() if "no input gets here" in row}
@@ -97,13 +97,13 @@ class Pages:
         trapped = {address: re.findall(r"✕ (\w+: \d+ lea(?:f|ves))", row) for address, row in page.rows.items() if "✕" in row}
         self.check("traps of traps", trapped == TRAPPED, trapped)
         self.has("traps", page.section("traps"), "FetchAccess 0x00011000 can't be executed from jalr zero, 0(t3) 0x1019c 1 leaf")
-        self.has("traps", page.section("functions"), "0x10100 24 46 of 49 19 of 20 18 no input gets there")
+        self.has("traps", page.section("functions"), "0x10100 20 46 of 49 19 of 20 14 no input gets there")
 
     def cut(self):
-        """Runs of twelve steps. The first branch is the tenth: behind it a load traps in three ways, or the run is cut two steps
-        later; behind the next branch a store traps in two ways, or is the last step in two others; all else is cut too."""
+        """Runs of twelve steps. The first branch is the tenth: behind it a load traps, or the run is cut two steps later; behind
+        the next branch a store traps in two ways, or is the last step in two others; all else is cut too."""
         page = self.page(TRAPS, "cut", "--steps", "12", "00011000:1")
-        self.has("cut", page.head(), "Of 9 leaves 4 were cut (4 by steps)", "15 of 49 instructions", "4 of 20 sides")
+        self.has("cut", page.head(), "Of 7 leaves 4 were cut (4 by steps)", "15 of 49 instructions", "4 of 20 sides")
         unknown = [row for row in page.rows.values() if "unknown: 4 cut leaves stop before it" in row]
         # Of the last 24 the listing has six at each end.
         self.check("unknown instructions", len(unknown) == 9 + 1 + 12 and "no input g" not in page.body(), len(unknown))
@@ -114,7 +114,7 @@ class Pages:
 
     def full(self):
         """From three nodes on no run is forked. The first branch makes three of one; on one side of it the next branch would fork,
-        on the other the address of a load. Neither leaf has a test, so their paths say where that is. Runs of the other program
+        on the other a load may be misaligned. Neither leaf has a test, so their paths say where that is. Runs of the other program
         write to its code, so there a path says nothing."""
         page = self.page(TRAPS, "full", "--nodes", "3", "00011000:1")
         self.has("full", page.head(), "Of 2 leaves 2 were cut (2 by nodes)", "0 of 49 instructions", "nodes 3, order deepest,")
@@ -139,8 +139,8 @@ class Pages:
         self.check("the page of an earlier report", without != page and pathlib.Path("earlier/report.html").read_text() == without)
 
     def lines(self):
-        """The lines of source, by a tool that is found on the path. By ltv.c, counted by hand: of five bytes a LEVEL passes the
-        end in two ways and a LIMIT in three, and the first test of the loop never ends it, so what it would go to is dead."""
+        """The lines of source, by a tool that is found on the path. By ltv.c, counted by hand: of five bytes a LEVEL and a
+        LIMIT each pass the end in two ways, and the first test of the loop never ends it, so what it would go to is dead."""
         tools = pathlib.Path("lines").resolve()
         tools.mkdir()
         (tools / "lined.c").write_text(LINED)
@@ -151,8 +151,8 @@ class Pages:
         page = self.page(lined, "lined", "0002fffb:5", env={**os.environ, "PATH": str(tools)})
         source = page.section("source")
         self.has("lined", source, "1 of 2 lines with instructions are reached by tests", "3 ○ dead(); no input gets here",
-                 "4 ● overrun(); ✕ LoadAccess: 3 leaves")
-        functions = "_start 23 7 of 7 no branch all is reached", "settings_read 23 47 of 48 15 of 16 5 no input gets there"
+                 "4 ● overrun(); ✕ LoadAccess: 2 leaves")
+        functions = "_start 18 7 of 7 no branch all is reached", "settings_read 18 47 of 48 15 of 16 4 no input gets there"
         self.has("lined", page.section("functions"), *functions)
         self.has("lined", page.section("unreached"), "0x101a4 <settings_read+0x88> 1 lined.c:3")
 

@@ -10,14 +10,13 @@ from regions import addresses
 from report_files import TESTED
 from unreached import Unreached
 
-# Where a run trapped: the site, the site of the step before it (None of a first step), and the address that a load or a store
-# needed, or None.
+# Where a run trapped: the site, the site of the step before it (None of a first step), and the address of a load or a store, or
+# None.
 Trap = collections.namedtuple("Trap", "end site origin address")
 
 
 def trap_of(leaf, run):
-    address = run.decided[-1][1] if leaf.end.startswith(("Load", "Store")) and len(run.decided[-1]) == 2 else None
-    return Trap(leaf.end, run.site(-1), run.site(-2) if len(run.places) > 1 else None, address)
+    return Trap(leaf.end, run.site(-1), run.site(-2) if len(run.places) > 1 else None, run.address)
 
 
 class Exploration:

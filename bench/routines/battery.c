@@ -1,8 +1,9 @@
 /* The level of a battery, 0 to 4, from the level that was shown before and a voltage. It falls where the voltage is below its
    threshold, and rises only where it is at least 4 above that of the next level. Exits with the new level, or with 255 where
    the one before is above 4.
-   26 leaves: 255, and each of five levels before with each of five after. The level before shows in the address of a load, or 4
-   in a branch, and the new one in how often a loop turns; where the first loop turned, the second doesn't. */
+   20 leaves: 255; seven where the level rises, by how often the loop turns, up to three times where it ends by the voltage and up
+   to four where it ends by the level; and where it doesn't rise five from level 4 on, and seven from another, where the second
+   loop turns up to twice and ends by the voltage, or up to three times and ends at level 0. The loads part nothing. */
 #define BYTES 2
 #include "routine.h"
 

@@ -1,7 +1,7 @@
 /* A call by a table of functions, which the input's upper two bits choose, and an array on the stack which the answer
    indexes: exits with what stands there.
-   14 leaves: one of the first function; two of the second and three of the fourth, which branch; and eight of the third,
-   whose answer depends on the input, so that the load parts by its address. */
+   Six leaves: one of the first function; two each of the second and the fourth, which branch; and one of the third, whose answer
+   depends on the input, and with it the address of the load, but not its page. */
 #include "routine.h"
 
 static u32 fixed(u32 n) { return 3; }

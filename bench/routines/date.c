@@ -1,8 +1,8 @@
 /* A check of a date: day, month and year, the year's lower byte first. Exits with 0 where there is such a day in the Gregorian
    calendar; with 1 for a year before 1583, with 2 for a month that isn't one, and with 3 for a day that the month doesn't have.
-   47 leaves: the year and the month that are refused, and three for each way to the month's length: day 0, a day past its end,
-   and a day that is there. There are 15 such ways: eleven months, by the address of the load, and February with four kinds of
-   year, which are no multiple of 4, one of 4 alone, one of 100 too, and one of 400 too. */
+   17 leaves: the year and the month that are refused, and three for each way to the month's length: day 0, a day past its end,
+   and a day that is there. There are five such ways: from the table, and February with four kinds of year, which are no multiple
+   of 4, one of 4 alone, one of 100 too, and one of 400 too. */
 #define BYTES 4
 #include "routine.h"
 

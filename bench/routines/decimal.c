@@ -1,9 +1,9 @@
 /* A decimal number of four characters at most, which a NUL ends if it is shorter, with a minus in front or none: exits with it
    as a byte, where it is from -128 to 127. Else writes a letter on standard error, and exits with the place where it stopped:
    b for a character that is no digit, e where there is no digit, r where the number is out of range.
-   19 leaves. Without a minus 11: four places of a wrong character, no digit, one digit, two, and three and four of which each
-   may be out of range; with a minus eight, since there is one place less. gcc makes the first place of the comparison with the
-   minus, so that all loads behind it are at addresses that depend on the first byte. */
+   15 leaves: wrong characters behind none to three digits, and no digit, with a minus or without one; one digit, two, and three
+   and four of which each may be out of range; and with a minus four, since there is one place less. gcc makes the first place of
+   the comparison with the minus, so that all loads behind it are at addresses that depend on the first byte. */
 #define BYTES 4
 #include "routine.h"
 

@@ -1,8 +1,9 @@
 """An interpreter of RV32IM, which notes what a run decides.
 
 It shares nothing with the crates: it is written from the RISC-V manual and docs/MACHINE.md. What a run decides is, step by
-step, the fetched word, the side of a branch, the target of a JALR, the address of a load or store, and of an ECALL its
-number and, for a write, its file and where that is one its start and length.
+step, the fetched word, the side of a branch, the target of a JALR, of a load of two or four bytes whether it is misaligned, of a
+load that isn't its page, the address of a store, and of an ECALL its number and, for a write, its file and where that is one its
+start and length.
 """
 import elf
 
@@ -71,6 +72,8 @@ class Machine:
         self.x = [0] * 32
         self.x[2] = 0x7FFFFFF0
         self.path, self.output, self.end = "", b"", "running"
+        # Where the last step loads or stores, if it does.
+        self.address = None
         # One entry for each step: what it decides, and the path and output before it.
         self.log = []
 
@@ -105,7 +108,7 @@ class Machine:
         self.pc = target
 
     def step(self, decided):
-        pc, x = self.pc, self.x
+        pc, x, self.address = self.pc, self.x, None
         if pc % 4:
             raise Trap("FetchMisaligned")
         if not (self.flags(pc) or 0) & 1:
@@ -138,16 +141,19 @@ class Machine:
                 after = self.pc
         elif opcode == 0x03 and f3 in LOADS:
             size, is_signed = LOADS[f3]
-            address = a + immediate & MASK
-            decided.append(address)
+            self.address = address = a + immediate & MASK
+            if size > 1:
+                decided.append(int(address % size != 0))
             if address % size:
                 raise Trap("LoadMisaligned")
+            decided.append(address >> 8)
             if self.flags(address) is None:
                 raise Trap("LoadAccess")
             result = self.read(address, size)
             result = signed(result, 8 * size) if is_signed else result
         elif opcode == 0x23 and f3 < 3:
             size, address = 1 << f3, a + signed(f7 << 5 | rd, 12) & MASK
+            self.address = address
             decided.append(address)
             if address % size:
                 raise Trap("StoreMisaligned")

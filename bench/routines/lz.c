@@ -1,10 +1,10 @@
 /* A tiny LZ77 decoder: each of four bytes is a literal of seven bits or, with the top bit set, a back reference: bits 0 to 3
    are the distance less one, bits 4 to 6 the length less two. Writes the text, of six bytes at most, and exits with its length.
    Writes nothing and exits with 254 where a distance reaches before the start, and with 255 where the text doesn't fit.
-   A reference parts by its distance, which is in the address of a load, and by its length, as often as the loop turns.
-   92 leaves. With t bytes to go and n bytes of text there are f(t, n), and f(0, n) = 1. A literal has f(t - 1, n + 1), or 1
-   where n = 6. A reference has 1 where n = 0; else 2 for the two errors, and n * f(t - 1, n + l) for each l of 2 to 6 - n.
-   f(1, 2) to f(1, 6) are 9, 9, 7, 3, 3; f(2, 2) to f(2, 6) are 37, 27, 17, 5, 3; f(3, 1) = 91, and f(4, 0) = 92. */
+   A reference parts by its length, as often as the loop turns; its distance is in the address of a load, which parts nothing.
+   48 leaves. With t bytes to go and n bytes of text there are f(t, n), and f(0, n) = 1. A literal has f(t - 1, n + 1), or 1
+   where n = 6. A reference has 1 where n = 0; else 2 for the two errors, and f(t - 1, n + l) for each l of 2 to 6 - n.
+   f(1, 2) to f(1, 6) are 6, 5, 4, 3, 3; f(2, 2) to f(2, 6) are 17, 12, 8, 5, 3; f(3, 1) = 47, and f(4, 0) = 48. */
 #define BYTES 4
 #include "routine.h"
 

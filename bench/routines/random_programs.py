@@ -25,13 +25,16 @@ CODE, DATA = 0x10100, 0x11000
 REGISTERS = [5, 6, 7, 9, 12, 13, 14, 15, 16, 28, 29, 30, 31]
 EDGES = [0, 1, 2, 3, 5, 10, 31, 32, 33, 0x7F, 0x80, 0xFF, 0x8000, 0x7FFFFFFF, 0x80000000, 0xFFFFFFFF, 0xFFFF8000, 0xFFFFFF80, DATA, CODE]
 LOADS, STORES, BRANCHES = [0, 1, 2, 4, 5], [0, 1, 2], [0, 1, 4, 5, 6, 7]
+# What is added to an address is masked so: of a store it has few values, of a load maybe more than a page has bytes.
+FEW, MANY = [4, 4, 8, 12, 28, 0x3C, 0x38, 3], [0x1F, 0xFF, 0xFE, 0xFC, 0x1FF, 0x7FC]
 
 
 def piece(r, kind):
     """A few words."""
     any_register, rd = lambda: r.choice([*REGISTERS, 9, 9, 0]), r.choice([*REGISTERS, 0])
     what, t = r.random() * (0.62 if kind == "sums" else 1), r.choice([28, 29, 30])
-    near = [immediate_word(r.choice([4, 4, 8, 12, 28, 0x3C, 0x38, 3]), any_register(), 7, t), register_word(0, 8, t, 0, t)]
+    masks = [*FEW, *MANY] if what < 0.72 else FEW
+    near = [immediate_word(r.choice(masks), any_register(), 7, t), register_word(0, 8, t, 0, t)]
     place = r.choice([0, 4, 8, 64, 68, 0, 4, 8, 64, 1, 2])
     if what < 0.30:
         return [register_word(r.choice([0, 1, 1]), any_register(), any_register(), r.randrange(8), rd)]

@@ -16,17 +16,18 @@ from tables import HERE, put
 
 # The routines of more than one input byte, with their number. They are wide.py's.
 WIDE = {
-    "base64": 4, "battery": 2, "bubble": 5, "crc16": 4, "crc32": 4, "crc8b": 4, "date": 4, "decimal": 4, "dns": 8, "gcd": 2,
-    "isqrt16": 2, "lz": 4, "modbus": 6, "packet": 6, "pin": 4, "q15": 2, "records": 8, "rle": 4, "sort": 4, "temp": 2, "tlv": 5,
+    "base64": 4, "base64table": 4, "battery": 2, "bubble": 5, "crc16": 4, "crc32": 4, "crc8b": 4, "crctable": 4, "date": 4,
+    "decimal": 4, "dns": 8, "gcd": 2, "isqrt16": 2, "lz": 4, "modbus": 6, "packet": 6, "pin": 4, "priorities": 4, "q15": 2,
+    "records": 8, "ring": 4, "rle": 4, "sort": 4, "temp": 2, "tlv": 5, "vm": 4,
 }
 # Those of which the first two bytes alone are input, too.
-FIRST_TWO = ["decimal", "records"]
+FIRST_TWO = ["crctable", "decimal", "records"]
 STEPS, TARGETS = 10_000, 16
 # Of this one a term has more values than there may be targets, so it has no run in which nothing is cut.
 ALWAYS_CUT = {"inside"}
 # Runs with a small budget: the program, a word for the file's name, the steps and the targets.
 SMALL = [
-    ("isqrt", "steps60", 60, TARGETS), ("lookup", "targets5", STEPS, 5), ("lookup", "steps10.targets5", 10, 5),
+    ("isqrt", "steps60", 60, TARGETS), ("switch", "targets5", STEPS, 5), ("switch", "steps13.targets5", 13, 5),
     ("inside", "targets64", STEPS, 64),
 ]
 # Instruction by instruction, so that a store into code is seen by the next fetch; and with no extension but M.

@@ -1,9 +1,9 @@
 /* A heater's controller: a reading of a 12-bit converter, the lower byte first, becomes a temperature on the line between two
    points of a table, and the temperature a step of a PI controller. Exits with the heater's power, which is 0 where the sensor
    is broken, and from 0 to 255 else. The upper four bits are ignored. gcc clamps the sum at 0 without a branch.
-   12 leaves: one of the broken sensor; two of the second of the table's eight pieces, since the power is clamped at 0 from 52.6
-   degrees up; three of the seventh, since it is clamped at 255 from 1.3 degrees down, and the sum too below -10 degrees; and one
-   of each other piece. */
+   Five leaves: one of the broken sensor; one of the power that is clamped at 0, from 52.6 degrees up; two of the one that is
+   clamped at 255, from 1.3 degrees down, since below -10 degrees the sum is clamped too; and one of all between. The table parts
+   nothing. */
 #define BYTES 2
 #include "routine.h"
 

@@ -7,8 +7,9 @@
     wide.py --qemu [WORD ..]     compares status and output of some runs of each leaf with qemu-riscv32
 
 A WORD is the name of a table without `.expected`. Two bytes are run on all 65,536 inputs. Of more, leaves are looked for: zeros
-and random inputs are run, and then, until no other leaf is found, all inputs that differ in one byte from the first input of a
-leaf. So such a table may have too few leaves, and never too many. All of it takes some minutes.
+and random inputs are run, and then, until no other leaf is found, all inputs that differ in one byte from one of the first inputs
+of a leaf that load at different addresses. So such a table may have too few leaves, and never too many. All of it takes some
+minutes.
 """
 import binascii
 import itertools
@@ -21,6 +22,8 @@ from tables import HERE, WideTable, put, region
 
 # How many random inputs a search begins with.
 RANDOM = 500
+# From how many inputs of a leaf it goes on.
+NEAR = 6
 
 
 def tables():
@@ -30,7 +33,8 @@ def tables():
 
 def seeds(name, count):
     """Where the search begins. What nothing else would find begins it too: a packet with its CRC for each command, the input
-    that `crc16` and `crc32` name in their C files, and a request of each function, broadcast and not, for one register."""
+    that `crc16` and `crc32` name in their C files, some with the CRC that `crctable` names, a request of each function,
+    broadcast and not, for one register, and a name of as many labels as there may be."""
     r = random.Random(name)
     yield bytes(count)
     yield from (r.randbytes(count) for _ in range(RANDOM))
@@ -39,8 +43,18 @@ def seeds(name, count):
             yield bytes(head) + binascii.crc_hqx(bytes(head), 0xFFFF).to_bytes(2, "big")
     if name in ("crc16", "crc32"):
         yield b"boot"
+    if name == "crctable":
+        yield from (head + ending(head) for head in (r.randbytes(2) for _ in range(RANDOM)))
+    if name == "dns":
+        yield b"\1a\1b\1c\1d"
     if name == "modbus":
         yield from (bytes([unit, function, 0, 0, 0, 1]) for unit in (0, 17) for function in range(256))
+
+
+def ending(head):
+    """The two bytes with which a head of two has the CRC of "boot": they undo what is different in its own CRC."""
+    different = binascii.crc_hqx(head, 0xFFFF) ^ binascii.crc_hqx(b"bo", 0xFFFF)
+    return (different ^ int.from_bytes(b"ot", "big")).to_bytes(2, "big")
 
 
 def beside(values):
@@ -50,16 +64,34 @@ def beside(values):
             yield values[:place] + bytes([value]) + values[place + 1:]
 
 
+class PlacedRun(Machine):
+    """A run with all addresses at which it loads or stores."""
+
+    def __init__(self, image, values):
+        super().__init__(image, values)
+        self.addresses = []
+
+    def step(self, decided):
+        try:
+            super().step(decided)
+        finally:
+            self.addresses.append(self.address)
+
+
 def searched(image, starts):
     """The leaves that are found from some inputs on, each with its first input and run, and the number of runs."""
-    found, work, seen = {}, list(starts), set()
+    found, near, work, seen = {}, {}, list(starts), set()
     while work:
         values = work.pop()
         if values in seen:
             continue
         seen.add(values)
-        run = Machine(image, values).run(STEPS)
-        if found.setdefault(run.decisions(), (values, run))[0] == values:
+        run = PlacedRun(image, values).run(STEPS)
+        decided, addresses = run.decisions(), tuple(run.addresses)
+        found.setdefault(decided, (values, run))
+        places = near.setdefault(decided, set())
+        if addresses not in places and len(places) < NEAR:
+            places.add(addresses)
             work += beside(values)
     return found, len(seen)
 
