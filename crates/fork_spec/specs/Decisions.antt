@@ -9,6 +9,8 @@ use Rattle.rv_decode.specs.declared.instr.Instr.TheVariants.{Jalr, Branch, Load,
 use Rattle.rv_decode.specs.declared.ends.End.{End}
 use Rattle.rv_decode.specs.declared.ops.LoadWidth.{LoadWidth}
 use Rattle.rv_decode.specs.declared.ops.LoadWidth.TheVariants.{Lb, Lh, Lw, Lbu, Lhu}
+use Rattle.rv_decode.specs.declared.ops.StoreWidth.{StoreWidth}
+use Rattle.rv_decode.specs.declared.ops.StoreWidth.TheVariants.{Sb, Sh, Sw}
 use Rattle.rv_spec.specs.Arithmetic.{sum32, passes}
 use Rattle.rv_spec.specs.Memory.{can_execute, word_at}
 use Rattle.rv_spec.specs.Machine.{State, x, even, first_state, is_load_aligned}
@@ -43,13 +45,24 @@ load_decisions Lw address = aligned_decisions (is_load_aligned Lw address) (addr
 load_decisions Lbu address = Number (address / 256) ∷ []
 load_decisions Lhu address = aligned_decisions (is_load_aligned Lhu address) (address / 256)
 
+-- the load of as many bytes
+abbrev pub as_load : StoreWidth → LoadWidth
+as_load Sb = Lbu
+as_load Sh = Lhu
+as_load Sw = Lw
+
+-- a store needs what a load of as many bytes does
+abbrev pub store_decisions : StoreWidth → (address : ℕ) → List Decision
+store_decisions width address = load_decisions (as_load width) address
+
 -- what an instruction decides beside its own word
 abbrev pub instr_decisions : State → Option Instr → List Decision
 instr_decisions s (Some (Jalr rd rs1 offset)) = Number (even (sum32 (x s rs1) offset)) ∷ []
 instr_decisions s (Some (Branch test rs1 rs2 offset)) = Side (passes test (x s rs1) (x s rs2)) ∷ []
 instr_decisions s (Some (Load width rd rs1 offset)) =
     load_decisions width (sum32 (x s rs1) offset)
-instr_decisions s (Some (Store width rs1 rs2 offset)) = Number (sum32 (x s rs1) offset) ∷ []
+instr_decisions s (Some (Store width rs1 rs2 offset)) =
+    store_decisions width (sum32 (x s rs1) offset)
 instr_decisions s (Some Ecall) = call_decisions s
 instr_decisions s _ = []
 

@@ -8,3 +8,4 @@ pub mod Standing
 pub mod Unfolds
 pub mod Transfers
 pub mod Loads
+pub mod Stores

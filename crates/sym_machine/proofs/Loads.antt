@@ -1,8 +1,7 @@
 -- Loads from addresses that are numbers, and that are terms.
-use Rattle.std.proofs.Common.{◌≡◌, ℕ, ◌+◌, ◌/◌, ◌^◌, ◌<◌, ◌&&◌, Bool, true, false, List, [], ◌∷◌, refl, sym, ap, subst, ◌∙◌, arith}
-use Rattle.std.specs.Prelude.{◌==◌, not, is_some, nat_lt, Result, Ok, Err, IfErr, IfOk, Some}
+use Rattle.std.proofs.Common.{◌≡◌, ℕ, ◌/◌, ◌^◌, ◌<◌, ◌&&◌, Bool, true, false, List, [], ◌∷◌, refl, sym, ap, subst, ◌∙◌, arith}
+use Rattle.std.specs.Prelude.{◌==◌, not, is_some, nat_lt, Result, Ok, Err, IfOk, Some}
 use Rattle.std.specs.Int.Bits.{bit_and}
-use Rattle.std.proofs.Math.Nat.{mod-lt}
 use Rattle.std.proofs.lemmas.Bool.Decides.{nat_tests}
 use Rattle.std.proofs.lemmas.Nat.{and_mask}
 use Rattle.bv_dag.specs.Graphs.{number_of}
@@ -21,50 +20,48 @@ use Rattle.sym_state.specs.Expressions.{Expression, Number as ANumber, combined_
 use Rattle.sym_state.specs.Loading.{is_place, loaded_on}
 use Rattle.sym_state.specs.Moves.{IsGrown, MakesValue}
 use Rattle.sym_state.specs.Selecting.{MakesLoaded}
-use Rattle.sym_state.specs.Symbolic.{Symbolic, concrete, stands_for, value_at}
+use Rattle.sym_state.specs.Symbolic.{Symbolic, concrete, stands_for}
 use Rattle.sym_state.specs.Unfolded.{Unfolded, expression_at, unfolded}
 use Rattle.sym_state.specs.Unfolding.{load, load_by, with_page}
 use Rattle.sym_state.specs.Values.{IsUnknown, worth_of}
 use Rattle.sym_state.specs.declared.value.Value.{Value}
-use Rattle.sym_state.specs.declared.value.Value.TheVariants.{Term}
 use Rattle.sym_state.proofs.Growing.{Continues-trans, number-grown}
 use Rattle.sym_state.proofs.Grown.{concrete-grown, unfolded-grown}
 use Rattle.sym_state.proofs.Opening.{stands-bytes}
 use Rattle.sym_machine.specs.Loading.{CarriesLoad, DecidesLoad, IsAligned, IsOnPage, mask_of, page_place}
 use Rattle.sym_machine.specs.Steps.{Carries, Comes}
-use Rattle.sym_machine.specs.Stops.{DecidesBy, StandsAt, Stops}
-use Rattle.sym_machine.specs.declared.halt.Halt.{Halt}
+use Rattle.sym_machine.specs.Stops.{StandsAt}
 use Rattle.sym_machine.specs.declared.outcome.RunEnd.TheVariants.{Traps}
 use Rattle.sym_machine.specs.declared.outcome.Step.{Step}
 use Rattle.sym_machine.specs.declared.outcome.Step.TheVariants.{Running, Ended}
-use Rattle.sym_machine.proofs.Standing.{AreAlike-grown, Comes-made, IsGrown-trans, Keeps-made, Keeps-onward, Keeps-refl, Stops-made, onward_with, still_stands, stood, to_register-is}
-use Rattle.sym_machine.proofs.Transfers.{sum_is}
-use Rattle.sym_machine.proofs.Unfolds.{expression-x, written}
+use Rattle.sym_machine.proofs.Standing.{AreAlike-grown, Comes-made, IsGrown-trans, Keeps-made, Keeps-onward, Keeps-refl, onward_with, still_stands, stood, to_register-is}
+use Rattle.sym_machine.proofs.Transfers.{address}
+use Rattle.sym_machine.proofs.Unfolds.{written}
 
 -- ---- What a load decides.
 -- with this page, where it isn't misaligned
-abbrev decisions_on : LoadWidth → (page : ℕ) → List Decision
+abbrev pub decisions_on : LoadWidth → (page : ℕ) → List Decision
 decisions_on Lb page = Needs page ∷ []
 decisions_on Lh page = Needs 0 ∷ Needs page ∷ []
 decisions_on Lw page = Needs 0 ∷ Needs page ∷ []
 decisions_on Lbu page = Needs page ∷ []
 decisions_on Lhu page = Needs 0 ∷ Needs page ∷ []
 
-aligned : (width : LoadWidth) (a : ℕ) → is_load_aligned width a ≡ true → load_decisions width a ≡ decisions_on width (a / 256)
+pub aligned : (width : LoadWidth) (a : ℕ) → is_load_aligned width a ≡ true → load_decisions width a ≡ decisions_on width (a / 256)
 aligned Lb a is = refl
 aligned Lh a is = ap (λ t. aligned_decisions t (a / 256)) is
 aligned Lw a is = ap (λ t. aligned_decisions t (a / 256)) is
 aligned Lbu a is = refl
 aligned Lhu a is = ap (λ t. aligned_decisions t (a / 256)) is
 
-misaligned : (width : LoadWidth) (a : ℕ) → is_load_aligned width a ≡ false → load_decisions width a ≡ Needs 1 ∷ []
+pub misaligned : (width : LoadWidth) (a : ℕ) → is_load_aligned width a ≡ false → load_decisions width a ≡ Needs 1 ∷ []
 misaligned Lb a is = cc is
 misaligned Lh a is = ap (λ t. aligned_decisions t (a / 256)) is
 misaligned Lw a is = ap (λ t. aligned_decisions t (a / 256)) is
 misaligned Lbu a is = cc is
 misaligned Lhu a is = ap (λ t. aligned_decisions t (a / 256)) is
 
-on_page : (width : LoadWidth) (u : Unfolded) (page : ℕ) (makes : ℕ → Unfolded) → with_page width u (decisions_on width page) makes ≡ makes page
+pub on_page : (width : LoadWidth) (u : Unfolded) (page : ℕ) (makes : ℕ → Unfolded) → with_page width u (decisions_on width page) makes ≡ makes page
 on_page Lb u page makes = refl
 on_page Lh u page makes = refl
 on_page Lw u page makes = refl
@@ -320,7 +317,7 @@ small_page s (Ok page) width term sampled decides on =
     omega (arith, below, here)
 
 -- ---- A value that was loaded.
-place_by : (width : LoadWidth) (page a : ℕ) → a / 256 ≡ page → is_load_aligned width a ≡ true → is_place width page a ≡ true
+pub place_by : (width : LoadWidth) (page a : ℕ) → a / 256 ≡ page → is_load_aligned width a ≡ true → is_place width page a ≡ true
 place_by width page a on fits = let same : (a / 256 == page) ≡ true = grind (arith, nat_tests, on) in ap (λ t. t && is_load_aligned width a) same ∙ fits
 
 pub loaded_worth : (old new : Symbolic) (width : LoadWidth) (page term : ℕ) (v : Value) → IsAligned old width term → IsOnPage old term page
@@ -331,19 +328,6 @@ loaded_worth old new width page term v fits on made input stands =
     (place_by width page (number_of old.terms term input) (on input stands) (fits input stands))
 
 -- ---- After terms were made.
-pub aligned_is : (old new : Symbolic) (width : LoadWidth) (term : ℕ) → IsGrown old new → IsUnknown old.terms 32 term
-    → {t : Bool} → ((input : List ℕ) → stands_for old input ≡ true → is_load_aligned width (number_of old.terms term input) ≡ t)
-    → (input : List ℕ) → stands_for new input ≡ true → is_load_aligned width (number_of new.terms term input) ≡ t
-aligned_is old new width term grown unknown fits input stands =
-    ap (is_load_aligned width) (number-grown old.terms new.terms term 32 input grown.continues unknown.width (omega arith))
-    ∙ fits input (stood old new input grown stands)
-
-pub page-grown : (old new : Symbolic) (term page : ℕ) → IsGrown old new → IsUnknown old.terms 32 term
-    → IsOnPage old term page → IsOnPage new term page
-page-grown old new term page grown unknown on = λ input stands.
-    ap (λ n. n / 256) (number-grown old.terms new.terms term 32 input grown.continues unknown.width (omega arith))
-    ∙ on input (stood old new input grown stands)
-
 pub carries-made : (old mid new : Symbolic) (step : Step) (of : State → ℕ) (width : LoadWidth) (rd : ℕ) (d e : Expression) → IsGrown old mid → d ≡ e
     → CarriesLoad of mid new step width rd d → CarriesLoad of old new step width rd e
 carries-made old mid new step of width rd d e grown same carries = record {
@@ -356,26 +340,7 @@ carries-made old mid new step of width rd d e grown same carries = record {
       ∙ ap (λ f. load_by (unfolded old) width rd f (load_decisions width (of (concrete old input)))) same;
 }
 
-pub stops_made : {A : Type 0} (old mid new : Symbolic) (r : Result A Halt) → IsGrown old mid → IfErr r (Stops mid new) → IfErr r (Stops old new)
-stops_made old mid new (Ok a) grown stops = tt
-stops_made old mid new (Err halt) grown stops = Stops-made old mid new halt grown stops
-
-pub of_result : {E : Type 0} (P : (State → ℕ) → Type 0) (Q : Step → (State → ℕ) → Type 0) (r : Result Step E) (of : State → ℕ)
-    → IfOk r (λ step. (f : State → ℕ) → P f → Q step f) → P of → IfOk r (λ step. Q step of)
-of_result P Q (Err halt) of carries is = tt
-of_result P Q (Ok step) of carries is = carries of is
-
-pub address-made : (old mid : Symbolic) (of : State → ℕ) (term : ℕ) → IsGrown old mid → IsUnknown old.terms 32 term
-    → ((input : List ℕ) → stands_for old input ≡ true → of (concrete old input) ≡ number_of old.terms term input)
-    → (input : List ℕ) → stands_for mid input ≡ true → of (concrete mid input) ≡ number_of mid.terms term input
-address-made old mid of term grown unknown is input stands =
-    ap of (concrete-grown old mid input grown) ∙ is input (stood old mid input grown stands)
-    ∙ sym (number-grown old.terms mid.terms term 32 input grown.continues unknown.width (omega arith))
-
 -- ---- From the sum of a register and an offset.
-abbrev address : (rs1 offset : ℕ) → State → ℕ
-address rs1 offset c = sum32 (x c rs1) offset
-
 pub carries_load : (old mid new : Symbolic) (step : Step) (width : LoadWidth) (rd rs1 offset : ℕ) (e : Expression) → IsGrown old mid
     → e ≡ combined_of Add (expression_at (unfolded old).registers rs1) (ANumber offset)
     → CarriesLoad (λ c. sum32 (x c rs1) offset) mid new step width rd e
@@ -397,34 +362,3 @@ pub carries_if : {E : Type 0} (old mid new : Symbolic) (r : Result Step E) (widt
     → IfOk r (λ step. Carries old new step (Load width rd rs1 offset))
 carries_if old mid new (Err halt) width rd rs1 offset e grown is carries = tt
 carries_if old mid new (Ok step) width rd rs1 offset e grown is carries = carries_load old mid new step width rd rs1 offset e grown is carries
-
-module _ (old mid : Symbolic) (rs1 offset : ℕ) (base sum : Value) (from : base ≡ value_at old.registers rs1)
-    (made : MakesValue old mid sum (λ input. sum32 (worth_of old.terms input base) offset)) where
-  -- what the machine's state gives is what the sum is worth
-  pub address_is : (input : List ℕ) → stands_for mid input ≡ true → sum32 (x (concrete mid input) rs1) offset ≡ worth_of mid.terms input sum
-  address_is input stands =
-      ap (address rs1 offset) (concrete-grown old mid input made.grown)
-      ∙ sum_is old mid rs1 offset base sum from made input (stood old mid input made.grown stands)
-
-  pub sum_expressed : (e : Expression) → value_expression mid.terms sum ≡ e
-      → value_expression mid.terms sum ≡ combined_of Add (value_expression old.terms base) (ANumber offset)
-      → e ≡ combined_of Add (expression_at (unfolded old).registers rs1) (ANumber offset)
-  sum_expressed e is expressed =
-      sym is ∙ expressed
-      ∙ ap (λ v. combined_of Add (value_expression old.terms v) (ANumber offset)) from
-      ∙ ap (λ f. combined_of Add f (ANumber offset)) (sym (expression-x old rs1))
-
-  pub decides_by_term : (width : LoadWidth) (rd term : ℕ) → sum ≡ Term term → DecidesBy old (Load width rd rs1 offset)
-      → DecidesLoad mid width term
-  decides_by_term width rd term is decides = record {
-    word = decides.word;
-    is = λ input stands.
-        ap step_decisions (concrete-grown old mid input made.grown)
-        ∙ decides.is input (stood old mid input made.grown stands)
-        ∙ ap (λ c. Needs decides.word ∷ load_decisions width (address rs1 offset c)) (sym (concrete-grown old mid input made.grown))
-        ∙ ap (λ n. Needs decides.word ∷ load_decisions width n) (address_is input stands)
-        ∙ ap (λ v. Needs decides.word ∷ load_decisions width (worth_of mid.terms input v)) is;
-    small = λ input stands.
-        subst (λ n. n < 2 ^ 32) (address_is input stands ∙ ap (worth_of mid.terms input) is)
-        (mod-lt (x (concrete mid input) rs1 + offset) (omega arith));
-  }

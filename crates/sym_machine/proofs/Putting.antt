@@ -5,27 +5,22 @@ use Rattle.std.proofs.Math.Path.{fun_ext}
 use Rattle.bv_dag.specs.Graphs.{Graph}
 use Rattle.cow_pages.specs.SymbolicMemory.{memory_byte, memory_flags}
 use Rattle.cow_pages.specs.declared.byte.Byte.{Byte}
-use Rattle.rv_decode.specs.declared.ops.StoreWidth.{StoreWidth}
 use Rattle.rv_decode.specs.declared.ops.StoreWidth.TheVariants.{Sh, Sw}
-use Rattle.rv_spec.specs.Arithmetic.{sum32}
-use Rattle.rv_spec.specs.Machine.{State, Outcome, is_store_aligned, onward, store, stored, x}
+use Rattle.rv_spec.specs.Machine.{State, stored}
 use Rattle.rv_spec.specs.Machine as machine
-use Rattle.rv_spec.specs.Memory.{can_write, with_bytes}
+use Rattle.rv_spec.specs.Memory.{with_bytes}
 use Rattle.term_trees.specs.Growth.{Continues}
 use Rattle.sym_state.specs.Moves.{MakesByte, stored_at}
-use Rattle.sym_state.specs.Symbolic.{Symbolic, IsFormed, concrete, stands_for, value_at}
+use Rattle.sym_state.specs.Symbolic.{Symbolic, IsFormed, concrete, stands_for}
 use Rattle.sym_state.specs.Values.{IsWide, byte_worth, worth_of}
 use Rattle.sym_state.specs.declared.value.Value.{Value}
 use Rattle.sym_state.proofs.Growing.{Continues-trans, IsWide-grown, worth-grown}
 use Rattle.sym_state.proofs.Grown.{concrete-grown, stands-with_terms}
 use Rattle.sym_state.proofs.Opening.{stands-bytes}
-use Rattle.sym_machine.specs.Steps.{Comes, Keeps, Puts}
-use Rattle.sym_machine.specs.declared.outcome.Step.{Step}
-use Rattle.sym_machine.specs.declared.outcome.Step.TheVariants.{Running}
-use Rattle.sym_machine.proofs.Standing.{x-worth}
+use Rattle.sym_machine.specs.Steps.{Keeps, Puts}
 
 -- a state with these bytes from an address on
-abbrev with_put : State → ℕ → List ℕ → State
+abbrev pub with_put : State → ℕ → List ℕ → State
 with_put c address bytes = record c { byte = with_bytes c.byte address bytes }
 
 byte-if : (g : Graph) (input : List ℕ) (t : Bool) (a b : Byte)
@@ -171,8 +166,8 @@ puts_word s0 s1 s2 s3 s4 address v (Ok u) wide first second third fourth =
     (puts_more s2 s3 s4 (address + 2) (address + 3) v (byte_up 2) (λ n. byte_up 3 n ∷ [])
     (omega arith) wide2 third fourth)))
 
--- ---- Stores.
-Keeps-put : (old new : Symbolic) (address : ℕ) (bytes : List ℕ → List ℕ)
+-- ---- What stays.
+pub Keeps-put : (old new : Symbolic) (address : ℕ) (bytes : List ℕ → List ℕ)
     → Puts old new address bytes → Keeps old new
 Keeps-put old new address bytes put = record {
   continues = put.continues;
@@ -184,7 +179,7 @@ Keeps-put old new address bytes put = record {
   few = let same = ap (λ (s : Symbolic). length s.output) put.same in omega (arith, same);
 }
 
-Keeps-went : (old new : Symbolic) (pc : ℕ) → Keeps old new → Keeps old (record new { pc = pc })
+pub Keeps-went : (old new : Symbolic) (pc : ℕ) → Keeps old new → Keeps old (record new { pc = pc })
 Keeps-went old new pc kept = record {
   continues = kept.continues;
   condition = kept.condition;
@@ -194,32 +189,3 @@ Keeps-went old new pc kept = record {
   sample = kept.sample;
   few = kept.few;
 }
-
-stores : (c : State) (width : StoreWidth) (address n : ℕ) → is_store_aligned width address ≡ true
-    → can_write c.flags address ≡ true
-    → store c width address n
-    ≡ machine.Running (onward (with_put c address (stored width n)) c.registers)
-stores c width address n aligned can = rw aligned (rw can refl)
-
-pub comes_stored : (old mid new : Symbolic) (step : Step) (width : StoreWidth) (address rs2 : ℕ)
-    (v : Value)
-    → true ≡ is_store_aligned width address → true ≡ can_write (memory_flags old.memory) address
-    → v ≡ value_at old.registers rs2
-    → Puts old mid address (λ input. stored width (worth_of old.terms input v))
-    → step ≡ Running → new ≡ record mid { pc = sum32 mid.pc 4 }
-    → Comes old new step (λ c. store c width address (x c rs2))
-comes_stored old mid new step width address rs2 v aligned can is put running there =
-    let makes : State → Outcome = λ c. store c width address (x c rs2) in
-    subst (λ (s : Symbolic). Comes old s step makes) (sym there)
-    (subst (λ (t : Step). Comes old (record mid { pc = sum32 mid.pc 4 }) t makes) (sym running)
-    (record {
-      keeps = Keeps-went old mid (sum32 mid.pc 4)
-          (Keeps-put old mid address (λ input. stored width (worth_of old.terms input v)) put);
-      is = λ input standing.
-          ap (store (concrete old input) width address)
-          (x-worth old input rs2 ∙ ap (worth_of old.terms input) (sym is))
-          ∙ stores (concrete old input) width address (worth_of old.terms input v) (sym aligned)
-          (sym can)
-          ∙ ap (λ (c : State). machine.Running (record c { pc = sum32 c.pc 4 }))
-          (sym (put.is input standing));
-    }))

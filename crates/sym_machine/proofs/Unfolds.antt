@@ -8,15 +8,14 @@ use Rattle.std.proofs.lemmas.List.{map-append, map-set}
 use Rattle.cow_pages.specs.SymbolicMemory.{memory_byte, memory_flags}
 use Rattle.cow_pages.specs.declared.byte.Byte.{Byte}
 use Rattle.bv_dag.specs.Graphs.{Graph}
-use Rattle.rv_decode.specs.declared.ops.StoreWidth.{StoreWidth}
 use Rattle.rv_spec.specs.Arithmetic.{sum32}
-use Rattle.rv_spec.specs.Machine.{addresses, is_store_aligned}
-use Rattle.rv_spec.specs.Memory.{can_write, is_mapped}
+use Rattle.rv_spec.specs.Machine.{addresses}
+use Rattle.rv_spec.specs.Memory.{is_mapped}
 use Rattle.sym_state.specs.Expressions.{Expression, Number as ANumber, byte_expression, register_byte, value_expression}
 use Rattle.sym_state.specs.Moves.{IsGrown, stored_at}
 use Rattle.sym_state.specs.Symbolic.{Symbolic, set_value, value_at}
 use Rattle.sym_state.specs.Unfolded.{Unfolded, expression_at, set_expression, unfolded}
-use Rattle.sym_state.specs.Unfolding.{linked, onward, store, stored, to_register, with_put, write}
+use Rattle.sym_state.specs.Unfolding.{linked, onward, to_register, with_put, write}
 use Rattle.sym_state.specs.declared.value.Value.{Value}
 use Rattle.sym_state.specs.declared.value.Value.TheVariants.{Number}
 use Rattle.sym_state.proofs.Grown.{unfolded-grown}
@@ -105,18 +104,6 @@ put_four u0 u1 u2 u3 u4 address v v1 v2 v3 (Ok x) same1 same2 same3 first second
     (second ∙ ap (λ e. with_put u1 (address + 1) (register_byte 1 e ∷ [])) same1)
     (put_more u2 u3 u4 (address + 2) (address + 3) (register_byte 2 v) (register_byte 3 v3 ∷ []) (register_byte 3 v ∷ []) (omega arith)
     (third ∙ ap (λ e. with_put u2 (address + 2) (register_byte 2 e ∷ [])) same2) fourth (ap (λ e. register_byte 3 e ∷ []) same3)) refl) refl
-
-pub stores : (u v : Unfolded) (width : StoreWidth) (address : ℕ) (e : Expression) → is_store_aligned width address ≡ true → can_write u.flags address ≡ true
-    → v ≡ with_put u address (stored width e) → record v { pc = sum32 v.pc 4 } ≡ store u width address e
-stores u v width address e aligned can put =
-    ap (λ (x : Unfolded). record x { pc = sum32 x.pc 4 }) put ∙ rw (aligned, can) refl
-
-pub stores_misaligned : (u : Unfolded) (width : StoreWidth) (address : ℕ) (e : Expression) → is_store_aligned width address ≡ false → u ≡ store u width address e
-stores_misaligned u width address e other = rw other refl
-
-pub stores_refused : (u : Unfolded) (width : StoreWidth) (address : ℕ) (e : Expression) → is_store_aligned width address ≡ true
-    → can_write u.flags address ≡ false → u ≡ store u width address e
-stores_refused u width address e aligned other = rw (aligned, other) refl
 
 -- ---- Writes.
 writes_all : (u : Unfolded) (start count : ℕ) → list_all (is_mapped u.flags) (addresses start count) ≡ true

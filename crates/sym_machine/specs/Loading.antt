@@ -1,12 +1,12 @@
 -- What a load decides, and what it makes of a run, from the address that a term is.
-use Rattle.std.specs.Prelude.{◌≡◌, ℕ, ◌/◌, ◌^◌, ◌<◌, true, List, ◌∷◌}
+use Rattle.std.specs.Prelude.{◌≡◌, ℕ, ◌-◌, ◌/◌, ◌^◌, ◌<◌, ◌==◌, true, List, ◌∷◌, if◌then◌else◌}
 use Rattle.bv_dag.specs.Graphs.{number_of}
 use Rattle.fork_spec.specs.Decisions.{Number as Needs, load_decisions, step_decisions}
 use Rattle.rv_decode.specs.declared.ops.LoadWidth.{LoadWidth}
-use Rattle.rv_decode.specs.declared.ops.LoadWidth.TheVariants.{Lb, Lh, Lw, Lbu, Lhu}
 use Rattle.rv_spec.specs.Machine.{State, is_load_aligned}
 use Rattle.rv_spec.specs.Machine as machine
 use Rattle.sym_state.specs.Expressions.{Expression}
+use Rattle.sym_state.specs.Loading.{bytes}
 use Rattle.sym_state.specs.Symbolic.{Symbolic, concrete, stands_for}
 use Rattle.sym_state.specs.Unfolded.{unfolded}
 use Rattle.sym_state.specs.Unfolding.{load_by}
@@ -15,21 +15,13 @@ use Rattle.sym_machine.specs.declared.outcome.Step.{Step}
 
 -- the bits that are 0 in an aligned address
 abbrev pub mask_of : LoadWidth → ℕ
-mask_of Lb = 0
-mask_of Lh = 1
-mask_of Lw = 3
-mask_of Lbu = 0
-mask_of Lhu = 1
+mask_of width = bytes width - 1
 
 -- the place of the page among what the step decides
 abbrev pub page_place : LoadWidth → ℕ
-page_place Lb = 1
-page_place Lh = 2
-page_place Lw = 2
-page_place Lbu = 1
-page_place Lhu = 2
+page_place width = if mask_of width == 0 then 1 else 2
 
--- the step decides a load's word, and then what a load from the address that a term is decides
+-- the step decides its word, and then what a load from the address that a term is decides
 pub record DecidesLoad (s : Symbolic) (width : LoadWidth) (term : ℕ) : Type 0 where
   pub word : ℕ
   pub is : (input : List ℕ) → stands_for s input ≡ true →

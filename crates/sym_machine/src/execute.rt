@@ -23,7 +23,7 @@ use crate::halt::Halt;
 use crate::loading::load;
 use crate::needs::{number_at, side_of};
 use crate::outcome::{Step, trapped};
-use crate::transfer::store;
+use crate::storing::store;
 use rv_decode::{ImmediateOp, Instr, Register, RegisterOp, ShiftOp, Test, Trap};
 use std::alloc::AllocError as NoMemory;
 use sym_state::{State, Value};

@@ -7,7 +7,7 @@
 //! - `decoded`: instructions that were decoded lately
 //! - `going`: to the next instruction, or to another
 //! - `transfer`: bytes of memory and registers
-//! - `loading`: loads
+//! - `loading`, `storing`: loads and stores
 //! - `call`: the environment call
 //! - `execute`: each instruction
 //! - `stepping`: steps, one after the other
@@ -23,6 +23,7 @@ mod loading;
 mod needs;
 mod outcome;
 mod stepping;
+mod storing;
 mod transfer;
 
 pub use outcome::RunEnd;

@@ -24,7 +24,7 @@ use crate::transfer::{is_mapped, loaded};
 use rv_decode::{LoadWidth, Register, RegisterOp, Trap};
 use rv_machine::is_load_aligned;
 use std::alloc::AllocError as NoMemory;
-use sym_state::{State, Value};
+use sym_state::{State, Value, bytes_of};
 
 /// Loads from an address that is known into a register.
 fn load_at(
@@ -62,25 +62,18 @@ fn any_of(state: &mut State, mask: u32, term: usize) -> Result<Value, NoMemory>
 fn mask_of(width: LoadWidth) -> u32
     ensures { result ≡ mask_of width }
 {
-    match width {
-        LoadWidth::Lb | LoadWidth::Lbu => 0,
-        LoadWidth::Lh | LoadWidth::Lhu => 1,
-        LoadWidth::Lw => 3,
-    }
+    bytes_of(width) - 1
 }
 
 /// The place of the page among what the step decides: behind the word, and behind whether the address is misaligned.
 fn page_place(width: LoadWidth) -> usize
     ensures { result ≡ page_place width }
 {
-    match width {
-        LoadWidth::Lb | LoadWidth::Lbu => 1,
-        LoadWidth::Lh | LoadWidth::Lw | LoadWidth::Lhu => 2,
-    }
+    if mask_of(width) == 0 { 1 } else { 2 }
 }
 
 /// Whether the address that a term is is misaligned.
-fn is_misaligned(state: &mut State, width: LoadWidth, term: usize) -> Result<bool, Halt>
+pub(crate) fn is_misaligned(state: &mut State, width: LoadWidth, term: usize) -> Result<bool, Halt>
     requires formed { IsFormed state.old }
     requires ready { IsReady state.old }
     requires address { IsUnknown state.old.terms 32 term }
@@ -100,7 +93,7 @@ fn is_misaligned(state: &mut State, width: LoadWidth, term: usize) -> Result<boo
 }
 
 /// The page of the address that a term is.
-fn page_of(state: &mut State, width: LoadWidth, term: usize) -> Result<u32, Halt>
+pub(crate) fn page_of(state: &mut State, width: LoadWidth, term: usize) -> Result<u32, Halt>
     requires ready { IsReady state.old }
     requires address { IsUnknown state.old.terms 32 term }
     requires decides { DecidesLoad state.old width term }

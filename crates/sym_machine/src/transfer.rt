@@ -1,33 +1,24 @@
-//! What is loaded from an address, and stores. The address of a store has to be known; alignment is tested before the page.
+//! What is loaded from an address that is known, and what is put to one.
 
-ghost use Rattle.std.specs.Prelude.{◌≡◌, ◌+◌, ◌*◌, ◌/◌, ◌%◌, ◌^◌, ◌<◌, ◌∷◌, [], true, ℕ, List, IfOk, IfErr, OnOk, OnErr};
+ghost use Rattle.std.specs.Prelude.{◌≡◌, ◌+◌, ◌*◌, ◌/◌, ◌%◌, ◌^◌, ◌<◌, ◌∷◌, [], true, IfOk, OnOk, OnErr};
 ghost use Rattle.cow_pages.specs.SymbolicMemory.{memory_flags};
-ghost use Rattle.rv_decode.specs.declared.instr.Instr.TheVariants.{Store};
 ghost use Rattle.rv_decode.specs.declared.ops.StoreWidth.TheVariants.{Sh, Sw};
-ghost use Rattle.rv_spec.specs.Arithmetic.{sum32};
-ghost use Rattle.fork_spec.specs.Decisions.{Number as Needs};
 ghost use Rattle.rv_spec.specs.Machine as machine;
-ghost use Rattle.rv_spec.specs.Machine.{x};
-ghost use Rattle.rv_spec.specs.Memory.{can_write, half_at, is_mapped};
+ghost use Rattle.rv_spec.specs.Memory.{half_at, has_w, is_mapped};
 ghost use Rattle.term_simplify.specs.Operations.{widened};
 ghost use Rattle.sym_state.specs.Expressions.{register_byte, value_expression, widened_half};
-ghost use Rattle.sym_state.specs.Moves.{IsGrown, MakesValue};
-ghost use Rattle.sym_state.specs.Runs.{IsReady};
-ghost use Rattle.sym_state.specs.Symbolic.{concrete, stands_for};
-ghost use Rattle.sym_state.specs.Unfolded.{expression_at, unfolded};
+ghost use Rattle.sym_state.specs.Moves.{MakesValue};
+ghost use Rattle.sym_state.specs.Symbolic.{concrete};
+ghost use Rattle.sym_state.specs.Unfolded.{unfolded};
 ghost use Rattle.sym_state.specs.Loading as loading;
+ghost use Rattle.sym_state.specs.Storing as storing;
 ghost use Rattle.sym_state.specs.Unfolding as symbolic;
 ghost use Rattle.sym_state.specs.Values.{IsWide, worth_of};
-ghost use Rattle.sym_machine.specs.Steps.{Carries, Comes, Puts};
-ghost use Rattle.sym_machine.specs.Stops.{DecidesBy, StandsAt, Stops};
+ghost use Rattle.sym_machine.specs.Steps.{Puts};
 
 use crate::fetch::word;
-use crate::going::go_on;
-use crate::halt::Halt;
-use crate::needs::number_at;
-use crate::outcome::{Step, trapped};
-use rv_decode::{LoadWidth, Register, RegisterOp, StoreWidth, Trap};
-use rv_machine::{PAGE, is_store_aligned};
+use rv_decode::{LoadWidth, StoreWidth};
+use rv_machine::PAGE;
 use std::alloc::AllocError as NoMemory;
 use sym_state::{State, Value};
 
@@ -38,29 +29,14 @@ pub(crate) fn is_mapped(state: &State, address: u32) -> bool
     state.flags(address / PAGE).is_some()
 }
 
-/// Whether bytes can be written at an address.
-fn can_write(state: &State, address: u32) -> bool
-    ensures { result ≡ can_write (memory_flags state.now.memory) address }
+/// Whether bytes of a page can be written.
+pub(crate) fn can_write(state: &State, page: u32) -> bool
+    ensures { result ≡ has_w (memory_flags state.now.memory page) }
 {
-    match state.flags(address / PAGE) {
+    match state.flags(page) {
         None => false,
         Some(flags) => flags / 2 % 2 == 1,
     }
-}
-
-/// The sum of a register and an offset, which has to be known.
-fn address_of(state: &mut State, rs1: Register, offset: u32) -> Result<u32, Halt>
-    requires ready { IsReady state.old }
-    requires stands { StandsAt state.old 1
-        (λ input. Needs (sum32 (x (concrete state.old input) rs1) offset)) }
-    ensures grown { IfOk result (λ _. IsGrown state.old state.new) }
-    ensures ok { IfOk result (λ address. (input : List ℕ) → stands_for state.old input ≡ true
-        → sum32 (x (concrete state.old input) rs1) offset ≡ address) }
-    ensures err { IfErr result (Stops state.old state.new) }
-{
-    let base = state.value(rs1);
-    let sum = state.combined(RegisterOp::Add, base, Value::Number(offset))?;
-    number_at(state, 1, sum)
 }
 
 /// The half word at an address in 32 bits, low byte first.
@@ -120,7 +96,7 @@ fn put_half(state: &mut State, address: u32, value: Value) -> Result<(), NoMemor
         (λ input. machine.stored Sh (worth_of state.old.terms input value))) }
     ensures terms { OnOk result (unfolded state.new
         ≡ symbolic.with_put (unfolded state.old) address
-        (symbolic.stored Sh (value_expression state.old.terms value))) }
+        (storing.stored Sh (value_expression state.old.terms value))) }
 {
     put_byte(state, address, value, 0)?;
     put_byte(state, address + 1, value, 1)
@@ -135,7 +111,7 @@ fn put_word(state: &mut State, address: u32, value: Value) -> Result<(), NoMemor
         (λ input. machine.stored Sw (worth_of state.old.terms input value))) }
     ensures terms { OnOk result (unfolded state.new
         ≡ symbolic.with_put (unfolded state.old) address
-        (symbolic.stored Sw (value_expression state.old.terms value))) }
+        (storing.stored Sw (value_expression state.old.terms value))) }
 {
     put_byte(state, address, value, 0)?;
     put_byte(state, address + 1, value, 1)?;
@@ -144,7 +120,12 @@ fn put_word(state: &mut State, address: u32, value: Value) -> Result<(), NoMemor
 }
 
 /// Puts what is stored.
-fn put(state: &mut State, width: StoreWidth, address: u32, value: Value) -> Result<(), NoMemory>
+pub(crate) fn put(
+    state: &mut State,
+    width: StoreWidth,
+    address: u32,
+    value: Value,
+) -> Result<(), NoMemory>
     requires aligned { machine.is_store_aligned width address ≡ true }
     requires mapped { is_mapped (memory_flags state.old.memory) address ≡ true }
     requires wide { IsWide state.old.terms value }
@@ -152,54 +133,11 @@ fn put(state: &mut State, width: StoreWidth, address: u32, value: Value) -> Resu
         (λ input. machine.stored width (worth_of state.old.terms input value))) }
     ensures terms { OnOk result (unfolded state.new
         ≡ symbolic.with_put (unfolded state.old) address
-        (symbolic.stored width (value_expression state.old.terms value))) }
+        (storing.stored width (value_expression state.old.terms value))) }
 {
     match width {
         StoreWidth::Sb => put_byte(state, address, value, 0),
         StoreWidth::Sh => put_half(state, address, value),
         StoreWidth::Sw => put_word(state, address, value),
     }
-}
-
-/// Stores a register at an address.
-fn store_to(
-    state: &mut State,
-    width: StoreWidth,
-    address: u32,
-    rs2: Register,
-) -> Result<Step, NoMemory>
-    ensures comes { IfOk result (λ step. Comes state.old state.new step
-        (λ c. machine.store c width address (x c rs2))) }
-    ensures terms { IfOk result (λ _. unfolded state.new
-        ≡ symbolic.store (unfolded state.old) width address
-        (expression_at (unfolded state.old).registers rs2)) }
-{
-    if !is_store_aligned(width, address) {
-        return Ok(trapped(Trap::StoreMisaligned));
-    }
-    if !can_write(state, address) {
-        return Ok(trapped(Trap::StoreAccess));
-    }
-    let value = state.value(rs2);
-    put(state, width, address, value)?;
-    Ok(go_on(state))
-}
-
-/// Stores a register.
-pub(crate) fn store(
-    state: &mut State,
-    width: StoreWidth,
-    rs1: Register,
-    rs2: Register,
-    offset: u32,
-) -> Result<Step, Halt>
-    requires ready { IsReady state.old }
-    requires decides { DecidesBy state.old (Store width rs1 rs2 offset) }
-    ensures ok { IfOk result (λ step. Carries state.old state.new step
-        (Store width rs1 rs2 offset)) }
-    ensures err { IfErr result (Stops state.old state.new) }
-{
-    let address = address_of(state, rs1, offset)?;
-    let step = store_to(state, width, address, rs2)?;
-    Ok(step)
 }

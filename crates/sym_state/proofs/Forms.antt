@@ -4,10 +4,11 @@ use Rattle.std.specs.Prelude.{All, Result, Ok, Err, IfOk, OnErr}
 use Rattle.std.proofs.lemmas.List.Elements.{All-nil, All-cons, All-head, All-tail}
 use Rattle.bv_dag.specs.Graphs.{Graph}
 use Rattle.bv_dag.specs.Queries.{AreBits}
-use Rattle.cow_pages.specs.SymbolicMemory.{memory_byte}
+use Rattle.cow_pages.specs.SymbolicMemory.{SymbolicMemory, memory_byte}
 use Rattle.cow_pages.specs.declared.byte.Byte.{Byte}
 use Rattle.term_trees.specs.Growth.{Continues}
 use Rattle.sym_state.specs.Moves.{IsGrown, MakesBit, MakesByte, MakesTerm, MakesValue, with_terms}
+use Rattle.sym_state.specs.Placing.{HasBytes}
 use Rattle.sym_state.specs.Symbolic.{Symbolic, IsFormed}
 use Rattle.sym_state.specs.Values.{GivesBit, GivesByte, GivesTerm, GivesValue, IsByte, IsWide}
 use Rattle.sym_state.specs.declared.value.Bit.{Bit}
@@ -37,6 +38,27 @@ formed-grown s g f grown = record {
   each_input = f.each_input ∙ sym grown.inputs;
   sample_bytes = f.sample_bytes;
 }
+
+-- and where bytes were put to memory too
+pub formed-put : (s : Symbolic) (g : Graph) (m : SymbolicMemory) → IsFormed s → Continues s.terms g → HasBytes g m
+    → IsFormed (record s { memory = m; terms = g })
+formed-put s g m f grown has =
+    let kept = formed-grown s g f grown in
+    record {
+      all_registers = kept.all_registers;
+      wide = kept.wide;
+      zero = kept.zero;
+      memory = has;
+      bits = kept.bits;
+      bytes = kept.bytes;
+      in_memory = kept.in_memory;
+      choices = kept.choices;
+      path = kept.path;
+      few_steps = kept.few_steps;
+      places = kept.places;
+      each_input = kept.each_input;
+      sample_bytes = kept.sample_bytes;
+    }
 
 pub grows : (s : Symbolic) (g : Graph) → IsFormed s → Continues s.terms g → IsGrown s (with_terms s g)
 grows s g f grown = record { before = f; same = refl; continues = grown; formed = formed-grown s g f grown }

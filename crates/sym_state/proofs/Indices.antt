@@ -150,6 +150,7 @@ way_by_index g width page term i dag there is index =
     record {
       is = ap (λ k. record { term = tree_of g i.term; first = 0; count = k; scale = i.scale; start = i.start }) count
           ∙ ap (λ o. way_by o width page (tree_of g term)) is;
+      some = index.some;
       within = let same = index.count in omega (arith, same);
       few = omega (arith, few, count);
       short = omega (arith, few, count);

@@ -9,6 +9,9 @@ pub mod Grown
 pub mod Opening
 pub mod Choosing
 pub mod Leading
+pub mod Coming
+pub mod Scattered
+pub mod StoredOn
 pub mod Taking
 pub mod Indices
 pub mod IndexNodes

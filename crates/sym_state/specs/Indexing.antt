@@ -6,6 +6,7 @@ use Rattle.bv_dag.specs.declared.nodes.BinaryOp.{BinaryOp}
 use Rattle.bv_dag.specs.declared.nodes.BinaryOp.TheVariants.{Add, Sub}
 use Rattle.term_trees.specs.Trees.{Tree, Constant, Two, Widened, Joined, tree_of, tree_width}
 use Rattle.sym_state.specs.declared.indexing.Index as code
+use Rattle.sym_state.specs.declared.indexing.TheConstants.{MOST_BITS}
 
 pub record Index : Type 0 where
   pub term : Tree
@@ -20,11 +21,10 @@ base_of Add bits n = Some n
 base_of Sub bits n = Some (2 ^ bits - n)
 base_of op bits n = None
 
--- an index has 10 bits at most, those below it included: a byte that is the place of a word has as
--- many. And no sum wraps.
+-- an index has few bits, those below it included, and no sum wraps
 abbrev pub is_index : (scale bits width base : ℕ) → Bool
 is_index scale bits width base =
-    nat_le (scale + width) 10 && (nat_le (scale + bits) 32 && nat_le (base + 2 ^ width) (2 ^ bits))
+    nat_le (scale + width) MOST_BITS && (nat_le (scale + bits) 32 && nat_le (base + 2 ^ width) (2 ^ bits))
 
 abbrev pub index_at : (scale bits : ℕ) → Tree → Option ℕ → Option Index
 index_at scale bits t None = None
@@ -61,3 +61,4 @@ as_index terms i = record { term = tree_of terms i.term; scale = i.scale; start 
 pub record IsIndex (terms : Graph) (i : code.Index) : Type 0 where
   pub there : i.term < length terms.nodes
   pub count : i.count ≡ width_of terms i.term
+  pub some : 0 < i.count

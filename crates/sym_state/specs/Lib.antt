@@ -9,6 +9,8 @@ pub mod Expressions
 pub mod Indexing
 pub mod Loading
 pub mod Selecting
+pub mod Storing
+pub mod Scattering
 pub mod Unfolded
 pub mod Unfolding
 pub mod Codes

@@ -136,6 +136,7 @@ as_way terms way = record {
 
 pub record IsWay (terms : Graph) (width : LoadWidth) (page term : ℕ) (way : code.Way) : Type 0 where
   pub is : as_way terms way ≡ way_by (index_of (tree_of terms term)) width page (tree_of terms term)
+  pub some : 0 < way.count
   pub within : way.first + way.count ≤ width_of terms way.term
   pub few : way.first + way.count ≤ 32
   pub short : way.scale + way.count ≤ 31

@@ -1,7 +1,7 @@
 -- What a step of the machine makes of a symbolic run, where it decides so: each instruction makes its
 -- terms in one way. The cases are the machine's. A step that traps makes nothing but what its path
 -- notes before the trap.
-use Rattle.std.specs.Prelude.{ℕ, zero, suc, ◌+◌, ◌%◌, ◌==◌, ◌&&◌, Bool, true, false, min, List, [], ◌∷◌, ◌++◌, map, if◌then◌else◌, is_some, Option, Some, None}
+use Rattle.std.specs.Prelude.{ℕ, zero, suc, ◌+◌, ◌%◌, ◌==◌, Bool, true, false, min, List, [], ◌∷◌, ◌++◌, map, if◌then◌else◌, is_some, Option, Some, None}
 use Rattle.std.specs.List.{list_all}
 use Rattle.elf_load.specs.Images.{Image}
 use Rattle.elf_load.specs.declared.region.Region.{Region}
@@ -19,14 +19,14 @@ use Rattle.rv_decode.specs.declared.ops.RegisterOp.TheVariants.{Add, Slt, Sltu, 
 use Rattle.rv_decode.specs.declared.ops.ShiftOp.{ShiftOp}
 use Rattle.rv_decode.specs.declared.ops.ShiftOp.TheVariants.{Slli, Srli, Srai}
 use Rattle.rv_decode.specs.declared.ops.StoreWidth.{StoreWidth}
-use Rattle.rv_decode.specs.declared.ops.StoreWidth.TheVariants.{Sb, Sh, Sw}
 use Rattle.rv_spec.specs.Arithmetic.{sum32}
-use Rattle.fork_spec.specs.Decisions.{Decision, Side, Number as Needs, step_decisions}
-use Rattle.rv_spec.specs.Machine.{addresses, is_store_aligned}
-use Rattle.rv_spec.specs.Memory.{can_write, is_mapped}
+use Rattle.fork_spec.specs.Decisions.{Decision, Side, Number as Needs, as_load, step_decisions}
+use Rattle.rv_spec.specs.Machine.{addresses}
+use Rattle.rv_spec.specs.Memory.{has_w, is_mapped}
 use Rattle.rv_spec.specs.Runs.{run}
-use Rattle.sym_state.specs.Expressions.{Expression, Number, register_byte, combined_of}
+use Rattle.sym_state.specs.Expressions.{Expression, Number, combined_of}
 use Rattle.sym_state.specs.Loading.{loaded_on}
+use Rattle.sym_state.specs.Storing.{stored_on, with_expressions}
 use Rattle.sym_state.specs.Unfolded.{Unfolded, expression_at, first_unfolded, set_expression}
 
 -- at the next instruction, with these registers
@@ -42,25 +42,14 @@ abbrev pub load : Unfolded → LoadWidth → (rd page : ℕ) → (address : Expr
 load u width rd page address =
     if is_some (u.flags page) then to_register u rd (loaded_on width u.byte page address) else u
 
--- the bytes that are stored, low byte first
-abbrev pub stored : StoreWidth → Expression → List Expression
-stored Sb e = register_byte 0 e ∷ []
-stored Sh e = register_byte 0 e ∷ register_byte 1 e ∷ []
-stored Sw e = register_byte 0 e ∷ register_byte 1 e ∷ register_byte 2 e ∷ register_byte 3 e ∷ []
-
--- memory with these bytes from an address on
-abbrev pub with_expressions : (ℕ → Expression) → ℕ → List Expression → ℕ → Expression
-with_expressions byte address [] = byte
-with_expressions byte address (e ∷ es) =
-    with_expressions (λ at. if at == address then e else byte at) (address + 1) es
-
 abbrev pub with_put : Unfolded → ℕ → List Expression → Unfolded
 with_put u address es = record u { byte = with_expressions u.byte address es }
 
-abbrev pub store : Unfolded → StoreWidth → (address : ℕ) → Expression → Unfolded
-store u width address e =
-    if is_store_aligned width address && can_write u.flags address
-    then onward (with_put u address (stored width e)) u.registers else u
+-- to an address on this page
+abbrev pub store : Unfolded → StoreWidth → (page : ℕ) → (address value : Expression) → Unfolded
+store u width page address e =
+    if has_w (u.flags page)
+    then onward (record u { byte = stored_on width u.byte page address e }) u.registers else u
 
 abbrev pub noted : Unfolded → PathStep → Unfolded
 noted u step = record u { path = u.path ++ step ∷ [] }
@@ -117,7 +106,7 @@ abbrev pub with_second : Unfolded → List Decision → (ℕ → Unfolded) → U
 with_second u (first ∷ decisions) makes = with_number u decisions makes
 with_second u [] makes = u
 
--- what is made with the page that a load decides
+-- what is made with the page that a load or a store decides
 abbrev pub with_page : LoadWidth → Unfolded → List Decision → (ℕ → Unfolded) → Unfolded
 with_page Lb u decisions makes = with_number u decisions makes
 with_page Lh u decisions makes = with_second u decisions makes
@@ -130,6 +119,11 @@ abbrev pub load_by : Unfolded → LoadWidth → (rd : ℕ) → (address : Expres
     → Unfolded
 load_by u width rd address decisions =
     with_page width u decisions (λ page. load u width rd page address)
+
+-- a store, with what it decides
+abbrev pub store_by : Unfolded → StoreWidth → (address value : Expression) → List Decision → Unfolded
+store_by u width address e decisions =
+    with_page (as_load width) u decisions (λ page. store u width page address e)
 
 abbrev pub with_side : Unfolded → List Decision → (Bool → Unfolded) → Unfolded
 with_side u (Side side ∷ decisions) makes = makes side
@@ -147,7 +141,8 @@ execute_of u (Branch test rs1 rs2 offset) decisions =
 execute_of u (Load width rd rs1 offset) decisions =
     load_by u width rd (combined_of Add (expression_at u.registers rs1) (Number offset)) decisions
 execute_of u (Store width rs1 rs2 offset) decisions =
-    with_number u decisions (λ address. store u width address (expression_at u.registers rs2))
+    store_by u width (combined_of Add (expression_at u.registers rs1) (Number offset))
+    (expression_at u.registers rs2) decisions
 execute_of u (Immediate op rd rs1 immediate) decisions =
     to_register u rd (combined_of (of_immediate op) (expression_at u.registers rs1)
     (Number immediate))

@@ -8,6 +8,7 @@
 //! - `values`: the same, of a run's values
 //! - `bytes`: bytes of memory as values, and values as bytes
 //! - `indexing`, `ways`, `selecting`, `loading`: what is loaded from an address that is a term
+//! - `scattering`, `storing`: what is stored to one
 //! - `code`: what stands where an instruction is fetched
 //! - `lists`: what copies share, copied out
 //! - `first`: the run of all assignments
@@ -28,8 +29,10 @@ mod loading;
 mod moves;
 mod operations;
 mod program;
+mod scattering;
 mod selecting;
 mod state;
+mod storing;
 mod value;
 mod values;
 mod ways;
@@ -38,5 +41,7 @@ pub use code::Code;
 pub use decided::Decided;
 pub use lists::listed;
 pub use program::Program;
+pub use selecting::bytes_of;
 pub use state::State;
+pub use storing::as_load;
 pub use value::{Bit, Value};

@@ -43,6 +43,19 @@ pub(crate) fn zero_bits(width: LoadWidth) -> u32
     }
 }
 
+/// How many bytes are loaded.
+pub fn bytes_of(width: LoadWidth) -> u32
+    ensures value { result ≡ loading.bytes width }
+    ensures some { 0 < result }
+    ensures few { result ≤ 4 }
+{
+    match width {
+        LoadWidth::Lb | LoadWidth::Lbu => 1,
+        LoadWidth::Lh | LoadWidth::Lhu => 2,
+        LoadWidth::Lw => 4,
+    }
+}
+
 /// The byte at an address, 0 where no page is mapped.
 pub(crate) fn byte_in(memory: &Pages, address: u32) -> Byte
     ensures { result ≡ memory_byte memory.now address }

@@ -8,6 +8,7 @@ ghost use Rattle.sym_state.specs.Values.{IsByte, IsWide};
 
 use crate::decided::Decided;
 use crate::known::Known;
+use crate::selecting::byte_in;
 use crate::value::Value;
 use byte_list::Bytes;
 use cow_pages::{Byte, Pages};
@@ -176,10 +177,7 @@ impl State {
         ensures value { result ≡ memory_byte self.now.memory address }
         ensures is_byte { IsByte self.now.terms result }
     {
-        match self.memory.page(address / PAGE) {
-            Some(page) => page.byte((address % PAGE) as u8),
-            None => Byte::Number(0),
-        }
+        byte_in(&self.memory, address)
     }
 
     /// The four bytes from an address on that is a multiple of 4, 0 where no page is mapped.

@@ -5,8 +5,9 @@ use Rattle.term_trees.specs.Trees.{tree_of}
 use Rattle.sym_state.specs.Expressions.{Number, Unknown, value_expression}
 use Rattle.sym_state.specs.Values.{worth_of}
 use Rattle.sym_machine.specs.Loading.{CarriesLoad}
-use Rattle.sym_machine.proofs.Loads.{address_is, carries_if, carries_load, decides_by_term, of_result, stops_made, sum_expressed}
+use Rattle.sym_machine.proofs.Loads.{carries_if, carries_load}
 use Rattle.sym_machine.proofs.Standing.{ready-grown}
+use Rattle.sym_machine.proofs.Transfers.{address_is, decides_by_term, of_result, stops_made, sum_expressed}
 use Rattle.sym_machine.proofs.loading.load.Goals as goal
 
 pub load_by-requires-clause-ready : goal.load_by-requires-clause-ready
@@ -15,7 +16,7 @@ load_by-requires-clause-ready c = ready-grown _ _ c.in_ok-sum.ensures.ok.grown c
 pub load_by-requires-clause-decides : goal.load_by-requires-clause-decides
 load_by-requires-clause-decides c =
     decides_by_term c.args.state.now c.combined.new.self c.args.rs1 c.args.offset c.value-base.result c.in_ok-sum.sum
-    c.value-base.ensures.value c.in_ok-sum.ensures.ok c.args.width c.args.rd c.in-Term.term c.in-Term.is c.requires.decides
+    c.value-base.ensures.value c.in_ok-sum.ensures.ok c.args.width c.in-Term.term c.requires.decides.word c.in-Term.is c.requires.decides.is
 
 pub returns-in_ok-load_at-in-Number-clause-ok : goal.returns-in_ok-load_at-in-Number-clause-ok
 returns-in_ok-load_at-in-Number-clause-ok c =

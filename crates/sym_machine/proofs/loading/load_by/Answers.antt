@@ -5,8 +5,9 @@ use Rattle.term_trees.specs.Trees.{tree_of}
 use Rattle.sym_state.specs.Expressions.{Unknown}
 use Rattle.sym_state.proofs.Expressing.{tree-kept}
 use Rattle.sym_state.proofs.Growing.{IsUnknown-grown}
-use Rattle.sym_machine.proofs.Loads.{DecidesLoad-grown, address-made, aligned_is, carries-made, carries_misaligned, page-grown}
+use Rattle.sym_machine.proofs.Loads.{DecidesLoad-grown, carries-made, carries_misaligned}
 use Rattle.sym_machine.proofs.Standing.{IsGrown-trans, ready-grown}
+use Rattle.sym_machine.proofs.Transfers.{address-made, aligned_is, page-grown}
 use Rattle.sym_machine.proofs.loading.load_by.Goals as goal
 
 pub returns-then-branch-clause-ok : goal.returns-then-branch-clause-ok
