@@ -15,12 +15,11 @@ use Rattle.term_trees.specs.Growth.{Continues}
 use Rattle.term_trees.specs.Trees.{Tree, tree_of, node_tree, tree_value, tree_width, IsTerm}
 use Rattle.term_trees.proofs.Terms.{is_term}
 use Rattle.term_trees.proofs.TreeLaws.{tree_by_cases, tree_of-new, value-tree_of, width-tree_of}
-use Rattle.term_simplify.specs.Builds.{BuildsAs, BuildsNode}
+use Rattle.term_simplify.specs.Builds.{BuildsAs}
 use Rattle.term_simplify.specs.Lifting.{unlifted}
-use Rattle.term_simplify.specs.Moves.{move_tree}
+use Rattle.term_simplify.specs.Moves.{move_tree, unvalued}
 use Rattle.term_simplify.specs.Plans.{Follows, HasRoom, Makes, recipe_tree}
 use Rattle.term_simplify.specs.Plain.{further, plain}
-use Rattle.term_simplify.specs.Simplified.{simplified}
 use Rattle.term_simplify.specs.Steps.{Stands}
 use Rattle.term_simplify.specs.declared.moves.Move.{Move}
 use Rattle.term_simplify.specs.declared.plan.Plan.TheVariants.{Term}
@@ -138,12 +137,12 @@ named g more r n s t e built = subst (λ (k : Tree). IfOk r (BuildsAs k g more n
 
 -- an answer of moved bits, which were found in an equal graph
 pub moved_here : {E : Type 0} (h g more : Graph) (r : Result ℕ E) (m : Move) (n : Node) → h ≡ g →
-    simplified (tree_of h) n ≡ move_tree h m → IsWorth (node_tree (tree_of h) n) (move_tree h m) →
+    unvalued (tree_of h) n ≡ move_tree h m → IsWorth (node_tree (tree_of h) n) (move_tree h m) →
     IfOk r (λ id. id < length more.nodes) → IfOk r (λ id. tree_of more id ≡ move_tree g m) →
-    OnOk r (Continues g more) → IfOk r (BuildsNode g more n)
+    OnOk r (Continues g more) → IfOk r (BuildsAs (unvalued (tree_of g) n) g more n)
 moved_here h g more r m n e is worth there tree ok =
-    let here : simplified (tree_of g) n ≡ move_tree g m = subst (λ (k : Graph). simplified (tree_of k) n ≡ move_tree k m) e is in
-    named g more r n (move_tree g m) (simplified (tree_of g) n) (sym here) (built_as g more r n (move_tree g m)
+    let here : unvalued (tree_of g) n ≡ move_tree g m = subst (λ (k : Graph). unvalued (tree_of k) n ≡ move_tree k m) e is in
+    named g more r n (move_tree g m) (unvalued (tree_of g) n) (sym here) (built_as g more r n (move_tree g m)
     (subst (λ (k : Graph). IsWorth (node_tree (tree_of k) n) (move_tree k m)) e worth) there tree ok)
 
 -- ---- the bits above what a recipe's plan makes

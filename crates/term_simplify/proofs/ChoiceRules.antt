@@ -6,7 +6,7 @@ use Rattle.bv_dag.specs.BitVectors.{BitVector, bit, ite}
 use Rattle.term_trees.specs.Trees.{Tree, Choice, tree_width, tree_value, IsTerm, IsOfWidth}
 use Rattle.term_trees.proofs.Ranges.{in_range}
 use Rattle.term_simplify.specs.Plain.{tree_number, complement_of, bit_choice, choice_between, choice_on, plain_choice}
-use Rattle.term_simplify.proofs.Words.{by_parts, number_value, value_by_test, is_number, is_apart}
+use Rattle.term_simplify.proofs.Words.{by_number, by_parts, number_value, value_by_test, is_number, is_apart}
 use Rattle.term_simplify.proofs.TestRules.{value-complement_of, one_bit, bit_of_one, complement_of_bit}
 
 -- what three tests say that hold together
@@ -14,6 +14,11 @@ all_three : (a b c : Bool) → (a && b && c) ≡ true → (a ≡ true) × (b ≡
 all_three true true c h = (refl, refl, h)
 all_three true false c h = cc
 all_three false b c h = cc
+
+-- of two equal numbers
+alike : (b : Bool) (x y : BitVector) → x.number ≡ y.number → x ≡ record { width = x.width; number = cond b x.number y.number }
+alike true x y e = refl
+alike false x y e = by_number x y.number e
 
 as_bit : (n : ℕ) (x y : BitVector) → x.width ≡ 1 → x.number ≡ 1 → y.number ≡ 0 →
     bit (n == 1) ≡ record { width = x.width; number = cond (n == 1) x.number y.number }
@@ -48,7 +53,9 @@ module _ (inputs : ℕ) (input : List ℕ) (bytes : All (λ b. b < 256) input) (
   value-bit_choice : tree_value input (bit_choice (tree_value input s) (tree_value input t) c s t) ≡ tree_value input (Choice c s t)
   unfolding ite
   value-bit_choice =
-      value_by_test input _ c _ _
+      value_by_test input _ s _ _
+      (λ h. alike ((tree_value input c).number == 1) (tree_value input s) (tree_value input t) (is_number _ _ h))
+      (λ _. value_by_test input _ c _ _
       (λ h. let each = all_three _ _ _ h in
       bit_of_one (tree_value input c) condition_in.width condition_small
       ∙ as_bit (tree_value input c).number (tree_value input s) (tree_value input t)
@@ -58,7 +65,7 @@ module _ (inputs : ℕ) (input : List ℕ) (bytes : All (λ b. b < 256) input) (
       value-complement_of inputs input c bytes term.0 ∙ complement_of_bit (tree_value input c) condition_in.width condition_small
       ∙ as_complement (tree_value input c).number (tree_value input s) (tree_value input t)
       condition_small (is_number _ _ each.0) (is_number _ _ each.1) (is_number _ _ each.2))
-      (λ _. refl))
+      (λ _. refl)))
 
   value-choice_between : (x y : Option BitVector) → tree_number s ≡ x → tree_number t ≡ y →
       tree_value input (choice_between x y c s t) ≡ tree_value input (Choice c s t)

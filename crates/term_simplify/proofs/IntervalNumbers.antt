@@ -185,7 +185,7 @@ sum_below w x n y p q r other =
     ])
 
 -- ---- two widened numbers, one below the other
-same_below : (a b c d : ℕ) → (a < b → c < d) → (c < d → a < b) → nat_lt a b ≡ nat_lt c d
+pub same_below : (a b c d : ℕ) → (a < b → c < d) → (c < d → a < b) → nat_lt a b ≡ nat_lt c d
 same_below a b c d f g =
     elim (lt_tells a b) [
       | inl e ↦ e.0 ∙ sym (tests_below c d (f e.1))
@@ -196,7 +196,7 @@ same_below a b c d f g =
     ]
 
 module _ (w by a b : ℕ) (p : a < 2 ^ w) (q : b < 2 ^ w) where
-  widened_below : (signed : Bool) → nat_lt a b ≡
+  pub widened_below : (signed : Bool) → nat_lt a b ≡
       nat_lt (extend signed by (record { width = w; number = a })).number (extend signed by (record { width = w; number = b })).number
   unfolding sign_extend zero_extend
   widened_below false = refl

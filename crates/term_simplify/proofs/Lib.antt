@@ -52,8 +52,14 @@ pub mod IntervalRules
 pub mod Intervening
 pub mod Telling
 pub mod OffsetNumbers
+pub mod WideSums
 pub mod OffsetRules
+pub mod PairRules
+pub mod WideReading
 pub mod OffsetReading
+pub mod PairReading
+pub mod BalanceRules
+pub mod BalanceReading
 pub mod RunNumbers
 pub mod RunSteps
 pub mod DivisionNumbers
@@ -61,3 +67,9 @@ pub mod DivisionSteps
 pub mod ZeroNumbers
 pub mod ZeroRules
 pub mod ZeroReading
+pub mod EndsReading
+pub mod EndsRules
+pub mod EndsTests
+pub mod EndsBuilding
+pub mod AboveRules
+pub mod ValueRules

@@ -1,5 +1,5 @@
 -- Bits taken through complements and choices are worth those bits of the term's value.
-use Rattle.std.proofs.Common.{◌≡◌, ◌∙◌, ℕ, suc, ◌+◌, ◌-◌, ◌/◌, ◌%◌, ◌^◌, ◌<◌, ◌≤◌, Bool, true, false, cond, bit_and, bit_xor, List, [], Some, None, refl, ap, sym, arith}
+use Rattle.std.proofs.Common.{◌≡◌, ◌∙◌, ℕ, suc, ◌+◌, ◌-◌, ◌/◌, ◌%◌, ◌^◌, ◌<◌, ◌≤◌, Bool, true, false, cond, bit_and, bit_xor, List, [], Some, None, refl, ap, sym, subst, arith}
 use Rattle.std.specs.Prelude.{Option, ◌||◌, ◌&&◌, ◌==◌, is_some}
 use Rattle.std.specs.List.{All}
 use Rattle.std.specs.Int.Bits.{xor_add_and}
@@ -10,9 +10,11 @@ use Rattle.std.proofs.lemmas.Nat.Bits.{ones_shr}
 use Rattle.bv_dag.specs.BitVectors.{BitVector, bvnot, extract, ite}
 use Rattle.term_trees.specs.Trees.{Tree, Constant, Complement, Choice, Part, tree_value, tree_width, IsTerm, IsOfWidth}
 use Rattle.term_trees.proofs.Ranges.{in_range}
-use Rattle.term_simplify.specs.Plain.{choice_between, choice_on, complement_of, inner_part, lifted, part_of, plain_choice, tree_number}
+use Rattle.term_simplify.specs.Plain.{choice_between, choice_on, complement_of, inner_part, lifted, number_or, number_tree, part_of, plain_choice, tree_number}
+use Rattle.term_simplify.specs.Ends.{ends_of, part_told}
 use Rattle.term_simplify.specs.declared.lifting.TheConstants.{LEVELS}
 use Rattle.term_simplify.proofs.ChoiceRules.{value-plain_choice}
+use Rattle.term_simplify.proofs.EndsRules.{lies_of, part_tells}
 use Rattle.term_simplify.proofs.PartRules.{value-inner_part}
 use Rattle.term_simplify.proofs.PartTerms.{as_number, chosen, term-inner_part, width-inner_part}
 use Rattle.term_simplify.proofs.TestRules.{value-complement_of}
@@ -78,9 +80,11 @@ term-complement_of inputs t term = term
 module _ (inputs : ℕ) (c s t : Tree) (term : IsTerm inputs (Choice c s t)) where
   term-choice_between : (x y : Option BitVector) → IsTerm inputs (choice_between x y c s t)
   term-choice_between (Some x) (Some y) =
-      chosen inputs (x.width == 1 && x.number == 1 && y.number == 0) c (cond (x.width == 1 && x.number == 0 && y.number == 1) (complement_of c) (Choice c s t))
+      let second = cond (x.width == 1 && x.number == 0 && y.number == 1) (complement_of c) (Choice c s t) in
+      chosen inputs (x.number == y.number) s (cond (x.width == 1 && x.number == 1 && y.number == 0) c second) (λ _. term.1)
+      (λ _. chosen inputs (x.width == 1 && x.number == 1 && y.number == 0) c second
       (λ _. term.0) (λ _. chosen inputs (x.width == 1 && x.number == 0 && y.number == 1) (complement_of c) (Choice c s t)
-      (λ _. term-complement_of inputs c term.0) (λ _. term))
+      (λ _. term-complement_of inputs c term.0) (λ _. term)))
   term-choice_between (Some x) None = term
   term-choice_between None y = term
 
@@ -161,16 +165,41 @@ width-lifted inputs levels t high low term order within =
     ∙ width-inner_part inputs t high low term order within
 
 module _ (inputs : ℕ) (t : Tree) (high low : ℕ) (term : IsTerm inputs t) (order : low ≤ high) (within : high < tree_width t) where
+  -- bits that are a number
+  told : (x : BitVector) → part_told high low (ends_of t) ≡ Some x → IsSame inputs (inner_part high low t) (number_tree x)
+  told x is =
+      let worth = λ (input : List ℕ) (bytes : All (λ b. b < 256) input).
+      part_tells (ends_of t) (tree_value input t) high low x (lies_of inputs input bytes t term) is in
+      record {
+        term = as_number (high - low + 1) x (subst (IsOfWidth (high - low + 1)) (sym (worth [] no_bytes)) (in_range inputs [] no_bytes (Part high low t) (term, order, within)));
+        value = λ input bytes. worth input bytes ∙ sym (value-inner_part inputs input bytes t high low term order within);
+      }
+
+  told_or_not : (o : Option BitVector) → part_told high low (ends_of t) ≡ o →
+      IsSame inputs (inner_part high low t) (number_or o (lifted LEVELS (inner_part high low t)))
+  told_or_not (Some x) is = told x is
+  told_or_not None is = lifted_same inputs LEVELS (inner_part high low t) (term-inner_part inputs t high low term order within)
+
   all_levels : IsSame inputs (inner_part high low t) (part_of high low t)
   unfolding part_of
-  all_levels = lifted_same inputs LEVELS (inner_part high low t) (term-inner_part inputs t high low term order within)
+  all_levels = told_or_not (part_told high low (ends_of t)) refl
 
   pub term-part_of : IsTerm inputs (part_of high low t)
   term-part_of = all_levels.term
 
   pub width-part_of : tree_width (part_of high low t) ≡ high - low + 1
-  unfolding part_of
-  width-part_of = width-lifted inputs LEVELS t high low term order within
+  width-part_of =
+      same_width inputs (inner_part high low t) (part_of high low t) (term-inner_part inputs t high low term order within) all_levels
+      ∙ width-inner_part inputs t high low term order within
+
+-- ---- as the code finds them
+pub part_is_number : (high low : ℕ) (t : Tree) (x : BitVector) → part_told high low (ends_of t) ≡ Some x → number_tree x ≡ part_of high low t
+unfolding part_of
+part_is_number high low t x is = sym (ap (λ o. number_or o (lifted LEVELS (inner_part high low t))) is)
+
+pub part_is_lifted : (high low : ℕ) (t : Tree) → part_told high low (ends_of t) ≡ None → lifted LEVELS (inner_part high low t) ≡ part_of high low t
+unfolding part_of
+part_is_lifted high low t is = sym (ap (λ o. number_or o (lifted LEVELS (inner_part high low t))) is)
 
 pub value-part_of : (inputs : ℕ) (input : List ℕ) → All (λ b. b < 256) input → (t : Tree) (high low : ℕ) → IsTerm inputs t → low ≤ high →
     high < tree_width t → tree_value input (part_of high low t) ≡ extract high low (tree_value input t)

@@ -14,7 +14,7 @@ use Rattle.term_trees.proofs.Ranges.{in_range}
 use Rattle.term_trees.proofs.TreeLaws.{value-tree_of, width-tree_of}
 use Rattle.term_simplify.specs.Narrowing.{binary_narrowing, choice_narrowing, is_zero, negative_narrowing, node_narrowing, pair_narrowing, reach_of}
 use Rattle.term_simplify.specs.Plain.{tree_number}
-use Rattle.term_simplify.specs.Simplified.{binary_at, choice_at, choice_of, comparison_at, comparison_by_low, compared, negative_at, negative_of}
+use Rattle.term_simplify.specs.Simplified.{binary_at, choice_at, choice_of, comparison_at, comparison_by_low, negative_at, negative_of, undecided}
 use Rattle.term_simplify.specs.Steps.{low_word, widened_word}
 use Rattle.term_simplify.specs.Times.{own}
 use Rattle.term_simplify.specs.Told.{unsummed}
@@ -111,7 +111,7 @@ pub negative_is : (t : Tree) (n : Narrow) → negative_narrowing t ≡ Some n �
 unfolding negative_of
 negative_is t n is = ap (λ k. negative_at k t) (sym is)
 
-pub comparison_is : (op : Comparison) (s t : Tree) (n : Narrow) → pair_narrowing s t ≡ Some n → comparison_at (Some n) op s t ≡ compared op s t
+pub comparison_is : (op : Comparison) (s t : Tree) (n : Narrow) → pair_narrowing s t ≡ Some n → comparison_at (Some n) op s t ≡ undecided op s t
 comparison_is op s t n is = ap (λ k. comparison_at k op s t) (sym is)
 
 pub choice_is : (c s t : Tree) (n : Narrow) → choice_narrowing c s t ≡ Some n → choice_at (Some n) c s t ≡ choice_of c s t

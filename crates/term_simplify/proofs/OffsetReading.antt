@@ -1,9 +1,10 @@
 -- Sums of a graph, as the code finds and makes them.
-use Rattle.std.proofs.Common.{◌≡◌, ◌∙◌, ℕ, ◌-◌, ◌^◌, ◌<◌, ◌≤◌, Bool, true, false, List, [], length, Some, None, refl, ap, sym, subst}
-use Rattle.std.specs.Prelude.{Option}
+use Rattle.std.proofs.Common.{◌≡◌, ◌∙◌, ℕ, ◌+◌, ◌-◌, ◌^◌, ◌<◌, ◌≤◌, Bool, true, false, List, [], length, Some, None, refl, ap, sym, subst}
+use Rattle.std.specs.Prelude.{Option, Result, Ok, Err}
+use Rattle.std.specs.Result.{IfOk}
 use Rattle.std.specs.List.{All, slice_get}
 use Rattle.std.proofs.lemmas.List.Elements.{All-nil}
-use Rattle.bv_dag.specs.BitVectors.{BitVector, bvadd, bvneg, bvsub}
+use Rattle.bv_dag.specs.BitVectors.{BitVector, bvneg}
 use Rattle.bv_dag.specs.Graphs.{Graph, IsDag, val, width_of}
 use Rattle.bv_dag.specs.Nodes.{binary}
 use Rattle.bv_dag.specs.declared.nodes.BinaryOp.{BinaryOp}
@@ -12,14 +13,15 @@ use Rattle.bv_dag.specs.declared.nodes.Node.TheVariants.{Num, Input, Not, Neg, B
 use Rattle.term_trees.specs.Trees.{Tree, Constant, Negated, Two, IsOfWidth, IsTerm, tree_of, tree_value, tree_width, node_tree}
 use Rattle.term_trees.proofs.Ranges.{in_range}
 use Rattle.term_trees.proofs.TreeLaws.{tree_by_cases, value-tree_of, width-tree_of}
-use Rattle.term_simplify.specs.Offsets.{IsSummand, Offset, Sum, offset_at, offset_of, offset_sum, offset_word, operation_at, sum_at, sum_from, sum_of, turned, under_negative}
-use Rattle.term_simplify.specs.Plain.{tree_number}
+use Rattle.term_simplify.specs.Offsets.{IsSummand, Offset, Sum, offset_of, offset_sum, offset_word, operation_at, sum_at, sum_from, sum_of, turned, under_negative, wide_offset_at}
+use Rattle.term_simplify.specs.Plain.{further, tree_number}
 use Rattle.term_simplify.specs.Simplified.{narrowed, summed}
 use Rattle.term_simplify.specs.Steps.{Stands}
+use Rattle.term_simplify.specs.WideSums.{IsWideSummand, wide_term}
 use Rattle.term_simplify.specs.declared.offsets.Operation.{Operation}
-use Rattle.term_simplify.specs.declared.offsets.Summand.{Summand}
+use Rattle.term_simplify.specs.declared.wide_sums.WideSummand.{WideSummand}
 use Rattle.term_simplify.proofs.OffsetRules.{value-sum_of, width-sum_of}
-use Rattle.term_simplify.proofs.PartTerms.{as_number}
+use Rattle.term_simplify.proofs.PartTerms.{as_number, width-further}
 use Rattle.term_simplify.proofs.Reading.{width_at}
 use Rattle.term_simplify.proofs.Stepping.{Stands-worth, at_tree, at_width}
 
@@ -116,14 +118,14 @@ of_words w op x y p q =
 pub of_negative : (w : ℕ) (x : BitVector) → IsOfWidth w x → IsOfWidth w (bvneg x)
 of_negative w x p = rw (← p.width) (in_range 0 [] no_bytes (Negated (Constant x.width x.number)) (as_number w x p))
 
-pub numbered : (g : Graph) (w : ℕ) (taken : Bool) (o : Summand) (n m : BitVector) → IsSummand g w o → n ≡ m → IsOfWidth w m →
-    IsSummand g w (record { taken = taken; term = o.term; number = n })
-numbered g w taken o n m is e number = record { there = is.there; wide = is.wide; number = rw e number }
+pub numbered : (g : Graph) (w : ℕ) (taken : Bool) (o : WideSummand) (n m : BitVector) → IsWideSummand g w o → n ≡ m → IsOfWidth w m →
+    IsWideSummand g w (record { taken = taken; by = o.by; signed = o.signed; term = o.term; number = n })
+numbered g w taken o n m is e number = record { there = is.there; some = is.some; wide = is.wide; number = rw e number }
 
 -- ---- what stands is what an operation is made as
-pub of_offset : (g : Graph) (op : BinaryOp) (a b : ℕ) (o : Summand) →
-    Some (offset_at g o) ≡ offset_sum op (tree_number (tree_of g a)) (tree_number (tree_of g b)) (tree_of g a) (tree_of g b) →
-    sum_at o.taken (tree_of g o.term) o.number ≡ sum_of op (tree_of g a) (tree_of g b)
+pub of_offset : (g : Graph) (op : BinaryOp) (a b : ℕ) (o : WideSummand) →
+    Some (wide_offset_at g o) ≡ offset_sum op (tree_number (tree_of g a)) (tree_number (tree_of g b)) (tree_of g a) (tree_of g b) →
+    sum_at o.taken (wide_term g o) o.number ≡ sum_of op (tree_of g a) (tree_of g b)
 unfolding sum_of
 of_offset g op a b o is =
     ap (λ k. sum_from k (turned op (tree_number (tree_of g a)) (under_negative (tree_of g a)) (under_negative (tree_of g b)) (tree_of g a) (tree_of g b))) is
@@ -149,27 +151,62 @@ as_summed g op a b term p is wide worth n =
     ∙ ap (λ v. binary op v (tree_value input (tree_of g b))) (value-tree_of g a input)
     ∙ ap (binary op (val g a input)) (value-tree_of g b input)) n))
 
-sum_wide : (g : Graph) (w : ℕ) (o : Summand) (taken : Bool) → IsSummand g w o → w ≡ tree_width (sum_at taken (tree_of g o.term) o.number).first
-sum_wide g w o true is = sym is.number.width
-sum_wide g w o false is = sym is.wide ∙ sym (width-tree_of g o.term)
+-- a term that is widened
+pub wide_there : (g : Graph) (w : ℕ) (o : WideSummand) → IsWideSummand g w o → tree_width (wide_term g o) ≡ w
+wide_there g w o is = width-further o.by o.signed (tree_of g o.term) ∙ ap (λ k. k + o.by) (width-tree_of g o.term) ∙ is.wide
 
-sum_worth : (g : Graph) (o : Summand) (taken : Bool) (input : List ℕ) → offset_word taken (val g o.term input) o.number
-    ≡ binary (sum_at taken (tree_of g o.term) o.number).op (tree_value input (sum_at taken (tree_of g o.term) o.number).first)
-    (tree_value input (sum_at taken (tree_of g o.term) o.number).second)
-sum_worth g o true input = ap (bvsub o.number) (sym (value-tree_of g o.term input))
-sum_worth g o false input = ap (λ v. bvadd v o.number) (sym (value-tree_of g o.term input))
+pub widened_summand : (g m : Graph) (w : ℕ) (o : WideSummand) (t : ℕ) → IsWideSummand g w o → t < length m.nodes → tree_of m t ≡ wide_term g o →
+    IsSummand m w (record { taken = o.taken; term = t; number = o.number })
+widened_summand g m w o t is there same = record {
+  there = there;
+  wide = sym (width-tree_of m t) ∙ ap tree_width same ∙ wide_there g w o is;
+  number = is.number;
+}
+
+pub wide_stands : (g m : Graph) (o : WideSummand) (t : ℕ) → tree_of m t ≡ wide_term g o → {k : Graph} {id w : ℕ} →
+    Stands k id (summed (sum_at o.taken (tree_of m t) o.number)) w (λ input. offset_word o.taken (val m t input) o.number) →
+    Stands k id (summed (sum_at o.taken (wide_term g o) o.number)) w (λ input. offset_word o.taken (tree_value input (wide_term g o)) o.number)
+wide_stands g m o t same n =
+    at_tree (ap (λ u. summed (sum_at o.taken u o.number)) same)
+    (Stands-worth (λ input bytes. ap (λ v. offset_word o.taken v o.number) (sym (value-tree_of m t input) ∙ ap (tree_value input) same)) n)
+
+-- what is made of it is worth it
+further_made : (g k : Graph) (by : ℕ) (signed : Bool) (a id : ℕ) → id < length k.nodes → tree_of k id ≡ further by signed (tree_of g a) →
+    Stands k id (further by signed (tree_of g a)) (width_of g a + by) (λ input. tree_value input (further by signed (tree_of g a)))
+further_made g k by signed a id there same = record {
+  there = there;
+  tree = same;
+  width = sym (width-tree_of k id) ∙ ap tree_width same ∙ width-further by signed (tree_of g a) ∙ ap (λ j. j + by) (width-tree_of g a);
+  value = λ input bytes. sym (value-tree_of k id input) ∙ ap (tree_value input) same;
+}
+
+pub further_stands : {E : Type 0} (g k : Graph) (by : ℕ) (signed : Bool) (a : ℕ) (r : Result ℕ E) → IfOk r (λ id. id < length k.nodes) →
+    IfOk r (λ id. tree_of k id ≡ further by signed (tree_of g a)) →
+    IfOk r (λ id. Stands k id (further by signed (tree_of g a)) (width_of g a + by) (λ input. tree_value input (further by signed (tree_of g a))))
+further_stands g k by signed a (Ok id) there same = further_made g k by signed a id there same
+further_stands g k by signed a (Err e) there same = tt
+
+sum_wide : (g : Graph) (w : ℕ) (o : WideSummand) (taken : Bool) → IsWideSummand g w o → w ≡ tree_width (sum_at taken (wide_term g o) o.number).first
+sum_wide g w o true is = sym is.number.width
+sum_wide g w o false is = sym (wide_there g w o is)
+
+sum_worth : (t : Tree) (n : BitVector) (taken : Bool) (input : List ℕ) → offset_word taken (tree_value input t) n
+    ≡ binary (sum_at taken t n).op (tree_value input (sum_at taken t n).first) (tree_value input (sum_at taken t n).second)
+sum_worth t n true input = refl
+sum_worth t n false input = refl
 
 module _ (h g : Graph) (e : h ≡ g) (op : BinaryOp) (a b : ℕ) (term : IsTerm g.inputs (Two op (tree_of g a) (tree_of g b))) where
   -- found in an equal graph
-  pub offset_stands : (o : Summand) → IsSummand h (width_of h a) o →
-      Some (offset_at h o) ≡ offset_sum op (tree_number (tree_of h a)) (tree_number (tree_of h b)) (tree_of h a) (tree_of h b) →
-      {k : Graph} {id w : ℕ} → w ≡ o.number.width → Stands k id (summed (sum_at o.taken (tree_of g o.term) o.number)) w (λ input. offset_word o.taken (val g o.term input) o.number) →
+  pub offset_stands : (o : WideSummand) → IsWideSummand h (width_of h a) o →
+      Some (wide_offset_at h o) ≡ offset_sum op (tree_number (tree_of h a)) (tree_number (tree_of h b)) (tree_of h a) (tree_of h b) →
+      {k : Graph} {id w : ℕ} → w ≡ o.number.width →
+      Stands k id (summed (sum_at o.taken (wide_term g o) o.number)) w (λ input. offset_word o.taken (tree_value input (wide_term g o)) o.number) →
       Stands k id (summed (sum_of op (tree_of g a) (tree_of g b))) (width_of g a) (λ input. binary op (val g a input) (val g b input))
   offset_stands o some is wide n =
-      let here : IsSummand g (width_of g a) o = subst (λ (f : Graph). IsSummand f (width_of f a) o) e some in
-      let found = subst (λ (f : Graph). Some (offset_at f o) ≡ offset_sum op (tree_number (tree_of f a)) (tree_number (tree_of f b)) (tree_of f a) (tree_of f b)) e is in
-      as_summed g op a b term (sum_at o.taken (tree_of g o.term) o.number) (of_offset g op a b o found)
-      (wide ∙ here.number.width ∙ sum_wide g (width_of g a) o o.taken here) (λ input bytes. sum_worth g o o.taken input) n
+      let here : IsWideSummand g (width_of g a) o = subst (λ (f : Graph). IsWideSummand f (width_of f a) o) e some in
+      let found = subst (λ (f : Graph). Some (wide_offset_at f o) ≡ offset_sum op (tree_number (tree_of f a)) (tree_number (tree_of f b)) (tree_of f a) (tree_of f b)) e is in
+      as_summed g op a b term (sum_at o.taken (wide_term g o) o.number) (of_offset g op a b o found)
+      (wide ∙ here.number.width ∙ sum_wide g (width_of g a) o o.taken here) (λ input bytes. sum_worth (wide_term g o) o.number o.taken input) n
 
   pub turned_stands : (j : Graph) → j ≡ g → (o : Operation) →
       None ≡ offset_sum op (tree_number (tree_of h a)) (tree_number (tree_of h b)) (tree_of h a) (tree_of h b) →

@@ -10,11 +10,13 @@ use Rattle.bv_dag.specs.declared.nodes.BinaryOp.{BinaryOp}
 use Rattle.bv_dag.specs.declared.nodes.BinaryOp.TheVariants.{Add, Sub, Mul, Udiv, Urem, And, Or, Xor, Shl, Lshr, Ashr}
 use Rattle.term_trees.specs.Trees.{Tree, Constant, Complement, Negated, Two, tree_width, tree_value, IsTerm, IsOfWidth}
 use Rattle.term_trees.proofs.Ranges.{in_range}
-use Rattle.term_simplify.specs.Offsets.{Offset, Sum, first_offset, offset_by, offset_of, offset_sum, offset_word, second_offset, sum_at, sum_from, sum_of, turned, two, under_negative}
+use Rattle.term_simplify.specs.Offsets.{Offset, Sum, first_offset, offset_by, offset_of, offset_sum, offset_word, second_offset, sum_at, sum_from, sum_of, turned, two, under_negative, wide_offset_of}
 use Rattle.term_simplify.specs.Plain.{tree_number}
+use Rattle.term_simplify.specs.WideSums.{operands_widened}
 use Rattle.term_simplify.proofs.OffsetNumbers.{add_comm, add_negative, complement_word, from_added, from_taken, less_word, plus_word, sub_negative}
 use Rattle.term_simplify.proofs.PartTerms.{as_number}
 use Rattle.term_simplify.proofs.Sums.{zero_less}
+use Rattle.term_simplify.proofs.WideSums.{same-operands_widened}
 use Rattle.term_simplify.proofs.Words.{number_value}
 
 module _ (inputs : ℕ) (input : List ℕ) (bytes : All (λ b. b < 256) input) where
@@ -31,10 +33,10 @@ module _ (inputs : ℕ) (input : List ℕ) (bytes : All (λ b. b < 256) input) w
   small : (t : Tree) (n : ℕ) → IsTerm inputs t → n < 2 ^ tree_width t → IsOfWidth (tree_width t) (record { width = tree_width t; number = n })
   small t n term below = record { width = refl; not_empty = (own t term).not_empty; at_most_64 = (own t term).at_most_64; in_range = below }
 
-  zero_of : (t : Tree) → IsTerm inputs t → IsOfWidth (tree_width t) (record { width = tree_width t; number = 0 })
+  pub zero_of : (t : Tree) → IsTerm inputs t → IsOfWidth (tree_width t) (record { width = tree_width t; number = 0 })
   zero_of t term = small t 0 term (pow_pos (tree_width t))
 
-  of_words : (w : ℕ) (op : BinaryOp) (x y : BitVector) → IsOfWidth w x → IsOfWidth w y → IsOfWidth w (binary op x y)
+  pub of_words : (w : ℕ) (op : BinaryOp) (x y : BitVector) → IsOfWidth w x → IsOfWidth w y → IsOfWidth w (binary op x y)
   of_words w op x y p q =
       rw (← p.width) (in_range 0 input bytes (Two op (Constant x.width x.number) (Constant y.width y.number))
       (as_number w x p, as_number w y q, p.width ∙ sym q.width))
@@ -97,8 +99,13 @@ module _ (inputs : ℕ) (input : List ℕ) (bytes : All (λ b. b < 256) input) w
   reads (Two op s t) term = reads_by op (tree_number s) (tree_number t) s t refl refl term
   reads t term = tt
 
+  pub reads_wide : (t : Tree) → IsTerm inputs t → IfSome (wide_offset_of t) (Reads (tree_width t) (tree_value input t))
+  reads_wide t term =
+      let same = same-operands_widened inputs input bytes t term in
+      rw (← same.wide, ← same.worth) (reads (operands_widened t) same.term)
+
   -- ---- with a further number
-  term_word : (w : ℕ) (v : BitVector) (o : Offset) → Reads w v o → IsOfWidth w (tree_value input o.term)
+  pub term_word : (w : ℕ) (v : BitVector) (o : Offset) → Reads w v o → IsOfWidth w (tree_value input o.term)
   term_word w v o r = rw (← r.wide) (own o.term r.term)
 
   reads_second : (op : BinaryOp) (w : ℕ) (v y : BitVector) (o : Offset) → IsOfWidth w y → Reads w v o →
@@ -125,12 +132,12 @@ module _ (inputs : ℕ) (input : List ℕ) (bytes : All (λ b. b < 256) input) w
   reads_second Lshr w v y o q r = tt
   reads_second Ashr w v y o q r = tt
 
-  from_word : (w : ℕ) (taken : Bool) (x y c : BitVector) → IsOfWidth w x → IsOfWidth w y → IsOfWidth w c →
+  pub from_word : (w : ℕ) (taken : Bool) (x y c : BitVector) → IsOfWidth w x → IsOfWidth w y → IsOfWidth w c →
       bvsub y (offset_word taken x c) ≡ offset_word (not taken) x (bvsub y c)
   from_word w false x y c p q r = from_added w x y c p q r
   from_word w true x y c p q r = from_taken w x y c p q r
 
-  offset_in : (w : ℕ) (taken : Bool) (x c : BitVector) → IsOfWidth w x → IsOfWidth w c → IsOfWidth w (offset_word taken x c)
+  pub offset_in : (w : ℕ) (taken : Bool) (x c : BitVector) → IsOfWidth w x → IsOfWidth w c → IsOfWidth w (offset_word taken x c)
   offset_in w false x c p r = of_words w Add x c p r
   offset_in w true x c p r = of_words w Sub c x r p
 
@@ -159,7 +166,7 @@ module _ (inputs : ℕ) (input : List ℕ) (bytes : All (λ b. b < 256) input) w
   reads_first Lshr w v x o q own r = tt
   reads_first Ashr w v x o q own r = tt
 
-  and_then : {A B : Type 0} (f : A → Option B) (o : Option A) (P : A → Type 0) (Q : B → Type 0) → IfSome o P → ((x : A) → P x → IfSome (f x) Q) →
+  pub and_then : {A B : Type 0} (f : A → Option B) (o : Option A) (P : A → Type 0) (Q : B → Type 0) → IfSome o P → ((x : A) → P x → IfSome (f x) Q) →
       IfSome (option_and_then f o) Q
   and_then f (Some x) P Q p g = g x p
   and_then f None P Q p g = tt
@@ -168,11 +175,11 @@ module _ (inputs : ℕ) (input : List ℕ) (bytes : All (λ b. b < 256) input) w
       IfSome (offset_sum op x y s t) (Reads (tree_width s) (tree_value input (Two op s t)))
   reads_sum op None (Some y) s t e f term =
       let q : IsOfWidth (tree_width s) y = rw (← number_value input t y f, term.2) (own t term.1) in
-      and_then (second_offset op y) (offset_of s) (Reads (tree_width s) (tree_value input s)) (Reads (tree_width s) (tree_value input (Two op s t))) (reads s term.0)
+      and_then (second_offset op y) (wide_offset_of s) (Reads (tree_width s) (tree_value input s)) (Reads (tree_width s) (tree_value input (Two op s t))) (reads_wide s term.0)
       (λ o r. rw (number_value input t y f) (reads_second op (tree_width s) (tree_value input s) y o q r))
   reads_sum op (Some x) None s t e f term =
       let q : IsOfWidth (tree_width t) x = rw (← number_value input s x e, ← term.2) (own s term.0) in
-      and_then (first_offset op x) (offset_of t) (Reads (tree_width t) (tree_value input t)) (Reads (tree_width s) (tree_value input (Two op s t))) (reads t term.1)
+      and_then (first_offset op x) (wide_offset_of t) (Reads (tree_width t) (tree_value input t)) (Reads (tree_width s) (tree_value input (Two op s t))) (reads_wide t term.1)
       (λ o r. rw (number_value input s x e, term.2) (reads_first op (tree_width t) (tree_value input t) x o q (own t term.1) r))
   reads_sum op (Some x) (Some y) s t e f term = tt
   reads_sum op None None s t e f term = tt

@@ -105,6 +105,11 @@ module _ (g : Graph) (id : ℕ) (dag : IsDag g) where
   pub widened_operand : (by : ℕ) (signed : Bool) (a : ℕ) → slice_get g.nodes id ≡ Some (Extend by signed a) → IsOperand g id a
   widened_operand by signed a is = operand g id a (Extend by signed a) dag is (dag.all_fit id (Extend by signed a) is).0
 
+  pub widened_fits : (by : ℕ) (signed : Bool) (a : ℕ) → slice_get g.nodes id ≡ Some (Extend by signed a) → Fits g.inputs (widths_of g.nodes) (Extend by signed a)
+  widened_fits by signed a is =
+      let term = term_at g id (Extend by signed a) dag is in
+      ((widened_operand by signed a is).wide, term.1, omega (arith, term.2, width-tree_of g a))
+
   pub widened_more : (by : ℕ) (signed : Bool) (a : ℕ) → slice_get g.nodes id ≡ Some (Extend by signed a) → 1 ≤ by
   widened_more by signed a is = (dag.all_fit id (Extend by signed a) is).1
 
@@ -211,7 +216,7 @@ number_at_second g dag a b y there second wide is = record {
 worth_number : (g : Graph) (b : ℕ) (y : BitVector) (input : List ℕ) → tree_number (tree_of g b) ≡ Some y → val g b input ≡ y
 worth_number g b y input is = sym (value-tree_of g b input) ∙ number_value input (tree_of g b) y is
 
-turned : (x y : BitVector) → equal x y ≡ equal y x
+pub turned : (x y : BitVector) → equal x y ≡ equal y x
 unfolding equal
 turned x y = ap bit (same_tests x.number y.number y.number x.number (λ e. sym e) (λ e. sym e))
 
@@ -328,11 +333,6 @@ pub numbers_stay : (op : Comparison) (x y : BitVector) (s t : Tree) → told_by 
 numbers_stay Ult x y s t = refl
 numbers_stay Slt x y s t = refl
 numbers_stay Eq x y s t = refl
-
-pub terms_stay : (op : Comparison) (s t : Tree) → told_by op None None s t ≡ compared op s t
-terms_stay Ult s t = refl
-terms_stay Slt s t = refl
-terms_stay Eq s t = refl
 
 -- ---- an answer that is told, as found in an equal graph
 pub told_here : {E : Type 0} (h g more : Graph) (r : Result ℕ E) (node : Node) (t : Told) → h ≡ g → Tells h node t →

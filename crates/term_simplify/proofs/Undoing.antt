@@ -125,7 +125,7 @@ module _ (input : List ℕ) (bytes : All (λ b. b < 256) input) (w : ℕ) (n : B
       (word_term 0 w n r, word_term 0 w y q, r.width ∙ sym q.width))
 
 module _ (w : ℕ) (x y n : BitVector) (p : IsOfWidth w x) (q : IsOfWidth w y) (r : IsOfWidth w n) where
-  tested_plus : equal x (bvsub n y) ≡ equal (bvadd x y) n
+  pub tested_plus : equal x (bvsub n y) ≡ equal (bvadd x y) n
   unfolding bvadd bvsub equal
   tested_plus = rw (p.width, q.width, r.width) (ap bit (sym (plus_test (2 ^ w) x.number y.number n.number p.in_range q.in_range r.in_range)))
 
@@ -133,7 +133,7 @@ module _ (w : ℕ) (x y n : BitVector) (p : IsOfWidth w x) (q : IsOfWidth w y) (
   unfolding bvadd bvsub equal
   tested_less = rw (p.width, q.width, r.width) (ap bit (sym (less_test (2 ^ w) x.number y.number n.number p.in_range q.in_range r.in_range)))
 
-  tested_from : equal y (bvsub x n) ≡ equal (bvsub x y) n
+  pub tested_from : equal y (bvsub x n) ≡ equal (bvsub x y) n
   unfolding bvsub equal
   tested_from = rw (p.width, q.width, r.width) (ap bit (sym (from_test (2 ^ w) x.number y.number n.number p.in_range q.in_range r.in_range)))
 

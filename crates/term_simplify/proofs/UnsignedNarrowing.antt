@@ -16,10 +16,10 @@ unfolding zero_extend
 widened w n m k x wide fits e = by_parts x.width k _ (omega (arith, wide, fits)) e
 
 -- a number of n bits is the same modulo a greater power
-same_cut : (n v m : ℕ) → n ≤ v → m < 2 ^ n → m % 2 ^ n ≡ m % 2 ^ v
+pub same_cut : (n v m : ℕ) → n ≤ v → m < 2 ^ n → m % 2 ^ n ≡ m % 2 ^ v
 same_cut n v m fits small = mod-eq_of_lt small ∙ sym (mod-eq_of_lt (omega (arith, small, wider n v fits)))
 
-sum_small : (n a b x y : ℕ) → x < 2 ^ a → y < 2 ^ b → a + 1 ≤ n → b + 1 ≤ n → x + y < 2 ^ n
+pub sum_small : (n a b x y : ℕ) → x < 2 ^ a → y < 2 ^ b → a + 1 ≤ n → b + 1 ≤ n → x + y < 2 ^ n
 sum_small n a b x y few few' fits fits' =
     let twice : 2 ^ n ≡ 2 * 2 ^ (n - 1) = ap (λ k. 2 ^ k) (omega (arith, fits)) ∙ pow-add 2 1 (n - 1) in
     omega (arith, twice, few, few', wider a (n - 1) (omega (arith, fits)), wider b (n - 1) (omega (arith, fits')))

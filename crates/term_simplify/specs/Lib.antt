@@ -12,8 +12,15 @@ pub mod Steps
 pub mod Equalities
 pub mod Told
 pub mod Offsets
+pub mod WideSums
+pub mod Pairs
+pub mod Balances
 pub mod Runs
 pub mod Divisions
 pub mod Lifting
 pub mod Intervals
 pub mod Zeros
+pub mod Ends
+pub mod Above
+pub mod Outside
+pub mod Values

@@ -4,10 +4,9 @@ use Rattle.bv_dag.specs.Graphs.{Graph, width_of}
 use Rattle.bv_dag.specs.declared.nodes.BinaryOp.{BinaryOp}
 use Rattle.bv_dag.specs.declared.nodes.BinaryOp.TheVariants.{Shl, Lshr, Ashr}
 use Rattle.bv_dag.specs.declared.nodes.Node.{Node}
-use Rattle.bv_dag.specs.declared.nodes.Node.TheVariants.{Binary}
+use Rattle.bv_dag.specs.declared.nodes.Node.TheVariants.{Binary, Compare}
 use Rattle.term_trees.specs.Trees.{Tree, tree_of}
-use Rattle.term_simplify.specs.Offsets.{sum_of}
-use Rattle.term_simplify.specs.Simplified.{moved_down, moved_up, simplified, summed}
+use Rattle.term_simplify.specs.Simplified.{asked, made_of, moved_down, moved_up, operated, simplified}
 use Rattle.term_simplify.specs.declared.moves.Move.{Move}
 use Rattle.term_simplify.specs.declared.moves.Way.{Way}
 use Rattle.term_simplify.specs.declared.moves.Way.TheVariants.{Up, Down}
@@ -33,7 +32,17 @@ pub record IsMove (graph : Graph) (m : Move) : Type 0 where
   pub some : 0 < m.by
   pub within : m.by < m.width
 
--- the simplified tree of a node that moves no bits
+-- the simplified tree of a node whose value isn't told
+abbrev pub unvalued : (operand : ℕ → Tree) → Node → Tree
+unvalued operand (Binary op a b) = operated op (operand a) (operand b)
+unvalued operand node = simplified operand node
+
+-- and which moves no bits
+abbrev pub unshifted : (operand : ℕ → Tree) → Node → Tree
+unshifted operand (Binary op a b) = made_of op (operand a) (operand b)
+unshifted operand node = simplified operand node
+
+-- and is no test of a number below a sum
 abbrev pub unmoved : (operand : ℕ → Tree) → Node → Tree
-unmoved operand (Binary op a b) = summed (sum_of op (operand a) (operand b))
-unmoved operand node = simplified operand node
+unmoved operand (Compare op a b) = asked op (operand a) (operand b)
+unmoved operand node = unshifted operand node

@@ -1,5 +1,6 @@
--- Sums and differences with a number. A term is read as a term and a number, or as a number less a term;
--- the numbers of two are then one. What is negative is taken off. It is seen by the operands' top nodes.
+-- Sums and differences with a number. A term is read as a term and a number, or as a number less a
+-- term, also where it was widened (`WideSums`); the numbers of two are then one. What is negative is
+-- taken off. It is seen by the operands' top nodes.
 use Rattle.std.specs.Prelude.{◌≡◌, ℕ, ◌-◌, ◌^◌, ◌<◌, Bool, true, false, not, length, option_and_then, Option, Some, None}
 use Rattle.bv_dag.specs.BitVectors.{BitVector, bvadd, bvneg, bvsub}
 use Rattle.bv_dag.specs.Graphs.{Graph, width_of}
@@ -7,8 +8,10 @@ use Rattle.bv_dag.specs.declared.nodes.BinaryOp.{BinaryOp}
 use Rattle.bv_dag.specs.declared.nodes.BinaryOp.TheVariants.{Add, Sub}
 use Rattle.term_trees.specs.Trees.{Tree, Complement, Negated, Two, IsOfWidth, tree_of, tree_width}
 use Rattle.term_simplify.specs.Plain.{number_tree, tree_number}
+use Rattle.term_simplify.specs.WideSums.{operands_widened, wide_term}
 use Rattle.term_simplify.specs.declared.offsets.Operation.{Operation}
 use Rattle.term_simplify.specs.declared.offsets.Summand.{Summand}
+use Rattle.term_simplify.specs.declared.wide_sums.WideSummand.{WideSummand}
 
 -- a number that a term is added to, or taken from
 pub record Offset : Type 0 where
@@ -37,6 +40,10 @@ offset_of (Negated t) = Some (record {
 offset_of (Two op s t) = offset_by op (tree_number s) (tree_number t) s t
 offset_of t = None
 
+-- what a term is so where it may be a widened sum
+abbrev pub wide_offset_of : Tree → Option Offset
+wide_offset_of t = offset_of (operands_widened t)
+
 -- it and a further number, or less one
 abbrev pub second_offset : BinaryOp → BitVector → Offset → Option Offset
 second_offset Add y o =
@@ -56,8 +63,8 @@ first_offset op x o = None
 -- where one operand alone is a number
 abbrev pub offset_sum : BinaryOp → Option BitVector → Option BitVector → (s t : Tree) →
     Option Offset
-offset_sum op None (Some y) s t = option_and_then (second_offset op y) (offset_of s)
-offset_sum op (Some x) None s t = option_and_then (first_offset op x) (offset_of t)
+offset_sum op None (Some y) s t = option_and_then (second_offset op y) (wide_offset_of s)
+offset_sum op (Some x) None s t = option_and_then (first_offset op x) (wide_offset_of t)
 offset_sum op x y s t = None
 
 -- ---- An operation and its operands.
@@ -97,8 +104,15 @@ sum_of op s t =
     (turned op (tree_number s) (under_negative s) (under_negative t) s t)
 
 -- ---- Sums as the code finds them, and what they are worth.
+abbrev pub offset_in : (term_at : ℕ → Tree) → Summand → Offset
+offset_in term_at o = record { taken = o.taken; term = term_at o.term; number = o.number }
+
 abbrev pub offset_at : Graph → Summand → Offset
-offset_at graph o = record { taken = o.taken; term = tree_of graph o.term; number = o.number }
+offset_at graph o = offset_in (tree_of graph) o
+
+abbrev pub wide_offset_at : Graph → WideSummand → Offset
+wide_offset_at graph o =
+    record { taken = o.taken; term = wide_term graph o; number = o.number }
 
 abbrev pub operation_at : Graph → Operation → Sum
 operation_at graph o = two o.op (tree_of graph o.first) (tree_of graph o.second)

@@ -12,6 +12,7 @@ use Rattle.bv_dag.specs.declared.nodes.Comparison.TheVariants.{Ult, Slt, Eq}
 use Rattle.bv_dag.specs.declared.nodes.Node.{Node}
 use Rattle.bv_dag.specs.declared.nodes.Node.TheVariants.{Num, Input, Not, Neg, Binary, Compare, Ite, Extract, Extend, Concat}
 use Rattle.term_trees.specs.Trees.{Tree, Constant, Byte, Complement, Negated, Two, Test, Choice, Part, Widened, Joined, tree_width}
+use Rattle.term_simplify.specs.Ends.{ends_of, part_told}
 use Rattle.term_simplify.specs.declared.lifting.TheConstants.{LEVELS}
 
 -- the number that a tree is
@@ -157,12 +158,15 @@ comparison_by op None None s t = Test op s t
 unfoldable pub plain_comparison : Comparison → Tree → Tree → Tree
 plain_comparison op s t = comparison_by op (tree_number s) (tree_number t) s t
 
--- ---- A choice by a number is the term that it chooses, and one of the bits 1 and 0 is its
--- condition, or the complement.
+-- ---- A choice by a number is the term that it chooses, one between equal numbers is the number,
+-- and one of the bits 1 and 0 is its condition, or the complement.
 abbrev pub bit_choice : (x y : BitVector) → (c s t : Tree) → Tree
 bit_choice x y c s t =
+    if x.number == y.number then s
+    else (
     if x.width == 1 && x.number == 1 && y.number == 0 then c
     else (if x.width == 1 && x.number == 0 && y.number == 1 then complement_of c else Choice c s t)
+    )
 
 abbrev pub choice_between : Option BitVector → Option BitVector → (c s t : Tree) → Tree
 choice_between (Some x) (Some y) c s t = bit_choice x y c s t
@@ -236,8 +240,14 @@ lifted (suc k) (Part high low (Choice c s t)) =
     else Part high low (Choice c s t)
 lifted levels t = t
 
+abbrev pub number_or : Option BitVector → (otherwise : Tree) → Tree
+number_or (Some x) otherwise = number_tree x
+number_or None otherwise = otherwise
+
+-- Where the ends of the term tell them, bits are a number.
 unfoldable pub part_of : (high low : ℕ) → Tree → Tree
-part_of high low t = lifted LEVELS (inner_part high low t)
+part_of high low t =
+    number_or (part_told high low (ends_of t)) (lifted LEVELS (inner_part high low t))
 
 -- ---- Two terms, one above the other.
 -- A term below the number 0 is widened by zeros.

@@ -1,9 +1,10 @@
--- What a term is simplified to: a tree, from the trees of its operands. A shift by a number moves
--- bits; the numbers of sums are one (`Offsets`); an operation of which few low bits tell the
--- result is made of as many bits of its operands, and widened. At its own width a product by a
--- number is as `Times` has it, two terms without a bit in common are the one above the other
--- (`Joints`), zeros at the low end are left out (`Zeros`), and any other term is as `Plain` has
--- it. Each rule is decided by the numbers that operands are and by their top nodes.
+-- What a term is simplified to: a tree, from the trees of its operands. What the ends of these tell
+-- (`Ends`) is a number. A shift by a number moves bits; the numbers of sums are one (`Offsets`), stand
+-- last (`Pairs`), and are on one side of an equality (`Balances`); an operation of which few low bits
+-- tell the result is made of as many bits of its operands, and widened. At its own width a product by
+-- a number is as `Times` has it, two terms without a bit in common are the one above the other
+-- (`Joints`), zeros at the low end are left out (`Zeros`), and any other term is as `Plain` has it.
+-- Each rule is decided by the numbers that operands are and by their top nodes.
 use Rattle.std.specs.Prelude.{ℕ, ◌-◌, ◌==◌, ◌&&◌, Bool, true, false, nat_lt, Option, Some, None, if◌then◌else◌}
 use Rattle.bv_dag.specs.BitVectors.{BitVector}
 use Rattle.bv_dag.specs.declared.nodes.BinaryOp.{BinaryOp}
@@ -13,11 +14,15 @@ use Rattle.bv_dag.specs.declared.nodes.Comparison.TheVariants.{Ult, Slt, Eq}
 use Rattle.bv_dag.specs.declared.nodes.Node.{Node}
 use Rattle.bv_dag.specs.declared.nodes.Node.TheVariants.{Num, Input, Not, Neg, Binary, Compare, Ite, Extract, Extend, Concat}
 use Rattle.term_trees.specs.Trees.{Tree, Constant, Byte, tree_width}
+use Rattle.term_simplify.specs.Above.{above_by}
+use Rattle.term_simplify.specs.Balances.{Balance, balance_of}
+use Rattle.term_simplify.specs.Ends.{comparison_told, told_or, two_told}
 use Rattle.term_simplify.specs.Equalities.{Peeled, peeled}
 use Rattle.term_simplify.specs.Intervals.{Interval, interval_of, joining}
 use Rattle.term_simplify.specs.Narrowing.{negative_narrowing, binary_narrowing, pair_narrowing, choice_narrowing}
-use Rattle.term_simplify.specs.Offsets.{Sum, sum_of}
-use Rattle.term_simplify.specs.Plain.{tree_number, number_tree, complement_of, plain_binary, plain_negative, plain_choice, extension_by, part_of, joined_of}
+use Rattle.term_simplify.specs.Offsets.{Sum, sum_at, sum_of}
+use Rattle.term_simplify.specs.Pairs.{Pair, pair_of}
+use Rattle.term_simplify.specs.Plain.{tree_number, number_or, number_tree, complement_of, plain_binary, plain_negative, plain_choice, extension_by, part_of, joined_of}
 use Rattle.term_simplify.specs.Times.{own_binary}
 use Rattle.term_simplify.specs.Zeros.{comparison_over_zeros}
 use Rattle.term_simplify.specs.declared.narrowing.Narrow.{Narrow}
@@ -67,8 +72,23 @@ narrowed op s t = binary_at (binary_narrowing op s t) op s t
 abbrev pub summed : Sum → Tree
 summed p = narrowed p.op p.first p.second
 
+-- two terms first, and then the number of both
+abbrev pub paired : Pair → Tree
+paired p = summed (sum_at p.taken (narrowed p.op p.first p.second) p.number)
+
+abbrev pub paired_if : Option Pair → (otherwise : Tree) → Tree
+paired_if (Some p) otherwise = paired p
+paired_if None otherwise = otherwise
+
+abbrev pub made_of : BinaryOp → Tree → Tree → Tree
+made_of op s t = paired_if (pair_of op s t) (summed (sum_of op s t))
+
+abbrev pub operated : BinaryOp → Tree → Tree → Tree
+operated op s t = moved op (tree_number s) (tree_number t) s (made_of op s t)
+
+-- Where its ends are one number, an operation is that.
 unfoldable pub binary_of : BinaryOp → Tree → Tree → Tree
-binary_of op s t = moved op (tree_number s) (tree_number t) s (summed (sum_of op s t))
+binary_of op s t = number_or (two_told op s t) (operated op s t)
 
 -- Terms of which zeros are left out are not negative, so a comparison with sign is one without.
 abbrev pub comparison_by_low : (signed : Bool) → Comparison → Comparison
@@ -80,8 +100,12 @@ comparison_at (Some n) op s t =
     comparison_over_zeros (comparison_by_low n.signed op) (low_of n s) (low_of n t)
 comparison_at None op s t = comparison_over_zeros op s t
 
+abbrev pub undecided : Comparison → Tree → Tree → Tree
+undecided op s t = comparison_at (pair_narrowing s t) op s t
+
+-- Where the ends of two terms tell it, a comparison is a bit.
 abbrev pub compared : Comparison → Tree → Tree → Tree
-compared op s t = comparison_at (pair_narrowing s t) op s t
+compared op s t = told_or (comparison_told op s t) (undecided op s t)
 
 -- A term below the number 0, with sign, is its sign. A term is equal to a number exactly where what
 -- it is made of is equal to another.
@@ -103,16 +127,37 @@ abbrev pub in_interval_if : Option Interval → (otherwise : Tree) → Tree
 in_interval_if (Some i) otherwise = in_interval i
 in_interval_if None otherwise = otherwise
 
+-- Two sums with numbers are equal where a term is another with a number.
+abbrev pub balanced : Balance → Tree
+balanced b = compared Eq b.first (summed (sum_at false b.second b.number))
+
+abbrev pub balanced_if : Option Balance → (otherwise : Tree) → Tree
+balanced_if (Some b) otherwise = balanced b
+balanced_if None otherwise = otherwise
+
 abbrev pub told_by : Comparison → Option BitVector → Option BitVector → (s t : Tree) → Tree
 told_by Ult None (Some y) s t = in_interval_if (interval_of s y) (compared Ult s t)
 told_by Slt None (Some y) s t =
     if y.number == 0 then part_of (y.width - 1) (y.width - 1) s else compared Slt s t
 told_by Eq None (Some y) s t = equal_to (peeled s y)
 told_by Eq (Some x) None s t = equal_to (peeled t x)
+told_by Eq None None s t = balanced_if (balance_of s t) (compared Eq s t)
 told_by op x y s t = compared op s t
 
+-- A number is below a sum where the term of that is outside of an interval, if that takes one test.
+abbrev pub outside : Interval → Tree
+outside i = complement_of (in_interval i)
+
+abbrev pub outside_if : Option Interval → (otherwise : Tree) → Tree
+outside_if (Some i) otherwise = outside i
+outside_if None otherwise = otherwise
+
+abbrev pub asked : Comparison → Tree → Tree → Tree
+asked op s t = told_by op (tree_number s) (tree_number t) s t
+
 unfoldable pub comparison_of : Comparison → Tree → Tree → Tree
-comparison_of op s t = told_by op (tree_number s) (tree_number t) s t
+comparison_of op s t =
+    outside_if (above_by op (tree_number s) (tree_number t) t) (asked op s t)
 
 abbrev pub choice_at : Option Narrow → (condition yes no : Tree) → Tree
 choice_at (Some n) c s t = widened_to (tree_width s) n (plain_choice c (low_of n s) (low_of n t))

@@ -9,6 +9,7 @@ ghost use Rattle.term_simplify.specs.Lifting.{unlifted};
 ghost use Rattle.term_simplify.specs.Plain.{plain};
 ghost use Rattle.term_simplify.specs.Steps.{Stands};
 
+use crate::above::above_of;
 use crate::binaries::binary;
 use crate::choices::choice;
 use crate::comparisons::comparison;
@@ -19,6 +20,7 @@ use crate::narrowing::narrowing_of;
 use crate::parts::part;
 use crate::plan::{Plan, complement, negative};
 use crate::recipe::{Recipe, alone};
+use crate::values::value_of;
 use bv_dag::{BinaryOp, Comparison, Node};
 use std::alloc::AllocError as NoMemory;
 use std::marker::Model;
@@ -89,7 +91,7 @@ impl Model for Builder {
 impl Builder {
     ghost use Rattle.bv_dag.specs.Graphs.{IsDag};
     ghost use Rattle.term_simplify.specs.Builds.{BuildsAs, BuildsNode};
-    ghost use Rattle.term_simplify.specs.Moves.{unmoved};
+    ghost use Rattle.term_simplify.specs.Moves.{unmoved, unshifted, unvalued};
     ghost use Rattle.term_simplify.specs.Plans.{plan_tree, recipe_tree, HasRoom, RecipeFits};
     ghost use Rattle.term_simplify.specs.Plain.{further};
     ghost use Rattle.term_simplify.specs.Told.{unsummed, untold};
@@ -205,7 +207,7 @@ impl Builder {
     }
 
     /// The term that a node is at its own width.
-    fn plain(&mut self, node: Node) -> Result<usize, NoMemory>
+    pub(crate) fn plain(&mut self, node: Node) -> Result<usize, NoMemory>
         requires { Fits self.old.inputs (widths_of self.old.nodes) node }
         ensures ok { IfOk result (BuildsAs (plain (tree_of self.old) node) self.old self.new node) }
         ensures err { OnErr result (self.new ≡ self.old) }
@@ -232,8 +234,8 @@ impl Builder {
         self.plain(node)
     }
 
-    /// The term that a node is simplified to which moves no bits, is no test that another term tells, and is no sum that is made as
-    /// another one.
+    /// The term that a node is simplified to which moves no bits, is no test that another term or its operands' ends tell, and is no
+    /// sum that is made as another one.
     pub(crate) fn unsummed(&mut self, node: Node) -> Result<usize, NoMemory>
         requires { Fits self.old.inputs (widths_of self.old.nodes) node }
         ensures ok { IfOk result
@@ -257,11 +259,12 @@ impl Builder {
     {
         match node {
             Node::Binary(op, a, b) => self.summed(op, a, b),
+            Node::Compare(op, a, b) => self.decided(op, a, b),
             _ => self.unsummed(node),
         }
     }
 
-    /// The term that a node is simplified to which moves no bits.
+    /// The term that a node is simplified to which moves no bits, and is no test of a number below a sum.
     fn unmoved(&mut self, node: Node) -> Result<usize, NoMemory>
         requires { Fits self.old.inputs (widths_of self.old.nodes) node }
         ensures ok { IfOk result
@@ -275,6 +278,34 @@ impl Builder {
         }
     }
 
+    /// The term that a node is simplified to whose value isn't told, and which moves no bits.
+    fn unshifted(&mut self, node: Node) -> Result<usize, NoMemory>
+        requires { Fits self.old.inputs (widths_of self.old.nodes) node }
+        ensures ok { IfOk result
+            (BuildsAs (unshifted (tree_of self.old) node) self.old self.new node) }
+        ensures err { OnErr result (self.new ≡ self.old) }
+        ensures term { IsTerm self.old.inputs (node_tree (tree_of self.old) node) }
+    {
+        match above_of(&self.terms, node) {
+            Some(interval) => self.outside(interval),
+            None => self.unmoved(node),
+        }
+    }
+
+    /// The term that a node is simplified to whose value isn't told.
+    fn unvalued(&mut self, node: Node) -> Result<usize, NoMemory>
+        requires { Fits self.old.inputs (widths_of self.old.nodes) node }
+        ensures ok { IfOk result
+            (BuildsAs (unvalued (tree_of self.old) node) self.old self.new node) }
+        ensures err { OnErr result (self.new ≡ self.old) }
+        ensures term { IsTerm self.old.inputs (node_tree (tree_of self.old) node) }
+    {
+        match move_of(&self.terms, node) {
+            Some(bits) => self.move_bits(bits),
+            None => self.unshifted(node),
+        }
+    }
+
     /// The term that the node is simplified to, which is worth what the node is worth. The node's own tree is well formed.
     pub fn build(&mut self, node: Node) -> Result<usize, NoMemory>
         requires { Fits self.old.inputs (widths_of self.old.nodes) node }
@@ -282,9 +313,9 @@ impl Builder {
         ensures err { OnErr result (self.new ≡ self.old) }
         ensures term { IsTerm self.old.inputs (node_tree (tree_of self.old) node) }
     {
-        match move_of(&self.terms, node) {
-            Some(bits) => self.move_bits(bits),
-            None => self.unmoved(node),
+        match value_of(&self.terms, node) {
+            Some(number) => self.valued(number),
+            None => self.unvalued(node),
         }
     }
 }

@@ -14,12 +14,15 @@ use term_table::Terms;
 /// A choice between two numbers.
 fn bit_choice(terms: &Terms, x: Word, y: Word, c: usize, a: usize, b: usize) -> Plan
     requires there { c < length terms.now.nodes }
+    requires first { a < length terms.now.nodes }
     requires fits { Fits terms.now.inputs (widths_of terms.now.nodes) (Node.Ite c a b) }
     ensures { Makes terms.now result
         (bit_choice x y (tree_of terms.now c) (tree_of terms.now a) (tree_of terms.now b)) }
 {
     let is_bit = x.width() == 1;
-    if is_bit && x.number() == 1 && y.number() == 0 {
+    if x.number() == y.number() {
+        Plan::Term(a)
+    } else if is_bit && x.number() == 1 && y.number() == 0 {
         Plan::Term(c)
     } else if is_bit && x.number() == 0 && y.number() == 1 {
         complement(terms, c)
@@ -42,6 +45,7 @@ fn choice_between(
     b: usize,
 ) -> Plan
     requires there { c < length terms.now.nodes }
+    requires first { a < length terms.now.nodes }
     requires fits { Fits terms.now.inputs (widths_of terms.now.nodes) (Node.Ite c a b) }
     ensures { Makes terms.now result
         (choice_between left right (tree_of terms.now c) (tree_of terms.now a)

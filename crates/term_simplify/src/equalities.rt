@@ -13,6 +13,7 @@ ghost use Rattle.term_simplify.specs.Plain.{tree_number};
 ghost use Rattle.term_simplify.specs.Steps.{Stands};
 ghost use Rattle.term_simplify.specs.Told.{IsEquality, IsTold, Tells, peeled_at, told_tree, told_word, untold};
 
+use crate::balances::{WideBalance, balance_of};
 use crate::builder::Builder;
 use crate::extensions::extended;
 use crate::intervals::{Between, interval_of};
@@ -28,12 +29,13 @@ pub(crate) struct Equality {
     pub number: Word,
 }
 
-/// What tells a test: the sign of a term, whether a term is a number, or whether it lies between two.
+/// What tells a test: the sign of a term, or whether a term is a number, lies between two, or is another and a number.
 #[derive(Clone, Copy, Debug)]
 pub(crate) enum Told {
     Sign { operand: usize, width: u32 },
     Equal(Equality),
     Within(Between),
+    Balanced(WideBalance),
 }
 
 /// What the first operand is where an operation of it and this number is `n`.
@@ -269,6 +271,26 @@ fn told_first(terms: &Terms, op: Comparison, x: Word, a: usize, b: usize) -> Opt
     }
 }
 
+/// Two terms that are no numbers.
+fn told_terms(terms: &Terms, op: Comparison, a: usize, b: usize) -> Option<Told>
+    requires fits { Fits terms.now.inputs (widths_of terms.now.nodes) (Node.Compare op a b) }
+    requires first { tree_number (tree_of terms.now a) ≡ None }
+    requires second { tree_number (tree_of terms.now b) ≡ None }
+    requires dag { IsDag terms.now }
+    ensures some { IfSome result (λ t. Tells terms.now (Node.Compare op a b) t) }
+    ensures none { result ≡ None → unmoved (tree_of terms.now) (Node.Compare op a b)
+        ≡ untold (tree_of terms.now) (Node.Compare op a b) }
+{
+    match op {
+        Comparison::Ult => None,
+        Comparison::Slt => None,
+        Comparison::Eq => match balance_of(terms, a, b) {
+            Some(balance) => Some(Told::Balanced(balance)),
+            None => None,
+        },
+    }
+}
+
 /// What tells a test of two terms.
 fn told_by(terms: &Terms, op: Comparison, a: usize, b: usize) -> Option<Told>
     requires { Fits terms.now.inputs (widths_of terms.now.nodes) (Node.Compare op a b) }
@@ -280,7 +302,7 @@ fn told_by(terms: &Terms, op: Comparison, a: usize, b: usize) -> Option<Told>
     match (number_at(terms, a), number_at(terms, b)) {
         (None, Some(y)) => told_second(terms, op, a, y, b),
         (Some(x), None) => told_first(terms, op, x, a, b),
-        (None, None) => None,
+        (None, None) => told_terms(terms, op, a, b),
         (Some(_), Some(_)) => None,
     }
 }
@@ -335,6 +357,7 @@ impl Builder {
                 self.untold_step(Node::Compare(Comparison::Eq, e.term, number))
             }
             Told::Within(b) => self.between(b),
+            Told::Balanced(b) => self.balance(b.width(), b),
         }
     }
 

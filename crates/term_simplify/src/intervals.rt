@@ -22,9 +22,9 @@ use term_table::Terms;
 /// A term that is at least one number and below another, or one of the two where these go round through 0.
 #[derive(Clone, Copy, Debug)]
 pub(crate) struct Between {
-    term: usize,
-    low: Word,
-    high: Word,
+    pub term: usize,
+    pub low: Word,
+    pub high: Word,
 }
 
 /// Where a sum is below a number other than 0.

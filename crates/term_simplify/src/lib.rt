@@ -5,15 +5,21 @@
 //! terms without a bit in common likewise, a product by a number of a few for each of its digits that is not 0, and a quotient or a
 //! remainder by a number of some ten for each bit of the dividend. An operation or a test of which few low bits tell the result
 //! is made of as many bits of its operands, which are up to two terms more, and widened. Where operands have zeros at their low
-//! end, it is made of what stands above these. A test that another term tells is made of that term.
+//! end, it is made of what stands above these. A sum of two terms with numbers is made of the terms, and then with one number. A
+//! test that another term tells is made of that term, an equality of two such sums of a sum, and one that the ends of its operands
+//! tell is a bit.
 #![tactic(auto)]
 
+mod above;
+mod balances;
 mod binaries;
 mod builder;
 mod calls;
 mod choices;
 mod comparisons;
+mod deciding;
 mod divisions;
+mod ends;
 mod equalities;
 mod extensions;
 mod intervals;
@@ -26,11 +32,14 @@ mod narrowed;
 mod narrowing;
 mod offsets;
 mod operations;
+mod pairs;
 mod parts;
 mod plan;
 mod recipe;
 mod runs;
 mod times;
+mod values;
+mod wide_sums;
 mod zeros;
 
 pub use builder::Builder;

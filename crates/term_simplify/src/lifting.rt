@@ -12,8 +12,9 @@ ghost use Rattle.term_simplify.specs.Lifting.{IsLifting, lifting_tree, node_span
 
 use crate::builder::Builder;
 use crate::choices::choice;
+use crate::ends::{ends_of, part_told};
 use crate::parts::{Span, part};
-use crate::plan::{Plan, complement, number_at};
+use crate::plan::{Plan, complement, number, number_at};
 use crate::recipe::Recipe;
 use bv_dag::Node;
 use std::alloc::AllocError as NoMemory;
@@ -163,8 +164,13 @@ impl Builder {
         ensures term { IsTerm self.old.inputs
             (node_tree (tree_of self.old) (Node.Extract high low operand)) }
     {
-        let len = self.len();
-        let answer = self.lifted(LEVELS, Span { high, low, operand });
-        self.settled(len, answer)
+        match part_told(high, low, ends_of(self.terms(), operand)) {
+            Some(word) => self.stand(number(word)),
+            None => {
+                let len = self.len();
+                let answer = self.lifted(LEVELS, Span { high, low, operand });
+                self.settled(len, answer)
+            }
+        }
     }
 }

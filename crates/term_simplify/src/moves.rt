@@ -5,8 +5,8 @@ ghost use Rattle.bv_dag.specs.Graphs.{IsDag};
 ghost use Rattle.bv_dag.specs.Nodes.{Fits, widths_of};
 ghost use Rattle.term_trees.specs.Growth.{Continues};
 ghost use Rattle.term_trees.specs.Trees.{tree_of, tree_value, node_tree, IsTerm};
-ghost use Rattle.term_simplify.specs.Moves.{IsMove, move_tree, unmoved, way_of};
-ghost use Rattle.term_simplify.specs.Simplified.{moves, simplified};
+ghost use Rattle.term_simplify.specs.Moves.{IsMove, move_tree, unshifted, unvalued, way_of};
+ghost use Rattle.term_simplify.specs.Simplified.{moves};
 
 use crate::builder::Builder;
 use crate::plan::number_at;
@@ -60,14 +60,14 @@ fn moves(by: Word) -> bool
 fn move_by(terms: &Terms, op: BinaryOp, a: usize, b: usize) -> Option<Move>
     requires { Fits terms.now.inputs (widths_of terms.now.nodes) (Node.Binary op a b) }
     ensures some { IfSome result (λ m. IsMove terms.now m) }
-    ensures tree { IfSome result (λ m. simplified (tree_of terms.now) (Node.Binary op a b)
+    ensures tree { IfSome result (λ m. unvalued (tree_of terms.now) (Node.Binary op a b)
         ≡ move_tree terms.now m) }
     ensures worth { IfSome result (λ m. (input : List ℕ) → All (λ b. b < 256) input
         → IsTerm terms.now.inputs (node_tree (tree_of terms.now) (Node.Binary op a b))
         → tree_value input (move_tree terms.now m)
         ≡ tree_value input (node_tree (tree_of terms.now) (Node.Binary op a b))) }
-    ensures none { result ≡ None → simplified (tree_of terms.now) (Node.Binary op a b)
-        ≡ unmoved (tree_of terms.now) (Node.Binary op a b) }
+    ensures none { result ≡ None → unvalued (tree_of terms.now) (Node.Binary op a b)
+        ≡ unshifted (tree_of terms.now) (Node.Binary op a b) }
     ensures fit { IfSome result (λ _. IsDag terms.now) }
 {
     let (None, Some(y), Some(way)) = (number_at(terms, a), number_at(terms, b), way_of(op)) else {
@@ -88,14 +88,14 @@ fn move_by(terms: &Terms, op: BinaryOp, a: usize, b: usize) -> Option<Move>
 pub(crate) fn move_of(terms: &Terms, node: Node) -> Option<Move>
     requires { Fits terms.now.inputs (widths_of terms.now.nodes) node }
     ensures some { IfSome result (λ m. IsMove terms.now m) }
-    ensures tree { IfSome result (λ m. simplified (tree_of terms.now) node
+    ensures tree { IfSome result (λ m. unvalued (tree_of terms.now) node
         ≡ move_tree terms.now m) }
     ensures worth { IfSome result (λ m. (input : List ℕ) → All (λ b. b < 256) input
         → IsTerm terms.now.inputs (node_tree (tree_of terms.now) node)
         → tree_value input (move_tree terms.now m)
         ≡ tree_value input (node_tree (tree_of terms.now) node)) }
-    ensures none { result ≡ None → simplified (tree_of terms.now) node
-        ≡ unmoved (tree_of terms.now) node }
+    ensures none { result ≡ None → unvalued (tree_of terms.now) node
+        ≡ unshifted (tree_of terms.now) node }
     ensures fit { IfSome result (λ _. IsDag terms.now) }
 {
     match node {

@@ -20,11 +20,11 @@ pub(crate) struct Narrow {
 
 /// How many low bits tell a term.
 #[derive(Clone, Copy, Debug)]
-struct Reach {
+pub(crate) struct Reach {
     /// Where those above are zeros.
-    unsigned: u32,
+    pub unsigned: u32,
     /// Where those above are copies of the top one.
-    signed: u32,
+    pub signed: u32,
 }
 
 /// The least number of bits, at least one, that write a number.
@@ -55,7 +55,7 @@ fn number_reach(x: Word) -> Reach
 }
 
 /// How many low bits tell a term, by its top node.
-fn reach_of(terms: &Terms, id: usize) -> Reach
+pub(crate) fn reach_of(terms: &Terms, id: usize) -> Reach
     requires { id < length terms.now.nodes }
     ensures is { result ≡ narrowings.reach_of (tree_of terms.now id) }
     ensures few { result.unsigned ≤ 64 }
@@ -90,7 +90,7 @@ fn reach_of(terms: &Terms, id: usize) -> Reach
 }
 
 /// How many low bits tell a result, where those above are zeros.
-fn unsigned_result(op: BinaryOp, by_number: bool, a: Reach, b: Reach) -> u32
+pub(crate) fn unsigned_result(op: BinaryOp, by_number: bool, a: Reach, b: Reach) -> u32
     requires first { a.unsigned ≤ 64 }
     requires second { b.unsigned ≤ 64 }
     ensures { result ≡ narrowings.unsigned_result op by_number a b }

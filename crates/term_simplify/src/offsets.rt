@@ -1,21 +1,23 @@
-//! Sums and differences: the numbers of two are one, and what is negative is taken off.
+//! Sums and differences: the numbers of two are one, also of one that was widened, and what is negative is taken off.
 
-ghost use Rattle.std.specs.Prelude.{◌≡◌, ◌<◌, ℕ, IfOk, IfSome, OnErr, length, option_map};
+ghost use Rattle.std.specs.Prelude.{◌≡◌, ◌⊎◌, ◌+◌, ◌<◌, ◌≤◌, ℕ, IfOk, IfSome, OnErr, length, option_map};
 ghost use Rattle.bv_dag.specs.Graphs.{Graph, IsDag, val, width_of};
 ghost use Rattle.bv_dag.specs.Nodes.{Fits, binary, node_value, node_width, widths_of};
 ghost use Rattle.term_trees.specs.Growth.{Continues};
-ghost use Rattle.term_trees.specs.Trees.{node_tree, tree_of, IsOfWidth, IsTerm};
+ghost use Rattle.term_trees.specs.Trees.{Tree, node_tree, tree_of, tree_value, IsOfWidth, IsTerm};
 ghost use Rattle.term_simplify.specs.Builds.{BuildsAs};
 ghost use Rattle.term_simplify.specs.Offsets as offsets;
-ghost use Rattle.term_simplify.specs.Offsets.{IsSummand, offset_at, offset_word, operation_at, sum_at, sum_of};
-ghost use Rattle.term_simplify.specs.Plain.{tree_number};
+ghost use Rattle.term_simplify.specs.Offsets.{IsSummand, offset_at, offset_in, offset_word, operation_at, sum_at, sum_of, wide_offset_at};
+ghost use Rattle.term_simplify.specs.Plain.{further, tree_number};
 ghost use Rattle.term_simplify.specs.Simplified.{summed};
 ghost use Rattle.term_simplify.specs.Steps.{Stands};
 ghost use Rattle.term_simplify.specs.Told.{unsummed, untold};
+ghost use Rattle.term_simplify.specs.WideSums.{IsWideSummand, wide_term};
 
 use crate::binaries::ones;
 use crate::builder::Builder;
 use crate::plan::{number_at, zero};
+use crate::wide_sums::{WideSummand, wide_offset_of};
 use bv_dag::{BinaryOp, Node, Word};
 use std::alloc::AllocError as NoMemory;
 use term_table::Terms;
@@ -36,14 +38,21 @@ pub(crate) struct Operation {
     second: usize,
 }
 
-/// What an operation is of a term and a number, if it is a sum or difference of them.
-fn offset_by(terms: &Terms, op: BinaryOp, a: usize, b: usize) -> Option<Summand>
-    requires { Fits terms.now.inputs (widths_of terms.now.nodes) (Node.Binary op a b) }
-    ensures some { IfSome result (λ o. IsSummand terms.now (width_of terms.now a) o) }
-    ensures is { option_map (offset_at terms.now) result
-        ≡ offsets.offset_of (node_tree (tree_of terms.now) (Node.Binary op a b)) }
+/// What an operation of two terms is of a term and a number, by the numbers that they are.
+pub(crate) fn offset_from(
+    op: BinaryOp,
+    a: usize,
+    x: Option<Word>,
+    b: usize,
+    y: Option<Word>,
+) -> Option<Summand>
+    ensures is { (term_at : ℕ → Tree) → option_map (offset_in term_at) result
+        ≡ offsets.offset_by op x y (term_at a) (term_at b) }
+    ensures term { IfSome result (λ o. (o.term ≡ a) ⊎ (o.term ≡ b)) }
+    ensures number { (width : ℕ) → IfSome x (λ n. IsOfWidth width n)
+        → IfSome y (λ n. IsOfWidth width n) → IfSome result (λ o. IsOfWidth width o.number) }
 {
-    match (op, number_at(terms, a), number_at(terms, b)) {
+    match (op, x, y) {
         (BinaryOp::Add, None, Some(y)) => Some(Summand {
             taken: false,
             term: a,
@@ -61,6 +70,16 @@ fn offset_by(terms: &Terms, op: BinaryOp, a: usize, b: usize) -> Option<Summand>
         }),
         _ => None,
     }
+}
+
+/// What an operation is of a term and a number, if it is a sum or difference of them.
+fn offset_by(terms: &Terms, op: BinaryOp, a: usize, b: usize) -> Option<Summand>
+    requires { Fits terms.now.inputs (widths_of terms.now.nodes) (Node.Binary op a b) }
+    ensures some { IfSome result (λ o. IsSummand terms.now (width_of terms.now a) o) }
+    ensures is { option_map (offset_at terms.now) result
+        ≡ offsets.offset_of (node_tree (tree_of terms.now) (Node.Binary op a b)) }
+{
+    offset_from(op, a, number_at(terms, a), b, number_at(terms, b))
 }
 
 /// What a term is of a term and a number, if it is a sum or difference of them.
@@ -88,16 +107,18 @@ pub(crate) fn offset_of(terms: &Terms, id: usize) -> Option<Summand>
 }
 
 /// It and a further number, or less one.
-fn second_offset(op: BinaryOp, y: Word, o: Summand) -> Option<Summand>
+fn second_offset(op: BinaryOp, y: Word, o: WideSummand) -> Option<WideSummand>
     requires { o.number.width ≡ y.width }
-    ensures is { (graph : Graph) → option_map (offset_at graph) result
-        ≡ offsets.second_offset op y (offset_at graph o) }
-    ensures some { (graph : Graph) (width : ℕ) → IsSummand graph width o → IsOfWidth width y
-        → IfSome result (λ p. IsSummand graph width p) }
+    ensures is { (graph : Graph) → option_map (wide_offset_at graph) result
+        ≡ offsets.second_offset op y (wide_offset_at graph o) }
+    ensures some { (graph : Graph) (width : ℕ) → IsWideSummand graph width o → IsOfWidth width y
+        → IfSome result (λ p. IsWideSummand graph width p) }
 {
     match op {
-        BinaryOp::Add | BinaryOp::Sub => Some(Summand {
+        BinaryOp::Add | BinaryOp::Sub => Some(WideSummand {
             taken: o.taken,
+            by: o.by,
+            signed: o.signed,
             term: o.term,
             number: op.apply(o.number, y),
         }),
@@ -106,21 +127,25 @@ fn second_offset(op: BinaryOp, y: Word, o: Summand) -> Option<Summand>
 }
 
 /// A further number and it, or a number less it.
-fn first_offset(op: BinaryOp, x: Word, o: Summand) -> Option<Summand>
+fn first_offset(op: BinaryOp, x: Word, o: WideSummand) -> Option<WideSummand>
     requires { x.width ≡ o.number.width }
-    ensures is { (graph : Graph) → option_map (offset_at graph) result
-        ≡ offsets.first_offset op x (offset_at graph o) }
-    ensures some { (graph : Graph) (width : ℕ) → IsSummand graph width o → IsOfWidth width x
-        → IfSome result (λ p. IsSummand graph width p) }
+    ensures is { (graph : Graph) → option_map (wide_offset_at graph) result
+        ≡ offsets.first_offset op x (wide_offset_at graph o) }
+    ensures some { (graph : Graph) (width : ℕ) → IsWideSummand graph width o → IsOfWidth width x
+        → IfSome result (λ p. IsWideSummand graph width p) }
 {
     match op {
-        BinaryOp::Add => Some(Summand {
+        BinaryOp::Add => Some(WideSummand {
             taken: o.taken,
+            by: o.by,
+            signed: o.signed,
             term: o.term,
             number: BinaryOp::Add.apply(o.number, x),
         }),
-        BinaryOp::Sub => Some(Summand {
+        BinaryOp::Sub => Some(WideSummand {
             taken: !o.taken,
+            by: o.by,
+            signed: o.signed,
             term: o.term,
             number: BinaryOp::Sub.apply(x, o.number),
         }),
@@ -129,20 +154,20 @@ fn first_offset(op: BinaryOp, x: Word, o: Summand) -> Option<Summand>
 }
 
 /// The term and the number of which an operation is a sum or difference, where one of its operands alone is a number.
-fn offset_sum(terms: &Terms, op: BinaryOp, a: usize, b: usize) -> Option<Summand>
+fn offset_sum(terms: &Terms, op: BinaryOp, a: usize, b: usize) -> Option<WideSummand>
     requires { Fits terms.now.inputs (widths_of terms.now.nodes) (Node.Binary op a b) }
-    ensures some { IfSome result (λ o. IsSummand terms.now (width_of terms.now a) o) }
-    ensures is { option_map (offset_at terms.now) result
+    ensures some { IfSome result (λ o. IsWideSummand terms.now (width_of terms.now a) o) }
+    ensures is { option_map (wide_offset_at terms.now) result
         ≡ offsets.offset_sum op (tree_number (tree_of terms.now a))
         (tree_number (tree_of terms.now b)) (tree_of terms.now a) (tree_of terms.now b) }
     ensures fit { IsDag terms.now }
 {
     match (number_at(terms, a), number_at(terms, b)) {
-        (None, Some(y)) => match offset_of(terms, a) {
+        (None, Some(y)) => match wide_offset_of(terms, a) {
             Some(o) => second_offset(op, y, o),
             None => None,
         },
-        (Some(x), None) => match offset_of(terms, b) {
+        (Some(x), None) => match wide_offset_of(terms, b) {
             Some(o) => first_offset(op, x, o),
             None => None,
         },
@@ -191,7 +216,7 @@ fn turned(terms: &Terms, op: BinaryOp, a: usize, b: usize) -> Operation
 
 impl Builder {
     /// A term on the way that is no sum which is made as another.
-    fn unsummed_step(&mut self, node: Node) -> Result<usize, NoMemory>
+    pub(crate) fn unsummed_step(&mut self, node: Node) -> Result<usize, NoMemory>
         requires { Fits self.old.inputs (widths_of self.old.nodes) node }
         ensures continues { Continues self.old self.new }
         ensures ok { IfOk result (λ id. Stands self.new id (unsummed (tree_of self.old) node)
@@ -202,7 +227,7 @@ impl Builder {
     }
 
     /// A term and a number, or the number less the term.
-    fn sum(&mut self, width: u32, o: Summand) -> Result<usize, NoMemory>
+    pub(crate) fn sum(&mut self, width: u32, o: Summand) -> Result<usize, NoMemory>
         requires { IsSummand self.old width o }
         ensures continues { Continues self.old self.new }
         ensures ok { IfOk result (λ id. Stands self.new id
@@ -220,8 +245,45 @@ impl Builder {
         }
     }
 
-    /// The term that an operation of two terms is made as, or only some of the terms that it stands on.
-    fn sum_step(&mut self, op: BinaryOp, a: usize, b: usize) -> Result<usize, NoMemory>
+    /// A term with `by` further bits, where there are any.
+    pub(crate) fn widened_term(
+        &mut self,
+        by: u32,
+        signed: bool,
+        id: usize,
+    ) -> Result<usize, NoMemory>
+        requires there { id < length self.old.nodes }
+        requires some { 0 < width_of self.old id }
+        requires room { width_of self.old id + by ≤ 64 }
+        ensures continues { Continues self.old self.new }
+        ensures ok { IfOk result (λ more. Stands self.new more
+            (further by signed (tree_of self.old id)) (width_of self.old id + by)
+            (λ input. tree_value input (further by signed (tree_of self.old id)))) }
+    {
+        self.further(by, signed, id)
+    }
+
+    /// The same of a term that is widened first.
+    fn wide_sum(&mut self, width: u32, o: WideSummand) -> Result<usize, NoMemory>
+        requires { IsWideSummand self.old width o }
+        ensures continues { Continues self.old self.new }
+        ensures ok { IfOk result (λ id. Stands self.new id
+            (summed (sum_at o.taken (wide_term self.old o) o.number)) width
+            (λ input. offset_word o.taken (tree_value input (wide_term self.old o)) o.number)) }
+    {
+        let term = self.widened_term(o.by, o.signed, o.term)?;
+        self.sum(
+            width,
+            Summand {
+                taken: o.taken,
+                term,
+                number: o.number,
+            },
+        )
+    }
+
+    /// The term that an operation of two terms is made as with one number, or with none, or only some of the terms that it stands on.
+    pub(crate) fn sum_step(&mut self, op: BinaryOp, a: usize, b: usize) -> Result<usize, NoMemory>
         requires { Fits self.old.inputs (widths_of self.old.nodes) (Node.Binary op a b) }
         ensures continues { Continues self.old self.new }
         ensures ok { IfOk result (λ id. Stands self.new id
@@ -230,7 +292,7 @@ impl Builder {
         ensures term { IsTerm self.old.inputs (node_tree (tree_of self.old) (Node.Binary op a b)) }
     {
         match offset_sum(self.terms(), op, a, b) {
-            Some(o) => self.sum(o.number.width(), o),
+            Some(o) => self.wide_sum(o.number.width(), o),
             None => {
                 let made = turned(self.terms(), op, a, b);
                 self.unsummed_step(Node::Binary(made.op, made.first, made.second))
@@ -247,7 +309,7 @@ impl Builder {
         ensures term { IsTerm self.old.inputs (node_tree (tree_of self.old) (Node.Binary op a b)) }
     {
         let len = self.len();
-        let answer = self.sum_step(op, a, b);
+        let answer = self.made_step(op, a, b);
         self.settled(len, answer)
     }
 }

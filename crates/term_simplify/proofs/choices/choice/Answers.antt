@@ -16,6 +16,9 @@ number_at-requires-in-None-2 c = has_second_term c.args.terms.now c.args.a c.arg
 pub choice_between-requires-clause-there : goal.choice_between-requires-clause-there
 choice_between-requires-clause-there c = has_term c.args.terms.now c.args.c (omega (arith, c.requires.0))
 
+pub choice_between-requires-clause-first : goal.choice_between-requires-clause-first
+choice_between-requires-clause-first c = has_term c.args.terms.now c.args.a c.requires.1
+
 pub returns-then-number-eq1-clause-makes : goal.returns-then-number-eq1-clause-makes
 returns-then-number-eq1-clause-makes c = record {
   is = sym (chosen_yes (tree_of c.args.terms.now c.args.c) (tree_of c.args.terms.now c.args.a)

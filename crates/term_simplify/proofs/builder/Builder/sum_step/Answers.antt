@@ -10,7 +10,7 @@ pub returns-in-Some-clause-ok : goal.returns-in-Some-clause-ok
 returns-in-Some-clause-ok c =
     let g = c.args.self.now in
     let term = is_term_of g (Binary c.args.op c.args.a c.args.b) (subst IsDag c.terms.ensures c.in-Some.ensures.fit) c.requires in
-    if_ok _ _ _ c.sum.ensures.ok (λ id n. offset_stands c.terms.result.now g c.terms.ensures c.args.op c.args.a c.args.b term
+    if_ok _ _ _ c.wide_sum.ensures.ok (λ id n. offset_stands c.terms.result.now g c.terms.ensures c.args.op c.args.a c.args.b term
     c.in-Some.o c.in-Some.ensures.some c.in-Some.ensures.is c.width.ensures.value n)
 
 pub returns-in-Some-clause-term : goal.returns-in-Some-clause-term
