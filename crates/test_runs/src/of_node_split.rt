@@ -17,15 +17,17 @@ use sym_state::State;
 use tree_core::{Budgets, Cause, Choice, Kid, Order};
 use work_gate::OpenGate;
 
-// It stores to an address to which it adds the low bit of twice its input byte, and exits: LUI x5, 0x11; LBU x7, 0(x5);
-// ADD x8, x7, x7; ANDI x8, x8, 1; ADD x5, x5, x8; SB x6, 0(x5); ADDI x17, x0, 93; ECALL.
-const ALIKE: [u32; 8] = [
+// It jumps to an address to which it adds the bit of 2 of four times its input byte, and exits: LUI x5, 0x11; LBU x7, 0(x5);
+// ADD x8, x7, x7; ADD x8, x8, x8; ANDI x8, x8, 2; AUIPC x5, 0; ADD x5, x5, x8; JALR x0, 12(x5); ADDI x17, x0, 93; ECALL.
+const ALIKE: [u32; 10] = [
     0x0001_12B7,
     0x0002_C383,
     0x0073_8433,
-    0x0014_7413,
+    0x0084_0433,
+    0x0024_7413,
+    0x0000_0297,
     0x0082_82B3,
-    0x0062_8023,
+    0x00C2_8067,
     0x05D0_0893,
     0x0000_0073,
 ];
@@ -62,7 +64,7 @@ const ROWS: [(&[u32], u32, u32, Comes); 8] = [
     (&STRAIGHT, 2, 4, Comes::CutSteps(2)),
     (&FORKED, 10, 4, Comes::Kids(&[Choice::No, Choice::Yes])),
     (&DIVIDED, 10, 4, Comes::Finished(8)),
-    (&ALIKE, 10, 1, Comes::Finished(8)),
+    (&ALIKE, 10, 1, Comes::Finished(10)),
     (&LOOKED_UP, 10, 1, Comes::Finished(8)),
     (
         &PARITY,

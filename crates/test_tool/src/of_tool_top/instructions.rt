@@ -89,6 +89,19 @@ const HALF_ADDED: [u32; 6] = [
     0x0000_0073,
 ];
 
+// It stores 9 at 0x00011100 plus its input byte, and exits with the byte at 0x00011105: LUI x5, 0x11; LBU x7, 0(x5);
+// ADD x7, x5, x7; ADDI x6, x0, 9; SB x6, 0x100(x7); LBU x10, 0x105(x5); ADDI x17, x0, 93; ECALL.
+const BYTE_ADDED: [u32; 8] = [
+    0x0001_12B7,
+    0x0002_C383,
+    0x0072_83B3,
+    0x0090_0313,
+    0x1063_8023,
+    0x1052_C503,
+    0x05D0_0893,
+    0x0000_0073,
+];
+
 // It exits with 0. The last byte of its first instruction, ADDI x10, x0, 0, is the input: the upper bits of the immediate.
 const CODE: [u32; 3] = [0x0000_0513, 0x05D0_0893, 0x0000_0073];
 
@@ -353,6 +366,26 @@ const ROWS: &[Row] = &[
                 4,
                 "out/test-000001.json",
                 "{\"end\":\"trap LoadMisaligned\",",
+            ),
+        ],
+    },
+    // All that is stored to is on one page, so there is one leaf.
+    Row {
+        program: &BYTE_ADDED,
+        words: EXPLORE,
+        said: "leaves 1 finished 1 cut 0 tests 1 steps 8\n",
+        puts: 4,
+        tests: 1,
+        files: &[
+            (
+                1,
+                "out/leaf-000000.smt2",
+                "; rvklee leaf 1\n; kind finished\n; choices .\n; path .\n; steps 8\n; end exit\n",
+            ),
+            (
+                2,
+                "out/test-000000.json",
+                "{\"end\":\"exit 0\",\"format\":2,\"inputs\":[{\"at\":\"00011000\",\"bytes\":\"00\"}],\"leaf\":0,\"output\":\"\",\"path\":\"\",\"steps\":8}\n",
             ),
         ],
     },

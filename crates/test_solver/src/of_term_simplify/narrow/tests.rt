@@ -41,12 +41,7 @@ pub(crate) const TESTS: &[Row] = &[
         11,
     ),
     // A byte is below 300, which has 9 bits.
-    (
-        &[300],
-        &[Compare(Ult, 2, 9)],
-        &[Zeros(1, 0), Number(9, 300), Number(1, 1)],
-        12,
-    ),
+    (&[300], &[Compare(Ult, 2, 9)], &[Number(1, 1)], 10),
     // -3, and a byte with its sign and without, which is not below it.
     (
         &[0xFFFF_FFFD],
@@ -54,12 +49,7 @@ pub(crate) const TESTS: &[Row] = &[
         &[Number(8, 0xFD), Is(Compare(Slt, 0, 10))],
         11,
     ),
-    (
-        &[0xFFFF_FFFD],
-        &[Compare(Slt, 2, 9)],
-        &[Zeros(1, 0), Number(9, 0x1FD), Number(1, 0)],
-        12,
-    ),
+    (&[0xFFFF_FFFD], &[Compare(Slt, 2, 9)], &[Number(1, 0)], 10),
 ];
 
 pub(crate) const ALIKE: &[Row] = &[
@@ -73,8 +63,8 @@ pub(crate) const ALIKE: &[Row] = &[
     (
         &[321],
         &[Compare(Comparison::Eq, 2, 9)],
-        &[Zeros(1, 0), Number(9, 321), Number(1, 0)],
-        12,
+        &[Number(1, 0)],
+        10,
     ),
     // -3, and a byte with its sign and without.
     (
@@ -86,8 +76,8 @@ pub(crate) const ALIKE: &[Row] = &[
     (
         &[0xFFFF_FFFD],
         &[Compare(Comparison::Eq, 2, 9)],
-        &[Zeros(1, 0), Number(9, 0x1FD), Number(1, 0)],
-        12,
+        &[Number(1, 0)],
+        10,
     ),
     // A bit, and both numbers that it may be.
     (
@@ -111,14 +101,8 @@ pub(crate) const ALIKE: &[Row] = &[
     (
         &[0],
         &[Not(2), Compare(Comparison::Eq, 9, 10)],
-        &[
-            Is(Not(2)),
-            Number(32, 0xFFFF_FFFF),
-            Zeros(1, 0),
-            Number(9, 0x1FF),
-            Number(1, 0),
-        ],
-        14,
+        &[Is(Not(2)), Number(32, 0xFFFF_FFFF), Number(1, 0)],
+        12,
     ),
     // A sum is 70 where the byte in it is 65; it is never 3, since the byte would be below 0.
     (
