@@ -1,7 +1,8 @@
 /* A frame of a register protocol: a mark, a command, a register, a value, and a byte that makes the sum of all five 0xFF.
 
-   By hand, for 5 bytes: 14 leaves. Another mark, another sum, a ping, a command that isn't known; and for reading and for
-   writing one without such a register and one for each of the four, since the register's address depends on the frame. */
+   By hand, for 5 bytes: 11 leaves. Another mark, another sum, a ping, a command that isn't known; for reading one without such a
+   register and one for each of the four, since the address that is sent depends on the frame; and for writing one without such a
+   register and one with. */
 #include <stdint.h>
 #include "uart.h"
 

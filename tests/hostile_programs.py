@@ -133,7 +133,7 @@ def pairs():
 
 
 def pointers():
-    """It stores through each word of its input. The first may be anywhere: of its places 16 are followed."""
+    """It stores through each word of its input. The first may be anywhere: of its pages 16 are followed."""
     words = [*base(), add(256, T0, T5), load_word(0, T0, WORD, T1), store_word(0, T1, T1, WORD), add(4, T0, T0),
              branch_word(-12, T5, T0, BELOW), *EXIT]
     return Hostile("pointers", program(words, ALL, 4096), "00011000:256", ["--nodes", "300"], REPORT, nodes=316,
@@ -142,10 +142,11 @@ def pointers():
 
 def near_pointers():
     """It stores each byte of its input at that byte's place among them, so that later bytes may be other than they were."""
-    words = [*base(), add(64, T0, T5), load_word(0, T0, BYTE_UNSIGNED, T1), register_word(0, T1, T0, 0, T2),
+    count = 16
+    words = [*base(), add(count, T0, T5), load_word(0, T0, BYTE_UNSIGNED, T1), register_word(0, T1, T0, 0, T2),
              store_word(0, T1, T2, BYTE), add(1, T0, T0), branch_word(-16, T5, T0, BELOW), *EXIT]
-    return Hostile("near_pointers", program(words, size=4096), "00011000:64", ["--nodes", "300"], REPORT, nodes=316,
-                   steps=leaf_steps(316, 1_000), terms=316 * 100)
+    return Hostile("near_pointers", program(words, size=4096), f"00011000:{count}", ["--nodes", "300"], REPORT, nodes=316,
+                   steps=leaf_steps(316, 1_000), terms=316 * 1_600 * count)
 
 
 def pages():
@@ -180,6 +181,16 @@ def lookups():
                    terms=2 * 300 * turns, asked=turns * MEGA)
 
 
+def scatters():
+    """It stores an unknown byte at an unknown place of a page, 200 times, and exits with what it finds at another."""
+    turns, body = 200, [register_word(0, T2, T0, 0, T1), store_word(0, T2, T1, BYTE), add(7, T2, T2), immediate_word(255, T2, 7, T2)]
+    first = [*base(), load_word(0, T0, BYTE_UNSIGNED, T2), *number(T3, turns)]
+    words = [*first, *loop(body, T3), register_word(0, T2, T0, 0, T1), load_word(0, T1, BYTE_UNSIGNED, A0), add(93, ZERO, A7), ECALL]
+    count = len(first) + turns * (len(body) + 2) + 4
+    return Hostile("scatters", program(words), "00011000:1", [], f"leaves 1 finished 1 cut 0 tests 1 steps {count}", steps=count,
+                   terms=1_600 * turns, is_large=True)
+
+
 def code():
     """It writes each word of its input over the instruction that comes next, and fetches it."""
     turn = [load_word(0, T0, WORD, T1), store_word(24, T1, T3, WORD), add(0, ZERO, ZERO), add(4, T0, T0)]
@@ -204,6 +215,7 @@ def returns():
 
 
 MAKERS = [
-    writes, terms, stages, branches, thresholds, pairs, pointers, near_pointers, pages, products, lookups, code, stack, returns,
+    writes, terms, stages, branches, thresholds, pairs, pointers, near_pointers, pages, products, lookups, scatters, code, stack,
+    returns,
 ]
 PROGRAMS = [make() for make in MAKERS]

@@ -17,7 +17,7 @@ PATCH = TOP / "bench/routines/patch.elf"
 DEAD = ("1017c", "10194", "101a4")
 # By traps.s, which inputs trap at which instruction: the lowest four bits of an input say where.
 TRAPPED = {
-    "10154": ["LoadMisaligned: 1 leaf"], "10160": ["StoreMisaligned: 2 leaves"],
+    "10154": ["LoadMisaligned: 1 leaf"], "10160": ["StoreMisaligned: 1 leaf"],
     "10178": ["LoadAccess: 1 leaf", "LoadMisaligned: 1 leaf"], "10190": ["StoreAccess: 1 leaf", "StoreMisaligned: 1 leaf"],
     "1019c": ["FetchAccess: 1 leaf", "FetchMisaligned: 1 leaf"], "101a0": ["FetchMisaligned: 1 leaf"],
     "101ac": ["Call: 3 leaves"], "101b8": ["Break: 1 leaf"],
@@ -89,7 +89,7 @@ class Pages:
     def whole(self):
         """Nothing is cut, so what no test reaches no input reaches."""
         page = self.page(TRAPS, "traps", "00011000:1")
-        head = "each of the 256 inputs is in one of the 20 leaves"
+        head = "each of the 256 inputs is in one of the 18 leaves"
         self.has("traps", page.head(), head, "46 of 49 instructions", "19 of 20 sides")
         self.has("traps", page.section("unreached"), "no input goes there not taken beq s1, s1, 0x101a6 0x101a0")
         dead = {address for address, row in page.rows.items() if "no input gets here" in row}
@@ -97,20 +97,20 @@ class Pages:
         trapped = {address: re.findall(r"✕ (\w+: \d+ lea(?:f|ves))", row) for address, row in page.rows.items() if "✕" in row}
         self.check("traps of traps", trapped == TRAPPED, trapped)
         self.has("traps", page.section("traps"), "FetchAccess 0x00011000 can't be executed from jalr zero, 0(t3) 0x1019c 1 leaf")
-        self.has("traps", page.section("functions"), "0x10100 20 46 of 49 19 of 20 14 no input gets there")
+        self.has("traps", page.section("functions"), "0x10100 18 46 of 49 19 of 20 13 no input gets there")
 
     def cut(self):
         """Runs of twelve steps. The first branch is the tenth: behind it a load traps, or the run is cut two steps later; behind
-        the next branch a store traps in two ways, or is the last step in two others; all else is cut too."""
+        the next branch a store traps, or is the last step; all else is cut too."""
         page = self.page(TRAPS, "cut", "--steps", "12", "00011000:1")
-        self.has("cut", page.head(), "Of 7 leaves 4 were cut (4 by steps)", "15 of 49 instructions", "4 of 20 sides")
-        unknown = [row for row in page.rows.values() if "unknown: 4 cut leaves stop before it" in row]
+        self.has("cut", page.head(), "Of 5 leaves 3 were cut (3 by steps)", "15 of 49 instructions", "4 of 20 sides")
+        unknown = [row for row in page.rows.values() if "unknown: 3 cut leaves stop before it" in row]
         # Of the last 24 the listing has six at each end.
         self.check("unknown instructions", len(unknown) == 9 + 1 + 12 and "no input g" not in page.body(), len(unknown))
-        self.has("cut", page.section("listing"), "12 words that no test executes: unknown: 4 cut leaves stop before it")
+        self.has("cut", page.section("listing"), "12 words that no test executes: unknown: 3 cut leaves stop before it")
         self.has("cut", page.section("unreached"), "0x10130 to 0x10150 9", "0x1015c 1", "0x10164 to 0x101c0 24")
-        places = "2 leaves before lhu t3, 0(s2) 0x10164", "1 leaf before ecall 0x1015c", "1 leaf before bltu t0, t2, 0x10170"
-        self.has("cut", page.section("cuts"), "Budget of steps, 12: 4 leaves", *places)
+        places = "1 leaf before lhu t3, 0(s2) 0x10164", "1 leaf before ecall 0x1015c", "1 leaf before bltu t0, t2, 0x10170"
+        self.has("cut", page.section("cuts"), "Budget of steps, 12: 3 leaves", *places)
 
     def full(self):
         """From three nodes on no run is forked. The first branch makes three of one; on one side of it the next branch would fork,

@@ -21,7 +21,7 @@ rvklee explore runs PROGRAM with the INPUT bytes symbolic. For each path OUT get
             NAME+OFFSET:COUNT, where without COUNT all of its bytes are meant. Up to eight INPUTs, 1,024 bytes in all
 
   --steps N      the most instructions of a run{steps}
-  --targets N    the most values followed of a number that a run depends on, mostly an address{targets}
+  --targets N    the most values followed of a number that a run depends on, mostly a page{targets}
   --conflicts N  the most clauses that the solver learns for one answer{conflicts}
   --workers N    how many work at it side by side{workers}
   --nodes N      once the tree has so many forks and leaves, no run forks any more{nodes}

@@ -1,5 +1,6 @@
 # The input is stored as bytes and half words, and read back as other widths; and a byte is stored at one of four places.
-# 16 leaves: the word's sign and the half word's (bits 7 and 4), and the place (bits 0 and 1). All else parts nothing.
+# 8 leaves: the word's sign and the half word's (bits 7 and 4), and whether the place is the second (bits 0 and 1). All else parts
+# nothing.
     .section .text.start, "ax"
     .globl _start
 _start:
@@ -32,7 +33,7 @@ _start:
     sb   t2, 4(t1)              # one of four places
     lw   t3, 4(s2)
     lbu  t4, 5(s2)
-    beqz t4, 4f                 # known, now that the place is
+    beqz t4, 4f                 # whether it is the second
     addi a0, a0, 8
 4:  srli t3, t3, 24
     add  a0, a0, t3

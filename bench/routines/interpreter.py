@@ -1,9 +1,9 @@
 """An interpreter of RV32IM, which notes what a run decides.
 
 It shares nothing with the crates: it is written from the RISC-V manual and docs/MACHINE.md. What a run decides is, step by
-step, the fetched word, the side of a branch, the target of a JALR, of a load of two or four bytes whether it is misaligned, of a
-load that isn't its page, the address of a store, and of an ECALL its number and, for a write, its file and where that is one its
-start and length.
+step, the fetched word, the side of a branch, the target of a JALR, of a load or a store of two or four bytes whether it is
+misaligned, of one that isn't its page, and of an ECALL its number and, for a write, its file and where that is one its start and
+length.
 """
 import elf
 
@@ -107,6 +107,15 @@ class Machine:
             raise Trap("FetchMisaligned")
         self.pc = target
 
+    def reach(self, address, size, decided, misaligned):
+        """Comes to the address of a load or a store, where it isn't misaligned."""
+        self.address = address
+        if size > 1:
+            decided.append(int(address % size != 0))
+        if address % size:
+            raise Trap(misaligned)
+        decided.append(address >> 8)
+
     def step(self, decided):
         pc, x, self.address = self.pc, self.x, None
         if pc % 4:
@@ -141,22 +150,15 @@ class Machine:
                 after = self.pc
         elif opcode == 0x03 and f3 in LOADS:
             size, is_signed = LOADS[f3]
-            self.address = address = a + immediate & MASK
-            if size > 1:
-                decided.append(int(address % size != 0))
-            if address % size:
-                raise Trap("LoadMisaligned")
-            decided.append(address >> 8)
+            address = a + immediate & MASK
+            self.reach(address, size, decided, "LoadMisaligned")
             if self.flags(address) is None:
                 raise Trap("LoadAccess")
             result = self.read(address, size)
             result = signed(result, 8 * size) if is_signed else result
         elif opcode == 0x23 and f3 < 3:
             size, address = 1 << f3, a + signed(f7 << 5 | rd, 12) & MASK
-            self.address = address
-            decided.append(address)
-            if address % size:
-                raise Trap("StoreMisaligned")
+            self.reach(address, size, decided, "StoreMisaligned")
             if not (self.flags(address) or 0) & 2:
                 raise Trap("StoreAccess")
             for place in range(size):

@@ -1,9 +1,8 @@
 /* A ring buffer of eight bytes, whose head and tail are the first two bytes, as they are kept over a reset. Puts the other two
    bytes in and exits with the one at the tail, with 254 where the head or the tail is outside, and with 255 where the ring is
    full.
-   18 leaves: one for an index outside, which gcc tests at once; one for a ring that is full at once; and for each of eight heads,
-   by which the store parts, one where the second byte finds it full and one where both fit. The load parts nothing, since the
-   ring is on one page. */
+   4 leaves: one for an index outside, which gcc tests at once; one for a ring that is full at once; one where the second byte
+   finds it full; and one where both fit. Neither the stores nor the load part anything, since the ring is on one page. */
 #define BYTES 4
 #include "routine.h"
 

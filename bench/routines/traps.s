@@ -1,5 +1,5 @@
 # Ways to trap, chosen by the input's upper four bits; the lower four say where. Loads and stores of half words and words that
-# aren't aligned trap, and the stores part by their address too; alignment is tested before the page. 20 leaves.
+# aren't aligned trap; alignment is tested before the page. 18 leaves.
     .section .text.start, "ax"
     .globl _start
 _start:

@@ -1,9 +1,9 @@
 /* A virtual machine with an accumulator, four cells and eight instructions, each a byte and an operand. Runs the two instructions
    of the input and exits with the accumulator; with 255 where an instruction isn't known.
-   115 leaves. One instruction has 12 where the accumulator is 0: one that isn't known, HALT, five that part nothing, four places of
-   a STORE, and SKIP; and 13 where it may be 0, by the sides of SKIP. In front of them stand HALT and one that isn't known, a leaf
-   each; SKIP, which always skips, another; SHOW and the four places of a STORE, 12 each; and the four that set the accumulator, 13
-   each: 3 + 5 * 12 + 4 * 13. The instruction is a jump by a table, with eight targets. */
+   61 leaves. One instruction has 9 where the accumulator is 0: one that isn't known, HALT, six that part nothing, and SKIP; and 10
+   where it may be 0, by the sides of SKIP. In front of them stand HALT and one that isn't known, a leaf each; SKIP, which always
+   skips, another; SHOW and STORE, 9 each; and the four that set the accumulator, 10 each: 3 + 2 * 9 + 4 * 10. The instruction is
+   a jump by a table, with eight targets. */
 #define BYTES 4
 #include "routine.h"
 

@@ -6,7 +6,7 @@ from page.view import file_names, leaves_of
 # In the order in which they are told, what a spent budget means.
 BUDGETS = {
     "steps": ("The runs go on after so many steps. Raise ", code("--steps"), ", or shorten the routine's loops."),
-    "targets": ("A number on which the run depends, as an address, has more values than were followed. Raise ",
+    "targets": ("A number on which the run depends, as a page of memory, has more values than were followed. Raise ",
                 code("--targets"), " (64 at most)."),
     "conflicts": ("The solver's budget was spent before it was known whether any input goes this way. Raise ",
                   code("--conflicts"), "."),
