@@ -119,7 +119,7 @@ pub of_negative : (w : ℕ) (x : BitVector) → IsOfWidth w x → IsOfWidth w (b
 of_negative w x p = rw (← p.width) (in_range 0 [] no_bytes (Negated (Constant x.width x.number)) (as_number w x p))
 
 pub numbered : (g : Graph) (w : ℕ) (taken : Bool) (o : WideSummand) (n m : BitVector) → IsWideSummand g w o → n ≡ m → IsOfWidth w m →
-    IsWideSummand g w (record { taken = taken; by = o.by; signed = o.signed; term = o.term; number = n })
+    IsWideSummand g w (record { taken = taken; by = o.by; term = o.term; number = n })
 numbered g w taken o n m is e number = record { there = is.there; some = is.some; wide = is.wide; number = rw e number }
 
 -- ---- what stands is what an operation is made as
@@ -153,7 +153,7 @@ as_summed g op a b term p is wide worth n =
 
 -- a term that is widened
 pub wide_there : (g : Graph) (w : ℕ) (o : WideSummand) → IsWideSummand g w o → tree_width (wide_term g o) ≡ w
-wide_there g w o is = width-further o.by o.signed (tree_of g o.term) ∙ ap (λ k. k + o.by) (width-tree_of g o.term) ∙ is.wide
+wide_there g w o is = width-further o.by false (tree_of g o.term) ∙ ap (λ k. k + o.by) (width-tree_of g o.term) ∙ is.wide
 
 pub widened_summand : (g m : Graph) (w : ℕ) (o : WideSummand) (t : ℕ) → IsWideSummand g w o → t < length m.nodes → tree_of m t ≡ wide_term g o →
     IsSummand m w (record { taken = o.taken; term = t; number = o.number })

@@ -89,7 +89,7 @@ module _ (g m : Graph) (w : ℕ) (o : WideSummand) (grown : Continues g m) (is :
   pub wide_later : {k : Graph} {id : ℕ} → Stands k id (wide_term m o) (width_of m o.term + o.by) (λ input. tree_value input (wide_term m o)) →
       Stands k id (wide_term g o) w (λ input. tree_value input (wide_term g o))
   wide_later n =
-      let same : wide_term m o ≡ wide_term g o = ap (further o.by o.signed) (tree-grown g m o.term grown is.there) in
+      let same : wide_term m o ≡ wide_term g o = ap (further o.by false) (tree-grown g m o.term grown is.there) in
       at_width wide_kept.wide (at_tree same (Stands-worth (λ input bytes. ap (tree_value input) same) n))
 
 module _ (h g : Graph) (e : h ≡ g) (op : BinaryOp) (a b : ℕ) (term : IsTerm g.inputs (Two op (tree_of g a) (tree_of g b))) where

@@ -25,19 +25,17 @@ use Rattle.term_simplify.proofs.Telling.{either}
 use Rattle.term_simplify.proofs.Words.{number_value, tests_unequal}
 
 -- ---- a number that is widened
-pub wide_some : (by : ℕ) (signed : Bool) (t : Tree) (x : BitVector) → Some x ≡ tree_number t → Some (extend signed by x) ≡ tree_number (extension_by by signed t)
+pub wide_some : (by : ℕ) (t : Tree) (x : BitVector) → Some x ≡ tree_number t → Some (extend false by x) ≡ tree_number (extension_by by false t)
 unfolding extension_by
-wide_some by signed (Constant w v) x e = cc
-wide_some by signed t x e = cc
+wide_some by (Constant w v) x e = cc
+wide_some by t x e = cc
 
-pub wide_none : (by : ℕ) (signed : Bool) (t : Tree) → None ≡ tree_number t → None ≡ tree_number (extension_by by signed t)
+pub wide_none : (by : ℕ) (t : Tree) → None ≡ tree_number t → None ≡ tree_number (extension_by by false t)
 unfolding extension_by
-wide_none by signed (Constant w v) e = cc
-wide_none by false (Widened inner false t) e = refl
-wide_none by true (Widened inner false t) e = refl
-wide_none by true (Widened inner true t) e = refl
-wide_none by false (Widened inner true t) e = refl
-wide_none by signed t e = refl
+wide_none by (Constant w v) e = cc
+wide_none by (Widened inner false t) e = refl
+wide_none by (Widened inner true t) e = refl
+wide_none by t e = refl
 
 no_bytes : All (λ b. b < 256) []
 no_bytes = All-nil (λ b. b < 256)
@@ -61,48 +59,48 @@ summand_from g a b (Some o) first second same term number = record {
 summand_from g a b None first second same term number = tt
 
 -- the number that a term of a graph is, widened
-pub number_widened : (g : Graph) (dag : IsDag g) (by : ℕ) (signed : Bool) (a w : ℕ) (x : Option BitVector) → a < length g.nodes → 1 ≤ by → width_of g a ≡ w → w + by ≤ 64 →
-    x ≡ tree_number (extension_by by signed (tree_of g a)) → IfSome x (λ n. IsOfWidth (w + by) n)
-number_widened g dag by signed a w x there some wide room e =
+pub number_widened : (g : Graph) (dag : IsDag g) (by : ℕ) (a w : ℕ) (x : Option BitVector) → a < length g.nodes → 1 ≤ by → width_of g a ≡ w → w + by ≤ 64 →
+    x ≡ tree_number (extension_by by false (tree_of g a)) → IfSome x (λ n. IsOfWidth (w + by) n)
+number_widened g dag by a w x there some wide room e =
     let here : tree_width (tree_of g a) ≡ w = width-tree_of g a ∙ wide in
-    let term : IsTerm g.inputs (extension_by by signed (tree_of g a)) =
-    term-extension_by g.inputs by signed (tree_of g a) (is_term g a dag there, some, omega (arith, here, room)) in
-    rw (← here, ← width-extension_by by signed (tree_of g a)) (number_in g.inputs (extension_by by signed (tree_of g a)) x term e)
+    let term : IsTerm g.inputs (extension_by by false (tree_of g a)) =
+    term-extension_by g.inputs by false (tree_of g a) (is_term g a dag there, some, omega (arith, here, room)) in
+    rw (← here, ← width-extension_by by false (tree_of g a)) (number_in g.inputs (extension_by by false (tree_of g a)) x term e)
 
 -- ---- an operation that is widened
-further_is : (by : ℕ) (signed : Bool) (t : Tree) → 1 ≤ by → further by signed t ≡ extension_by by signed t
-further_is by signed t some = ap (λ k. cond k t (extension_by by signed t)) (tests_unequal by 0 (λ e. omega (arith, some, e)))
+further_is : (by : ℕ) (t : Tree) → 1 ≤ by → further by false t ≡ extension_by by false t
+further_is by t some = ap (λ k. cond k t (extension_by by false t)) (tests_unequal by 0 (λ e. omega (arith, some, e)))
 
-abbrev pub wide_of : (by : ℕ) → (signed : Bool) → Summand → WideSummand
-wide_of by signed o = record { taken = o.taken; by = by; signed = signed; term = o.term; number = o.number }
+abbrev pub wide_of : (by : ℕ) → Summand → WideSummand
+wide_of by o = record { taken = o.taken; by = by; term = o.term; number = o.number }
 
-module _ (g : Graph) (by : ℕ) (signed : Bool) (op : BinaryOp) (a b : ℕ) (x y : Option BitVector) (some : 1 ≤ by) (exact : is_exact signed op (tree_of g a) (tree_of g b) ≡ true)
-    (first : x ≡ tree_number (extension_by by signed (tree_of g a))) (second : y ≡ tree_number (extension_by by signed (tree_of g b))) where
-  apart : offset_of (widened_two by signed op (tree_of g a) (tree_of g b))
-      ≡ offset_by op x y (extension_by by signed (tree_of g a)) (extension_by by signed (tree_of g b))
+module _ (g : Graph) (by : ℕ) (op : BinaryOp) (a b : ℕ) (x y : Option BitVector) (some : 1 ≤ by) (exact : is_exact op (tree_of g a) (tree_of g b) ≡ true)
+    (first : x ≡ tree_number (extension_by by false (tree_of g a))) (second : y ≡ tree_number (extension_by by false (tree_of g b))) where
+  apart : offset_of (widened_two by op (tree_of g a) (tree_of g b))
+      ≡ offset_by op x y (extension_by by false (tree_of g a)) (extension_by by false (tree_of g b))
   apart = rw (exact, first, second) refl
 
-  pub some_apart : (o : Summand) → Some (offset_in (λ k. extension_by by signed (tree_of g k)) o) ≡ offset_by op x y (extension_by by signed (tree_of g a)) (extension_by by signed (tree_of g b)) →
-      Some (wide_offset_at g (wide_of by signed o)) ≡ offset_of (widened_two by signed op (tree_of g a) (tree_of g b))
-  some_apart o is = rw (further_is by signed (tree_of g o.term) some) (is ∙ sym apart)
+  pub some_apart : (o : Summand) → Some (offset_in (λ k. extension_by by false (tree_of g k)) o) ≡ offset_by op x y (extension_by by false (tree_of g a)) (extension_by by false (tree_of g b)) →
+      Some (wide_offset_at g (wide_of by o)) ≡ offset_of (widened_two by op (tree_of g a) (tree_of g b))
+  some_apart o is = rw (further_is by (tree_of g o.term) some) (is ∙ sym apart)
 
-  pub none_apart : None ≡ offset_by op x y (extension_by by signed (tree_of g a)) (extension_by by signed (tree_of g b)) →
-      None ≡ offset_of (widened_two by signed op (tree_of g a) (tree_of g b))
+  pub none_apart : None ≡ offset_by op x y (extension_by by false (tree_of g a)) (extension_by by false (tree_of g b)) →
+      None ≡ offset_of (widened_two by op (tree_of g a) (tree_of g b))
   none_apart is = is ∙ sym apart
 
 -- ---- other nodes
 module _ (f : ℕ → Tree) where
-  within_read : (by : ℕ) (signed : Bool) (n : Node) → ((op : BinaryOp) (a b : ℕ) → n ≡ Binary op a b → ⊥) → None ≡ offset_of (widened_within by signed (node_tree f n))
-  within_read by signed (Binary op a b) z = absurd (z op a b refl)
-  within_read by signed (Num w v) z = refl
-  within_read by signed (Input i) z = refl
-  within_read by signed (Not a) z = refl
-  within_read by signed (Neg a) z = refl
-  within_read by signed (Compare op a b) z = refl
-  within_read by signed (Ite c a b) z = refl
-  within_read by signed (Extract high low a) z = refl
-  within_read by signed (Extend more fill a) z = refl
-  within_read by signed (Concat a b) z = refl
+  within_read : (by : ℕ) (n : Node) → ((op : BinaryOp) (a b : ℕ) → n ≡ Binary op a b → ⊥) → None ≡ offset_of (widened_within by (node_tree f n))
+  within_read by (Binary op a b) z = absurd (z op a b refl)
+  within_read by (Num w v) z = refl
+  within_read by (Input i) z = refl
+  within_read by (Not a) z = refl
+  within_read by (Neg a) z = refl
+  within_read by (Compare op a b) z = refl
+  within_read by (Ite c a b) z = refl
+  within_read by (Extract high low a) z = refl
+  within_read by (Extend more fill a) z = refl
+  within_read by (Concat a b) z = refl
 
   narrow_read : (n : Node) → ((by : ℕ) (signed : Bool) (a : ℕ) → n ≡ Extend by signed a → ⊥) → operands_widened (node_tree f n) ≡ node_tree f n
   narrow_read (Extend by signed a) z = absurd (z by signed a refl)
@@ -117,20 +115,23 @@ module _ (f : ℕ → Tree) where
   narrow_read (Concat a b) z = refl
 
 module _ (g : Graph) (id : ℕ) (dag : IsDag g) where
-  pub within_two : (by : ℕ) (signed : Bool) (op : BinaryOp) (a b : ℕ) → slice_get g.nodes id ≡ Some (Binary op a b) →
-      widened_two by signed op (tree_of g a) (tree_of g b) ≡ widened_within by signed (tree_of g id)
-  within_two by signed op a b is = ap (widened_within by signed) (sym (tree_by_cases g id (Binary op a b) dag is))
+  pub within_two : (by : ℕ) (op : BinaryOp) (a b : ℕ) → slice_get g.nodes id ≡ Some (Binary op a b) →
+      widened_two by op (tree_of g a) (tree_of g b) ≡ widened_within by (tree_of g id)
+  within_two by op a b is = ap (widened_within by) (sym (tree_by_cases g id (Binary op a b) dag is))
 
-  pub within_none : (by : ℕ) (signed : Bool) (n : Node) → slice_get g.nodes id ≡ Some n → ((op : BinaryOp) (a b : ℕ) → n ≡ Binary op a b → ⊥) →
-      None ≡ offset_of (widened_within by signed (tree_of g id))
-  within_none by signed n is z = within_read (tree_of g) by signed n z ∙ ap (λ t. offset_of (widened_within by signed t)) (sym (tree_by_cases g id n dag is))
+  pub within_none : (by : ℕ) (n : Node) → slice_get g.nodes id ≡ Some n → ((op : BinaryOp) (a b : ℕ) → n ≡ Binary op a b → ⊥) →
+      None ≡ offset_of (widened_within by (tree_of g id))
+  within_none by n is z = within_read (tree_of g) by n z ∙ ap (λ t. offset_of (widened_within by t)) (sym (tree_by_cases g id n dag is))
 
   pub two_within : (op : BinaryOp) (a b : ℕ) → slice_get g.nodes id ≡ Some (Binary op a b) → width_of g a ≡ width_of g id
   two_within op a b is = sym (width-tree_of g a) ∙ sym (width_at g id (Binary op a b) dag is)
 
-  pub widened_here : (by : ℕ) (signed : Bool) (a : ℕ) → slice_get g.nodes id ≡ Some (Extend by signed a) →
-      offset_of (widened_within by signed (tree_of g a)) ≡ wide_offset_of (tree_of g id)
-  widened_here by signed a is = ap wide_offset_of (sym (tree_by_cases g id (Extend by signed a) dag is))
+  pub widened_here : (by a : ℕ) → slice_get g.nodes id ≡ Some (Extend by false a) →
+      offset_of (widened_within by (tree_of g a)) ≡ wide_offset_of (tree_of g id)
+  widened_here by a is = ap wide_offset_of (sym (tree_by_cases g id (Extend by false a) dag is))
+
+  pub signed_here : (by a : ℕ) → slice_get g.nodes id ≡ Some (Extend by true a) → None ≡ wide_offset_of (tree_of g id)
+  signed_here by a is = ap wide_offset_of (sym (tree_by_cases g id (Extend by true a) dag is))
 
   pub not_widened_here : (n : Node) → slice_get g.nodes id ≡ Some n → ((by : ℕ) (signed : Bool) (a : ℕ) → n ≡ Extend by signed a → ⊥) →
       offset_of (tree_of g id) ≡ wide_offset_of (tree_of g id)

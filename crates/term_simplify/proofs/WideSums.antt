@@ -1,5 +1,5 @@
 -- A widened sum that doesn't wrap is worth what that of its widened operands is.
-use Rattle.std.proofs.Common.{◌≡◌, ◌∙◌, ℕ, ◌+◌, ◌<◌, ◌≤◌, Bool, true, false, cond, List, refl, ap, sym, arith, max}
+use Rattle.std.proofs.Common.{◌≡◌, ◌∙◌, ℕ, ◌+◌, ◌<◌, ◌≤◌, true, false, cond, List, refl, ap, sym, arith, max}
 use Rattle.std.specs.List.{All}
 use Rattle.std.proofs.Math.Nat.{le-max_left, le-max_right}
 use Rattle.bv_dag.specs.BitVectors.{BitVector, bvadd, zero_extend}
@@ -40,11 +40,11 @@ module _ (inputs : ℕ) (input : List ℕ) (bytes : All (λ b. b < 256) input) w
     abbrev pub y : BitVector
     y = tree_value input t
 
-    first_widened : (signed : Bool) → IsTerm inputs (Widened by signed s)
-    first_widened signed = (p, some, room)
+    first_widened : IsTerm inputs (Widened by false s)
+    first_widened = (p, some, room)
 
-    second_widened : (signed : Bool) → IsTerm inputs (Widened by signed t)
-    second_widened signed = (q, some, omega (arith, room, same))
+    second_widened : IsTerm inputs (Widened by false t)
+    second_widened = (q, some, omega (arith, room, same))
 
     first_own : IsOfWidth (tree_width s) x
     first_own = in_range inputs input bytes s p
@@ -58,26 +58,25 @@ module _ (inputs : ℕ) (input : List ℕ) (bytes : All (λ b. b < 256) input) w
     second_told : IsReach (tree_width s) (reach_of t) y
     second_told = rw same (told inputs input bytes t q)
 
-    exact : (signed : Bool) (op : BinaryOp) → is_exact signed op s t ≡ true →
-        extend signed by (binary op x y) ≡ binary op (extend signed by x) (extend signed by y)
-    exact false Add e =
+    exact : (op : BinaryOp) → is_exact op s t ≡ true → extend false by (binary op x y) ≡ binary op (extend false by x) (extend false by y)
+    exact Add e =
         zeros_exact (tree_width s) by (reach_of s) (reach_of t) x y first_own second_own first_told second_told (is_at_most _ _ e)
-    exact signed op e = cc
+    exact op e = cc
 
     -- the sum of the widened operands
-    pub term_apart : (signed : Bool) (op : BinaryOp) → IsTerm inputs (Two op (extension_by by signed s) (extension_by by signed t))
-    term_apart signed op = (
-      term-extension_by inputs by signed s (first_widened signed),
-      term-extension_by inputs by signed t (second_widened signed),
-      width-extension_by by signed s ∙ ap (λ k. k + by) same ∙ sym (width-extension_by by signed t),
+    pub term_apart : (op : BinaryOp) → IsTerm inputs (Two op (extension_by by false s) (extension_by by false t))
+    term_apart op = (
+      term-extension_by inputs by false s first_widened,
+      term-extension_by inputs by false t second_widened,
+      width-extension_by by false s ∙ ap (λ k. k + by) same ∙ sym (width-extension_by by false t),
     )
 
-    pub value_apart : (signed : Bool) (op : BinaryOp) → is_exact signed op s t ≡ true →
-        tree_value input (Two op (extension_by by signed s) (extension_by by signed t)) ≡ tree_value input (Widened by signed (Two op s t))
-    value_apart signed op e =
-        ap (λ v. binary op v (tree_value input (extension_by by signed t))) (value-extension_by inputs input by signed s bytes (first_widened signed))
-        ∙ ap (binary op (extend signed by x)) (value-extension_by inputs input by signed t bytes (second_widened signed))
-        ∙ sym (exact signed op e)
+    pub value_apart : (op : BinaryOp) → is_exact op s t ≡ true →
+        tree_value input (Two op (extension_by by false s) (extension_by by false t)) ≡ tree_value input (Widened by false (Two op s t))
+    value_apart op e =
+        ap (λ v. binary op v (tree_value input (extension_by by false t))) (value-extension_by inputs input by false s bytes first_widened)
+        ∙ ap (binary op (extend false by x)) (value-extension_by inputs input by false t bytes second_widened)
+        ∙ sym (exact op e)
 
   -- a term that is worth as much, and is as wide
   pub record IsSame (t u : Tree) : Type 0 where
@@ -88,23 +87,23 @@ module _ (inputs : ℕ) (input : List ℕ) (bytes : All (λ b. b < 256) input) w
   same_itself : (t : Tree) → IsTerm inputs t → IsSame t t
   same_itself t term = record { term = term; wide = refl; worth = refl }
 
-  same_two : (by : ℕ) (signed : Bool) (op : BinaryOp) (s t : Tree) → IsTerm inputs (Widened by signed (Two op s t)) →
-      IsSame (Widened by signed (Two op s t)) (widened_two by signed op s t)
-  same_two by signed op s t term =
-      elim (is_exact signed op s t) as (λ k. is_exact signed op s t ≡ k → IsSame (Widened by signed (Two op s t))
-      (cond k (Two op (extension_by by signed s) (extension_by by signed t)) (Widened by signed (Two op s t)))) [
+  same_two : (by : ℕ) (op : BinaryOp) (s t : Tree) → IsTerm inputs (Widened by false (Two op s t)) →
+      IsSame (Widened by false (Two op s t)) (widened_two by op s t)
+  same_two by op s t term =
+      elim (is_exact op s t) as (λ k. is_exact op s t ≡ k → IsSame (Widened by false (Two op s t))
+      (cond k (Two op (extension_by by false s) (extension_by by false t)) (Widened by false (Two op s t)))) [
         | true ↦ λ e. record {
-          term = term_apart by s t term.0.0 term.0.1 term.0.2 term.1 term.2 signed op;
-          wide = width-extension_by by signed s;
-          worth = value_apart by s t term.0.0 term.0.1 term.0.2 term.1 term.2 signed op e;
+          term = term_apart by s t term.0.0 term.0.1 term.0.2 term.1 term.2 op;
+          wide = width-extension_by by false s;
+          worth = value_apart by s t term.0.0 term.0.1 term.0.2 term.1 term.2 op e;
         }
-        | false ↦ λ e. same_itself (Widened by signed (Two op s t)) term
+        | false ↦ λ e. same_itself (Widened by false (Two op s t)) term
       ] refl
 
-  same_within : (by : ℕ) (signed : Bool) (t : Tree) → IsTerm inputs (Widened by signed t) → IsSame (Widened by signed t) (widened_within by signed t)
-  same_within by signed (Two op s t) term = same_two by signed op s t term
-  same_within by signed t term = same_itself (Widened by signed t) term
+  same_within : (by : ℕ) (t : Tree) → IsTerm inputs (Widened by false t) → IsSame (Widened by false t) (widened_within by t)
+  same_within by (Two op s t) term = same_two by op s t term
+  same_within by t term = same_itself (Widened by false t) term
 
   pub same-operands_widened : (t : Tree) → IsTerm inputs t → IsSame t (operands_widened t)
-  same-operands_widened (Widened by signed t) term = same_within by signed t term
+  same-operands_widened (Widened by false t) term = same_within by t term
   same-operands_widened t term = same_itself t term

@@ -128,9 +128,6 @@ signed_ends_of t = by_sign (ends_of t)
 abbrev pub value_told : Ends → Option BitVector
 value_told a = if a.least.number == a.greatest.number then Some a.least else None
 
-unfoldable pub two_told : BinaryOp → Tree → Tree → Option BitVector
-two_told op s t = value_told (two_ends op (ends_of s) (ends_of t))
-
 -- the number that bits are in each value
 abbrev pub part_told : (high low : ℕ) → Ends → Option BitVector
 part_told high low a =

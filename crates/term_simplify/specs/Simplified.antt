@@ -1,5 +1,5 @@
 -- What a term is simplified to: a tree, from the trees of its operands. What the ends of these tell
--- (`Ends`) is a number. A shift by a number moves bits; the numbers of sums are one (`Offsets`), stand
+-- (`Values`) is a number, or the dividend of a remainder. A shift by a number moves bits; the numbers of sums are one (`Offsets`), stand
 -- last (`Pairs`), and are on one side of an equality (`Balances`); an operation of which few low bits
 -- tell the result is made of as many bits of its operands, and widened. At its own width a product by
 -- a number is as `Times` has it, two terms without a bit in common are the one above the other
@@ -16,14 +16,15 @@ use Rattle.bv_dag.specs.declared.nodes.Node.TheVariants.{Num, Input, Not, Neg, B
 use Rattle.term_trees.specs.Trees.{Tree, Constant, Byte, tree_width}
 use Rattle.term_simplify.specs.Above.{above_by}
 use Rattle.term_simplify.specs.Balances.{Balance, balance_of}
-use Rattle.term_simplify.specs.Ends.{comparison_told, told_or, two_told}
+use Rattle.term_simplify.specs.Ends.{comparison_told, told_or}
 use Rattle.term_simplify.specs.Equalities.{Peeled, peeled}
 use Rattle.term_simplify.specs.Intervals.{Interval, interval_of, joining}
 use Rattle.term_simplify.specs.Narrowing.{negative_narrowing, binary_narrowing, pair_narrowing, choice_narrowing}
 use Rattle.term_simplify.specs.Offsets.{Sum, sum_at, sum_of}
 use Rattle.term_simplify.specs.Pairs.{Pair, pair_of}
-use Rattle.term_simplify.specs.Plain.{tree_number, number_or, number_tree, complement_of, plain_binary, plain_negative, plain_choice, extension_by, part_of, joined_of}
+use Rattle.term_simplify.specs.Plain.{tree_number, number_tree, complement_of, plain_binary, plain_negative, plain_choice, extension_by, part_of, joined_of}
 use Rattle.term_simplify.specs.Times.{own_binary}
+use Rattle.term_simplify.specs.Values.{tree_or, two_told}
 use Rattle.term_simplify.specs.Zeros.{comparison_over_zeros}
 use Rattle.term_simplify.specs.declared.narrowing.Narrow.{Narrow}
 
@@ -86,9 +87,9 @@ made_of op s t = paired_if (pair_of op s t) (summed (sum_of op s t))
 abbrev pub operated : BinaryOp → Tree → Tree → Tree
 operated op s t = moved op (tree_number s) (tree_number t) s (made_of op s t)
 
--- Where its ends are one number, an operation is that.
+-- Where the ends of two terms tell it, an operation is a number, or the first of them.
 unfoldable pub binary_of : BinaryOp → Tree → Tree → Tree
-binary_of op s t = number_or (two_told op s t) (operated op s t)
+binary_of op s t = tree_or (two_told op s t) (operated op s t)
 
 -- Terms of which zeros are left out are not negative, so a comparison with sign is one without.
 abbrev pub comparison_by_low : (signed : Bool) → Comparison → Comparison

@@ -105,8 +105,8 @@ impl Builder {
             (λ input. equal (tree_value input (wide_term self.old b.first))
             (bvadd (tree_value input (wide_term self.old b.second)) b.number))) }
     {
-        let first = self.widened_term(b.first.by, b.first.signed, b.first.term)?;
-        let term = self.widened_term(b.second.by, b.second.signed, b.second.term)?;
+        let first = self.widened_term(b.first.by, b.first.term)?;
+        let term = self.widened_term(b.second.by, b.second.term)?;
         let sum = self.sum(
             width,
             Summand {

@@ -314,7 +314,7 @@ impl Builder {
         ensures term { IsTerm self.old.inputs (node_tree (tree_of self.old) node) }
     {
         match value_of(&self.terms, node) {
-            Some(number) => self.valued(number),
+            Some(plan) => self.stand(plan),
             None => self.unvalued(node),
         }
     }

@@ -1,6 +1,6 @@
 //! Sums and differences: the numbers of two are one, also of one that was widened, and what is negative is taken off.
 
-ghost use Rattle.std.specs.Prelude.{◌≡◌, ◌⊎◌, ◌+◌, ◌<◌, ◌≤◌, ℕ, IfOk, IfSome, OnErr, length, option_map};
+ghost use Rattle.std.specs.Prelude.{◌≡◌, ◌⊎◌, ◌+◌, ◌<◌, ◌≤◌, ℕ, IfOk, IfSome, OnErr, false, length, option_map};
 ghost use Rattle.bv_dag.specs.Graphs.{Graph, IsDag, val, width_of};
 ghost use Rattle.bv_dag.specs.Nodes.{Fits, binary, node_value, node_width, widths_of};
 ghost use Rattle.term_trees.specs.Growth.{Continues};
@@ -118,7 +118,6 @@ fn second_offset(op: BinaryOp, y: Word, o: WideSummand) -> Option<WideSummand>
         BinaryOp::Add | BinaryOp::Sub => Some(WideSummand {
             taken: o.taken,
             by: o.by,
-            signed: o.signed,
             term: o.term,
             number: op.apply(o.number, y),
         }),
@@ -138,14 +137,12 @@ fn first_offset(op: BinaryOp, x: Word, o: WideSummand) -> Option<WideSummand>
         BinaryOp::Add => Some(WideSummand {
             taken: o.taken,
             by: o.by,
-            signed: o.signed,
             term: o.term,
             number: BinaryOp::Add.apply(o.number, x),
         }),
         BinaryOp::Sub => Some(WideSummand {
             taken: !o.taken,
             by: o.by,
-            signed: o.signed,
             term: o.term,
             number: BinaryOp::Sub.apply(x, o.number),
         }),
@@ -245,22 +242,17 @@ impl Builder {
         }
     }
 
-    /// A term with `by` further bits, where there are any.
-    pub(crate) fn widened_term(
-        &mut self,
-        by: u32,
-        signed: bool,
-        id: usize,
-    ) -> Result<usize, NoMemory>
+    /// A term with `by` zeros above it, where there are any.
+    pub(crate) fn widened_term(&mut self, by: u32, id: usize) -> Result<usize, NoMemory>
         requires there { id < length self.old.nodes }
         requires some { 0 < width_of self.old id }
         requires room { width_of self.old id + by ≤ 64 }
         ensures continues { Continues self.old self.new }
         ensures ok { IfOk result (λ more. Stands self.new more
-            (further by signed (tree_of self.old id)) (width_of self.old id + by)
-            (λ input. tree_value input (further by signed (tree_of self.old id)))) }
+            (further by false (tree_of self.old id)) (width_of self.old id + by)
+            (λ input. tree_value input (further by false (tree_of self.old id)))) }
     {
-        self.further(by, signed, id)
+        self.further(by, false, id)
     }
 
     /// The same of a term that is widened first.
@@ -271,7 +263,7 @@ impl Builder {
             (summed (sum_at o.taken (wide_term self.old o) o.number)) width
             (λ input. offset_word o.taken (tree_value input (wide_term self.old o)) o.number)) }
     {
-        let term = self.widened_term(o.by, o.signed, o.term)?;
+        let term = self.widened_term(o.by, o.term)?;
         self.sum(
             width,
             Summand {

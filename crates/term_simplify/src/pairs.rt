@@ -145,7 +145,6 @@ fn beside(terms: &Terms, sum: usize, id: usize) -> Option<WideSummand>
     Some(WideSummand {
         taken: false,
         by: 0,
-        signed: false,
         term: id,
         number: zero(width),
     })
@@ -182,8 +181,8 @@ impl Builder {
             (λ input. offset_word p.taken (binary p.op (tree_value input (wide_term self.old p.first))
             (tree_value input (wide_term self.old p.second))) p.number)) }
     {
-        let first = self.widened_term(p.first.by, p.first.signed, p.first.term)?;
-        let second = self.widened_term(p.second.by, p.second.signed, p.second.term)?;
+        let first = self.widened_term(p.first.by, p.first.term)?;
+        let second = self.widened_term(p.second.by, p.second.term)?;
         let term = self.unsummed_step(Node::Binary(p.op, first, second))?;
         self.sum(
             width,

@@ -1,21 +1,18 @@
-//! Operations that are one number on all input bytes, as the ends of their operands tell.
+//! Operations that the ends of their operands tell: one number on all input bytes, or the dividend of a remainder.
 
-ghost use Rattle.std.specs.Prelude.{◌≡◌, ◌<◌, None, IfOk, IfSome, OnErr, OnOk, length};
+ghost use Rattle.std.specs.Prelude.{◌≡◌, ◌<◌, ℕ, List, All, None, IfSome, length, option_map};
 ghost use Rattle.bv_dag.specs.Graphs.{IsDag};
 ghost use Rattle.bv_dag.specs.Nodes.{Fits, widths_of};
-ghost use Rattle.term_trees.specs.Growth.{Continues};
-ghost use Rattle.term_trees.specs.Trees.{tree_of};
+ghost use Rattle.term_trees.specs.Trees.{node_tree, tree_of, tree_value};
 ghost use Rattle.term_simplify.specs.Ends as ends;
 ghost use Rattle.term_simplify.specs.Moves.{unvalued};
-ghost use Rattle.term_simplify.specs.Plain.{number_tree};
+ghost use Rattle.term_simplify.specs.Plans.{PlanFits, plan_tree};
 ghost use Rattle.term_simplify.specs.Simplified.{simplified};
-ghost use Rattle.term_simplify.specs.Values.{IsValue};
+ghost use Rattle.term_simplify.specs.Values as values;
 
-use crate::builder::Builder;
 use crate::ends::{Ends, ends_of, two};
-use crate::plan::number;
+use crate::plan::{Plan, number};
 use bv_dag::{BinaryOp, Node, Word};
-use std::alloc::AllocError as NoMemory;
 use term_table::Terms;
 
 /// The one value between two ends.
@@ -29,20 +26,44 @@ fn value_told(a: Ends) -> Option<Word>
     }
 }
 
-/// The number that an operation is on all input bytes.
-fn two_told(terms: &Terms, op: BinaryOp, a: usize, b: usize) -> Option<Word>
+/// Whether an operation is a remainder whose least divisor is above the greatest dividend.
+fn is_dividend(op: BinaryOp, greatest: Word, least: Word) -> bool
+    ensures { result ≡ values.is_dividend op greatest least }
+{
+    match op {
+        BinaryOp::Urem => greatest.number() < least.number(),
+        _ => false,
+    }
+}
+
+/// What an operation is on all input bytes.
+fn two_told(terms: &Terms, op: BinaryOp, a: usize, b: usize) -> Option<Plan>
     requires { Fits terms.now.inputs (widths_of terms.now.nodes) (Node.Binary op a b) }
-    ensures is { result ≡ ends.two_told op (tree_of terms.now a) (tree_of terms.now b) }
+    ensures is { option_map (plan_tree terms.now) result
+        ≡ values.two_told op (tree_of terms.now a) (tree_of terms.now b) }
+    ensures fits { IfSome result (PlanFits terms.now) }
     ensures fit { IsDag terms.now }
 {
     let left = ends_of(terms, a);
-    value_told(two(op, left, ends_of(terms, b)))
+    let right = ends_of(terms, b);
+    if is_dividend(op, left.greatest, right.least) {
+        return Some(Plan::Term(a));
+    }
+    match value_told(two(op, left, right)) {
+        Some(x) => Some(number(x)),
+        None => None,
+    }
 }
 
-/// The number that a node is on all input bytes, if it is such an operation.
-pub(crate) fn value_of(terms: &Terms, node: Node) -> Option<Word>
+/// What a node is on all input bytes, if it is such an operation.
+pub(crate) fn value_of(terms: &Terms, node: Node) -> Option<Plan>
     requires { Fits terms.now.inputs (widths_of terms.now.nodes) node }
-    ensures some { IfSome result (λ x. IsValue terms.now node x) }
+    ensures fits { IfSome result (PlanFits terms.now) }
+    ensures tree { IfSome result (λ plan. simplified (tree_of terms.now) node
+        ≡ plan_tree terms.now plan) }
+    ensures worth { IfSome result (λ plan. (input : List ℕ) → All (λ b. b < 256) input
+        → tree_value input (plan_tree terms.now plan)
+        ≡ tree_value input (node_tree (tree_of terms.now) node)) }
     ensures none { result ≡ None → simplified (tree_of terms.now) node
         ≡ unvalued (tree_of terms.now) node }
     ensures fit { IfSome result (λ _. IsDag terms.now) }
@@ -50,17 +71,5 @@ pub(crate) fn value_of(terms: &Terms, node: Node) -> Option<Word>
     match node {
         Node::Binary(op, a, b) => two_told(terms, op, a, b),
         _ => None,
-    }
-}
-
-impl Builder {
-    /// A number.
-    pub(crate) fn valued(&mut self, word: Word) -> Result<usize, NoMemory>
-        ensures there { IfOk result (λ id. id < length self.new.nodes) }
-        ensures tree { IfOk result (λ id. tree_of self.new id ≡ number_tree word) }
-        ensures ok { OnOk result (Continues self.old self.new) }
-        ensures err { OnErr result (self.new ≡ self.old) }
-    {
-        self.stand(number(word))
     }
 }

@@ -143,3 +143,23 @@ pub(crate) const REMAINDERS: &[Step] = &[
         },
     ),
 ];
+
+/// A remainder by what is always greater is the dividend; one by as much isn't.
+pub(crate) const DIVIDENDS: &[Step] = &[
+    Gives(X, 0),
+    Gives(
+        Call::Node(Node::Num {
+            width: 8,
+            value: 10,
+        }),
+        1,
+    ),
+    Gives(Call::Node(Node::Binary(BinaryOp::Urem, 0, 1)), 2),
+    Gives(Call::Node(Node::Binary(BinaryOp::Urem, 2, 1)), 2),
+    Gives(Call::Node(Node::Num { width: 8, value: 9 }), 3),
+    Gives(Call::Node(Node::Binary(BinaryOp::Urem, 2, 3)), 4),
+    Stands(4, Node::Binary(BinaryOp::Urem, 2, 3)),
+    // By a term, which is 246 at least.
+    Gives(Call::Node(Node::Not(2)), 5),
+    Gives(Call::Node(Node::Binary(BinaryOp::Urem, 2, 5)), 2),
+];

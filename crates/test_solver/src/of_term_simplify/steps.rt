@@ -1,7 +1,7 @@
 //! Calls in turn, each with the place that it answers and the terms that it makes on the way.
 
 use crate::of_term_simplify::bits::{MOVED, PARTS};
-use crate::of_term_simplify::bytes::{MASKED, REMAINDERS, SIMPLIFIED};
+use crate::of_term_simplify::bytes::{DIVIDENDS, MASKED, REMAINDERS, SIMPLIFIED};
 use crate::of_term_simplify::calls::{Call, called, is_node};
 use crate::of_term_simplify::lifted::LIFTED;
 use bv_dag::Node;
@@ -54,7 +54,9 @@ fn goes_on_alone(builder: &mut Builder) -> Result<bool, NoMemory> {
 
 #[test]
 fn terms_of_an_input_byte(rt: HostRuntime) -> Result<(), Fail> {
-    for steps in [SIMPLIFIED, MASKED, REMAINDERS, MOVED, PARTS, LIFTED] {
+    for steps in [
+        SIMPLIFIED, MASKED, REMAINDERS, DIVIDENDS, MOVED, PARTS, LIFTED,
+    ] {
         let mut builder = Builder::new(Terms::new(rt.alloc(), 2));
         check_steps(&rt, &mut builder, steps)?;
         assert!(rt; goes_on_alone(&mut builder)?);

@@ -10,7 +10,7 @@ extended-requires c =
 
 pub returns-in-Some-clause-is : goal.returns-in-Some-clause-is
 returns-in-Some-clause-is c =
-    rw c.extended.ensures (wide_some c.args.by c.args.signed _ c.in-Some.x (sym c.in-Some.is ∙ c.number_at.ensures.number))
+    rw c.extended.ensures (wide_some c.args.by _ c.in-Some.x (sym c.in-Some.is ∙ c.number_at.ensures.number))
 
 pub returns-in-None-clause-is : goal.returns-in-None-clause-is
-returns-in-None-clause-is c = wide_none c.args.by c.args.signed _ (sym c.in-None.is ∙ c.number_at.ensures.number)
+returns-in-None-clause-is c = wide_none c.args.by _ (sym c.in-None.is ∙ c.number_at.ensures.number)

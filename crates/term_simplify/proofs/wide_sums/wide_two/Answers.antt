@@ -1,4 +1,4 @@
-use Rattle.std.proofs.Common.{◌≡◌, ◌∙◌, ◌+◌, ◌<◌, ap, length, sym, refl}
+use Rattle.std.proofs.Common.{◌≡◌, ◌∙◌, ◌+◌, ◌<◌, ap, false, length, sym, refl}
 use Rattle.bv_dag.specs.Graphs.{width_of}
 use Rattle.term_simplify.proofs.Reading.{has_bits, has_second_term, has_term}
 use Rattle.term_simplify.proofs.Telling.{either}
@@ -30,20 +30,20 @@ returns-in-Some-clause-some c =
     let there : o.term < length g.nodes = either (λ k. k < length g.nodes) o.term c.args.a c.args.b c.in-Some.ensures.term first second in
     let wide : width_of g o.term ≡ w = either (λ k. width_of g k ≡ w) o.term c.args.a c.args.b c.in-Some.ensures.term refl (sym c.requires.fits.1) in
     let number = c.in-Some.ensures.number (w + c.args.by)
-    (number_widened g dag c.args.by c.args.signed c.args.a w _ first c.requires.some refl c.requires.room c.wide_number-x.ensures.is)
-    (number_widened g dag c.args.by c.args.signed c.args.b w _ second c.requires.some (sym c.requires.fits.1) c.requires.room c.wide_number-y.ensures.is) in
+    (number_widened g dag c.args.by c.args.a w _ first c.requires.some refl c.requires.room c.wide_number-x.ensures.is)
+    (number_widened g dag c.args.by c.args.b w _ second c.requires.some (sym c.requires.fits.1) c.requires.room c.wide_number-y.ensures.is) in
     rw c.widened.ensures (record { there = there; some = (has_bits g o.term dag there).0; wide = ap (λ k. k + c.args.by) wide; number = number })
 
 pub returns-in-Some-clause-is : goal.returns-in-Some-clause-is
 returns-in-Some-clause-is c =
     let g = c.args.terms.now in
-    rw c.widened.ensures (some_apart g c.args.by c.args.signed c.args.op c.args.a c.args.b c.wide_number-x.result c.wide_number-y.result c.requires.some
+    rw c.widened.ensures (some_apart g c.args.by c.args.op c.args.a c.args.b c.wide_number-x.result c.wide_number-y.result c.requires.some
     (sym c.is_exact.ensures ∙ c.if-not-is_exact.false) c.wide_number-x.ensures.is c.wide_number-y.ensures.is c.in-Some.o
-    (c.in-Some.ensures.is (λ k. extension_by c.args.by c.args.signed (tree_of g k))))
+    (c.in-Some.ensures.is (λ k. extension_by c.args.by false (tree_of g k))))
 
 pub returns-in-None-clause-is : goal.returns-in-None-clause-is
 returns-in-None-clause-is c =
     let g = c.args.terms.now in
-    none_apart g c.args.by c.args.signed c.args.op c.args.a c.args.b c.wide_number-x.result c.wide_number-y.result c.requires.some
+    none_apart g c.args.by c.args.op c.args.a c.args.b c.wide_number-x.result c.wide_number-y.result c.requires.some
     (sym c.is_exact.ensures ∙ c.if-not-is_exact.false) c.wide_number-x.ensures.is c.wide_number-y.ensures.is
-    (c.in-None.ensures.is (λ k. extension_by c.args.by c.args.signed (tree_of g k)))
+    (c.in-None.ensures.is (λ k. extension_by c.args.by false (tree_of g k)))

@@ -24,10 +24,10 @@ returns-in-Binary-clause-some c =
 
 pub returns-in-Binary-clause-is : goal.returns-in-Binary-clause-is
 returns-in-Binary-clause-is c =
-    c.wide_two.ensures.is ∙ ap offset_of (within_two c.args.terms.now c.args.id c.node.ensures.fit c.args.by c.args.signed _ _ _ c.in-Binary.ensures.is)
+    c.wide_two.ensures.is ∙ ap offset_of (within_two c.args.terms.now c.args.id c.node.ensures.fit c.args.by _ _ _ c.in-Binary.ensures.is)
 
 pub returns-in_default : goal.returns-in_default
 returns-in_default c = record {
   some = tt;
-  is = within_none c.args.terms.now c.args.id c.node.ensures.fit c.args.by c.args.signed c.node.result c.node.ensures.is c.in_default.not-Binary;
+  is = within_none c.args.terms.now c.args.id c.node.ensures.fit c.args.by c.node.result c.node.ensures.is c.in_default.not-Binary;
 }
