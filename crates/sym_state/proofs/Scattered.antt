@@ -1,10 +1,11 @@
 -- Memory whose bytes on a page are stored one after the other, where a way comes to them.
 use Rattle.std.proofs.Common.{◌≡◌, ◌≢◌, ℕ, ◌+◌, ◌-◌, ◌*◌, ◌/◌, ◌%◌, ◌^◌, ◌<◌, ◌&&◌, Bool, true, false, List, [], ◌∷◌, ◌++◌, length, refl, sym, ap, subst, ◌∙◌, arith}
-use Rattle.std.specs.Prelude.{◌==◌, All, Result, Ok, Err, IfOk, if◌then◌else◌, nat_le, nat_lt}
+use Rattle.std.specs.Prelude.{◌==◌, All, Result, IfOk, if◌then◌else◌, nat_le, nat_lt}
 use Rattle.std.proofs.Math.Path.{fun_ext}
 use Rattle.std.proofs.Math.Nat.{mod-lt}
 use Rattle.std.proofs.lemmas.Bool.Decides.{nat_tests}
 use Rattle.std.proofs.lemmas.List.{get_or_append_left, get_or_push, length-append}
+use Rattle.std.proofs.lemmas.Result.{IfOk-weaker}
 use Rattle.bv_dag.specs.Graphs.{Graph, width_of}
 use Rattle.cow_pages.specs.SymbolicMemory.{SymbolicMemory, memory_byte, memory_flags}
 use Rattle.cow_pages.specs.declared.byte.Byte.{Byte}
@@ -134,16 +135,12 @@ pub place_small : (width : LoadWidth) (x : ℕ) → x % bytes width < bytes widt
 place_small width x = mod-lt x (some_bytes width)
 
 -- ---- One byte.
-mapped : {A E : Type 0} {P Q : A → Type 0} (r : Result A E) → ((a : A) → P a → Q a) → IfOk r P → IfOk r Q
-mapped (Err e) f holds = tt
-mapped (Ok a) f holds = f a holds
-
 module _ {E : Type 0} (g h k : Graph) (r : Result Byte E) (m : SymbolicMemory) (width : LoadWidth) (way : Way) (stored : List Byte) (address : ℕ) (bit : Bit) where
   pub gives_there : IsByte g (memory_byte m address) → AreBytesFor g width stored
       → GivesBit g h bit (λ input. address / bytes width * bytes width == come_to g way input)
       → IfOk r (λ byte. GivesByte h k byte (λ input. if bit_worth h input bit then byte_worth h input (listed_byte stored (address % bytes width)) else bytes_worth h m input address))
       → IfOk r (λ byte. GivesByte g k byte (λ input. worth_after g m width way stored input address))
-  gives_there kept for test gives = mapped r (λ byte given. record {
+  gives_there kept for test gives = IfOk-weaker r _ _ (λ byte given. record {
     continues = Continues-trans test.continues given.continues;
     is_byte = given.is_byte;
     worth = λ input small.
@@ -159,7 +156,7 @@ module _ {E : Type 0} (g h k : Graph) (r : Result Byte E) (m : SymbolicMemory) (
       → bit_expression h bit ≡ comes_to (as_way g way) (address / bytes width * bytes width)
       → IfOk r (λ byte. byte_expression k byte ≡ byte_where (bit_expression h bit) (byte_expression h (listed_byte stored (address % bytes width))) (bytes_expressed h m address))
       → IfOk r (λ byte. byte_expression k byte ≡ expressed_after g m width way stored address)
-  expressed_there grown kept for test is = mapped r (λ byte same.
+  expressed_there grown kept for test is = IfOk-weaker r _ _ (λ byte same.
       same ∙ cc (
         test,
         byte_expression-grown g h (listed_byte stored (address % bytes width)) grown (for.are_bytes (address % bytes width) (place_small width address)),

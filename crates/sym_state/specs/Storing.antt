@@ -31,7 +31,7 @@ with_expressions byte address (e ∷ es) =
 abbrev pub way_bits : Way → Tree
 way_bits way = part_of (way.first + way.count - 1) way.first way.term
 
--- it leads on so many times as far as by 1 to come to an address
+-- which number its bits are where it comes to an address
 abbrev pub steps_to : Way → (address : ℕ) → ℕ
 steps_to way address = (address - way.start) / 2 ^ way.scale
 

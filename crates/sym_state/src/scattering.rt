@@ -22,7 +22,7 @@ use bv_dag::{Comparison, Node};
 use cow_pages::{Byte, Pages};
 use rv_decode::LoadWidth;
 use rv_machine::PAGE;
-use std::alloc::AllocError as NoMemory;
+use std::alloc::{AllocError as NoMemory, Global};
 use term_simplify::Builder;
 
 /// A way to a place on a page that something is stored to, by the bits that a term is.
@@ -34,24 +34,24 @@ pub(crate) struct Along {
     pub(crate) bits: usize,
 }
 
-/// Puts the low bytes of a value behind others, the lowest first, so many.
-pub(crate) fn push_bytes(
+/// The low bytes of a value, the lowest first, so many.
+pub(crate) fn low_bytes(
+    alloc: Global,
     terms: &mut Builder,
-    bytes: &mut Vec<Byte>,
     value: Value,
     count: u32,
-) -> Result<(), NoMemory>
+) -> Result<Vec<Byte>, NoMemory>
     requires wide { IsWide terms.old value }
     requires few { count ≤ 4 }
-    requires none { length bytes.old.items ≡ 0 }
     ensures continues { Continues terms.old terms.new }
-    ensures ok { OnOk result (MakesBytes terms.old terms.new value count bytes.new.items) }
+    ensures ok { IfOk result (λ bytes. MakesBytes terms.old terms.new value count bytes.items) }
 {
+    let mut bytes = Vec::new(alloc);
     for at in 0..count {
         let byte = byte_at(terms, value, at)?;
         bytes.push(byte)?;
     }
-    Ok(())
+    Ok(bytes)
 }
 
 /// How often a way leads on to come to an address, if it may.

@@ -7,7 +7,7 @@ ghost use Rattle.fork_spec.specs.Decisions.{as_load};
 ghost use Rattle.sym_state.specs.Scattering.{MakesStored};
 ghost use Rattle.sym_state.specs.Values.{IsWide};
 
-use crate::scattering::{Along, push_bytes, scatter};
+use crate::scattering::{Along, low_bytes, scatter};
 use crate::selecting::bytes_of;
 use crate::state::State;
 use crate::value::Value;
@@ -49,8 +49,7 @@ impl State {
             low: way.first,
             operand: way.term,
         })?;
-        let mut bytes = Vec::new(self.alloc);
-        push_bytes(&mut self.terms, &mut bytes, value, bytes_of(width))?;
+        let bytes = low_bytes(self.alloc, &mut self.terms, value, bytes_of(width))?;
         let along = Along {
             width,
             page,

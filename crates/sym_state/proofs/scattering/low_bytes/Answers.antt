@@ -2,7 +2,7 @@ use Rattle.std.proofs.Common.{◌+◌, subst, sym}
 use Rattle.sym_state.specs.Scattering.{MakesBytes}
 use Rattle.sym_state.proofs.Growing.{IsWide-grown}
 use Rattle.sym_state.proofs.Scattered.{makes_more}
-use Rattle.sym_state.proofs.scattering.push_bytes.Goals as goal
+use Rattle.sym_state.proofs.scattering.low_bytes.Goals as goal
 
 pub byte_at-requires-clause-wide : goal.byte_at-requires-clause-wide
 byte_at-requires-clause-wide c = IsWide-grown _ _ c.args.value c.loop-at.invariant.continues c.requires.wide
