@@ -20,57 +20,6 @@ use Rattle.report_text.specs.Events.{actors_text, cut_text, deed_text, event_tex
 use Rattle.report_text.specs.Legible.{AreLegible, IsLegibleDeed, IsLegibleLine}
 use Rattle.report_text.proofs.ListsBack.{items_told, lines_told}
 
--- ---- sides
-
-abbrev causes : List (List ℕ × Cause)
-causes = (codes "steps", Steps) ∷ (codes "targets", Targets) ∷ (codes "conflicts", Conflicts) ∷ (codes "nodes", Nodes) ∷ []
-
--- the budget behind an exclamation mark, and none where there is no such mark
-abbrev mark : Reader (Option Cause)
-mark text = option_or (made Some (option_and_then (named causes) (behind (codes "!") text))) (Some (None, text))
-
-abbrev side : Reader Side
-side text =
-    option_and_then (λ (c, rest). made (λ cut. record { choice = c; cut = cut }) (mark rest))
-    (option_and_then choice (behind (codes " ") text))
-
--- no mark stands there
-abbrev HasNoMark : List ℕ → Type 0
-HasNoMark text = behind (codes "!") text ≡ None
-
-mark_back : (cut : Option Cause) (rest : List ℕ) → HasNoMark rest → mark (mark_text cut ++ rest) ≡ Some (cut, rest)
-unfolding named behind
-mark_back None rest none = rw none refl
-mark_back (Some Steps) rest none = refl
-mark_back (Some Targets) rest none = refl
-mark_back (Some Conflicts) rest none = refl
-mark_back (Some Nodes) rest none = refl
-
-side_back : (s : Side) (rest : List ℕ) → IsSmallChoice s.choice → HasNoMark rest → side (side_text s ++ rest) ≡ Some (s, rest)
-side_back s rest small none =
-    ap side (three_pieces (codes " ") (choice_text s.choice) (mark_text s.cut) rest)
-    ∙ rw (behind_word (codes " ") (choice_text s.choice ++ (mark_text s.cut ++ rest)), choice_back s.choice (mark_text s.cut ++ rest) small, mark_back s.cut rest none) refl
-
-no_mark_behind : (s : Side) (rest : List ℕ) → HasNoMark (side_text s ++ rest)
-unfolding behind
-no_mark_behind s rest = refl
-
-no_mark_at_end : (rest : List ℕ) → HasNoMark (codes "\n" ++ rest)
-unfolding behind
-no_mark_at_end rest = refl
-
-no_side_at_end : (rest : List ℕ) → side (codes "\n" ++ rest) ≡ None
-unfolding behind
-no_side_at_end rest = refl
-
--- sides up to the end of their line
-sides_told : (sides others : List Side) (more rest : List ℕ) → All (λ (s : Side). IsSmallChoice s.choice) sides → All (λ (s : Side). IsSmallChoice s.choice) others →
-    sides_text sides ++ (codes "\n" ++ more) ≡ sides_text others ++ (codes "\n" ++ rest) → (sides ≡ others) × (more ≡ rest)
-sides_told sides others more rest small also e =
-    let both = items_told side side_text (λ (s : Side). IsSmallChoice s.choice) HasNoMark side_back no_mark_behind sides others (codes "\n" ++ more) (codes "\n" ++ rest)
-    small also (no_mark_at_end more) (no_mark_at_end rest) (no_side_at_end more) (no_side_at_end rest) e in
-    (both.0, append_cancel_left (codes "\n") more rest both.1)
-
 -- ---- the worker and the node
 
 four_pieces : (a s b e rest : List ℕ) → (((a ++ s) ++ b) ++ e) ++ rest ≡ a ++ (s ++ (b ++ (e ++ rest)))

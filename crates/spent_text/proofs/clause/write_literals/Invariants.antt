@@ -3,8 +3,8 @@ use Rattle.std.specs.Prelude.{All}
 use Rattle.std.specs.List.{flat_map}
 use Rattle.cnf_form.specs.Literals.{Literal}
 use Rattle.fork_spec.specs.Leaves.{IsSmall}
-use Rattle.report_text.specs.Learnt.{literal_text}
-use Rattle.report_text.proofs.learnt.write_literals.Given as goal
+use Rattle.spent_text.specs.LearntLine.{literal_text}
+use Rattle.spent_text.proofs.clause.write_literals.Given as goal
 
 abbrev pub invariant-loop-literal : goal.invariant-loop-literal
 invariant-loop-literal l = record {

@@ -4,7 +4,7 @@ use Rattle.hex.specs.Hex.{encode_lower}
 use Rattle.fork_spec.specs.Evidence.{Found}
 use Rattle.text_parts.specs.Names.{eight_digits}
 use Rattle.text_parts.proofs.Made.{made_text}
-use Rattle.report_text.proofs.spent.found_line.Goals as goal
+use Rattle.spent_text.proofs.found.found_line.Goals as goal
 
 regroup : (v value s input e : List ℕ) → v ++ (value ++ (s ++ (input ++ e)))
     ≡ v ++ value ++ s ++ input ++ e

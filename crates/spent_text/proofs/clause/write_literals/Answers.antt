@@ -4,8 +4,8 @@ use Rattle.std.proofs.lemmas.List.{flat_map_more, take_more}
 use Rattle.std.proofs.lemmas.List.Elements.{All-more}
 use Rattle.cnf_form.specs.Literals.{Literal}
 use Rattle.fork_spec.specs.Leaves.{IsSmall}
-use Rattle.report_text.specs.Learnt.{literal_text}
-use Rattle.report_text.proofs.learnt.write_literals.Goals as goal
+use Rattle.spent_text.specs.LearntLine.{literal_text}
+use Rattle.spent_text.proofs.clause.write_literals.Goals as goal
 
 pub loop-literal-preserved : goal.loop-literal-preserved
 loop-literal-preserved c =

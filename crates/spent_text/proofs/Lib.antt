@@ -1,0 +1,4 @@
+pub mod ListsBack
+pub mod SidesBack
+pub mod FoundBack
+pub mod ClauseBack

@@ -1,0 +1,5 @@
+pub mod Sides
+pub mod FoundLine
+pub mod LearntLine
+pub mod Legible
+pub mod LineReading
