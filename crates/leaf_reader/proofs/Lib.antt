@@ -4,3 +4,4 @@ pub mod ItemLoops
 pub mod NextLines
 pub mod LinesFrom
 pub mod Loop
+pub mod TermsSmall

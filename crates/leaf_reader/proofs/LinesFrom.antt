@@ -22,7 +22,7 @@ use Rattle.text_parts.proofs.Joined.{five_pieces, seven_pieces, three_pieces, tw
 use Rattle.text_parts.proofs.Words.{Says, from_before, from_behind, from_named, from_number, from_one, from_three, from_two}
 
 -- something that was made of what was read
-made_from : {X Y : Type 0} (make : X → Y) (o : Option (X × List ℕ)) (y : Y) (rest : List ℕ) →
+pub made_from : {X Y : Type 0} (make : X → Y) (o : Option (X × List ℕ)) (y : Y) (rest : List ℕ) →
     made make o ≡ Some (y, rest) → (x : X) × (o ≡ Some (x, rest)) × (make x ≡ y)
 made_from make None y rest h = cc
 made_from {X} {Y} make (Some p) y rest h =
@@ -30,7 +30,7 @@ made_from {X} {Y} make (Some p) y rest h =
     let parts : (X × List ℕ) → List ℕ → X × List ℕ = λ q t. (q.0, t) in
     (p.0, ap (λ (t : List ℕ). Some (parts p t)) (ap (λ (q : Y × List ℕ). q.1) same), ap (λ (q : Y × List ℕ). q.0) same)
 
-word_from : {X : Type 0} (n : ℕ) (o : Option X) (x : X) → if_word n o ≡ Some x → o ≡ Some x
+pub word_from : {X : Type 0} (n : ℕ) (o : Option X) (x : X) → if_word n o ≡ Some x → o ≡ Some x
 word_from n o x h = go (nat_lt n (2 ^ 32)) h
   where
     go : (b : Bool) → (if b then o else None) ≡ Some x → o ≡ Some x
@@ -157,7 +157,7 @@ word_line make print table word text line rest says shape h =
     ∙ sym (head_piece word (print a.0) (codes "\n") rest)
     ∙ ap (λ t. t ++ rest) (sym (shape a.0)) ∙ ap (λ (l : LeafLine). line_text l ++ rest) a.2
 
-from_node_line : (text : List ℕ) (line : LeafLine) (rest : List ℕ) → node_line text ≡ Some (line, rest) →
+pub from_node_line : (text : List ℕ) (line : LeafLine) (rest : List ℕ) → node_line text ≡ Some (line, rest) →
     text ≡ line_text line ++ rest
 unfolding node_line
 from_node_line text line rest h =

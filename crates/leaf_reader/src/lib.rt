@@ -10,4 +10,9 @@ mod take_heading;
 mod take_terms;
 mod term;
 
+pub use cursor::{behind, eight, named, number, one, three};
 pub use leaf_reader::{SmtRefused, read_leaf};
+pub use lists::take_choice;
+pub use take_counts::take_count;
+pub use take_terms::{NodeSaid, assertion_said, node_said};
+pub use term::take_term;

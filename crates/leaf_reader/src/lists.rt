@@ -37,7 +37,7 @@ fn take_value(text: &[u8]) -> Option<(Choice, &[u8])>
 
 /// A choice.
 #[tactic(auto, unfolding(text_parts::specs::Items::choice))]
-fn take_choice(text: &[u8]) -> Option<(Choice, &[u8])>
+pub fn take_choice(text: &[u8]) -> Option<(Choice, &[u8])>
     ensures { option_map (λ found. (found.0, found.1.now)) result ≡ spec.choice text.now }
 {
     match take_plain_choice(text) {

@@ -12,7 +12,7 @@ use smt_text::Spot;
 use std::alloc::Global;
 
 /// A number below 2^32 before the end of the line.
-fn take_count(text: &[u8]) -> Option<(u32, &[u8])>
+pub fn take_count(text: &[u8]) -> Option<(u32, &[u8])>
     ensures { option_map (λ found. (found.0, found.1.now)) result ≡ spec.count_to_end text.now }
 {
     let (count, rest) = one(text, "\n")?;

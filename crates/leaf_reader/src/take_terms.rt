@@ -14,16 +14,16 @@ use smt_text::Spot;
 use std::alloc::AllocError as NoMemory;
 
 /// A node with its number and its width.
-#[derive(Clone, Copy)]
-struct NodeSaid {
-    id: u64,
-    width: u64,
-    node: Node,
+#[derive(Clone, Copy, Debug, PartialEq, Eq)]
+pub struct NodeSaid {
+    pub id: u64,
+    pub width: u64,
+    pub node: Node,
 }
 
 /// The line of a node, whatever its number and its width.
 #[tactic(auto, unfolding(smt_text::specs::LineReading::node_line))]
-fn node_said(text: &[u8]) -> Option<(NodeSaid, &[u8])>
+pub fn node_said(text: &[u8]) -> Option<(NodeSaid, &[u8])>
     ensures { option_map (λ found. (line_said found.0, found.1.now)) result
         ≡ spec.node_line text.now }
 {
@@ -46,7 +46,7 @@ fn output_said(text: &[u8]) -> Option<((u64, u64), &[u8])>
 }
 
 /// The line of an assertion: the number of its term.
-fn assertion_said(text: &[u8]) -> Option<(u64, &[u8])>
+pub fn assertion_said(text: &[u8]) -> Option<(u64, &[u8])>
     ensures { option_map (λ found. (found.0, found.1.now)) result ≡ spec.assertion_said text.now }
 {
     one(behind(text, "(assert (= n")?, " (_ bv1 1)))\n")

@@ -151,7 +151,7 @@ fn take_operands(head: Head, text: &[u8]) -> Option<(Node, &[u8])>
 
 /// The term that the text begins with.
 #[tactic(auto, unfolding(smt_text::specs::LineReading::term))]
-pub(crate) fn take_term(text: &[u8]) -> Option<(Node, &[u8])>
+pub fn take_term(text: &[u8]) -> Option<(Node, &[u8])>
     ensures { option_map (λ found. (found.0, found.1.now)) result ≡ spec.term text.now }
 {
     let (head, rest) = take_head(text)?;

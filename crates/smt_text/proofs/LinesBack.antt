@@ -16,7 +16,7 @@ use Rattle.smt_text.specs.LineReading.{endings, kind_said, kinds, line_at, node_
 use Rattle.smt_text.specs.Lines.{LeafLine, FormatLine, KindLine, ChoicesLine, PathLine, StepsLine, EndLine, InputsLine, NodesLine, OutputsLine, LogicLine, InputLine, BaseLine, NodeLine, StatusLine, OutputLine, AssertLine, CheckLine, ExitLine, line_text}
 use Rattle.text_parts.specs.Names.{Kind, finished, cut, EndWord, exit, trap, running, choices_text, kind_text, path_text, word_text}
 use Rattle.smt_text.specs.NodeFits.{fits}
-use Rattle.smt_text.specs.NodeText.{node_text}
+use Rattle.smt_text.specs.NodeText.{IsSmallNode, node_text}
 use Rattle.text_parts.specs.Pieces.{before, behind, list_end, made, named, one}
 use Rattle.smt_text.specs.declared.spot.Spot.{Spot}
 use Rattle.smt_text.specs.declared.spot.Spot.TheVariants.{AtFormat, AtKind, AtChoices, AtPath, AtSteps, AtEnd, AtInputs, AtNodes, AtOutputs, AtLogic, AmongInputs, AtBase, AmongNodes, AtStatus, AmongOutputs, AmongAssertions, AtExit}
@@ -24,7 +24,7 @@ use Rattle.text_parts.proofs.ItemsBack.{choices_back, steps_back}
 use Rattle.smt_text.specs.Phases.{Counted, IsInBounds}
 use Rattle.smt_text.proofs.Phases.{fits_from, small_choices, small_path}
 use Rattle.text_parts.proofs.Tests.{lt_from}
-use Rattle.smt_text.proofs.TermsBack.{IsSmallNode, term_back}
+use Rattle.smt_text.proofs.TermsBack.{term_back}
 use Rattle.text_parts.proofs.Joined.{five_pieces, seven_pieces, three_pieces}
 use Rattle.text_parts.proofs.Words.{behind_word, one_back, starts_plain, two_back}
 
@@ -102,11 +102,11 @@ number_line : (make : ℕ → LeafLine) (word end : List ℕ) (n : ℕ) (rest : 
 number_line make word end n rest small plain =
     rw (three_pieces word (decimal n) end rest, behind_word word (decimal n ++ (end ++ rest)), one_back end n rest small plain) refl
 
-no_assertion : (rest : List ℕ) → behind (codes "(assert (= n") (line_text CheckLine ++ rest) ≡ None
+pub no_assertion : (rest : List ℕ) → behind (codes "(assert (= n") (line_text CheckLine ++ rest) ≡ None
 unfolding behind
 no_assertion rest = refl
 
-node_line_back : (id width : ℕ) (node : Node) (rest : List ℕ) → id < 2 ^ 64 → width < 2 ^ 64 →
+pub node_line_back : (id width : ℕ) (node : Node) (rest : List ℕ) → id < 2 ^ 64 → width < 2 ^ 64 →
     IsSmallNode node → node_line (line_text (NodeLine id width node) ++ rest) ≡ Some (NodeLine id width node, rest)
 unfolding node_line
 node_line_back id width node rest small_id small_width small_node =

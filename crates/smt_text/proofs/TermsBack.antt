@@ -7,25 +7,12 @@ use Rattle.bv_dag.specs.declared.nodes.Comparison.TheVariants.{Ult, Slt, Eq}
 use Rattle.bv_dag.specs.declared.nodes.Node.{Node}
 use Rattle.bv_dag.specs.declared.nodes.Node.TheVariants.{Num, Input, Not, Neg, Binary, Compare, Ite, Extract, Extend, Concat}
 use Rattle.smt_text.specs.LineReading.{answers, heads, read_operands, term}
-use Rattle.smt_text.specs.NodeText.{binary_name, node_text}
+use Rattle.smt_text.specs.NodeText.{IsSmallNode, binary_name, node_text}
 use Rattle.text_parts.specs.Pieces.{behind, named}
 use Rattle.smt_text.specs.declared.head.Head.{Head}
 use Rattle.smt_text.specs.declared.head.Head.TheVariants as head
 use Rattle.text_parts.proofs.Joined.{five_pieces, seven_pieces, three_pieces, two_pieces}
 use Rattle.text_parts.proofs.Words.{not_two, number_back, one_back, starts_plain, three_back, two_back}
-
--- the numbers of a term fit 64 bits, and the widths in it 32
-abbrev pub IsSmallNode : Node → Type 0
-IsSmallNode (Num w v) = (w < 2 ^ 32) × (v < 2 ^ 64)
-IsSmallNode (Input i) = i < 2 ^ 64
-IsSmallNode (Not a) = a < 2 ^ 64
-IsSmallNode (Neg a) = a < 2 ^ 64
-IsSmallNode (Binary op a b) = (a < 2 ^ 64) × (b < 2 ^ 64)
-IsSmallNode (Compare op a b) = (a < 2 ^ 64) × (b < 2 ^ 64)
-IsSmallNode (Ite c a b) = (c < 2 ^ 64) × (a < 2 ^ 64) × (b < 2 ^ 64)
-IsSmallNode (Extract high low a) = (high < 2 ^ 32) × (low < 2 ^ 32) × (a < 2 ^ 64)
-IsSmallNode (Extend by signed a) = (by < 2 ^ 32) × (a < 2 ^ 64)
-IsSmallNode (Concat a b) = (a < 2 ^ 64) × (b < 2 ^ 64)
 
 lt_true : (a b : ℕ) → a < b → nat_lt a b ≡ true
 lt_true a b h = grind (arith, nat_tests)

@@ -1,5 +1,5 @@
 -- A whole text: it is that of a leaf in full, and of no other.
-use Rattle.std.proofs.Common.{◌≡◌, ◌∙◌, ℕ, ◌+◌, List, [], ◌∷◌, ◌++◌, Some, refl, sym, ap, subst, arith}
+use Rattle.std.proofs.Common.{◌≡◌, ◌∙◌, ℕ, List, [], ◌∷◌, ◌++◌, Some, refl, sym, ap, subst, arith}
 use Rattle.std.proofs.lemmas.Option.{same_Some}
 use Rattle.fork_spec.specs.Leaves.{IsFull, Leaf}
 use Rattle.smt_text.specs.Grammar.{Reading, leaf_of, read_lines, start, with_line, IsWhole}

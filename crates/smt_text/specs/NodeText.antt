@@ -1,5 +1,5 @@
 -- The text of a term, in SMT-LIB's theory FixedSizeBitVectors.
-use Rattle.std.specs.Prelude.{ℕ, Bool, true, false, List, ◌++◌, codes, decimal}
+use Rattle.std.specs.Prelude.{ℕ, ◌<◌, ◌^◌, Bool, true, false, List, ◌++◌, codes, decimal}
 use Rattle.bv_dag.specs.declared.nodes.BinaryOp.{BinaryOp}
 use Rattle.bv_dag.specs.declared.nodes.BinaryOp.TheVariants.{Add, Sub, Mul, Udiv, Urem, And, Or, Xor, Shl, Lshr, Ashr}
 use Rattle.bv_dag.specs.declared.nodes.Comparison.{Comparison}
@@ -52,3 +52,16 @@ node_text (Extend by signed a) =
     codes "((_ " ++ extension_name signed ++ codes " " ++ decimal by ++ codes ") n" ++ decimal a
     ++ codes ")"
 node_text (Concat a b) = codes "(concat n" ++ decimal a ++ codes " n" ++ decimal b ++ codes ")"
+
+-- the numbers of a term that texts may have: 64 bits, and the widths in it 32
+abbrev pub IsSmallNode : Node → Type 0
+IsSmallNode (Num w v) = (w < 2 ^ 32) × (v < 2 ^ 64)
+IsSmallNode (Input i) = i < 2 ^ 64
+IsSmallNode (Not a) = a < 2 ^ 64
+IsSmallNode (Neg a) = a < 2 ^ 64
+IsSmallNode (Binary op a b) = (a < 2 ^ 64) × (b < 2 ^ 64)
+IsSmallNode (Compare op a b) = (a < 2 ^ 64) × (b < 2 ^ 64)
+IsSmallNode (Ite c a b) = (c < 2 ^ 64) × (a < 2 ^ 64) × (b < 2 ^ 64)
+IsSmallNode (Extract high low a) = (high < 2 ^ 32) × (low < 2 ^ 32) × (a < 2 ^ 64)
+IsSmallNode (Extend by signed a) = (by < 2 ^ 32) × (a < 2 ^ 64)
+IsSmallNode (Concat a b) = (a < 2 ^ 64) × (b < 2 ^ 64)

@@ -13,5 +13,6 @@ mod spot;
 pub use ending::Ending;
 pub use head::Head;
 pub use leaf::LeafText;
+pub use lines::{write_assert_line, write_input_line, write_node_line};
 pub use printing::{print_leaf, print_parts, print_query};
 pub use spot::Spot;

@@ -14,7 +14,7 @@ use text_parts::push_numbered;
 const BYTES_A_TERM: usize = 64;
 
 /// Appends the line of an input.
-fn write_input_line(text: &mut String, i: usize) -> Result<(), NoMemory>
+pub fn write_input_line(text: &mut String, i: usize) -> Result<(), NoMemory>
     ensures ok { OnOk result (string_bytes text.new
         ≡ string_bytes text.old ++ line_text (InputLine i)) }
 {
@@ -34,7 +34,12 @@ pub(crate) fn write_input_lines(text: &mut String, inputs: usize) -> Result<(), 
 }
 
 /// Appends the line of a term, by its place and width.
-fn write_node_line(text: &mut String, id: usize, width: u32, node: Node) -> Result<(), NoMemory>
+pub fn write_node_line(
+    text: &mut String,
+    id: usize,
+    width: u64,
+    node: Node,
+) -> Result<(), NoMemory>
     ensures ok { OnOk result (string_bytes text.new
         ≡ string_bytes text.old ++ line_text (NodeLine id width node)) }
 {
@@ -52,7 +57,7 @@ pub(crate) fn write_node_lines(text: &mut String, dag: &Dag) -> Result<(), NoMem
 {
     text.reserve(dag.len().saturating_mul(BYTES_A_TERM))?;
     for (id, node) in dag.nodes().iter().enumerate() {
-        write_node_line(text, id, dag.width_of(id), *node)?;
+        write_node_line(text, id, u64::from(dag.width_of(id)), *node)?;
     }
     Ok(())
 }
@@ -93,7 +98,7 @@ pub(crate) fn write_output_lines(text: &mut String, outputs: &[usize]) -> Result
 }
 
 /// Appends the line of an asserted term.
-fn write_assert_line(text: &mut String, id: usize) -> Result<(), NoMemory>
+pub fn write_assert_line(text: &mut String, id: usize) -> Result<(), NoMemory>
     ensures ok { OnOk result (string_bytes text.new
         ≡ string_bytes text.old ++ line_text (AssertLine id)) }
 {

@@ -13,9 +13,9 @@ pub loop-id-preserved : goal.loop-id-preserved
 loop-id-preserved c =
     let graph = c.args.dag.now in
     let id = c.loop-id.id in
-    let line : line_text (NodeLine id c.width_of.result (get_or c.nodes-node-items.result.now id (Num 0 0)))
+    let line : line_text (NodeLine id c.from.result (get_or c.nodes-node-items.result.now id (Num 0 0)))
     ≡ line_text (NodeLine id (width_of graph id) (get_or graph.nodes id (Num 0 0))) =
-    ap (λ width. line_text (NodeLine id width (get_or c.nodes-node-items.result.now id (Num 0 0)))) c.width_of.ensures.value
+    ap (λ width. line_text (NodeLine id width (get_or c.nodes-node-items.result.now id (Num 0 0)))) (c.from.ensures ∙ c.width_of.ensures.value)
     ∙ ap (λ nodes. line_text (NodeLine id (width_of graph id) (get_or nodes id (Num 0 0)))) c.nodes-node-items.ensures.value
     in
     let there : id < length graph.nodes =

@@ -1,0 +1,2 @@
+mod Increasing
+mod Listed

@@ -1,0 +1,58 @@
+-- Certificates that their texts tell from all others: those of which each number, choice and byte has a text of its own.
+use Rattle.std.specs.Prelude.{◌≡◌, ℕ, zero, suc, ◌<◌, All, List}
+use Rattle.cnf_form.specs.Clauses.{IsClause}
+use Rattle.elf_load.specs.declared.region.Region.{Region}
+use Rattle.fork_spec.specs.Leaves.{IsCount, IsSmall, IsSmallChoice}
+use Rattle.fork_spec.specs.Walks.{Side}
+use Rattle.smt_text.specs.NodeText.{IsSmallNode}
+use Rattle.spent_text.specs.Legible.{HasSmallNumbers, IsLegibleFound}
+use Rattle.tree_core.specs.declared.budgets.Budgets.{Budgets}
+use Rattle.tree_core.specs.declared.order.Order.TheVariants.{Deepest}
+use Rattle.cert_text.specs.Certificates.{Certificate, TextLine, FormatLine, RegionsLine, BudgetsLine, WalkLine}
+use Rattle.cert_text.specs.declared.line.CertLine.{CertLine}
+use Rattle.cert_text.specs.declared.line.CertLine.TheVariants.{One, Split, Tried, Inputs, Nodes, Logic, Input, Base, Node, Assert, Check, Exit, Clause, Value, Witness, End, CutSteps, CutNodes}
+
+-- bytes
+abbrev pub AreInput : List ℕ → Type 0
+AreInput input = All (λ b. b < 256) input
+
+-- values of choices and counts of inputs have 32 bits, other numbers of a question 64; a clause is one as texts have it
+abbrev pub IsLegibleLine : CertLine → Type 0
+IsLegibleLine (One choice) = IsSmallChoice choice
+IsLegibleLine (Split sides) = All (λ (side : Side). IsSmallChoice side.choice) sides
+IsLegibleLine (Inputs inputs) = IsSmall inputs
+IsLegibleLine (Nodes nodes) = IsCount nodes
+IsLegibleLine (Input i) = IsCount i
+IsLegibleLine (Node said) = IsCount said.id × IsCount said.width × IsSmallNode said.node
+IsLegibleLine (Assert id) = IsCount id
+IsLegibleLine (Clause step) = IsClause step.clause × HasSmallNumbers step
+IsLegibleLine (Value found) = IsLegibleFound found
+IsLegibleLine (Witness input) = AreInput input
+IsLegibleLine (End input) = AreInput input
+IsLegibleLine (CutSteps input) = AreInput input
+IsLegibleLine _ = Unit {0}
+
+-- an address and a count of 32 bits
+abbrev pub IsSmallRegion : Region → Type 0
+IsSmallRegion region = IsSmall region.start × IsSmall region.count
+
+-- four numbers of 32 bits; no text says the order of claims, so it is the first
+pub record AreSmallBudgets (budgets : Budgets) : Type 0 where
+  pub steps : IsSmall budgets.steps
+  pub targets : IsSmall budgets.targets
+  pub conflicts : IsSmall budgets.conflicts
+  pub nodes : IsSmall budgets.nodes
+  pub order : budgets.order ≡ Deepest
+
+pub record IsLegible (c : Certificate) : Type 0 where
+  pub regions : All IsSmallRegion c.regions
+  pub budgets : AreSmallBudgets c.budgets
+  pub lines : All IsLegibleLine c.lines
+
+-- the line may stand behind so many others: the heading first, and then the walk
+abbrev pub MayStand : (before : ℕ) → TextLine → Type 0
+MayStand zero FormatLine = Unit {0}
+MayStand (suc zero) (RegionsLine regions) = All IsSmallRegion regions
+MayStand (suc (suc zero)) (BudgetsLine budgets) = AreSmallBudgets budgets
+MayStand (suc (suc (suc before))) (WalkLine line) = IsLegibleLine line
+MayStand before line = ⊥

@@ -1,0 +1,6 @@
+pub mod Lines
+pub mod Certificates
+pub mod Legible
+pub mod LineReading
+pub mod Refusals
+pub mod Parts

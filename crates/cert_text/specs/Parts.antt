@@ -1,0 +1,32 @@
+-- The heading and the walk, as they are read one behind the other.
+use Rattle.std.specs.Prelude.{◌≡◌, ◌≢◌, ℕ, ◌+◌, List, ◌∷◌, [], ◌++◌, All, length}
+use Rattle.std.specs.List.{flat_map}
+use Rattle.elf_load.specs.declared.region.Region.{Region}
+use Rattle.tree_core.specs.declared.budgets.Budgets.{Budgets}
+use Rattle.cert_text.specs.Certificates.{FormatLine, RegionsLine, BudgetsLine, lines_text}
+use Rattle.cert_text.specs.Legible.{AreSmallBudgets, IsLegibleLine, IsSmallRegion}
+use Rattle.cert_text.specs.Lines.{line_text}
+use Rattle.cert_text.specs.Refusals.{BeginsWithNone}
+use Rattle.cert_text.specs.declared.line.CertLine.{CertLine}
+
+-- the text is a heading of these, and the rest
+pub record HasHeading (text : List ℕ) (regions : List Region) (budgets : Budgets)
+    (rest : List ℕ) : Type 0 where
+  pub split : text ≡ lines_text (FormatLine ∷ RegionsLine regions ∷ BudgetsLine budgets ∷ []) ++ rest
+  pub small_regions : All IsSmallRegion regions
+  pub small_budgets : AreSmallBudgets budgets
+
+-- the text is that of these lines of a walk
+pub record AreRead (text : List ℕ) (lines : List CertLine) : Type 0 where
+  pub is_theirs : text ≡ flat_map line_text lines
+  pub legible : All IsLegibleLine lines
+
+-- the text is that of lines of a walk, and goes on behind them with none; the nth line of a certificate is the first that may not stand
+pub record IsRefusedBehind (text : List ℕ) (n : ℕ) : Type 0 where
+  pub lines : List CertLine
+  pub rest : List ℕ
+  pub split : text ≡ flat_map line_text lines ++ rest
+  pub legible : All IsLegibleLine lines
+  pub nth : n ≡ 3 + length lines + 1
+  pub some : rest ≢ []
+  pub none : BeginsWithNone (3 + length lines) rest

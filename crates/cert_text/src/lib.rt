@@ -1,0 +1,19 @@
+//! The text of a certificate: a heading and the lines of a walk through a fork tree, printed, and read back or refused at the first
+//! line that may not stand.
+#![tactic(auto)]
+
+mod cert;
+mod heading;
+mod items;
+mod kind;
+mod line;
+mod lists;
+mod printing;
+mod reading;
+mod walk;
+
+pub use cert::Cert;
+pub use kind::LineKind;
+pub use line::{CertLine, LearntClause, NodeLine, Side, Sides};
+pub use printing::print_cert;
+pub use reading::{CertRefused, read_cert};
