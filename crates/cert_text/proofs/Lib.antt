@@ -1,2 +1,8 @@
 mod Increasing
 mod Listed
+mod BytesBack
+mod ItemsBack
+mod LinesBack
+mod LinesFrom
+mod Walking
+mod Whole

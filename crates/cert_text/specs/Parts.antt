@@ -1,5 +1,5 @@
 -- The heading and the walk, as they are read one behind the other.
-use Rattle.std.specs.Prelude.{◌≡◌, ◌≢◌, ℕ, ◌+◌, List, ◌∷◌, [], ◌++◌, All, length}
+use Rattle.std.specs.Prelude.{◌≡◌, ◌≢◌, ℕ, suc, ◌+◌, List, ◌∷◌, [], ◌++◌, All, length}
 use Rattle.std.specs.List.{flat_map}
 use Rattle.elf_load.specs.declared.region.Region.{Region}
 use Rattle.tree_core.specs.declared.budgets.Budgets.{Budgets}
@@ -27,6 +27,6 @@ pub record IsRefusedBehind (text : List ℕ) (n : ℕ) : Type 0 where
   pub rest : List ℕ
   pub split : text ≡ flat_map line_text lines ++ rest
   pub legible : All IsLegibleLine lines
-  pub nth : n ≡ 3 + length lines + 1
+  pub nth : n ≡ length lines + 4
   pub some : rest ≢ []
-  pub none : BeginsWithNone (3 + length lines) rest
+  pub none : BeginsWithNone (suc (suc (suc (length lines)))) rest

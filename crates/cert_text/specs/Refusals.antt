@@ -1,12 +1,12 @@
 -- Which texts are refused as certificates, and at which line.
-use Rattle.std.specs.Prelude.{◌≡◌, ◌≢◌, ◌⊎◌, ℕ, ◌+◌, ◌<◌, List, [], ◌∷◌, ◌++◌, length}
+use Rattle.std.specs.Prelude.{◌≡◌, ◌≢◌, ◌⊎◌, ℕ, suc, ◌+◌, ◌<◌, List, [], ◌∷◌, ◌++◌, length}
 use Rattle.cert_text.specs.Certificates.{TextLine, lines_text, text_of}
 use Rattle.cert_text.specs.Legible.{MayStand}
 
 -- each line may stand where it does, the first behind so many others
 unfoldable pub AllStand : (before : ℕ) → List TextLine → Type 0
 AllStand before [] = Unit {0}
-AllStand before (line ∷ lines) = MayStand before line × AllStand (before + 1) lines
+AllStand before (line ∷ lines) = MayStand before line × AllStand (suc before) lines
 
 -- the text begins with the text of no line that may stand behind so many others
 abbrev pub BeginsWithNone : (before : ℕ) → List ℕ → Type 0

@@ -1,6 +1,6 @@
 //! Printing a certificate. After an error a part of a line may stand in the text.
 
-ghost use Rattle.std.specs.Prelude.{◌≡◌, ◌∷◌, [], ◌++◌, IfOk, OnOk, string_bytes};
+ghost use Rattle.std.specs.Prelude.{◌≡◌, ◌++◌, IfOk, OnOk, string_bytes};
 ghost use Rattle.std.specs.List.{flat_map};
 ghost use Rattle.spent_text.specs.Sides.{sides_text};
 ghost use Rattle.smt_text.specs.Lines as leaf;
@@ -172,6 +172,16 @@ fn write_lines(alloc: Global, text: &mut String, lines: &[CertLine]) -> Result<(
     Ok(())
 }
 
+/// Appends the line of the regions.
+fn write_regions_line(alloc: Global, text: &mut String, regions: &[Region]) -> Result<(), NoMemory>
+    ensures { OnOk result (string_bytes text.new
+        ≡ string_bytes text.old ++ text_of (RegionsLine regions.now)) }
+{
+    text.push_str("regions")?;
+    write_regions(alloc, text, regions)?;
+    text.push_str("\n")
+}
+
 /// Appends the heading.
 fn write_heading(
     alloc: Global,
@@ -180,11 +190,10 @@ fn write_heading(
     budgets: Budgets,
 ) -> Result<(), NoMemory>
     ensures { OnOk result (string_bytes text.new ≡ string_bytes text.old
-        ++ flat_map text_of (FormatLine ∷ RegionsLine regions.now ∷ BudgetsLine budgets ∷ [])) }
+        ++ text_of FormatLine ++ text_of (RegionsLine regions.now) ++ text_of (BudgetsLine budgets)) }
 {
-    text.push_str("rvklee cert 1\nregions")?;
-    write_regions(alloc, text, regions)?;
-    text.push_str("\n")?;
+    text.push_str("rvklee cert 1\n")?;
+    write_regions_line(alloc, text, regions)?;
     write_budgets(text, budgets)
 }
 

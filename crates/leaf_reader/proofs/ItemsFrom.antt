@@ -26,7 +26,7 @@ use Rattle.text_parts.proofs.Words.{from_behind, from_named}
 
 -- ---- eight digits
 
-letter : (k : ℕ) → k < 6 → slice_index lower_digits (10 + k) ≡ 97 + k
+pub letter : (k : ℕ) → k < 6 → slice_index lower_digits (10 + k) ≡ 97 + k
 letter zero h = refl
 letter (suc zero) h = refl
 letter (suc (suc zero)) h = refl
@@ -35,7 +35,7 @@ letter (suc (suc (suc (suc zero)))) h = refl
 letter (suc (suc (suc (suc (suc zero))))) h = refl
 letter (suc (suc (suc (suc (suc (suc k)))))) h = absurd (omega (arith, h))
 
-figure : (k : ℕ) → k < 10 → slice_index lower_digits k ≡ 48 + k
+pub figure : (k : ℕ) → k < 10 → slice_index lower_digits k ≡ 48 + k
 figure zero h = refl
 figure (suc zero) h = refl
 figure (suc (suc zero)) h = refl
@@ -54,7 +54,7 @@ is_upper c plain is = absurd (both c plain is)
     both : (c : ℕ) → is_ascii_uppercase c ≡ false → (nat_le 65 c && nat_le c 70) ≡ true → ⊥
     both c plain is = grind (arith, nat_tests)
 
-between : (low high c : ℕ) → (nat_le low c && nat_le c high) ≡ true → (low ≤ c) × (c ≤ high)
+pub between : (low high c : ℕ) → (nat_le low c && nat_le c high) ≡ true → (low ≤ c) × (c ≤ high)
 between low high c is = (grind (arith, nat_tests), grind (arith, nat_tests))
 
 -- a digit is the one of its value

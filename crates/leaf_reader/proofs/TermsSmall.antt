@@ -17,7 +17,7 @@ use Rattle.text_parts.proofs.Words.{from_before, from_number, from_one, from_thr
 use Rattle.leaf_reader.proofs.LinesFrom.{made_from, word_from}
 
 -- a number of 32 bits
-word_small : {X : Type 0} (n : ℕ) (o : Option X) (x : X) → if_word n o ≡ Some x → n < 2 ^ 32
+pub word_small : {X : Type 0} (n : ℕ) (o : Option X) (x : X) → if_word n o ≡ Some x → n < 2 ^ 32
 word_small n o x h = go (nat_lt n (2 ^ 32)) refl h
   where
     go : (b : Bool) → nat_lt n (2 ^ 32) ≡ b → (if b then o else None) ≡ Some x → n < 2 ^ 32
