@@ -1,6 +1,6 @@
 -- Bytes in two digits each: what was written is read back, and what was read was written so.
-use Rattle.std.proofs.Common.{◌≡◌, ◌∙◌, ℕ, zero, suc, ◌+◌, ◌-◌, ◌*◌, ◌/◌, ◌%◌, ◌<◌, ◌≤◌, Bool, true, false, ◌&&◌, nat_le, List, [], ◌∷◌, ◌++◌, length, slice_index, Option, None, Some, option_map, refl, sym, ap, subst, arith, codes}
-use Rattle.std.specs.Prelude.{All, if◌then◌else◌, option_and_then}
+use Rattle.std.proofs.Common.{◌≡◌, ◌∙◌, ℕ, zero, suc, ◌+◌, ◌-◌, ◌*◌, ◌/◌, ◌%◌, ◌<◌, Bool, true, false, ◌&&◌, nat_le, List, [], ◌∷◌, ◌++◌, length, slice_index, None, Some, option_map, refl, sym, ap, arith, codes}
+use Rattle.std.specs.Prelude.{if◌then◌else◌}
 use Rattle.std.specs.List.{flat_map}
 use Rattle.std.proofs.lemmas.Option.{same_Some}
 use Rattle.hex.specs.Hex.{encode_lower, encode_with, lower_digits}
@@ -8,7 +8,7 @@ use Rattle.leaf_reader.proofs.ItemsFrom.{between, figure, letter}
 use Rattle.text_parts.specs.Pieces.{behind}
 use Rattle.text_parts.proofs.Options.{map_from, then_from}
 use Rattle.cert_text.specs.Legible.{AreInput}
-use Rattle.cert_text.specs.LineReading.{all, byte, digit_worth, input_to_end}
+use Rattle.cert_text.specs.LineReading.{byte, digit_worth, input_to_end}
 use Rattle.cert_text.proofs.Listed.{all_back, from_all}
 
 -- the digit of a number below 16

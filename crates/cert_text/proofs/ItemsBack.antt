@@ -1,12 +1,12 @@
 -- Sides, literals, hints and regions: what was written is read back, and what was read was written so.
-use Rattle.std.proofs.Common.{◌≡◌, ◌∙◌, inl, inr, ℕ, ◌<◌, ◌≤◌, ◌^◌, Bool, true, false, ◌&&◌, ◌==◌, nat_lt, List, [], ◌∷◌, ◌++◌, length, get_or, Option, None, Some, option_map, refl, sym, ap, subst, arith, codes, decimal, append_assoc}
+use Rattle.std.proofs.Common.{◌≡◌, ◌∙◌, inl, inr, ℕ, ◌<◌, ◌^◌, Bool, true, false, ◌&&◌, ◌==◌, nat_lt, List, [], ◌∷◌, ◌++◌, length, get_or, Option, None, Some, option_map, refl, sym, ap, subst, arith, codes, decimal, append_assoc}
 use Rattle.std.specs.Prelude.{All, if◌then◌else◌, option_and_then}
 use Rattle.std.specs.List.{flat_map}
 use Rattle.std.specs.Option.{option_or}
 use Rattle.std.proofs.lemmas.Bool.{and_parts, ne_eqb}
 use Rattle.std.proofs.lemmas.Bool.Decides.{nat_tests}
 use Rattle.std.proofs.lemmas.Fmt.{first_decimal}
-use Rattle.std.proofs.lemmas.Option.{none-some, same_Some}
+use Rattle.std.proofs.lemmas.Option.{same_Some}
 use Rattle.cnf_form.specs.Literals.{Literal}
 use Rattle.elf_load.specs.declared.region.Region.{Region}
 use Rattle.fork_spec.specs.Leaves.{IsSmall, IsSmallChoice}
@@ -20,7 +20,6 @@ use Rattle.spent_text.specs.LineReading.{causes, hint, literal, literal_of, lite
 use Rattle.spent_text.specs.Sides.{mark_text, side_text, sides_text}
 use Rattle.spent_text.proofs.ClauseBack.{IsHint, IsLiteral, IsSpaced, hint_back, hint_spaced, literal_back, literal_spaced, zero_back}
 use Rattle.spent_text.proofs.SidesBack.{HasNoMark, no_mark_at_end, no_mark_behind, side_back}
-use Rattle.test_files.specs.Tests.{region_text}
 use Rattle.text_parts.specs.Items.{choice}
 use Rattle.text_parts.specs.Names.{cause_text, choice_text, eight_digits}
 use Rattle.text_parts.specs.Pieces.{behind, eight, made, named, number}

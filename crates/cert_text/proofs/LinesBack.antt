@@ -1,5 +1,5 @@
 -- Each line is read back from its text.
-use Rattle.std.proofs.Common.{◌≡◌, ◌∙◌, ℕ, zero, suc, ◌<◌, ◌≤◌, ◌^◌, Bool, true, false, ◌&&◌, nat_lt, List, [], ◌∷◌, ◌++◌, None, Some, refl, sym, ap, arith, codes, decimal, append_assoc}
+use Rattle.std.proofs.Common.{◌≡◌, ◌∙◌, ℕ, zero, suc, ◌<◌, ◌≤◌, ◌^◌, Bool, true, false, nat_lt, List, [], ◌∷◌, ◌++◌, None, Some, refl, sym, ap, arith, codes, decimal, append_assoc}
 use Rattle.std.specs.Prelude.{All, if◌then◌else◌, option_and_then}
 use Rattle.std.specs.List.{flat_map, list_all}
 use Rattle.std.proofs.lemmas.Bool.Decides.{nat_tests}
@@ -7,15 +7,13 @@ use Rattle.std.proofs.lemmas.List.Elements.{All-head, All-tail}
 use Rattle.cnf_form.specs.Clauses.{IsClause}
 use Rattle.cnf_form.specs.Literals.{Literal}
 use Rattle.cnf_form.specs.Refutations.{Step}
-use Rattle.fork_spec.specs.Evidence.{Found}
 use Rattle.fork_spec.specs.Leaves.{IsSmall}
 use Rattle.hex.specs.Hex.{encode_lower}
-use Rattle.leaf_reader.specs.declared.take_terms.NodeSaid.{NodeSaid}
 use Rattle.smt_text.proofs.LinesBack.{node_line_back}
 use Rattle.spent_text.specs.LearntLine.{hint_text, learnt_line, literal_text}
 use Rattle.spent_text.specs.Legible.{HasSmallNumbers}
 use Rattle.spent_text.specs.Sides.{sides_text}
-use Rattle.spent_text.proofs.ClauseBack.{IsHint, IsLiteral, behind_literals, hints_spaced}
+use Rattle.spent_text.proofs.ClauseBack.{IsLiteral, behind_literals, hints_spaced}
 use Rattle.text_parts.specs.Names.{choice_text, eight_digits}
 use Rattle.text_parts.specs.Pieces.{behind, made, named, number, one, plain_number}
 use Rattle.text_parts.proofs.ItemsBack.{choice_back, eight_back}
@@ -24,7 +22,7 @@ use Rattle.text_parts.proofs.Words.{behind_word, one_back, starts_plain, three_b
 use Rattle.tree_core.specs.declared.budgets.Budgets.{Budgets}
 use Rattle.cert_text.specs.Certificates.{TextLine, FormatLine, RegionsLine, BudgetsLine, WalkLine, blank_region, text_of}
 use Rattle.cert_text.specs.Legible.{AreInput, AreSmallBudgets, IsLegibleLine, MayStand}
-use Rattle.cert_text.specs.LineReading.{budgets_line, clause_read, input_line, kind_at, line_behind, line_of, rise_above, walk_line, words, worded_input}
+use Rattle.cert_text.specs.LineReading.{budgets_line, clause_read, input_line, kind_at, line_behind, line_of, rise_above, walk_line, worded_input}
 use Rattle.cert_text.specs.Lines.{input_text, line_text}
 use Rattle.cert_text.specs.declared.kind.LineKind.{LineKind}
 use Rattle.cert_text.specs.declared.kind.LineKind.TheVariants as kind

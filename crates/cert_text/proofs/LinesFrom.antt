@@ -1,5 +1,5 @@
 -- What was read as a line is its text, and it is legible.
-use Rattle.std.proofs.Common.{◌≡◌, ◌∙◌, inl, inr, ℕ, zero, suc, ◌<◌, ◌≤◌, ◌^◌, Bool, true, false, ◌&&◌, nat_lt, List, [], ◌∷◌, ◌++◌, Option, None, Some, option_map, refl, sym, ap, subst, arith, codes, decimal, append_assoc}
+use Rattle.std.proofs.Common.{◌≡◌, ◌∙◌, inl, inr, ℕ, ◌<◌, ◌^◌, Bool, true, false, nat_lt, List, ◌++◌, Option, None, Some, option_map, refl, sym, ap, subst, codes, decimal}
 use Rattle.std.specs.Prelude.{All, if◌then◌else◌, option_and_then}
 use Rattle.std.specs.List.{flat_map, list_all}
 use Rattle.std.proofs.lemmas.Bool.{and_parts}
@@ -19,11 +19,10 @@ use Rattle.leaf_reader.proofs.TermsSmall.{IsSmallNodeLine, node_line_small, word
 use Rattle.smt_text.specs.LineReading.{count_to_end, if_word, node_line}
 use Rattle.smt_text.specs.Lines.{LeafLine, FormatLine, KindLine, ChoicesLine, PathLine, StepsLine, EndLine, InputsLine, NodesLine, OutputsLine, LogicLine, InputLine, BaseLine, NodeLine, StatusLine, OutputLine, AssertLine, CheckLine, ExitLine}
 use Rattle.smt_text.specs.Lines as leaf
-use Rattle.spent_text.specs.LearntLine.{hint_text, learnt_line, literal_text}
-use Rattle.spent_text.specs.Legible.{HasSmallNumbers}
+use Rattle.spent_text.specs.LearntLine.{hint_text, literal_text}
 use Rattle.spent_text.specs.LineReading.{hint, literal, side}
 use Rattle.spent_text.specs.Sides.{sides_text}
-use Rattle.spent_text.proofs.ClauseBack.{IsHint, IsLiteral, behind_literals}
+use Rattle.spent_text.proofs.ClauseBack.{IsHint, IsLiteral}
 use Rattle.text_parts.specs.Items.{choice}
 use Rattle.text_parts.specs.Names.{choice_text, eight_digits}
 use Rattle.text_parts.specs.Pieces.{before, behind, eight, made, one, three}
@@ -32,7 +31,7 @@ use Rattle.text_parts.proofs.Options.{map_from, or_from, then_from}
 use Rattle.text_parts.proofs.Words.{from_before, from_behind, from_one, from_three}
 use Rattle.tree_core.specs.declared.budgets.Budgets.{Budgets}
 use Rattle.tree_core.specs.declared.order.Order.TheVariants.{Deepest}
-use Rattle.cert_text.specs.Certificates.{TextLine, RegionsLine, BudgetsLine, blank_region, text_of}
+use Rattle.cert_text.specs.Certificates.{RegionsLine, BudgetsLine, blank_region, text_of}
 use Rattle.cert_text.specs.Legible.{AreInput, AreSmallBudgets, IsLegibleLine, IsSmallRegion}
 use Rattle.cert_text.specs.LineReading.{all, budgets_line, budgets_of, budgets_read, clause_read, fixed_line, found_from, hints_read, input_line, input_to_end, kind_at, line_of, node_read, region, regions_line, rise_above, said_in, value_read, walk_line, worded_input}
 use Rattle.cert_text.specs.Lines.{input_text, line_text}

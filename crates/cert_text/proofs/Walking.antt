@@ -1,12 +1,12 @@
 -- The loop over the lines of a walk, and the line at which a text is refused.
-use Rattle.std.proofs.Common.{◌≡◌, ◌≢◌, ◌∙◌, inr, ℕ, zero, suc, ◌+◌, ◌<◌, List, [], ◌∷◌, ◌++◌, length, map, None, Some, refl, sym, ap, arith, append_assoc, append-nil, length-append}
+use Rattle.std.proofs.Common.{◌≡◌, ◌∙◌, ℕ, suc, ◌+◌, ◌<◌, List, [], ◌∷◌, ◌++◌, length, map, None, Some, refl, sym, ap, arith, append_assoc, append-nil, length-append}
 use Rattle.std.specs.Prelude.{All}
 use Rattle.std.specs.List.{flat_map}
 use Rattle.std.proofs.lemmas.Grind.{flat_map-append}
 use Rattle.std.proofs.lemmas.List.Elements.{All-append, All-cons, All-nil}
 use Rattle.std.proofs.lemmas.Option.{none-some}
-use Rattle.cert_text.specs.Certificates.{Certificate, TextLine, FormatLine, RegionsLine, BudgetsLine, WalkLine, cert_text, lines_of, lines_text, text_of}
-use Rattle.cert_text.specs.Legible.{IsLegibleLine, MayStand}
+use Rattle.cert_text.specs.Certificates.{Certificate, FormatLine, RegionsLine, BudgetsLine, WalkLine, cert_text, lines_text, text_of}
+use Rattle.cert_text.specs.Legible.{IsLegibleLine}
 use Rattle.cert_text.specs.LineReading.{walk_line}
 use Rattle.cert_text.specs.Lines.{line_text}
 use Rattle.cert_text.specs.Parts.{AreRead, IsRefusedBehind}

@@ -1,7 +1,6 @@
 -- A text is a certificate's in one way, and none that is one is refused.
-use Rattle.std.proofs.Common.{◌≡◌, ◌≢◌, ◌⊎◌, ◌∙◌, inl, inr, ℕ, zero, suc, ◌+◌, ◌<◌, List, [], ◌∷◌, ◌++◌, length, map, None, Some, refl, sym, ap, subst, arith, append_assoc, append-nil, length-append}
+use Rattle.std.proofs.Common.{◌≡◌, ◌⊎◌, ◌∙◌, inl, inr, ℕ, suc, ◌+◌, ◌<◌, List, [], ◌∷◌, ◌++◌, length, map, None, Some, refl, sym, ap, subst, arith, append_assoc, append-nil, length-append}
 use Rattle.std.specs.Prelude.{All}
-use Rattle.std.specs.List.{flat_map}
 use Rattle.std.proofs.lemmas.Grind.{flat_map-append}
 use Rattle.std.proofs.lemmas.List.{length-map}
 use Rattle.std.proofs.lemmas.List.Elements.{All-head, All-tail}
@@ -11,9 +10,8 @@ use Rattle.tree_core.specs.declared.budgets.Budgets.{Budgets}
 use Rattle.text_parts.specs.Pieces.{behind}
 use Rattle.text_parts.proofs.Words.{from_behind}
 use Rattle.cert_text.specs.Certificates.{Certificate, TextLine, FormatLine, RegionsLine, BudgetsLine, WalkLine, cert_text, lines_of, lines_text, text_of}
-use Rattle.cert_text.specs.Legible.{AreSmallBudgets, IsLegible, IsLegibleLine, IsSmallRegion, MayStand}
+use Rattle.cert_text.specs.Legible.{AreSmallBudgets, IsLegible, IsLegibleLine, IsSmallRegion}
 use Rattle.cert_text.specs.LineReading.{budgets_line, line_behind, regions_line}
-use Rattle.cert_text.specs.Lines.{line_text}
 use Rattle.cert_text.specs.Parts.{AreRead, HasHeading, IsRefusedBehind}
 use Rattle.cert_text.specs.Refusals.{AllStand, BeginsWithNone, EndsEarly, GoesOnOtherwise, IsRefusedAt}
 use Rattle.cert_text.specs.declared.line.CertLine.{CertLine}

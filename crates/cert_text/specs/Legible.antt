@@ -10,7 +10,7 @@ use Rattle.tree_core.specs.declared.budgets.Budgets.{Budgets}
 use Rattle.tree_core.specs.declared.order.Order.TheVariants.{Deepest}
 use Rattle.cert_text.specs.Certificates.{Certificate, TextLine, FormatLine, RegionsLine, BudgetsLine, WalkLine}
 use Rattle.cert_text.specs.declared.line.CertLine.{CertLine}
-use Rattle.cert_text.specs.declared.line.CertLine.TheVariants.{One, Split, Tried, Inputs, Nodes, Logic, Input, Base, Node, Assert, Check, Exit, Clause, Value, Witness, End, CutSteps, CutNodes}
+use Rattle.cert_text.specs.declared.line.CertLine.TheVariants.{One, Split, Inputs, Nodes, Input, Node, Assert, Clause, Value, Witness, End, CutSteps}
 
 -- bytes
 abbrev pub AreInput : List ℕ → Type 0

@@ -7,7 +7,6 @@ use Rattle.cnf_form.specs.Literals.{Literal}
 use Rattle.cnf_form.specs.Refutations.{Step}
 use Rattle.elf_load.specs.declared.region.Region.{Region}
 use Rattle.fork_spec.specs.Evidence.{Found}
-use Rattle.fork_spec.specs.Walks.{Side}
 use Rattle.leaf_reader.specs.declared.take_terms.NodeSaid.{NodeSaid}
 use Rattle.smt_text.specs.LineReading.{assertion_said, count_to_end, if_word, node_line}
 use Rattle.smt_text.specs.Lines.{LeafLine, NodeLine}

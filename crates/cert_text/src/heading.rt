@@ -10,10 +10,7 @@ use std::alloc::{AllocError as NoMemory, Global};
 use tree_core::{Budgets, Order};
 
 /// The line of the regions.
-pub(crate) fn take_regions(
-    alloc: Global,
-    text: &[u8],
-) -> Result<Option<(Regions, &[u8])>, NoMemory>
+pub(crate) fn take_regions(alloc: Global, text: &[u8]) -> Result<Option<(Regions, &[u8])>, NoMemory>
     ensures { IfOk result (λ found. option_map (λ found. (found.0, found.1.now)) found
         ≡ spec.regions_line text.now) }
 {

@@ -49,10 +49,7 @@ fn take_heading(
 }
 
 /// Reads the lines of the walk up to the end of the text.
-fn take_lines(
-    alloc: Global,
-    text: &[u8],
-) -> Result<Result<Vec<CertLine>, CertRefused>, NoMemory>
+fn take_lines(alloc: Global, text: &[u8]) -> Result<Result<Vec<CertLine>, CertRefused>, NoMemory>
     ensures whole { IfOk result (λ read. IfOk read (λ lines. AreRead text.now lines.items)) }
     ensures refused { IfOk result (λ read. IfErr read
         (λ refused. IsRefusedBehind text.now refused.line)) }

@@ -337,10 +337,7 @@ fn take_line_of(
 
 /// The line of the walk that the text begins with.
 #[tactic(auto, unfolding(crate::specs::LineReading::walk_line))]
-pub(crate) fn take_line(
-    alloc: Global,
-    text: &[u8],
-) -> Result<Option<(CertLine, &[u8])>, NoMemory>
+pub(crate) fn take_line(alloc: Global, text: &[u8]) -> Result<Option<(CertLine, &[u8])>, NoMemory>
     ensures { IfOk result (λ found. option_map (λ found. (found.0, found.1.now)) found
         ≡ spec.walk_line text.now) }
 {

@@ -28,9 +28,9 @@ use Rattle.term_trees.proofs.Numbers.{number_fits}
 use Rattle.test_files.specs.Inputs.{bytes_in}
 use Rattle.test_files.specs.Tests.{Test}
 use Rattle.test_files.specs.Writable.{HasStatus, HasTarget, IsLegible}
+use Rattle.spent_text.proofs.FoundBack.{bytes_of}
 use Rattle.report_text.specs.Claims.{Bare, Beside, Entry, Filling, HasSpent, IsReport, IsRun, IsTested, Learning, Report, Spending, Tested, bounds_of, leaf_nodes_of, leaves_of}
 use Rattle.report_text.specs.Legible.{AreLegible, HasSmallCounts, HasSmallLogBeside, IsLegibleBeside, IsLegibleLearnt, IsLegibleSpent}
-use Rattle.report_text.proofs.SpentBack.{bytes_of}
 use Rattle.report_text.proofs.WalkedLines.{legible_from}
 
 -- what holds of all items holds of the one at a place

@@ -6,7 +6,8 @@ use Rattle.tree_core.specs.declared.event.Event.{Event}
 use Rattle.tree_core.specs.Nodes.{Node}
 use Rattle.fork_spec.specs.Walks.{Side}
 use Rattle.fork_tree.specs.Written.{born_by, lines_from, nodes_after, written_deed}
-use Rattle.report_text.specs.Events.{actors_text, cut_text, deed_text, events_text, sides_text}
+use Rattle.spent_text.specs.Sides.{sides_text}
+use Rattle.report_text.specs.Events.{actors_text, cut_text, deed_text, events_text}
 
 three_words : (w s a b e : List ℕ) → w ++ (s ++ (a ++ (s ++ (b ++ e))))
     ≡ w ++ s ++ (a ++ s ++ b) ++ e

@@ -16,9 +16,11 @@ use Rattle.text_parts.specs.Pieces.{Reader, behind, made, named, number, two}
 use Rattle.text_parts.proofs.ItemsBack.{choice_back}
 use Rattle.text_parts.proofs.Joined.{three_pieces}
 use Rattle.text_parts.proofs.Words.{behind_word, number_back, starts_plain, two_back}
-use Rattle.report_text.specs.Events.{actors_text, cut_text, deed_text, event_text, events_text, mark_text, side_text, sides_text}
+use Rattle.spent_text.proofs.ListsBack.{items_told, lines_told}
+use Rattle.spent_text.specs.Sides.{mark_text, side_text, sides_text}
+use Rattle.spent_text.proofs.SidesBack.{sides_told}
+use Rattle.report_text.specs.Events.{actors_text, cut_text, deed_text, event_text, events_text}
 use Rattle.report_text.specs.Legible.{AreLegible, IsLegibleDeed, IsLegibleLine}
-use Rattle.report_text.proofs.ListsBack.{items_told, lines_told}
 
 -- ---- the worker and the node
 

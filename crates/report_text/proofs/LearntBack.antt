@@ -16,9 +16,11 @@ use Rattle.text_parts.specs.Pieces.{Reader, behind, made, number, plain_number, 
 use Rattle.smt_text.proofs.OneReading.{question_before}
 use Rattle.text_parts.proofs.Joined.{five_pieces}
 use Rattle.text_parts.proofs.Words.{behind_word, number_back, starts_plain, three_back}
-use Rattle.report_text.specs.Learnt.{conflicts_text, hint_text, learnt_heading, learnt_line, literal_text}
+use Rattle.spent_text.proofs.ListsBack.{all_go_on, items_told, lines_told}
+use Rattle.spent_text.specs.LearntLine.{hint_text, learnt_line, literal_text}
+use Rattle.spent_text.proofs.ClauseBack.{IsLegibleStep, some_step, step_told}
+use Rattle.report_text.specs.Learnt.{conflicts_text, learnt_heading}
 use Rattle.report_text.specs.Legible.{IsLegibleLearnt}
-use Rattle.report_text.proofs.ListsBack.{all_go_on, items_told, lines_told}
 
 -- ---- all of it
 

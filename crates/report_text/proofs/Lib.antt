@@ -8,7 +8,6 @@ pub mod Claimed
 pub mod Entering
 pub mod Ordering
 pub mod FileList
-pub mod ListsBack
 pub mod EventsBack
 pub mod SpentBack
 pub mod LearntBack

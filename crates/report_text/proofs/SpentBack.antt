@@ -15,9 +15,12 @@ use Rattle.text_parts.proofs.DigitsBack.{bytes_by_digits, none_at}
 use Rattle.text_parts.proofs.ItemsBack.{eight_back}
 use Rattle.text_parts.proofs.Joined.{five_pieces}
 use Rattle.text_parts.proofs.Words.{number_back, two_back}
-use Rattle.report_text.specs.Legible.{IsLegibleFound, IsLegibleSpent}
-use Rattle.report_text.specs.Spent.{found_text, nodes_text, targets_text}
-use Rattle.report_text.proofs.ListsBack.{lines_told}
+use Rattle.spent_text.proofs.ListsBack.{lines_told}
+use Rattle.spent_text.specs.FoundLine.{found_text}
+use Rattle.spent_text.specs.Legible.{IsLegibleFound}
+use Rattle.spent_text.proofs.FoundBack.{found_told, some_found}
+use Rattle.report_text.specs.Legible.{IsLegibleSpent}
+use Rattle.report_text.specs.Spent.{nodes_text, targets_text}
 
 -- ---- all of it
 

@@ -4,25 +4,14 @@ use Rattle.std.specs.List.{flat_map}
 use Rattle.tree_core.specs.declared.cause.Cause.{Cause}
 use Rattle.tree_core.specs.declared.event.Deed.{Deed}
 use Rattle.tree_core.specs.declared.event.Deed.TheVariants.{Claim, Split, Finish, Cut, Release}
-use Rattle.fork_spec.specs.Walks.{Line, Side, Sides}
-use Rattle.text_parts.specs.Names.{cause_text, choice_text}
+use Rattle.fork_spec.specs.Walks.{Line, Sides}
+use Rattle.spent_text.specs.Sides.{sides_text}
+use Rattle.text_parts.specs.Names.{cause_text}
 
 -- why a leaf was cut, and nothing where it was not
 abbrev pub cut_text : Option Cause → List ℕ
 cut_text None = []
 cut_text (Some cause) = cause_text cause
-
--- behind the choice of a side that is a leaf at once, the budget that was spent
-abbrev pub mark_text : Option Cause → List ℕ
-mark_text None = []
-mark_text (Some cause) = codes "!" ++ cause_text cause
-
-abbrev pub side_text : Side → List ℕ
-side_text side = codes " " ++ choice_text side.choice ++ mark_text side.cut
-
--- the sides, a blank before each
-abbrev pub sides_text : List Side → List ℕ
-sides_text sides = flat_map side_text sides
 
 -- a worker and a node, by their numbers
 abbrev pub actors_text : (by node : ℕ) → List ℕ

@@ -1,15 +1,15 @@
 -- Events and evidence that their texts tell from all others: those of which each number, choice and byte has a text of its own.
-use Rattle.std.specs.Prelude.{◌≡◌, ◌<◌, ◌^◌, List, All, None, Option, Some, length}
+use Rattle.std.specs.Prelude.{◌≡◌, List, All, None, Option, Some, length}
 use Rattle.cnf_form.specs.Clauses.{IsClause}
-use Rattle.cnf_form.specs.Literals.{Literal}
 use Rattle.cnf_form.specs.Refutations.{Step}
 use Rattle.tree_core.specs.declared.cause.Cause.{Cause}
 use Rattle.tree_core.specs.declared.event.Deed.{Deed}
 use Rattle.tree_core.specs.declared.event.Deed.TheVariants.{Claim, Split, Finish, Cut, Release}
-use Rattle.fork_spec.specs.Evidence.{Found, IsQuestion, Learnt, Spent}
+use Rattle.fork_spec.specs.Evidence.{IsQuestion, Learnt, Spent}
 use Rattle.fork_spec.specs.Leaves.{IsCount, IsSmall, IsSmallChoice}
 use Rattle.fork_spec.specs.Parts.{Evidence, OnConflicts, OnNodes, OnTargets}
 use Rattle.fork_spec.specs.Walks.{Line, Side, Sides, Standing, walk}
+use Rattle.spent_text.specs.Legible.{HasSmallNumbers, IsLegibleFound}
 use Rattle.test_files.specs.Writable.{IsLegible}
 use Rattle.report_text.specs.Claims.{Bare, Beside, Entry, Filling, Learning, Report, Spending, Tested, bounds_of}
 
@@ -29,21 +29,12 @@ IsLegibleLine line = IsSmall line.by × IsSmall line.node × IsLegibleDeed line.
 abbrev pub AreLegible : List Line → Type 0
 AreLegible lines = All IsLegibleLine lines
 
--- a value of 32 bits, and bytes
-abbrev pub IsLegibleFound : Found → Type 0
-IsLegibleFound found = IsSmall found.value × All (λ b. b < 256) found.input
-
 -- the term has a number of 64 bits, and so many values have one of 32
 abbrev pub IsLegibleSpent : Spent → Type 0
 IsLegibleSpent spent = IsSmall (length spent.found) × IsCount spent.term
     × All IsLegibleFound spent.found
 
--- the variables of a step's clause have numbers of 32 bits, and its hints numbers of 64
-pub record HasSmallNumbers (s : Step) : Type 0 where
-  pub variables : All (λ (l : Literal). IsSmall l.variable) s.clause
-  pub hints : All (λ h. h < 2 ^ 64) s.hints
-
--- so it is of each step of a log, where there is one; and a number of nodes has 32 bits
+-- the numbers of each step of a log are small, where there is one; and a number of nodes has 32 bits
 abbrev pub HasSmallLog : Option Evidence → Type 0
 HasSmallLog None = Unit {0}
 HasSmallLog (Some (OnTargets spent)) = Unit {0}

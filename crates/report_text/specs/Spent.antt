@@ -2,14 +2,8 @@
 -- nodes, how many there were.
 use Rattle.std.specs.Prelude.{ℕ, List, ◌++◌, codes, decimal, length}
 use Rattle.std.specs.List.{flat_map}
-use Rattle.hex.specs.Hex.{encode_lower}
-use Rattle.text_parts.specs.Names.{eight_digits}
-use Rattle.fork_spec.specs.Evidence.{Found, Spent}
-
--- a value, and the bytes of the assignment
-abbrev pub found_text : Found → List ℕ
-found_text found =
-    codes "v " ++ eight_digits found.value ++ codes " " ++ encode_lower found.input ++ codes "\n"
+use Rattle.fork_spec.specs.Evidence.{Spent}
+use Rattle.spent_text.specs.FoundLine.{found_text}
 
 -- how many values, the term's name in the text of its leaf, and a line for each value
 unfoldable pub targets_text : Spent → List ℕ

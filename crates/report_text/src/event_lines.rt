@@ -4,12 +4,14 @@ ghost use Rattle.std.specs.Prelude.{◌≡◌, ◌+◌, ◌≤◌, ◌++◌, IfO
 ghost use Rattle.fork_tree.specs.Written.{born_by, choice_in, lines_of, nodes_after, side_born, written_deed};
 ghost use Rattle.report_text.specs.Entries.{cut_by_place};
 ghost use Rattle.report_text.specs.Events as spec;
+ghost use Rattle.spent_text.specs.Sides.{side_text, sides_text};
 
 use byte_list::Bytes;
 use fork_spec::Placed;
 use itoa::Buffer;
+use spent_text::write_side;
 use std::alloc::{AllocError as NoMemory, Global};
-use text_parts::{cause_name, write_choice};
+use text_parts::cause_name;
 use tree_core::{Cause, Choice, Deed, Node, Noted, Origin};
 
 /// Why a leaf was cut; nothing where it was not.
@@ -19,19 +21,6 @@ fn cut_name(cut: Option<Cause>) -> &'static str
     match cut {
         None => "",
         Some(cause) => cause_name(cause),
-    }
-}
-
-/// What stands behind the choice of a side that is a leaf at once.
-fn mark_string(alloc: Global, cut: Option<Cause>) -> Result<String, NoMemory>
-    ensures { IfOk result (λ text. string_bytes text ≡ spec.mark_text cut) }
-{
-    match cut {
-        None => Ok(String::new(alloc)),
-        Some(cause) => {
-            let name = cause_name(cause);
-            format!(in alloc; "!{name}")
-        }
     }
 }
 
@@ -58,19 +47,17 @@ fn cut_of<R: Placed>(node: &Node<R>) -> Option<Cause>
 /// The side that a node was born as, behind a blank.
 fn side_string<R: Placed>(alloc: Global, node: &Node<R>) -> Result<String, NoMemory>
     ensures { IfOk result (λ text. string_bytes text
-        ≡ spec.side_text (side_born (cut_by_place R.place) node.now)) }
+        ≡ side_text (side_born (cut_by_place R.place) node.now)) }
 {
-    let mark = mark_string(alloc, cut_of(node))?;
-    let mut text = String::from_str(alloc, " ")?;
-    write_choice(alloc, &mut text, choice_of(node.origin()))?;
-    text.push_str(&mark)?;
+    let mut text = String::new(alloc);
+    write_side(alloc, &mut text, choice_of(node.origin()), cut_of(node))?;
     Ok(text)
 }
 
 /// The sides that these nodes were born as.
 fn sides_string<R: Placed>(alloc: Global, nodes: &[Node<R>]) -> Result<String, NoMemory>
     ensures { IfOk result (λ text. string_bytes text
-        ≡ spec.sides_text (map (side_born (cut_by_place R.place)) nodes.now)) }
+        ≡ sides_text (map (side_born (cut_by_place R.place)) nodes.now)) }
 {
     let mut text = String::new(alloc);
     for node in nodes {
@@ -112,7 +99,7 @@ fn split_line<R: Placed>(
 ) -> Result<String, NoMemory>
     ensures { IfOk result (λ line. string_bytes line
         ≡ codes "split " ++ spec.actors_text by node ++ codes " " ++ decimal first
-        ++ spec.sides_text (map (side_born (cut_by_place R.place)) nodes.now) ++ codes "\n") }
+        ++ sides_text (map (side_born (cut_by_place R.place)) nodes.now) ++ codes "\n") }
 {
     let (mut worker, mut place, mut kid) = (Buffer::new(), Buffer::new(), Buffer::new());
     let (by, node, first) = (worker.format(by), place.format(node), kid.format(first));

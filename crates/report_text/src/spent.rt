@@ -2,21 +2,14 @@
 
 ghost use Rattle.std.specs.Prelude.{◌≡◌, IfOk, string_bytes};
 ghost use Rattle.std.specs.List.{flat_map};
-ghost use Rattle.report_text.specs.Spent.{found_text, nodes_text, targets_text};
+ghost use Rattle.report_text.specs.Spent.{nodes_text, targets_text};
+ghost use Rattle.spent_text.specs.FoundLine.{found_text};
 
 use byte_list::Bytes;
 use itoa::Buffer;
 use leaf_part::{Found, Spent};
+use spent_text::found_line;
 use std::alloc::{AllocError as NoMemory, Global};
-
-/// The line of a value and its assignment.
-fn found_line(alloc: Global, found: &Found) -> Result<String, NoMemory>
-    ensures { IfOk result (λ line. string_bytes line ≡ found_text found.now) }
-{
-    let value = hex::encode(alloc, &found.value.to_be_bytes())?;
-    let input = hex::encode(alloc, found.input.as_slice())?;
-    format!(in alloc; "v {value} {input}\n")
-}
 
 /// A line for each value.
 fn found_lines(alloc: Global, values: &[Found]) -> Result<String, NoMemory>

@@ -34,12 +34,7 @@ pub(crate) fn write_input_lines(text: &mut String, inputs: usize) -> Result<(), 
 }
 
 /// Appends the line of a term, by its place and width.
-pub fn write_node_line(
-    text: &mut String,
-    id: usize,
-    width: u64,
-    node: Node,
-) -> Result<(), NoMemory>
+pub fn write_node_line(text: &mut String, id: usize, width: u64, node: Node) -> Result<(), NoMemory>
     ensures ok { OnOk result (string_bytes text.new
         ≡ string_bytes text.old ++ line_text (NodeLine id width node)) }
 {

@@ -2,6 +2,8 @@
 #![tactic(auto)]
 
 #[cfg(test)]
+mod of_cert_text;
+#[cfg(test)]
 mod of_replay_core;
 #[cfg(test)]
 mod of_report_text;

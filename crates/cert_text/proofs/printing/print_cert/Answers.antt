@@ -1,4 +1,4 @@
-use Rattle.std.proofs.Common.{◌≡◌, ◌∙◌, ◌++◌, ℕ, List, [], Vec, Global, ap, append_assoc, sym}
+use Rattle.std.proofs.Common.{◌≡◌, ◌∙◌, ◌++◌, ℕ, List, [], Vec, Global, ap, sym}
 use Rattle.std.specs.List.{flat_map}
 use Rattle.elf_load.specs.declared.region.Region.{Region}
 use Rattle.tree_core.specs.declared.budgets.Budgets.{Budgets}

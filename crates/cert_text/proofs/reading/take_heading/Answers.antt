@@ -1,6 +1,6 @@
 use Rattle.std.proofs.Common.{◌≡◌, ◌∙◌, ℕ, List, None, Some, ap, option_map, sym, Bor}
 use Rattle.elf_load.specs.declared.region.Region.{Region}
-use Rattle.cert_text.specs.LineReading.{budgets_line, regions_line}
+use Rattle.cert_text.specs.LineReading.{regions_line}
 use Rattle.cert_text.proofs.Whole.{heading_read, refused_first, refused_second, refused_third}
 use Rattle.cert_text.proofs.reading.take_heading.Goals as goal
 

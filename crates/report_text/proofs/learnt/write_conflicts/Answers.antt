@@ -2,8 +2,9 @@ use Rattle.std.proofs.Common.{◌≡◌, ◌∙◌, ◌++◌, [], ℕ, List, Vec
 use Rattle.std.specs.List.{All, flat_map}
 use Rattle.fork_spec.specs.Evidence.{Learnt}
 use Rattle.smt_text.specs.LeafLines.{query_text}
-use Rattle.report_text.specs.Learnt.{conflicts_text, learnt_heading, learnt_line}
-use Rattle.report_text.specs.Legible.{HasSmallNumbers}
+use Rattle.spent_text.specs.LearntLine.{learnt_line}
+use Rattle.spent_text.specs.Legible.{HasSmallNumbers}
+use Rattle.report_text.specs.Learnt.{conflicts_text, learnt_heading}
 use Rattle.report_text.proofs.learnt.write_conflicts.Goals as goal
 
 -- the text, from its parts

@@ -3,8 +3,8 @@ use Rattle.std.specs.List.{flat_map}
 use Rattle.std.proofs.lemmas.List.{flat_map_more, take_all, take_more}
 use Rattle.std.proofs.lemmas.List.Elements.{All-more, All-same}
 use Rattle.cnf_form.specs.Refutations.{Step}
-use Rattle.report_text.specs.Learnt.{learnt_line}
-use Rattle.report_text.specs.Legible.{HasSmallNumbers}
+use Rattle.spent_text.specs.LearntLine.{learnt_line}
+use Rattle.spent_text.specs.Legible.{HasSmallNumbers}
 use Rattle.report_text.proofs.learnt.write_learnt_lines.Goals as goal
 
 pub loop-step-preserved : goal.loop-step-preserved

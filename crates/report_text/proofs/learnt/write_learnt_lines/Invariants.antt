@@ -1,8 +1,8 @@
 use Rattle.std.proofs.Common.{◌≡◌, ◌++◌, string_bytes, take}
 use Rattle.std.specs.Prelude.{All}
 use Rattle.std.specs.List.{flat_map}
-use Rattle.report_text.specs.Learnt.{learnt_line}
-use Rattle.report_text.specs.Legible.{HasSmallNumbers}
+use Rattle.spent_text.specs.LearntLine.{learnt_line}
+use Rattle.spent_text.specs.Legible.{HasSmallNumbers}
 use Rattle.report_text.proofs.learnt.write_learnt_lines.Given as goal
 
 abbrev pub invariant-loop-step : goal.invariant-loop-step

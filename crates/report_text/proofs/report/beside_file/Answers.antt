@@ -5,7 +5,8 @@ use Rattle.fork_spec.specs.Parts.{Evidence}
 use Rattle.leaf_part.specs.Evidences.{evidence_of}
 use Rattle.leaf_part.specs.declared.evidence.Evidence.{Evidence as Held}
 use Rattle.leaf_part.specs.declared.evidence.Evidence.TheVariants.{Conflicts}
-use Rattle.report_text.specs.Legible.{HasSmallLog, HasSmallNumbers}
+use Rattle.spent_text.specs.Legible.{HasSmallNumbers}
+use Rattle.report_text.specs.Legible.{HasSmallLog}
 use Rattle.report_text.proofs.report.beside_file.Goals as goal
 
 -- the log of what is held, and of the evidence that it stands for

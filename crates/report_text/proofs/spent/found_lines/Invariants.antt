@@ -1,6 +1,6 @@
 use Rattle.std.proofs.Common.{◌≡◌, string_bytes, take}
 use Rattle.std.specs.List.{flat_map}
-use Rattle.report_text.specs.Spent.{found_text}
+use Rattle.spent_text.specs.FoundLine.{found_text}
 use Rattle.report_text.proofs.spent.found_lines.Given as goal
 
 abbrev pub invariant-loop-found : goal.invariant-loop-found

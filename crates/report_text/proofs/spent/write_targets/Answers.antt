@@ -1,7 +1,8 @@
 use Rattle.std.proofs.Common.{◌≡◌, ◌∙◌, ◌++◌, ℕ, List, Vec, Global, ap, append_assoc, arith, codes, decimal, length, string_bytes}
 use Rattle.std.specs.List.{flat_map}
 use Rattle.fork_spec.specs.Evidence.{Spent}
-use Rattle.report_text.specs.Spent.{found_text, targets_text}
+use Rattle.spent_text.specs.FoundLine.{found_text}
+use Rattle.report_text.specs.Spent.{targets_text}
 use Rattle.report_text.proofs.spent.write_targets.Goals as goal
 
 regroup : (a count n b term last : List ℕ) → a ++ (count ++ ((n ++ b) ++ (term ++ (n ++ last))))
