@@ -1,23 +1,16 @@
 -- Events are told by their text.
 use Rattle.std.proofs.Common.{◌≡◌, ◌∙◌, ℕ, ◌<◌, true, List, [], ◌∷◌, ◌++◌, Option, None, Some, append_assoc, ap, arith, codes, decimal, length, refl, sym}
-use Rattle.std.specs.Prelude.{All, option_and_then}
-use Rattle.std.specs.Option.{option_or}
-use Rattle.std.proofs.lemmas.List.{append_cancel_left}
 use Rattle.std.proofs.lemmas.Option.{same_Some}
 use Rattle.tree_core.specs.declared.cause.Cause.{Cause}
 use Rattle.tree_core.specs.declared.cause.Cause.TheVariants.{Steps, Targets, Conflicts, Nodes}
 use Rattle.tree_core.specs.declared.event.Deed.{Deed}
 use Rattle.tree_core.specs.declared.event.Deed.TheVariants.{Claim, Split, Finish, Cut, Release}
-use Rattle.fork_spec.specs.Leaves.{IsSmall, IsSmallChoice}
+use Rattle.fork_spec.specs.Leaves.{IsSmall}
 use Rattle.fork_spec.specs.Walks.{Line, Side, Sides}
-use Rattle.text_parts.specs.Items.{choice}
-use Rattle.text_parts.specs.Names.{choice_text}
-use Rattle.text_parts.specs.Pieces.{Reader, behind, made, named, number, two}
-use Rattle.text_parts.proofs.ItemsBack.{choice_back}
-use Rattle.text_parts.proofs.Joined.{three_pieces}
-use Rattle.text_parts.proofs.Words.{behind_word, number_back, starts_plain, two_back}
-use Rattle.spent_text.proofs.ListsBack.{items_told, lines_told}
-use Rattle.spent_text.specs.Sides.{mark_text, side_text, sides_text}
+use Rattle.text_parts.specs.Pieces.{behind, named, number, two}
+use Rattle.text_parts.proofs.Words.{number_back, starts_plain, two_back}
+use Rattle.spent_text.proofs.ListsBack.{lines_told}
+use Rattle.spent_text.specs.Sides.{sides_text}
 use Rattle.spent_text.proofs.SidesBack.{sides_told}
 use Rattle.report_text.specs.Events.{actors_text, cut_text, deed_text, event_text, events_text}
 use Rattle.report_text.specs.Legible.{AreLegible, IsLegibleDeed, IsLegibleLine}

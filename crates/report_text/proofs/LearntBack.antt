@@ -1,23 +1,16 @@
 -- A question and the clauses that were learnt for it are told by their text.
-use Rattle.std.proofs.Common.{◌≡◌, ◌∙◌, ℕ, ◌<◌, ◌≤◌, ◌^◌, true, false, ◌==◌, Bool, List, ◌++◌, None, Some, append_assoc, ap, arith, codes, decimal, length, option_map, refl, sym}
-use Rattle.std.specs.Prelude.{All, if◌then◌else◌, option_and_then}
+use Rattle.std.proofs.Common.{◌≡◌, ◌∙◌, ℕ, List, ◌++◌, Some, append_assoc, ap, arith, codes, decimal, length, refl, sym}
+use Rattle.std.specs.Prelude.{All}
 use Rattle.std.specs.List.{flat_map}
-use Rattle.std.specs.Option.{option_or}
-use Rattle.std.proofs.lemmas.Bool.Decides.{nat_tests}
-use Rattle.std.proofs.lemmas.Fmt.{decimal_digit}
 use Rattle.std.proofs.lemmas.List.{append_cancel_left}
 use Rattle.std.proofs.lemmas.Option.{same_Some}
-use Rattle.cnf_form.specs.Literals.{Literal}
-use Rattle.cnf_form.specs.Refutations.{Step}
 use Rattle.fork_spec.specs.Evidence.{Learnt}
-use Rattle.fork_spec.specs.Leaves.{IsSmall}
 use Rattle.smt_text.specs.LeafLines.{query_text}
-use Rattle.text_parts.specs.Pieces.{Reader, behind, made, number, plain_number, three}
+use Rattle.text_parts.specs.Pieces.{three}
 use Rattle.smt_text.proofs.OneReading.{question_before}
-use Rattle.text_parts.proofs.Joined.{five_pieces}
-use Rattle.text_parts.proofs.Words.{behind_word, number_back, starts_plain, three_back}
-use Rattle.spent_text.proofs.ListsBack.{all_go_on, items_told, lines_told}
-use Rattle.spent_text.specs.LearntLine.{hint_text, learnt_line, literal_text}
+use Rattle.text_parts.proofs.Words.{three_back}
+use Rattle.spent_text.proofs.ListsBack.{lines_told}
+use Rattle.spent_text.specs.LearntLine.{learnt_line}
 use Rattle.spent_text.proofs.ClauseBack.{IsLegibleStep, some_step, step_told}
 use Rattle.report_text.specs.Learnt.{conflicts_text, learnt_heading}
 use Rattle.report_text.specs.Legible.{IsLegibleLearnt}

@@ -1,19 +1,11 @@
 -- Values that were spent are told by their text, and so is a number of nodes.
-use Rattle.std.proofs.Common.{◌≡◌, ◌∙◌, ℕ, zero, suc, ◌<◌, ◌/◌, ◌%◌, true, false, ◌==◌, Bool, List, [], ◌∷◌, ◌++◌, Some, append_assoc, ap, arith, codes, decimal, length, refl, slice_index, sym}
-use Rattle.std.specs.Prelude.{All, ◌||◌}
-use Rattle.std.specs.List.{flat_map, list_any}
-use Rattle.std.proofs.lemmas.Bool.{eq-eqb}
+use Rattle.std.proofs.Common.{◌≡◌, ◌∙◌, ℕ, List, ◌++◌, Some, append_assoc, ap, arith, codes, decimal, length, refl, sym}
+use Rattle.std.specs.List.{flat_map}
 use Rattle.std.proofs.lemmas.List.{append_cancel_left}
-use Rattle.std.proofs.lemmas.List.Elements.{All-head, All-tail}
 use Rattle.std.proofs.lemmas.Option.{same_Some}
-use Rattle.hex.specs.Hex.{IsBytes, encode_lower, encode_with, lower_digits}
-use Rattle.fork_spec.specs.Evidence.{Found, Spent}
+use Rattle.fork_spec.specs.Evidence.{Spent}
 use Rattle.fork_spec.specs.Leaves.{IsSmall}
-use Rattle.text_parts.specs.Names.{eight_digits}
-use Rattle.text_parts.specs.Pieces.{eight, number, two}
-use Rattle.text_parts.proofs.DigitsBack.{bytes_by_digits, none_at}
-use Rattle.text_parts.proofs.ItemsBack.{eight_back}
-use Rattle.text_parts.proofs.Joined.{five_pieces}
+use Rattle.text_parts.specs.Pieces.{number, two}
 use Rattle.text_parts.proofs.Words.{number_back, two_back}
 use Rattle.spent_text.proofs.ListsBack.{lines_told}
 use Rattle.spent_text.specs.FoundLine.{found_text}
