@@ -13,7 +13,6 @@ mod reading;
 mod walk;
 
 pub use cert::Cert;
-pub use kind::LineKind;
 pub use line::{CertLine, LearntClause, NodeLine, Side, Sides};
 pub use printing::print_cert;
 pub use reading::{CertRefused, read_cert};
