@@ -220,7 +220,7 @@ IsPlain text = starts_plain text ≡ true
 region_pieces : (b d c n rest : List ℕ) → (b ++ ((d ++ c) ++ n)) ++ rest ≡ b ++ (d ++ (c ++ (n ++ rest)))
 region_pieces b d c n rest = simp append_assoc
 
-word_true : (n : ℕ) → IsSmall n → nat_lt n (2 ^ 32) ≡ true
+pub word_true : (n : ℕ) → IsSmall n → nat_lt n (2 ^ 32) ≡ true
 word_true n small = grind (arith, nat_tests)
 
 region_back : (r : Region) (rest : List ℕ) → IsSmallRegion r → IsPlain rest → region (blank_region r ++ rest) ≡ Some (r, rest)

@@ -7,7 +7,6 @@ use Rattle.std.proofs.lemmas.List.Elements.{All-head, All-tail}
 use Rattle.cnf_form.specs.Clauses.{IsClause}
 use Rattle.cnf_form.specs.Literals.{Literal}
 use Rattle.cnf_form.specs.Refutations.{Step}
-use Rattle.fork_spec.specs.Leaves.{IsSmall}
 use Rattle.hex.specs.Hex.{encode_lower}
 use Rattle.smt_text.proofs.LinesBack.{node_line_back}
 use Rattle.spent_text.specs.LearntLine.{hint_text, learnt_line, literal_text}
@@ -29,7 +28,7 @@ use Rattle.cert_text.specs.declared.kind.LineKind.TheVariants as kind
 use Rattle.cert_text.specs.declared.line.CertLine.{CertLine}
 use Rattle.cert_text.specs.declared.line.CertLine.TheVariants.{One, Split, Tried, Inputs, Nodes, Logic, Input, Base, Node, Assert, Check, Exit, Clause, Value, Witness, End, CutSteps, CutNodes}
 use Rattle.cert_text.proofs.BytesBack.{input_back}
-use Rattle.cert_text.proofs.ItemsBack.{hints_back, literals_back, regions_back, sides_back}
+use Rattle.cert_text.proofs.ItemsBack.{hints_back, literals_back, regions_back, sides_back, word_true}
 
 -- ---- kinds
 
@@ -93,9 +92,6 @@ numbered_back : {X : Type 0} (make : ℕ → X) (word end : List ℕ) (n : ℕ) 
     made make (option_and_then (one end) (behind word (((word ++ decimal n) ++ end) ++ rest))) ≡ Some (make n, rest)
 numbered_back make word end n rest small plain =
     rw (three_pieces word (decimal n) end rest, behind_word word (decimal n ++ (end ++ rest)), one_back end n rest small plain) refl
-
-pub word_true : (n : ℕ) → IsSmall n → nat_lt n (2 ^ 32) ≡ true
-word_true n small = grind (arith, nat_tests)
 
 all_above_0 : (ls : List Literal) → All (λ (l : Literal). 1 ≤ l.variable) ls → list_all (λ (l : Literal). nat_lt 0 l.variable) ls ≡ true
 all_above_0 [] from_one = refl

@@ -3,6 +3,7 @@ use Rattle.std.proofs.Common.{◌≡◌, ◌∙◌, ℕ, suc, ◌+◌, ◌<◌, 
 use Rattle.std.specs.Prelude.{All}
 use Rattle.std.specs.List.{flat_map}
 use Rattle.std.proofs.lemmas.Grind.{flat_map-append}
+use Rattle.std.proofs.lemmas.List.{nil_from_length}
 use Rattle.std.proofs.lemmas.List.Elements.{All-append, All-cons, All-nil}
 use Rattle.std.proofs.lemmas.Option.{none-some}
 use Rattle.cert_text.specs.Certificates.{Certificate, FormatLine, RegionsLine, BudgetsLine, WalkLine, cert_text, lines_text, text_of}
@@ -60,13 +61,9 @@ read_one_more text lines rest line more has h =
       legible = All-append IsLegibleLine lines (line ∷ []) has.legible (All-cons IsLegibleLine line [] one.1 (All-nil IsLegibleLine));
     }
 
-nil : (rest : List ℕ) → length rest ≡ 0 → rest ≡ []
-nil [] none = refl
-nil (c ∷ rest) none = absurd (omega (arith, none))
-
 pub read_all : (text : List ℕ) (lines : List CertLine) (rest : List ℕ) → HasRead text lines rest → length rest ≡ 0 → AreRead text lines
 read_all text lines rest has none = record {
-  is_theirs = has.split ∙ ap (λ t. flat_map line_text lines ++ t) (nil rest none) ∙ append-nil (flat_map line_text lines);
+  is_theirs = has.split ∙ ap (λ t. flat_map line_text lines ++ t) (nil_from_length rest none) ∙ append-nil (flat_map line_text lines);
   legible = has.legible;
 }
 
