@@ -18,9 +18,9 @@ use Rattle.text_parts.specs.Pieces.{behind, made, named, number, one, plain_numb
 use Rattle.text_parts.proofs.ItemsBack.{choice_back, eight_back}
 use Rattle.text_parts.proofs.Joined.{five_pieces, three_pieces}
 use Rattle.text_parts.proofs.Words.{behind_word, one_back, starts_plain, three_back}
-use Rattle.tree_core.specs.declared.budgets.Budgets.{Budgets}
+use Rattle.cert_text.specs.declared.cert.Limits.{Limits}
 use Rattle.cert_text.specs.Certificates.{TextLine, FormatLine, RegionsLine, BudgetsLine, WalkLine, blank_region, text_of}
-use Rattle.cert_text.specs.Legible.{AreInput, AreSmallBudgets, IsLegibleLine, MayStand}
+use Rattle.cert_text.specs.Legible.{AreInput, AreSmallLimits, IsLegibleLine, MayStand}
 use Rattle.cert_text.specs.LineReading.{budgets_line, clause_read, input_line, kind_at, line_behind, line_of, rise_above, walk_line, worded_input}
 use Rattle.cert_text.specs.Lines.{input_text, line_text}
 use Rattle.cert_text.specs.declared.kind.LineKind.{LineKind}
@@ -175,7 +175,7 @@ pub budget_pieces : (w s b t c n e rest : List ℕ) →
     ((((((((w ++ s) ++ b) ++ t) ++ b) ++ c) ++ b) ++ n) ++ e) ++ rest ≡ w ++ (s ++ (b ++ (t ++ (b ++ (c ++ (b ++ (n ++ (e ++ rest))))))))
 budget_pieces w s b t c n e rest = simp append_assoc
 
-budgets_back : (budgets : Budgets) (rest : List ℕ) → AreSmallBudgets budgets → budgets_line (text_of (BudgetsLine budgets) ++ rest) ≡ Some (budgets, rest)
+budgets_back : (budgets : Limits) (rest : List ℕ) → AreSmallLimits budgets → budgets_line (text_of (BudgetsLine budgets) ++ rest) ≡ Some (budgets, rest)
 budgets_back budgets rest small =
     let blank : List ℕ = codes " " in
     let nodes : List ℕ = decimal budgets.nodes ++ (codes "\n" ++ rest) in
@@ -188,7 +188,7 @@ budgets_back budgets rest small =
       word_true budgets.targets small.targets,
       word_true budgets.conflicts small.conflicts,
       word_true budgets.nodes small.nodes,
-    ) (ap (λ o. Some (record budgets { order = o }, rest)) (sym small.order))
+    ) refl
 
 pub line_back : (before : ℕ) (line : TextLine) (rest : List ℕ) → MayStand before line → line_behind before (text_of line ++ rest) ≡ Some (line, rest)
 line_back zero FormatLine rest may = rw (behind_word (text_of FormatLine) rest) refl

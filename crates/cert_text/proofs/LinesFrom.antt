@@ -29,10 +29,9 @@ use Rattle.text_parts.specs.Pieces.{before, behind, eight, made, one, three}
 use Rattle.text_parts.proofs.Joined.{five_pieces, three_pieces}
 use Rattle.text_parts.proofs.Options.{map_from, or_from, then_from}
 use Rattle.text_parts.proofs.Words.{from_before, from_behind, from_one, from_three}
-use Rattle.tree_core.specs.declared.budgets.Budgets.{Budgets}
-use Rattle.tree_core.specs.declared.order.Order.TheVariants.{Deepest}
+use Rattle.cert_text.specs.declared.cert.Limits.{Limits}
 use Rattle.cert_text.specs.Certificates.{RegionsLine, BudgetsLine, blank_region, text_of}
-use Rattle.cert_text.specs.Legible.{AreInput, AreSmallBudgets, IsLegibleLine, IsSmallRegion}
+use Rattle.cert_text.specs.Legible.{AreInput, AreSmallLimits, IsLegibleLine, IsSmallRegion}
 use Rattle.cert_text.specs.LineReading.{all, budgets_line, budgets_of, budgets_read, clause_read, fixed_line, found_from, hints_read, input_line, input_to_end, kind_at, line_of, node_read, region, regions_line, rise_above, said_in, value_read, walk_line, worded_input}
 use Rattle.cert_text.specs.Lines.{input_text, line_text}
 use Rattle.cert_text.specs.declared.kind.LineKind.{LineKind}
@@ -263,43 +262,42 @@ from_regions_line text regions rest h =
     let d = from_regions b.0 regions rest b.2 in
     (from_behind (codes "regions") text b.0 b.1 ∙ ap (λ t. codes "regions" ++ t) d.0 ∙ sym (three_pieces (codes "regions") (flat_map blank_region regions) (codes "\n") rest), d.1)
 
-from_budgets_of : (s t c n : ℕ) (budgets : Budgets) → budgets_of s t c n ≡ Some budgets →
-    (budgets ≡ record { steps = s; targets = t; conflicts = c; nodes = n; order = Deepest }) × AreSmallBudgets budgets
+from_budgets_of : (s t c n : ℕ) (budgets : Limits) → budgets_of s t c n ≡ Some budgets →
+    (budgets ≡ record { steps = s; targets = t; conflicts = c; nodes = n }) × AreSmallLimits budgets
 from_budgets_of s t c n budgets h =
-    let made : Budgets = record { steps = s; targets = t; conflicts = c; nodes = n; order = Deepest } in
-    let last : Option Budgets = Some made in
+    let made : Limits = record { steps = s; targets = t; conflicts = c; nodes = n } in
+    let last : Option Limits = Some made in
     let without_t = word_from s (if_word t (if_word c (if_word n last))) budgets h in
     let without_c = word_from t (if_word c (if_word n last)) budgets without_t in
     let without_n = word_from c (if_word n last) budgets without_c in
     let same : made ≡ budgets = same_Some made budgets (word_from n last budgets without_n) in
-    let small : AreSmallBudgets made = record {
+    let small : AreSmallLimits made = record {
       steps = word_small s (if_word t (if_word c (if_word n last))) budgets h;
       targets = word_small t (if_word c (if_word n last)) budgets without_t;
       conflicts = word_small c (if_word n last) budgets without_c;
       nodes = word_small n last budgets without_n;
-      order = refl;
     } in
-    (sym same, subst AreSmallBudgets same small)
+    (sym same, subst AreSmallLimits same small)
 
-pub from_budgets_line : (text : List ℕ) (budgets : Budgets) (rest : List ℕ) → budgets_line text ≡ Some (budgets, rest) →
-    (text ≡ text_of (BudgetsLine budgets) ++ rest) × AreSmallBudgets budgets
+pub from_budgets_line : (text : List ℕ) (budgets : Limits) (rest : List ℕ) → budgets_line text ≡ Some (budgets, rest) →
+    (text ≡ text_of (BudgetsLine budgets) ++ rest) × AreSmallLimits budgets
 from_budgets_line text budgets rest h =
     let blank : List ℕ = codes " " in
     let a = then_from budgets_read (behind (codes "budgets ") text) (budgets, rest) h in
-    let b = then_from (λ ((p, r) : (ℕ × ℕ × ℕ) × List ℕ). option_and_then (λ ((n, more) : ℕ × List ℕ). option_map (λ (x : Budgets). (x, more)) (budgets_of p.0 p.1 p.2 n)) (one (codes "\n") r))
+    let b = then_from (λ ((p, r) : (ℕ × ℕ × ℕ) × List ℕ). option_and_then (λ ((n, more) : ℕ × List ℕ). option_map (λ (x : Limits). (x, more)) (budgets_of p.0 p.1 p.2 n)) (one (codes "\n") r))
     (three blank blank blank a.0) (budgets, rest) a.2 in
-    let d = then_from (λ ((n, more) : ℕ × List ℕ). option_map (λ (x : Budgets). (x, more)) (budgets_of b.0.0.0 b.0.0.1 b.0.0.2 n)) (one (codes "\n") b.0.1) (budgets, rest) b.2 in
-    let e = map_from (λ (x : Budgets). (x, d.0.1)) (budgets_of b.0.0.0 b.0.0.1 b.0.0.2 d.0.0) (budgets, rest) d.2 in
+    let d = then_from (λ ((n, more) : ℕ × List ℕ). option_map (λ (x : Limits). (x, more)) (budgets_of b.0.0.0 b.0.0.1 b.0.0.2 n)) (one (codes "\n") b.0.1) (budgets, rest) b.2 in
+    let e = map_from (λ (x : Limits). (x, d.0.1)) (budgets_of b.0.0.0 b.0.0.1 b.0.0.2 d.0.0) (budgets, rest) d.2 in
     let first = from_three blank blank blank a.0 b.0.0 b.0.1 b.1 in
     let last = from_one (codes "\n") b.0.1 d.0.0 d.0.1 d.1 in
     let is = from_budgets_of b.0.0.0 b.0.0.1 b.0.0.2 d.0.0 e.0 e.1 in
-    let found : Budgets = record { steps = b.0.0.0; targets = b.0.0.1; conflicts = b.0.0.2; nodes = d.0.0; order = Deepest } in
-    let same : e.0 ≡ budgets = ap (λ (p : Budgets × List ℕ). p.0) e.2 in (
+    let found : Limits = record { steps = b.0.0.0; targets = b.0.0.1; conflicts = b.0.0.2; nodes = d.0.0 } in
+    let same : e.0 ≡ budgets = ap (λ (p : Limits × List ℕ). p.0) e.2 in (
       from_behind (codes "budgets ") text a.0 a.1
           ∙ ap (λ t. codes "budgets " ++ t) (first.0
           ∙ ap (λ t. decimal b.0.0.0 ++ (blank ++ (decimal b.0.0.1 ++ (blank ++ (decimal b.0.0.2 ++ (blank ++ t)))))) last.0)
           ∙ sym (budget_pieces (codes "budgets ") (decimal found.steps) blank (decimal found.targets) (decimal found.conflicts) (decimal found.nodes) (codes "\n") d.0.1)
-          ∙ ap (λ (x : Budgets). text_of (BudgetsLine x) ++ d.0.1) (sym is.0 ∙ same)
-          ∙ ap (λ (p : Budgets × List ℕ). text_of (BudgetsLine budgets) ++ p.1) e.2,
-      subst AreSmallBudgets same is.1,
+          ∙ ap (λ (x : Limits). text_of (BudgetsLine x) ++ d.0.1) (sym is.0 ∙ same)
+          ∙ ap (λ (p : Limits × List ℕ). text_of (BudgetsLine budgets) ++ p.1) e.2,
+      subst AreSmallLimits same is.1,
     )

@@ -6,11 +6,11 @@ use Rattle.std.proofs.lemmas.List.{length-map}
 use Rattle.std.proofs.lemmas.List.Elements.{All-head, All-tail}
 use Rattle.std.proofs.lemmas.Option.{none-some, same_Some}
 use Rattle.elf_load.specs.declared.region.Region.{Region}
-use Rattle.tree_core.specs.declared.budgets.Budgets.{Budgets}
+use Rattle.cert_text.specs.declared.cert.Limits.{Limits}
 use Rattle.text_parts.specs.Pieces.{behind}
 use Rattle.text_parts.proofs.Words.{from_behind}
 use Rattle.cert_text.specs.Certificates.{Certificate, TextLine, FormatLine, RegionsLine, BudgetsLine, WalkLine, cert_text, lines_of, lines_text, text_of}
-use Rattle.cert_text.specs.Legible.{AreSmallBudgets, IsLegible, IsLegibleLine, IsSmallRegion}
+use Rattle.cert_text.specs.Legible.{AreSmallLimits, IsLegible, IsLegibleLine, IsSmallRegion}
 use Rattle.cert_text.specs.LineReading.{budgets_line, line_behind, regions_line}
 use Rattle.cert_text.specs.Parts.{AreRead, HasHeading, IsRefusedBehind}
 use Rattle.cert_text.specs.Refusals.{AllStand, BeginsWithNone, EndsEarly, GoesOnOtherwise, IsRefusedAt}
@@ -38,10 +38,10 @@ walk_stands before (line ∷ lines) legible =
     (All-head IsLegibleLine line lines legible, walk_stands (suc before) lines (All-tail IsLegibleLine line lines legible))
 
 -- the lines of the heading
-abbrev heading_of : List Region → Budgets → List TextLine
+abbrev heading_of : List Region → Limits → List TextLine
 heading_of regions budgets = FormatLine ∷ RegionsLine regions ∷ BudgetsLine budgets ∷ []
 
-all_stand : (regions : List Region) (budgets : Budgets) (lines : List CertLine) → All IsSmallRegion regions → AreSmallBudgets budgets →
+all_stand : (regions : List Region) (budgets : Limits) (lines : List CertLine) → All IsSmallRegion regions → AreSmallLimits budgets →
     All IsLegibleLine lines → AllStand 0 (heading_of regions budgets ++ map WalkLine lines)
 unfolding AllStand
 all_stand regions budgets lines small few legible = (tt, (small, (few, walk_stands 0 lines legible)))
@@ -121,19 +121,19 @@ one_cert c d legible also e =
 
 -- ---- the heading and the walk
 
-pub whole_text : (text : List ℕ) (regions : List Region) (budgets : Budgets) (rest : List ℕ) (lines : List CertLine) → HasHeading text regions budgets rest →
+pub whole_text : (text : List ℕ) (regions : List Region) (budgets : Limits) (rest : List ℕ) (lines : List CertLine) → HasHeading text regions budgets rest →
     AreRead rest lines → text ≡ cert_text (record { regions = regions; budgets = budgets; lines = lines })
 unfolding cert_text lines_text
 whole_text text regions budgets rest lines heading walk =
     heading.split ∙ ap (λ t. lines_text (heading_of regions budgets) ++ t) (walk.is_theirs ∙ sym (walk_text lines))
     ∙ sym (flat_map-append text_of (heading_of regions budgets) (map WalkLine lines))
 
-pub whole_legible : (text : List ℕ) (regions : List Region) (budgets : Budgets) (rest : List ℕ) (lines : List CertLine) → HasHeading text regions budgets rest →
+pub whole_legible : (text : List ℕ) (regions : List Region) (budgets : Limits) (rest : List ℕ) (lines : List CertLine) → HasHeading text regions budgets rest →
     AreRead rest lines → IsLegible (record { regions = regions; budgets = budgets; lines = lines })
 whole_legible text regions budgets rest lines heading walk =
     record { regions = heading.small_regions; budgets = heading.small_budgets; lines = walk.legible }
 
-pub refused_behind : (text : List ℕ) (regions : List Region) (budgets : Budgets) (rest : List ℕ) (n : ℕ) → HasHeading text regions budgets rest →
+pub refused_behind : (text : List ℕ) (regions : List Region) (budgets : Limits) (rest : List ℕ) (n : ℕ) → HasHeading text regions budgets rest →
     IsRefusedBehind rest n → IsRefusedAt text n
 unfolding lines_text
 refused_behind text regions budgets rest n heading refused =
@@ -192,7 +192,7 @@ refused_third text rest regions more first second none =
     two : (f r t : List ℕ) → f ++ (r ++ t) ≡ (f ++ (r ++ [])) ++ t
     two f r t = simp (append_assoc, append-nil)
 
-pub heading_read : (text rest : List ℕ) (regions : List Region) (more : List ℕ) (budgets : Budgets) (end : List ℕ) → behind (text_of FormatLine) text ≡ Some rest →
+pub heading_read : (text rest : List ℕ) (regions : List Region) (more : List ℕ) (budgets : Limits) (end : List ℕ) → behind (text_of FormatLine) text ≡ Some rest →
     regions_line rest ≡ Some (regions, more) → budgets_line more ≡ Some (budgets, end) → HasHeading text regions budgets end
 unfolding lines_text
 heading_read text rest regions more budgets end first second third =

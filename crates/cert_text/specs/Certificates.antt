@@ -3,21 +3,21 @@ use Rattle.std.specs.Prelude.{ℕ, List, ◌∷◌, ◌++◌, codes, decimal, ma
 use Rattle.std.specs.List.{flat_map}
 use Rattle.elf_load.specs.declared.region.Region.{Region}
 use Rattle.test_files.specs.Tests.{region_text}
-use Rattle.tree_core.specs.declared.budgets.Budgets.{Budgets}
+use Rattle.cert_text.specs.declared.cert.Limits.{Limits}
 use Rattle.cert_text.specs.Lines.{line_text}
 use Rattle.cert_text.specs.declared.line.CertLine.{CertLine}
 
 -- where the input bytes stand, what may be spent, and the lines of the walk
 pub record Certificate : Type 0 where
   pub regions : List Region
-  pub budgets : Budgets
+  pub budgets : Limits
   pub lines : List CertLine
 
 -- One case for each line of the heading, and one for those of the walk.
 pub data TextLine : Type 0 where
   FormatLine : TextLine
   RegionsLine : List Region → TextLine
-  BudgetsLine : Budgets → TextLine
+  BudgetsLine : Limits → TextLine
   WalkLine : CertLine → TextLine
 
 -- a region, behind a blank

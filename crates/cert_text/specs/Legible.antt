@@ -6,8 +6,7 @@ use Rattle.fork_spec.specs.Leaves.{IsCount, IsSmall, IsSmallChoice}
 use Rattle.fork_spec.specs.Walks.{Side}
 use Rattle.smt_text.specs.NodeText.{IsSmallNode}
 use Rattle.spent_text.specs.Legible.{HasSmallNumbers, IsLegibleFound}
-use Rattle.tree_core.specs.declared.budgets.Budgets.{Budgets}
-use Rattle.tree_core.specs.declared.order.Order.TheVariants.{Deepest}
+use Rattle.cert_text.specs.declared.cert.Limits.{Limits}
 use Rattle.cert_text.specs.Certificates.{Certificate, TextLine, FormatLine, RegionsLine, BudgetsLine, WalkLine}
 use Rattle.cert_text.specs.declared.line.CertLine.{CertLine}
 use Rattle.cert_text.specs.declared.line.CertLine.TheVariants.{One, Split, Inputs, Nodes, Input, Node, Assert, Clause, Value, Witness, End, CutSteps}
@@ -36,23 +35,22 @@ IsLegibleLine _ = Unit {0}
 abbrev pub IsSmallRegion : Region → Type 0
 IsSmallRegion region = IsSmall region.start × IsSmall region.count
 
--- four numbers of 32 bits; no text says the order of claims, so it is the first
-pub record AreSmallBudgets (budgets : Budgets) : Type 0 where
+-- four numbers of 32 bits
+pub record AreSmallLimits (budgets : Limits) : Type 0 where
   pub steps : IsSmall budgets.steps
   pub targets : IsSmall budgets.targets
   pub conflicts : IsSmall budgets.conflicts
   pub nodes : IsSmall budgets.nodes
-  pub order : budgets.order ≡ Deepest
 
 pub record IsLegible (c : Certificate) : Type 0 where
   pub regions : All IsSmallRegion c.regions
-  pub budgets : AreSmallBudgets c.budgets
+  pub budgets : AreSmallLimits c.budgets
   pub lines : All IsLegibleLine c.lines
 
 -- the line may stand behind so many others: the heading first, and then the walk
 abbrev pub MayStand : (before : ℕ) → TextLine → Type 0
 MayStand zero FormatLine = Unit {0}
 MayStand (suc zero) (RegionsLine regions) = All IsSmallRegion regions
-MayStand (suc (suc zero)) (BudgetsLine budgets) = AreSmallBudgets budgets
+MayStand (suc (suc zero)) (BudgetsLine budgets) = AreSmallLimits budgets
 MayStand (suc (suc (suc before))) (WalkLine line) = IsLegibleLine line
 MayStand before line = ⊥

@@ -13,8 +13,7 @@ use Rattle.smt_text.specs.Lines.{LeafLine, NodeLine}
 use Rattle.spent_text.specs.LineReading.{hint, literal, side}
 use Rattle.text_parts.specs.Items.{choice}
 use Rattle.text_parts.specs.Pieces.{Reader, before, behind, eight, made, named, number, one, three}
-use Rattle.tree_core.specs.declared.budgets.Budgets.{Budgets}
-use Rattle.tree_core.specs.declared.order.Order.TheVariants.{Deepest}
+use Rattle.cert_text.specs.declared.cert.Limits.{Limits}
 use Rattle.cert_text.specs.Certificates.{TextLine, FormatLine, RegionsLine, BudgetsLine, WalkLine, text_of}
 use Rattle.cert_text.specs.Lines.{line_text}
 use Rattle.cert_text.specs.declared.kind.LineKind.{LineKind}
@@ -177,24 +176,23 @@ abbrev pub regions_line : Reader (List Region)
 regions_line text = option_and_then (all region (codes "\n")) (behind (codes "regions") text)
 
 -- budgets of these numbers, if they have 32 bits
-abbrev pub budgets_of : (steps targets conflicts nodes : ℕ) → Option Budgets
+abbrev pub budgets_of : (steps targets conflicts nodes : ℕ) → Option Limits
 budgets_of steps targets conflicts nodes =
     if_word steps (if_word targets (if_word conflicts (if_word nodes (Some (record {
       steps = steps;
       targets = targets;
       conflicts = conflicts;
       nodes = nodes;
-      order = Deepest;
     })))))
 
-abbrev pub budgets_read : Reader Budgets
+abbrev pub budgets_read : Reader Limits
 budgets_read text =
     option_and_then (λ ((steps, targets, conflicts), rest). option_and_then (λ (nodes, more).
     option_map (λ budgets. (budgets, more)) (budgets_of steps targets conflicts nodes))
     (one (codes "\n") rest))
     (three (codes " ") (codes " ") (codes " ") text)
 
-abbrev pub budgets_line : Reader Budgets
+abbrev pub budgets_line : Reader Limits
 budgets_line text = option_and_then budgets_read (behind (codes "budgets ") text)
 
 -- ---- all lines

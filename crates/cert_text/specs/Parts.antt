@@ -2,19 +2,19 @@
 use Rattle.std.specs.Prelude.{◌≡◌, ◌≢◌, ℕ, suc, ◌+◌, List, ◌∷◌, [], ◌++◌, All, length}
 use Rattle.std.specs.List.{flat_map}
 use Rattle.elf_load.specs.declared.region.Region.{Region}
-use Rattle.tree_core.specs.declared.budgets.Budgets.{Budgets}
+use Rattle.cert_text.specs.declared.cert.Limits.{Limits}
 use Rattle.cert_text.specs.Certificates.{FormatLine, RegionsLine, BudgetsLine, lines_text}
-use Rattle.cert_text.specs.Legible.{AreSmallBudgets, IsLegibleLine, IsSmallRegion}
+use Rattle.cert_text.specs.Legible.{AreSmallLimits, IsLegibleLine, IsSmallRegion}
 use Rattle.cert_text.specs.Lines.{line_text}
 use Rattle.cert_text.specs.Refusals.{BeginsWithNone}
 use Rattle.cert_text.specs.declared.line.CertLine.{CertLine}
 
 -- the text is a heading of these, and the rest
-pub record HasHeading (text : List ℕ) (regions : List Region) (budgets : Budgets)
+pub record HasHeading (text : List ℕ) (regions : List Region) (budgets : Limits)
     (rest : List ℕ) : Type 0 where
   pub split : text ≡ lines_text (FormatLine ∷ RegionsLine regions ∷ BudgetsLine budgets ∷ []) ++ rest
   pub small_regions : All IsSmallRegion regions
-  pub small_budgets : AreSmallBudgets budgets
+  pub small_budgets : AreSmallLimits budgets
 
 -- the text is that of these lines of a walk
 pub record AreRead (text : List ℕ) (lines : List CertLine) : Type 0 where

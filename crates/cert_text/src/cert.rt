@@ -3,14 +3,25 @@
 use crate::line::CertLine;
 use elf_load::Regions;
 use std::marker::Model;
-use tree_core::Budgets;
+
+/// How much may be spent.
+#[derive(Clone, Copy, Debug, PartialEq, Eq)]
+pub struct Limits {
+    /// The steps of a run.
+    pub steps: u32,
+    /// The values of a number that a step needs.
+    pub targets: u32,
+    /// The clauses that are learnt for a question.
+    pub conflicts: u32,
+    /// The nodes of the fork tree.
+    pub nodes: u32,
+}
 
 /// What shows that a fork tree covers all runs: where its input bytes stand, what it may spend, and the lines of the walk.
 #[derive(Debug)]
 pub struct Cert {
     pub regions: Regions,
-    /// The order of claims isn't part of the text.
-    pub budgets: Budgets,
+    pub budgets: Limits,
     pub lines: Vec<CertLine>,
 }
 

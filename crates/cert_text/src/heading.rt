@@ -3,11 +3,11 @@
 ghost use Rattle.std.specs.Prelude.{◌≡◌, IfOk, option_map};
 ghost use Rattle.cert_text.specs.LineReading as spec;
 
+use crate::cert::Limits;
 use crate::lists::take_all;
 use elf_load::Regions;
 use leaf_reader::{behind, one, three};
 use std::alloc::{AllocError as NoMemory, Global};
-use tree_core::{Budgets, Order};
 
 /// The line of the regions.
 pub(crate) fn take_regions(alloc: Global, text: &[u8]) -> Result<Option<(Regions, &[u8])>, NoMemory>
@@ -23,21 +23,20 @@ pub(crate) fn take_regions(alloc: Global, text: &[u8]) -> Result<Option<(Regions
     }
 }
 
-/// Budgets of these numbers, if they have 32 bits.
-fn budgets_of(steps: u64, targets: u64, conflicts: u64, nodes: u64) -> Option<Budgets>
+/// Limits of these numbers, if they have 32 bits.
+fn budgets_of(steps: u64, targets: u64, conflicts: u64, nodes: u64) -> Option<Limits>
     ensures { result ≡ spec.budgets_of steps targets conflicts nodes }
 {
-    Some(Budgets {
+    Some(Limits {
         steps: u32::try_from(steps).ok()?,
         targets: u32::try_from(targets).ok()?,
         conflicts: u32::try_from(conflicts).ok()?,
         nodes: u32::try_from(nodes).ok()?,
-        order: Order::Deepest,
     })
 }
 
 /// The line of the budgets.
-pub(crate) fn take_budgets(text: &[u8]) -> Option<(Budgets, &[u8])>
+pub(crate) fn take_budgets(text: &[u8]) -> Option<(Limits, &[u8])>
     ensures { option_map (λ found. (found.0, found.1.now)) result ≡ spec.budgets_line text.now }
 {
     let ((steps, targets, conflicts), rest) = three(behind(text, "budgets ")?, " ", " ", " ")?;

@@ -12,7 +12,7 @@ mod printing;
 mod reading;
 mod walk;
 
-pub use cert::Cert;
+pub use cert::{Cert, Limits};
 pub use line::{CertLine, LearntClause, NodeLine, Side, Sides};
 pub use printing::print_cert;
 pub use reading::{CertRefused, read_cert};

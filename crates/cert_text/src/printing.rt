@@ -10,7 +10,7 @@ ghost use Rattle.cert_text.specs.Certificates.{BudgetsLine, FormatLine, RegionsL
 ghost use Rattle.cert_text.specs.Lines.{input_text, line_text};
 ghost use Rattle.cert_text.specs.declared.line.CertLine.TheVariants as walk;
 
-use crate::cert::Cert;
+use crate::cert::{Cert, Limits};
 use crate::line::{CertLine, Side};
 use byte_list::Bytes;
 use elf_load::Region;
@@ -20,7 +20,7 @@ use smt_text::{write_assert_line, write_input_line, write_node_line};
 use spent_text::{found_line, write_clause_line, write_side};
 use std::alloc::{AllocError as NoMemory, Global};
 use text_parts::{push_numbered, write_choice};
-use tree_core::{Budgets, Choice};
+use tree_core::Choice;
 
 /// Appends a region, behind a blank.
 fn write_region(alloc: Global, text: &mut String, region: Region) -> Result<(), NoMemory>
@@ -45,7 +45,7 @@ fn write_regions(alloc: Global, text: &mut String, regions: &[Region]) -> Result
 }
 
 /// Appends the line of the budgets.
-fn write_budgets(text: &mut String, budgets: Budgets) -> Result<(), NoMemory>
+fn write_budgets(text: &mut String, budgets: Limits) -> Result<(), NoMemory>
     ensures { OnOk result (string_bytes text.new
         ≡ string_bytes text.old ++ text_of (BudgetsLine budgets)) }
 {
@@ -187,7 +187,7 @@ fn write_heading(
     alloc: Global,
     text: &mut String,
     regions: &[Region],
-    budgets: Budgets,
+    budgets: Limits,
 ) -> Result<(), NoMemory>
     ensures { OnOk result (string_bytes text.new ≡ string_bytes text.old
         ++ text_of FormatLine ++ text_of (RegionsLine regions.now) ++ text_of (BudgetsLine budgets)) }

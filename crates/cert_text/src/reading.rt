@@ -6,14 +6,13 @@ ghost use Rattle.cert_text.specs.Legible.{IsLegible};
 ghost use Rattle.cert_text.specs.Refusals.{IsRefusedAt};
 ghost use Rattle.cert_text.specs.Parts.{AreRead, HasHeading, IsRefusedBehind};
 
-use crate::cert::Cert;
+use crate::cert::{Cert, Limits};
 use crate::heading::{take_budgets, take_regions};
 use crate::line::CertLine;
 use crate::walk::take_line;
 use elf_load::Regions;
 use leaf_reader::behind;
 use std::alloc::{AllocError as NoMemory, Global};
-use tree_core::Budgets;
 
 /// How many lines the heading has.
 const HEADING_LINES: usize = 3;
@@ -30,7 +29,7 @@ pub struct CertRefused {
 fn take_heading(
     alloc: Global,
     text: &[u8],
-) -> Result<Result<(Regions, Budgets, &[u8]), CertRefused>, NoMemory>
+) -> Result<Result<(Regions, Limits, &[u8]), CertRefused>, NoMemory>
     ensures read { IfOk result (λ read. IfOk read
         (λ heading. HasHeading text.now heading.0 heading.1 heading.2.now)) }
     ensures refused { IfOk result (λ read. IfErr read

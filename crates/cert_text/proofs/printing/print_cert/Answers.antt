@@ -1,7 +1,7 @@
 use Rattle.std.proofs.Common.{◌≡◌, ◌∙◌, ◌++◌, ℕ, List, [], Vec, Global, ap, sym}
 use Rattle.std.specs.List.{flat_map}
 use Rattle.elf_load.specs.declared.region.Region.{Region}
-use Rattle.tree_core.specs.declared.budgets.Budgets.{Budgets}
+use Rattle.cert_text.specs.declared.cert.Limits.{Limits}
 use Rattle.cert_text.specs.Certificates.{Certificate, FormatLine, RegionsLine, BudgetsLine, cert_text, text_of}
 use Rattle.cert_text.specs.Lines.{line_text}
 use Rattle.cert_text.specs.declared.line.CertLine.{CertLine}
@@ -9,14 +9,14 @@ use Rattle.cert_text.proofs.Walking.{in_parts}
 use Rattle.cert_text.proofs.printing.print_cert.Goals as goal
 
 -- the text, from its parts
-made_of : (c : Certificate) (regions : List Region) (budgets : Budgets) (lines : List CertLine) (new one whole : List ℕ) → regions ≡ c.regions → budgets ≡ c.budgets → lines ≡ c.lines →
+made_of : (c : Certificate) (regions : List Region) (budgets : Limits) (lines : List CertLine) (new one whole : List ℕ) → regions ≡ c.regions → budgets ≡ c.budgets → lines ≡ c.lines →
     new ≡ [] → one ≡ ((new ++ text_of FormatLine) ++ text_of (RegionsLine regions)) ++ text_of (BudgetsLine budgets) → whole ≡ one ++ flat_map line_text lines → whole ≡ cert_text c
 made_of c regions budgets lines new one whole er eb el en e1 e2 =
     e2 ∙ ap (λ (ls : List CertLine). one ++ flat_map line_text ls) el
     ∙ ap (λ (t : List ℕ). t ++ flat_map line_text c.lines) (e1
     ∙ ap (λ (t : List ℕ). ((t ++ text_of FormatLine) ++ text_of (RegionsLine regions)) ++ text_of (BudgetsLine budgets)) en
     ∙ ap (λ (rs : List Region). (text_of FormatLine ++ text_of (RegionsLine rs)) ++ text_of (BudgetsLine budgets)) er
-    ∙ ap (λ (b : Budgets). (text_of FormatLine ++ text_of (RegionsLine c.regions)) ++ text_of (BudgetsLine b)) eb)
+    ∙ ap (λ (b : Limits). (text_of FormatLine ++ text_of (RegionsLine c.regions)) ++ text_of (BudgetsLine b)) eb)
     ∙ sym (in_parts c)
 
 pub returns : goal.returns

@@ -1,7 +1,7 @@
 use Rattle.std.proofs.Common.{◌≡◌, ◌∙◌, ℕ, List, Vec, Global, ap, subst, sym, Result, Ok, Err, Bor}
 use Rattle.std.specs.Prelude.{IfErr, IfOk}
 use Rattle.elf_load.specs.declared.region.Region.{Region}
-use Rattle.tree_core.specs.declared.budgets.Budgets.{Budgets}
+use Rattle.cert_text.specs.declared.cert.Limits.{Limits}
 use Rattle.cert_text.specs.Certificates.{Certificate, cert_text}
 use Rattle.cert_text.specs.Legible.{IsLegible}
 use Rattle.cert_text.specs.Parts.{AreRead, HasHeading, IsRefusedBehind}
@@ -13,7 +13,7 @@ use Rattle.cert_text.proofs.reading.read_cert.Goals as goal
 
 -- the heading that was found
 abbrev Heading : Type 0
-Heading = List Region × Budgets × Bor (List ℕ)
+Heading = List Region × Limits × Bor (List ℕ)
 
 heading_from : (text : List ℕ) (r : Result Heading CertRefused) (heading : Heading) → IfOk r (λ h. HasHeading text h.0 h.1 h.2.now) → r ≡ Ok heading →
     HasHeading text heading.0 heading.1 heading.2.now
