@@ -1,11 +1,12 @@
 //! The trail: the literals that are true, in the order in which they became so.
 
-ghost use Rattle.std.specs.Prelude.{◌≡◌, ℕ, ◌-◌, ◌<◌, ◌↔◌, [], ◌++◌, IfOk, OnOk, OnErr, None, true, false, replicate, length, map, take, unwrap_or, option_to_list, slice_index_or, IsTrue};
+ghost use Rattle.std.specs.Prelude.{◌≡◌, ℕ, ◌+◌, ◌-◌, ◌<◌, ◌↔◌, [], ◌++◌, IfOk, OnOk, OnErr, None, true, false, replicate, length, map, take, unwrap_or, option_to_list, slice_get, slice_index_or, IsTrue, Some};
 ghost use Rattle.cnf_form.specs.Literals.{Literal};
 ghost use Rattle.cnf_form.specs.Valuations.{literal_value, valuation};
 ghost use Rattle.cnf_form.specs.Propagation.{is_true, is_false};
 ghost use Rattle.cdcl_core.specs.Trails.{trail_values, with_entry, free_count};
 ghost use Rattle.cdcl_core.specs.Passes.{IsFree};
+ghost use Rattle.cdcl_core.specs.declared.trail.Entry.{Entry};
 
 use cnf_form::{Lit, Val};
 use std::alloc::{AllocError as NoMemory, Global};
@@ -101,8 +102,10 @@ impl Trail {
 
     /// The number, from 1, of the entry that gave the literal's variable its value.
     pub fn number(&self, literal: Lit) -> usize
-        ensures { (n : ℕ) → n < result → trail_values (take n self.now.entries) literal.variable
-            ≡ None }
+        ensures after { (n : ℕ) → n < result
+            → trail_values (take n self.now.entries) literal.variable ≡ None }
+        ensures of_its_entry { (p : ℕ) (e : Entry) → slice_get self.now.entries p ≡ Some e
+            → e.literal.variable ≡ literal.variable → result ≡ p + 1 }
     {
         number_of(&self.numbers, literal.variable())
     }

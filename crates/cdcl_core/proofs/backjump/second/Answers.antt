@@ -11,10 +11,10 @@ loop-literal-preserved c =
     elim c.if-number-first.branch [
       | then-number-first w ↦ rw (w.first-is, w.second-is)
           (walk_above c.args.trail.now.entries seen c.loop-literal.literal-index c.literal-item.result c.loop-literal.first c.loop-literal.second c.number-number.result
-          order c.loop-literal-test.true c.literal-item.is c.number-number.ensures c.loop-literal.invariant w.if-number-first.true)
+          order c.loop-literal-test.true c.literal-item.is c.number-number.ensures.after c.loop-literal.invariant w.if-number-first.true)
       | else-number-first+then-number-second w ↦ rw (w.first-is, w.second-is)
           (walk_between c.args.trail.now.entries seen c.loop-literal.literal-index c.literal-item.result c.loop-literal.first c.loop-literal.second c.number-number.result
-          order c.loop-literal-test.true c.literal-item.is c.number-number.ensures c.loop-literal.invariant w.if-number-first.false)
+          order c.loop-literal-test.true c.literal-item.is c.number-number.ensures.after c.loop-literal.invariant w.if-number-first.false)
       | else-number-first+else-number-second w ↦ rw (w.first-is, w.second-is)
           (walk_beneath c.args.trail.now.entries seen c.loop-literal.literal-index c.literal-item.result c.loop-literal.first c.loop-literal.second
           c.loop-literal-test.true c.literal-item.is c.loop-literal.invariant)
