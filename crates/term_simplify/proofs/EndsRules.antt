@@ -1,22 +1,25 @@
 -- The value of a term lies between the ends that its top nodes tell.
-use Rattle.std.proofs.Common.{◌≡◌, ◌∙◌, ℕ, zero, suc, ◌+◌, ◌-◌, ◌*◌, ◌/◌, ◌%◌, ◌^◌, ◌<◌, ◌≤◌, Bool, true, false, bit_and, bit_or, List, [], Some, None, refl, ap, sym, arith, inl, inr}
-use Rattle.std.specs.Prelude.{nat_lt}
+use Rattle.std.proofs.Common.{◌≡◌, ◌∙◌, ℕ, zero, suc, ◌+◌, ◌-◌, ◌*◌, ◌/◌, ◌%◌, ◌^◌, ◌<◌, ◌≤◌, Bool, true, false, bit_and, bit_or, List, [], length, Some, None, refl, ap, sym, arith, inl, inr}
+use Rattle.std.specs.Prelude.{◌==◌, nat_lt}
 use Rattle.std.specs.List.{All}
 use Rattle.std.proofs.Math.Nat.{div-add-mod, div-div-eq-div-mul, div-le_self, div-mul-le_self, mod-eq_of_lt, mul_comm, mul-le-mul_left, mul-le-mul_right}
 use Rattle.std.proofs.lemmas.Bool.Decides.{eqb_tells}
 use Rattle.std.proofs.lemmas.Nat.{and_le_l, and_le_r, le-div, le_or_l, le_or_r, mod_below, mul-add-lt, pow-add, pow_pos}
 use Rattle.bv_dag.specs.BitVectors.{BitVector, IsBitVector, bvadd, bvand, bvashr, bvlshr, bvmul, bvnot, bvor, bvshl, bvsub, bvudiv, bvurem, bvxor, concat, extract, ite, sign_extend, zero_extend}
+use Rattle.bv_dag.specs.Graphs.{Graph, IsDag, val}
 use Rattle.bv_dag.specs.Nodes.{binary, extend}
 use Rattle.bv_dag.specs.declared.nodes.BinaryOp.{BinaryOp}
 use Rattle.bv_dag.specs.declared.nodes.BinaryOp.TheVariants.{Add, Sub, Mul, Udiv, Urem, And, Or, Xor, Shl, Lshr, Ashr}
-use Rattle.term_trees.specs.Trees.{Tree, Constant, Complement, Two, Choice, Part, Widened, Joined, tree_width, tree_value, IsTerm, IsOfWidth}
+use Rattle.term_trees.specs.Trees.{Tree, Constant, Complement, Two, Choice, Part, Widened, Joined, tree_of, tree_width, tree_value, IsTerm, IsOfWidth}
 use Rattle.term_trees.proofs.Ranges.{in_range}
+use Rattle.term_trees.proofs.Terms.{is_term}
+use Rattle.term_trees.proofs.TreeLaws.{value-tree_of}
 use Rattle.term_simplify.specs.Ends.{AreEnds, any, complement_ends, difference_ends, either_ends, ends_at, ends_of, from, joined_ends, larger, only, part_ends, part_told, quotient_ends, remainder_ends, smaller, sum_ends, two_ends, up_to, widened_ends}
 use Rattle.term_simplify.specs.declared.ends.Ends.{Ends}
 use Rattle.term_simplify.specs.declared.ends.TheConstants.{DEPTH}
 use Rattle.term_simplify.proofs.EqualityNumbers.{mod_once}
 use Rattle.term_simplify.proofs.IntervalNumbers.{widened_below}
-use Rattle.term_simplify.proofs.Words.{by_parts, le_tells, lt_tells, tests_not_below, tests_unequal}
+use Rattle.term_simplify.proofs.Words.{by_parts, is_apart, le_tells, lt_tells, tests_not_below, tests_unequal}
 
 -- a value between two ends
 pub record LiesIn (w : ℕ) (a : Ends) (v : BitVector) : Type 0 where
@@ -360,6 +363,18 @@ module _ (inputs : ℕ) (input : List ℕ) (bytes : All (λ b. b < 256) input) w
   pub lies_of : (t : Tree) → IsTerm inputs t → LiesIn (tree_width t) (ends_of t) (tree_value input t)
   unfolding ends_of
   lies_of t term = lies_at DEPTH t term
+
+-- a term whose least value isn't 0
+pub divides : (g : Graph) (id : ℕ) → IsDag g → id < length g.nodes → {n : ℕ} → n ≡ (ends_of (tree_of g id)).least.number → (n == 0) ≡ false →
+    (input : List ℕ) → All (λ b. b < 256) input → 0 < (val g id input).number
+divides g id dag there is some input bytes =
+    let lies = lies_of g.inputs input bytes (tree_of g id) (is_term g id dag there) in
+    let value = ap (λ (v : BitVector). v.number) (value-tree_of g id input) in
+    let apart = is_apart _ 0 some in
+    elim (le_tells 1 (val g id input).number) [
+      | inl h ↦ h.1
+      | inr h ↦ absurd (apart (omega (arith, is, lies.least, value, h.1)))
+    ]
 
 -- bits that each value has
 pub part_tells : {w : ℕ} (a : Ends) (v : BitVector) (high low : ℕ) (x : BitVector) → LiesIn w a v → part_told high low a ≡ Some x → x ≡ extract high low v

@@ -108,15 +108,13 @@ module _ (g : Graph) (a : ℕ) (p : Reach) (w : ℕ) (r : Option Narrow)
         ∙ ap (λ (k : Reach). max (reach_of (tree_of g a)).signed k.signed) second)
         is
 
-    pub binary_read : (op : BinaryOp) (n : Bool) (u v : ℕ) →
-        is_settled op (tree_of g a) (tree_of g b) ≡ false → n ≡ is_some (tree_number (tree_of g b)) →
-        u ≡ unsigned_result op n p q → v ≡ signed_result op p q → r ≡ narrowest u v w →
+    pub binary_read : (op : BinaryOp) (u v : ℕ) → is_settled op (tree_of g a) (tree_of g b) ≡ false →
+        u ≡ unsigned_result op p q → v ≡ signed_result op p q → r ≡ narrowest u v w →
         r ≡ binary_narrowing op (tree_of g a) (tree_of g b)
-    binary_read op n u v other number e f is =
+    binary_read op u v other e f is =
         narrowest_read u v _ _ _ other
-        (e ∙ ap (λ k. unsigned_result op k p q) number
-        ∙ ap (λ k. unsigned_result op (is_some (tree_number (tree_of g b))) k q) first
-        ∙ ap (λ k. unsigned_result op (is_some (tree_number (tree_of g b))) (reach_of (tree_of g a)) k) second)
+        (e ∙ ap (λ k. unsigned_result op k q) first
+        ∙ ap (λ k. unsigned_result op (reach_of (tree_of g a)) k) second)
         (f ∙ ap (λ k. signed_result op k q) first
         ∙ ap (λ k. signed_result op (reach_of (tree_of g a)) k) second)
         is

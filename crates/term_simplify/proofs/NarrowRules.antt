@@ -1,8 +1,9 @@
 -- What is made of low bits, and widened, is worth what the operation is.
-use Rattle.std.proofs.Common.{◌≡◌, ◌⊎◌, ◌∙◌, ℕ, ◌+◌, ◌-◌, ◌<◌, ◌≤◌, Bool, true, false, Some, None, ap, sym, refl, arith, inl, inr, max, min}
+use Rattle.std.proofs.Common.{◌≡◌, ◌⊎◌, ◌∙◌, ℕ, ◌+◌, ◌-◌, ◌^◌, ◌<◌, ◌≤◌, true, false, Some, None, ap, sym, refl, arith, inl, inr, max, min}
 use Rattle.std.specs.Prelude.{if◌then◌else◌, nat_lt}
+use Rattle.std.proofs.lemmas.Bool.Decides.{eqb_tells}
 use Rattle.std.proofs.Math.Nat.{le-max_left, le-max_right, min-eq_left, min-eq_right}
-use Rattle.bv_dag.specs.BitVectors.{BitVector, bvneg, extract, ite, sign_extend, zero_extend}
+use Rattle.bv_dag.specs.BitVectors.{BitVector, bvneg, bvudiv, equal, extract, ite, sign_extend, zero_extend}
 use Rattle.bv_dag.specs.Nodes.{binary, compare}
 use Rattle.bv_dag.proofs.Numbers.{wider}
 use Rattle.bv_dag.specs.declared.nodes.BinaryOp.{BinaryOp}
@@ -12,14 +13,14 @@ use Rattle.bv_dag.specs.declared.nodes.Comparison.TheVariants.{Ult, Slt, Eq}
 use Rattle.term_trees.specs.Trees.{IsOfWidth}
 use Rattle.term_simplify.specs.Narrowing.{IsFewer, narrowest, signed_result, unsigned_result}
 use Rattle.term_simplify.specs.Simplified.{comparison_by_low}
-use Rattle.term_simplify.specs.Steps.{low_word, widened_word}
+use Rattle.term_simplify.specs.Steps.{low_word, or_ones_word_at, widened_word}
 use Rattle.term_simplify.specs.declared.narrowing.Narrow.{Narrow}
 use Rattle.term_simplify.specs.declared.narrowing.Reach.{Reach}
 use Rattle.term_simplify.proofs.NarrowRanges.{IsReach}
 use Rattle.term_simplify.proofs.SignedFits.{within_add, within_ite, within_mul, within_neg, within_neg_unsigned, within_sub, within_sub_unsigned}
 use Rattle.term_simplify.proofs.SignedRange.{IsWithin, restored, within_wider}
 use Rattle.term_simplify.proofs.SignedTests.{within_and, within_equal, within_or, within_slt, within_ult, within_xor}
-use Rattle.term_simplify.proofs.Truncations.{low_add, low_and, low_ite, low_mul, low_neg, low_or, low_sub, low_xor}
+use Rattle.term_simplify.proofs.Truncations.{low_add, low_and, low_ite, low_mul, low_neg, low_or, low_small, low_sub, low_xor}
 use Rattle.term_simplify.proofs.UnsignedNarrowing.{narrow_add, narrow_and_first, narrow_and_second, narrow_equal, narrow_ite, narrow_lshr, narrow_mul, narrow_or, narrow_slt, narrow_udiv, narrow_ult, narrow_urem, narrow_xor}
 use Rattle.term_simplify.proofs.Words.{le_tells, lt_tells}
 
@@ -59,45 +60,45 @@ module _ (w : ℕ) (a b : Reach) (x y : BitVector) (p : IsOfWidth w x) (q : IsOf
   some : 0 < most
   some = omega (arith, first.some, le-max_left a.unsigned b.unsigned)
 
-  -- without sign
-  unsigned_binary : (op : BinaryOp) (by_number : Bool) → (by_number ≡ true → 0 < y.number) → unsigned_result op by_number a b < w →
-      (0 < unsigned_result op by_number a b) ×
-      (zero_extend (w - unsigned_result op by_number a b) (binary op (extract (unsigned_result op by_number a b - 1) 0 x) (extract (unsigned_result op by_number a b - 1) 0 y)) ≡ binary op x y)
-  unsigned_binary Add by divides less = (
+  -- without sign; a quotient's are told where the divisor isn't 0
+  unsigned_binary : (op : BinaryOp) → unsigned_result op a b < w →
+      (0 < unsigned_result op a b) ×
+      ((op ≡ Udiv → 0 < y.number) →
+      zero_extend (w - unsigned_result op a b) (binary op (extract (unsigned_result op a b - 1) 0 x) (extract (unsigned_result op a b - 1) 0 y)) ≡ binary op x y)
+  unsigned_binary Add less = (
     omega arith,
-    narrow_add w (most + 1) a.unsigned b.unsigned x y p.width (omega arith) less first.few second.few
+    λ divides. narrow_add w (most + 1) a.unsigned b.unsigned x y p.width (omega arith) less first.few second.few
         (omega (arith, le-max_left a.unsigned b.unsigned)) (omega (arith, le-max_right a.unsigned b.unsigned)),
   )
-  unsigned_binary Mul by divides less = (
+  unsigned_binary Mul less = (
     omega (arith, first.some),
-    narrow_mul w (a.unsigned + b.unsigned) a.unsigned b.unsigned x y p.width (omega (arith, first.some)) less first.few second.few (omega arith),
+    λ divides. narrow_mul w (a.unsigned + b.unsigned) a.unsigned b.unsigned x y p.width (omega (arith, first.some)) less first.few second.few (omega arith),
   )
-  unsigned_binary And by divides less =
+  unsigned_binary And less =
       elim (le_tells a.unsigned b.unsigned) [
         | inl le ↦
             let e : min a.unsigned b.unsigned ≡ a.unsigned = min-eq_left le.1 in
-            rw e (first.some, narrow_and_first w a.unsigned a.unsigned x y p.width first.some (omega (arith, less, e)) first.few (omega arith))
+            rw e (first.some, λ divides. narrow_and_first w a.unsigned a.unsigned x y p.width first.some (omega (arith, less, e)) first.few (omega arith))
         | inr more ↦
             let e : min a.unsigned b.unsigned ≡ b.unsigned = min-eq_right (omega (arith, more.1)) in
-            rw e (second.some, narrow_and_second w b.unsigned b.unsigned x y p.width second.some (omega (arith, less, e)) second.few (omega arith))
+            rw e (second.some, λ divides. narrow_and_second w b.unsigned b.unsigned x y p.width second.some (omega (arith, less, e)) second.few (omega arith))
       ]
-  unsigned_binary Or by divides less =
-      (some, narrow_or w most a.unsigned b.unsigned x y p.width some less first.few second.few (le-max_left a.unsigned b.unsigned) (le-max_right a.unsigned b.unsigned))
-  unsigned_binary Xor by divides less =
-      (some, narrow_xor w most a.unsigned b.unsigned x y p.width some less first.few second.few (le-max_left a.unsigned b.unsigned) (le-max_right a.unsigned b.unsigned))
-  unsigned_binary Lshr by divides less =
-      (some, narrow_lshr w most a.unsigned b.unsigned x y p.width some less first.few second.few (le-max_left a.unsigned b.unsigned) (le-max_right a.unsigned b.unsigned))
-  unsigned_binary Urem by divides less =
-      (some, narrow_urem w most a.unsigned b.unsigned x y p.width some less first.few second.few (le-max_left a.unsigned b.unsigned) (le-max_right a.unsigned b.unsigned))
-  unsigned_binary Udiv true divides less = (
+  unsigned_binary Or less =
+      (some, λ divides. narrow_or w most a.unsigned b.unsigned x y p.width some less first.few second.few (le-max_left a.unsigned b.unsigned) (le-max_right a.unsigned b.unsigned))
+  unsigned_binary Xor less =
+      (some, λ divides. narrow_xor w most a.unsigned b.unsigned x y p.width some less first.few second.few (le-max_left a.unsigned b.unsigned) (le-max_right a.unsigned b.unsigned))
+  unsigned_binary Lshr less =
+      (some, λ divides. narrow_lshr w most a.unsigned b.unsigned x y p.width some less first.few second.few (le-max_left a.unsigned b.unsigned) (le-max_right a.unsigned b.unsigned))
+  unsigned_binary Urem less =
+      (some, λ divides. narrow_urem w most a.unsigned b.unsigned x y p.width some less first.few second.few (le-max_left a.unsigned b.unsigned) (le-max_right a.unsigned b.unsigned))
+  unsigned_binary Udiv less = (
     some,
-    narrow_udiv w most a.unsigned b.unsigned x y p.width some less first.few second.few
+    λ divides. narrow_udiv w most a.unsigned b.unsigned x y p.width some less first.few second.few
         (le-max_left a.unsigned b.unsigned) (le-max_right a.unsigned b.unsigned) (divides refl),
   )
-  unsigned_binary Udiv false divides less = absurd (omega (arith, less, p.at_most_64))
-  unsigned_binary Sub by divides less = absurd (omega (arith, less, p.at_most_64))
-  unsigned_binary Shl by divides less = absurd (omega (arith, less, p.at_most_64))
-  unsigned_binary Ashr by divides less = absurd (omega (arith, less, p.at_most_64))
+  unsigned_binary Sub less = absurd (omega (arith, less, p.at_most_64))
+  unsigned_binary Shl less = absurd (omega (arith, less, p.at_most_64))
+  unsigned_binary Ashr less = absurd (omega (arith, less, p.at_most_64))
 
   -- with sign
   abbrev pub widest : ℕ
@@ -169,18 +170,45 @@ module _ (w : ℕ) (a b : Reach) (x y : BitVector) (p : IsOfWidth w x) (q : IsOf
   signed_binary Lshr r less = absurd (omega (arith, less, p.at_most_64))
   signed_binary Ashr r less = absurd (omega (arith, less, p.at_most_64))
 
-  -- ---- an operation of two
-  pub binary_of_low : (op : BinaryOp) (by_number : Bool) (n : Narrow) → IsOfWidth w (binary op x y) → (by_number ≡ true → 0 < y.number) →
-      narrowest (unsigned_result op by_number a b) (signed_result op a b) w ≡ Some n →
-      IsMadeOf w n (widened_word w n (binary op (low_word n x) (low_word n y))) (binary op x y)
-  binary_of_low op by n r divides e =
-      elim (narrowest_is (unsigned_result op by a b) (signed_result op a b) w n e) [
+  -- ---- an operation of two; a quotient by what isn't 0
+  pub binary_of_low : (op : BinaryOp) (n : Narrow) → IsOfWidth w (binary op x y) →
+      narrowest (unsigned_result op a b) (signed_result op a b) w ≡ Some n →
+      IsFewer n w × ((op ≡ Udiv → 0 < y.number) → widened_word w n (binary op (low_word n x) (low_word n y)) ≡ binary op x y)
+  binary_of_low op n r e =
+      elim (narrowest_is (unsigned_result op a b) (signed_result op a b) w n e) [
         | inl h ↦
-            let made = unsigned_binary op by divides h.1 in
-            rw h.0 (record { fewer = record { some = made.0; fewer = h.1 }; worth = made.1 })
+            let made = unsigned_binary op h.1 in
+            rw h.0 (record { some = made.0; fewer = h.1 }, made.1)
         | inr h ↦
             let made = signed_binary op r h.1 in
-            rw h.0 (record { fewer = record { some = made.0; fewer = h.1 }; worth = made.1 })
+            rw h.0 (record { some = made.0; fewer = h.1 }, λ divides. made.1)
+      ]
+
+  -- ---- a quotient, by 0 too
+  low_divisor : most < w → extract (most - 1) 0 y ≡ record { width = most; number = y.number }
+  low_divisor less = low_small most b.unsigned y second.few (le-max_right a.unsigned b.unsigned) some
+
+  or_ones : (q : BitVector) → (0 < y.number → q ≡ bvudiv x y) →
+      ite (equal (record { width = most; number = y.number }) (record { width = most; number = 0 })) (record { width = w; number = 2 ^ w - 1 }) q
+      ≡ bvudiv x y
+  unfolding bvudiv ite equal
+  or_ones q told =
+      elim (eqb_tells y.number 0) [
+        | inl zero ↦ rw (zero.0, p.width) refl
+        | inr other ↦
+            rw other.0 (ap {B = BitVector} (λ (v : BitVector). record { width = w; number = v.number }) (told (omega (arith, other.1)))
+            ∙ rw (other.0, p.width) refl)
+      ]
+
+  pub quotient_of_low : (n : Narrow) → IsOfWidth w (bvudiv x y) → narrowest most 64 w ≡ Some n →
+      or_ones_word_at w n (low_word n y) (widened_word w n (bvudiv (low_word n x) (low_word n y))) ≡ bvudiv x y
+  quotient_of_low n r e =
+      elim (narrowest_is most 64 w n e) [
+        | inl h ↦
+            rw (h.0, low_divisor h.1)
+            (or_ones (zero_extend (w - most) (bvudiv (extract (most - 1) 0 x) (record { width = most; number = y.number })))
+            (λ divides. rw (← low_divisor h.1) ((unsigned_binary Udiv h.1).1 (λ k. divides))))
+        | inr h ↦ absurd (omega (arith, h.1, p.at_most_64))
       ]
 
   -- ---- a comparison

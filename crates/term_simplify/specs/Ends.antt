@@ -107,6 +107,11 @@ ends_at (suc k) t = any (tree_width t)
 unfoldable pub ends_of : Tree → Ends
 ends_of t = ends_at DEPTH t
 
+-- a quotient whose divisor may be 0
+abbrev pub may_divide_by_zero : BinaryOp → (divisor : Tree) → Bool
+may_divide_by_zero Udiv t = (ends_of t).least.number == 0
+may_divide_by_zero op t = false
+
 -- ---- With sign: the negative numbers come first, and the last is the complement of the first.
 abbrev pub any_signed : ℕ → Ends
 any_signed w = record {

@@ -33,17 +33,17 @@ reach_of t = record { unsigned = tree_width t; signed = tree_width t }
 
 -- ---- How many low bits tell a result, from those that tell the operands; 64, as many as a term may
 -- have, where no fewer are known to.
--- A divisor may be 0 where it is no number, and then the quotient is all ones.
-abbrev pub unsigned_result : BinaryOp → (by_number : Bool) → (first second : Reach) → ℕ
-unsigned_result Add by_number a b = max a.unsigned b.unsigned + 1
-unsigned_result Mul by_number a b = a.unsigned + b.unsigned
-unsigned_result And by_number a b = min a.unsigned b.unsigned
-unsigned_result Or by_number a b = max a.unsigned b.unsigned
-unsigned_result Xor by_number a b = max a.unsigned b.unsigned
-unsigned_result Lshr by_number a b = max a.unsigned b.unsigned
-unsigned_result Urem by_number a b = max a.unsigned b.unsigned
-unsigned_result Udiv by_number a b = if by_number then max a.unsigned b.unsigned else 64
-unsigned_result op by_number a b = 64
+-- Those of a quotient tell it where the divisor isn't 0.
+abbrev pub unsigned_result : BinaryOp → (first second : Reach) → ℕ
+unsigned_result Add a b = max a.unsigned b.unsigned + 1
+unsigned_result Mul a b = a.unsigned + b.unsigned
+unsigned_result And a b = min a.unsigned b.unsigned
+unsigned_result Or a b = max a.unsigned b.unsigned
+unsigned_result Xor a b = max a.unsigned b.unsigned
+unsigned_result Lshr a b = max a.unsigned b.unsigned
+unsigned_result Udiv a b = max a.unsigned b.unsigned
+unsigned_result Urem a b = max a.unsigned b.unsigned
+unsigned_result op a b = 64
 
 abbrev pub signed_result : BinaryOp → (first second : Reach) → ℕ
 signed_result Add a b = max a.signed b.signed + 1
@@ -93,7 +93,7 @@ is_settled op s t =
 abbrev pub binary_narrowing : BinaryOp → Tree → Tree → Option Narrow
 binary_narrowing op s t =
     if is_settled op s t then None
-    else narrowest (unsigned_result op (is_some (tree_number t)) (reach_of s) (reach_of t))
+    else narrowest (unsigned_result op (reach_of s) (reach_of t))
     (signed_result op (reach_of s) (reach_of t)) (tree_width s)
 
 -- two terms that are compared, or chosen from

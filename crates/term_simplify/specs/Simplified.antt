@@ -5,7 +5,7 @@
 -- a number is as `Times` has it, two terms without a bit in common are the one above the other
 -- (`Joints`), zeros at the low end are left out (`Zeros`), and any other term is as `Plain` has it.
 -- Each rule is decided by the numbers that operands are and by their top nodes.
-use Rattle.std.specs.Prelude.{ℕ, ◌-◌, ◌==◌, ◌&&◌, Bool, true, false, nat_lt, Option, Some, None, if◌then◌else◌}
+use Rattle.std.specs.Prelude.{ℕ, ◌-◌, ◌^◌, ◌==◌, ◌&&◌, Bool, true, false, nat_lt, Option, Some, None, if◌then◌else◌}
 use Rattle.bv_dag.specs.BitVectors.{BitVector}
 use Rattle.bv_dag.specs.declared.nodes.BinaryOp.{BinaryOp}
 use Rattle.bv_dag.specs.declared.nodes.BinaryOp.TheVariants.{Shl, Lshr, Ashr}
@@ -16,7 +16,7 @@ use Rattle.bv_dag.specs.declared.nodes.Node.TheVariants.{Num, Input, Not, Neg, B
 use Rattle.term_trees.specs.Trees.{Tree, Constant, Byte, tree_width}
 use Rattle.term_simplify.specs.Above.{above_by}
 use Rattle.term_simplify.specs.Balances.{Balance, balance_of}
-use Rattle.term_simplify.specs.Ends.{comparison_told, told_or}
+use Rattle.term_simplify.specs.Ends.{comparison_told, may_divide_by_zero, told_or}
 use Rattle.term_simplify.specs.Equalities.{Peeled, peeled}
 use Rattle.term_simplify.specs.Intervals.{Interval, interval_of, joining}
 use Rattle.term_simplify.specs.Narrowing.{negative_narrowing, binary_narrowing, pair_narrowing, choice_narrowing}
@@ -63,8 +63,39 @@ negative_at None t = plain_negative t
 unfoldable pub negative_of : Tree → Tree
 negative_of t = negative_at (negative_narrowing t) t
 
+-- Terms of which zeros are left out are not negative, so a comparison with sign is one without.
+abbrev pub comparison_by_low : (signed : Bool) → Comparison → Comparison
+comparison_by_low false Slt = Ult
+comparison_by_low signed op = op
+
+abbrev pub comparison_at : Option Narrow → Comparison → Tree → Tree → Tree
+comparison_at (Some n) op s t =
+    comparison_over_zeros (comparison_by_low n.signed op) (low_of n s) (low_of n t)
+comparison_at None op s t = comparison_over_zeros op s t
+
+abbrev pub undecided : Comparison → Tree → Tree → Tree
+undecided op s t = comparison_at (pair_narrowing s t) op s t
+
+abbrev pub choice_at : Option Narrow → (condition yes no : Tree) → Tree
+choice_at (Some n) c s t = widened_to (tree_width s) n (plain_choice c (low_of n s) (low_of n t))
+choice_at None c s t = plain_choice c s t
+
+unfoldable pub choice_of : (condition yes no : Tree) → Tree
+choice_of c s t = choice_at (choice_narrowing c s t) c s t
+
+-- A quotient by 0 is all ones, which few bits don't tell: where a divisor may be 0, it is tested.
+abbrev pub or_ones_at : (width : ℕ) → Narrow → (divisor quotient : Tree) → Tree
+or_ones_at width n t quotient =
+    choice_of (undecided Eq t (Constant n.bits 0)) (Constant width (2 ^ width - 1)) quotient
+
+abbrev pub result_at : BinaryOp → (width : ℕ) → Narrow → (second result : Tree) → Tree
+result_at op width n t result =
+    if may_divide_by_zero op t then or_ones_at width n t (widened_to width n result)
+    else widened_to width n result
+
 abbrev pub binary_at : Option Narrow → BinaryOp → Tree → Tree → Tree
-binary_at (Some n) op s t = widened_to (tree_width s) n (own_binary op (low_of n s) (low_of n t))
+binary_at (Some n) op s t =
+    result_at op (tree_width s) n (low_of n t) (own_binary op (low_of n s) (low_of n t))
 binary_at None op s t = own_binary op s t
 
 abbrev pub narrowed : BinaryOp → Tree → Tree → Tree
@@ -90,19 +121,6 @@ operated op s t = moved op (tree_number s) (tree_number t) s (made_of op s t)
 -- Where the ends of two terms tell it, an operation is a number, or the first of them.
 unfoldable pub binary_of : BinaryOp → Tree → Tree → Tree
 binary_of op s t = tree_or (two_told op s t) (operated op s t)
-
--- Terms of which zeros are left out are not negative, so a comparison with sign is one without.
-abbrev pub comparison_by_low : (signed : Bool) → Comparison → Comparison
-comparison_by_low false Slt = Ult
-comparison_by_low signed op = op
-
-abbrev pub comparison_at : Option Narrow → Comparison → Tree → Tree → Tree
-comparison_at (Some n) op s t =
-    comparison_over_zeros (comparison_by_low n.signed op) (low_of n s) (low_of n t)
-comparison_at None op s t = comparison_over_zeros op s t
-
-abbrev pub undecided : Comparison → Tree → Tree → Tree
-undecided op s t = comparison_at (pair_narrowing s t) op s t
 
 -- Where the ends of two terms tell it, a comparison is a bit.
 abbrev pub compared : Comparison → Tree → Tree → Tree
@@ -159,13 +177,6 @@ asked op s t = told_by op (tree_number s) (tree_number t) s t
 unfoldable pub comparison_of : Comparison → Tree → Tree → Tree
 comparison_of op s t =
     outside_if (above_by op (tree_number s) (tree_number t) t) (asked op s t)
-
-abbrev pub choice_at : Option Narrow → (condition yes no : Tree) → Tree
-choice_at (Some n) c s t = widened_to (tree_width s) n (plain_choice c (low_of n s) (low_of n t))
-choice_at None c s t = plain_choice c s t
-
-unfoldable pub choice_of : (condition yes no : Tree) → Tree
-choice_of c s t = choice_at (choice_narrowing c s t) c s t
 
 -- the simplified tree of a node, from those of its operands
 abbrev pub simplified : (operand : ℕ → Tree) → Node → Tree

@@ -26,6 +26,12 @@ low_word n s = extract (n.bits - 1) 0 s
 abbrev pub widened_word : (width : ℕ) → Narrow → BitVector → BitVector
 widened_word width n s = extend n.signed (width - n.bits) s
 
+-- a quotient made of low bits, or all ones where the divisor is 0
+abbrev pub or_ones_word_at : (width : ℕ) → Narrow → (divisor quotient : BitVector) → BitVector
+or_ones_word_at width n divisor quotient =
+    ite (equal divisor (record { width = n.bits; number = 0 }))
+    (record { width = width; number = 2 ^ width - 1 }) quotient
+
 -- what the trees of `Machine` are worth, from the values of their operands
 abbrev pub sign_word : BitVector → BitVector
 sign_word s = extract 31 31 s

@@ -12,7 +12,7 @@ use Rattle.term_simplify.specs.declared.wide_sums.WideSummand.{WideSummand}
 
 -- No more bits tell the sum than there are, so it doesn't wrap.
 abbrev pub is_exact : BinaryOp → Tree → Tree → Bool
-is_exact Add s t = nat_le (unsigned_result Add false (reach_of s) (reach_of t)) (tree_width s)
+is_exact Add s t = nat_le (unsigned_result Add (reach_of s) (reach_of t)) (tree_width s)
 is_exact op s t = false
 
 abbrev pub widened_two : (by : ℕ) → BinaryOp → Tree → Tree → Tree

@@ -1,7 +1,7 @@
 //! The least and the greatest value that top nodes tell of a term.
 
-ghost use Rattle.std.specs.Prelude.{◌≡◌, ◌+◌, ◌-◌, ◌<◌, ◌≤◌, length};
-ghost use Rattle.bv_dag.specs.Graphs.{IsDag, width_of};
+ghost use Rattle.std.specs.Prelude.{◌≡◌, ◌+◌, ◌-◌, ◌<◌, ◌≤◌, ℕ, All, List, length, true, false};
+ghost use Rattle.bv_dag.specs.Graphs.{IsDag, val, width_of};
 ghost use Rattle.term_trees.specs.Trees.{tree_of};
 ghost use Rattle.term_simplify.specs.Ends as ends;
 ghost use Rattle.term_simplify.specs.Ends.{AreEnds};
@@ -303,4 +303,27 @@ pub(crate) fn ends_of(terms: &Terms, id: usize) -> Ends
     ensures fit { IsDag terms.now }
 {
     ends_at(terms, DEPTH, id)
+}
+
+/// Whether an operation is a quotient whose divisor may be 0.
+pub(crate) fn may_divide_by_zero(terms: &Terms, op: BinaryOp, divisor: usize) -> bool
+    requires { divisor < length terms.now.nodes }
+    ensures is { result ≡ ends.may_divide_by_zero op (tree_of terms.now divisor) }
+    ensures quotient { result ≡ true → op ≡ BinaryOp.Udiv }
+    ensures divides { result ≡ false → op ≡ BinaryOp.Udiv → (input : List ℕ) → All (λ b. b < 256) input
+        → 0 < (val terms.now divisor input).number }
+{
+    match op {
+        BinaryOp::Udiv => ends_of(terms, divisor).least.number() == 0,
+        BinaryOp::Add
+        | BinaryOp::Sub
+        | BinaryOp::Mul
+        | BinaryOp::Urem
+        | BinaryOp::And
+        | BinaryOp::Or
+        | BinaryOp::Xor
+        | BinaryOp::Shl
+        | BinaryOp::Lshr
+        | BinaryOp::Ashr => false,
+    }
 }

@@ -89,25 +89,18 @@ pub(crate) fn reach_of(terms: &Terms, id: usize) -> Reach
     }
 }
 
-/// How many low bits tell a result, where those above are zeros.
-pub(crate) fn unsigned_result(op: BinaryOp, by_number: bool, a: Reach, b: Reach) -> u32
+/// How many low bits tell a result, where those above are zeros: of a quotient, where the divisor isn't 0.
+pub(crate) fn unsigned_result(op: BinaryOp, a: Reach, b: Reach) -> u32
     requires first { a.unsigned ≤ 64 }
     requires second { b.unsigned ≤ 64 }
-    ensures { result ≡ narrowings.unsigned_result op by_number a b }
+    ensures { result ≡ narrowings.unsigned_result op a b }
 {
     match op {
         BinaryOp::Add => a.unsigned.max(b.unsigned) + 1,
         BinaryOp::Mul => a.unsigned + b.unsigned,
         BinaryOp::And => a.unsigned.min(b.unsigned),
-        BinaryOp::Or | BinaryOp::Xor | BinaryOp::Lshr | BinaryOp::Urem => {
+        BinaryOp::Or | BinaryOp::Xor | BinaryOp::Lshr | BinaryOp::Udiv | BinaryOp::Urem => {
             a.unsigned.max(b.unsigned)
-        }
-        BinaryOp::Udiv => {
-            if by_number {
-                a.unsigned.max(b.unsigned)
-            } else {
-                64
-            }
         }
         BinaryOp::Sub | BinaryOp::Shl | BinaryOp::Ashr => 64,
     }
@@ -206,9 +199,11 @@ fn of_binary(terms: &Terms, op: BinaryOp, a: usize, b: usize) -> Option<Narrow>
     }
     let left = reach_of(terms, a);
     let right = reach_of(terms, b);
-    let by_number = number_at(terms, b).is_some();
-    let unsigned = unsigned_result(op, by_number, left, right);
-    narrowest(unsigned, signed_result(op, left, right), terms.width_of(a))
+    narrowest(
+        unsigned_result(op, left, right),
+        signed_result(op, left, right),
+        terms.width_of(a),
+    )
 }
 
 /// Of two terms that are compared, or chosen from.

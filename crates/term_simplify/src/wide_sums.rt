@@ -48,7 +48,7 @@ fn is_exact(terms: &Terms, op: BinaryOp, a: usize, b: usize) -> bool
     let left = reach_of(terms, a);
     let right = reach_of(terms, b);
     match op {
-        BinaryOp::Add => unsigned_result(op, false, left, right) <= width,
+        BinaryOp::Add => unsigned_result(op, left, right) <= width,
         _ => false,
     }
 }

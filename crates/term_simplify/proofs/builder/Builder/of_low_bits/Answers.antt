@@ -1,18 +1,12 @@
-use Rattle.std.proofs.Common.{[], ap, arith, sym}
+use Rattle.std.proofs.Common.{[], arith}
 use Rattle.term_trees.specs.Trees.{tree_of}
-use Rattle.term_simplify.specs.Simplified.{binary_at}
-use Rattle.term_simplify.proofs.NarrowTerms.{binary_here, choice_here, choice_is, comparison_is, negative_here, negative_is, test_here}
+use Rattle.term_simplify.proofs.NarrowTerms.{choice_here, choice_is, comparison_is, negative_here, negative_is, test_here}
 use Rattle.term_simplify.proofs.Stepping.{Stands-worth, at_tree, if_ok}
 use Rattle.term_simplify.proofs.builder.Builder.of_low_bits.Goals as goal
 
 pub narrow_negative-requires : goal.narrow_negative-requires
 narrow_negative-requires c =
     (negative_here c.args.self.now c.args.n [] (λ k d h. absurd (omega (arith, h))) c.in-Neg.a (rw c.in-Neg.is at c.requires.term) (rw c.in-Neg.is at c.requires.is)).fewer
-
-pub narrow_binary-requires-clause-first : goal.narrow_binary-requires-clause-first
-narrow_binary-requires-clause-first c =
-    (binary_here c.args.self.now c.args.n [] (λ k d h. absurd (omega (arith, h))) c.in-Binary.op c.in-Binary.a c.in-Binary.b
-    (rw c.in-Binary.is at c.requires.term) (rw c.in-Binary.is at c.requires.is)).fewer
 
 pub narrow_test-requires-clause-first : goal.narrow_test-requires-clause-first
 narrow_test-requires-clause-first c =
@@ -31,15 +25,6 @@ returns-in-Neg-clause-ok c =
     let is = rw c.in-Neg.is at c.requires.is in
     rw c.in-Neg.is (if_ok _ _ _ c.narrow_negative.ensures.ok (λ id made. at_tree (negative_is (tree_of g c.in-Neg.a) c.args.n is)
     (Stands-worth (λ input bytes. (negative_here g c.args.n input bytes c.in-Neg.a term is).worth) made)))
-
-pub returns-in-Binary-clause-ok : goal.returns-in-Binary-clause-ok
-returns-in-Binary-clause-ok c =
-    let g = c.args.self.now in
-    let term = rw c.in-Binary.is at c.requires.term in
-    let is = rw c.in-Binary.is at c.requires.is in
-    let op = c.in-Binary.op in
-    rw c.in-Binary.is (if_ok _ _ _ c.narrow_binary.ensures.ok (λ id made. at_tree (ap (λ k. binary_at k op (tree_of g c.in-Binary.a) (tree_of g c.in-Binary.b)) (sym is))
-    (Stands-worth (λ input bytes. (binary_here g c.args.n input bytes op c.in-Binary.a c.in-Binary.b term is).worth) made)))
 
 pub returns-in-Compare-clause-ok : goal.returns-in-Compare-clause-ok
 returns-in-Compare-clause-ok c =
