@@ -3,7 +3,8 @@
 use crate::of_term_simplify::narrow::New::{Is, Low, Number, Signs, Zeros};
 use crate::of_term_simplify::narrow::Row;
 use bv_dag::BinaryOp::{Add, Lshr, Mul, Sub, Udiv, Urem};
-use bv_dag::Node::{Binary, Concat, Extend, Extract, Neg};
+use bv_dag::Comparison::Eq;
+use bv_dag::Node::{Binary, Compare, Concat, Extend, Extract, Ite, Neg};
 
 pub(crate) const PRODUCTS: &[Row] = &[
     // Two bytes, without sign, with signs, and one of each, where the first takes 9 bits with a sign.
@@ -144,8 +145,44 @@ pub(crate) const QUOTIENTS: &[Row] = &[
         &[Number(8, 3), Is(Binary(Udiv, 0, 10)), Zeros(24, 11)],
         12,
     ),
-    // By a term, which may be 0: a quotient of 32 ones.
-    (&[], &[Binary(Udiv, 2, 3)], &[Is(Binary(Udiv, 2, 3))], 9),
+    // By a term, which may be 0: a quotient of ones, of which 9 bits with a sign tell all.
+    (
+        &[],
+        &[Binary(Udiv, 2, 3)],
+        &[
+            Is(Binary(Udiv, 0, 1)),
+            Zeros(24, 9),
+            Number(8, 0),
+            Is(Compare(Eq, 1, 11)),
+            Number(32, 0xFFFF_FFFF),
+            Number(9, 511),
+            Zeros(1, 9),
+            Is(Ite {
+                condition: 12,
+                yes: 14,
+                no: 15,
+            }),
+            Signs(23, 16),
+        ],
+        17,
+    ),
+    // By a byte and 1, which is never 0.
+    (
+        &[1],
+        &[Binary(Add, 3, 9), Binary(Udiv, 2, 13)],
+        &[
+            Zeros(1, 1),
+            Number(9, 1),
+            Is(Binary(Add, 10, 11)),
+            Zeros(23, 12),
+            Zeros(1, 0),
+            Is(Binary(Udiv, 14, 12)),
+            Zeros(23, 15),
+        ],
+        16,
+    ),
+    // By a term of 32 bits.
+    (&[], &[Binary(Udiv, 2, 6)], &[Is(Binary(Udiv, 2, 6))], 9),
     // By 0.
     (&[0], &[Binary(Udiv, 2, 9)], &[Number(32, 0xFFFF_FFFF)], 10),
 ];
