@@ -7,9 +7,8 @@ use Rattle.std.proofs.lemmas.Nat.{and_assoc, and_or_self, or_comm}
 use Rattle.bv_dag.specs.Queries.{Condition}
 use Rattle.term_trees.specs.Subsets.{AsksNoMore}
 use Rattle.term_trees.specs.TreeSlices.{asserted_trees}
-use Rattle.query_pick.proofs.Lists.{Contains-none, Contains-uncons}
+use Rattle.query_pick.proofs.Lists.{Contains-from_map, Contains-map, Contains-none, Contains-uncons}
 use Rattle.query_cache.specs.Fingerprints.{bit_of, bits_of, prints_of, tree_print}
-use Rattle.query_cache.proofs.Shaping.{Contains-from_map, Contains-map}
 
 -- what stands at a place is there
 pub Contains-slice_get : (xs : List ℕ) (k x : ℕ) → slice_get xs k ≡ Some x → Contains xs x

@@ -1,5 +1,3 @@
 pub mod Prints
-pub mod Shaping
-pub mod OneShape
 pub mod Filtering
 pub mod Serving

@@ -17,6 +17,7 @@ use Rattle.term_trees.specs.Trees.{Tree, Constant, node_tree, tree_at, tree_of, 
 use Rattle.term_trees.proofs.TreeLaws.{length-trees}
 use Rattle.query_pick.specs.Operands.{operands}
 use Rattle.query_pick.proofs.Lists.{All-from_contains, Contains-here, Contains-later}
+use Rattle.query_pick.proofs.Naming.{first_of_two, second_of_two}
 use Rattle.query_pick.proofs.Searching.{operand_before}
 use Rattle.query_cache.specs.Fingerprints.{bit_of, bits_of, digest_of, node_print, stirred_in, tree_print}
 
@@ -31,12 +32,6 @@ tree_print-node_tree f (Ite c a b) = refl
 tree_print-node_tree f (Extract high low a) = refl
 tree_print-node_tree f (Extend by signed a) = refl
 tree_print-node_tree f (Concat a b) = refl
-
-pub first_of_two : (a b : ℕ) → Contains (a ∷ b ∷ []) a
-first_of_two a b = Contains-here a (b ∷ []) a refl
-
-pub second_of_two : (a b : ℕ) → Contains (a ∷ b ∷ []) b
-second_of_two a b = Contains-later a (b ∷ []) b (Contains-here b [] b refl)
 
 -- a node's fingerprint rests on those of its operands alone
 node_print-same : (f g : ℕ → ℕ) (n : Node) → ((k : ℕ) → Contains (operands n) k → f k ≡ g k) → node_print f n ≡ node_print g n

@@ -1,4 +1,3 @@
 pub mod Answers
 pub mod Caches
 pub mod Fingerprints
-pub mod Shapes

@@ -3,9 +3,9 @@
 ghost use Rattle.std.specs.Prelude.{◌≡◌, ◌↔◌, false, Contains, IfOk, IsTrue};
 ghost use Rattle.query_cache.specs.Fingerprints.{prints_of};
 
-use crate::comparing::asks_no_more;
 use crate::fingerprints::{bit_of, bits_of, digest_of, prints_of};
 use bv_dag::Query;
+use query_pick::asks_no_more;
 use std::alloc::{AllocError as NoMemory, Global};
 use std::hash::{Hash, Hasher};
 use std::marker::Model;

@@ -2,8 +2,6 @@
 //!
 //! - `satisfiability`: the answers
 //! - `fingerprints`: the fingerprints of trees
-//! - `shapes`: terms of several graphs, numbered by their trees
-//! - `comparing`: whether one query asks no more than another
 //! - `fingerprinted`: a query with its fingerprints
 //! - `solved`: a query with its answer
 //! - `shard`: a part of the cache
@@ -11,11 +9,9 @@
 #![tactic(auto)]
 
 mod cache;
-mod comparing;
 mod fingerprinted;
 mod fingerprints;
 mod satisfiability;
-mod shapes;
 mod shard;
 mod solved;
 

@@ -1,6 +1,1 @@
-pub mod Joining
-pub mod Agreeing
 pub mod Failing
-pub mod Trying
-pub mod Fewer
-pub mod Around

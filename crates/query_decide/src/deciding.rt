@@ -5,15 +5,14 @@ ghost use Rattle.bv_dag.specs.Graphs.{IsDag};
 ghost use Rattle.bv_dag.specs.Queries.{AreBits};
 ghost use Rattle.query_decide.specs.Decisions.{IsDecided};
 ghost use Rattle.bv_dag.specs.Inputs.{asserted_inputs, HasTwo};
-ghost use Rattle.query_decide.specs.Occurring.{IsAlone};
+ghost use Rattle.query_pick.specs.Occurring.{IsAlone};
 
 use crate::decision::Decision;
-use crate::occurrence::{Occurrence, occurring};
-use crate::one_byte::try_byte;
 use bit_blast::encode;
 use bv_dag::Query;
 use byte_list::Bytes;
 use cdcl_core::{Answer, search};
+use query_pick::{Occurrence, occurring, try_byte};
 use std::alloc::{AllocError as NoMemory, Global};
 
 // The answer of a question that rests on this byte alone, or on none: no budget is spent.

@@ -4,3 +4,10 @@ pub mod Naming
 pub mod Searching
 pub mod Copying
 pub mod SameTrees
+pub mod Shaping
+pub mod OneShape
+pub mod Joining
+pub mod Agreeing
+pub mod Fewer
+pub mod Around
+pub mod Trying

@@ -1,5 +1,5 @@
 -- What lists of places hold.
-use Rattle.std.proofs.Common.{◌≡◌, ℕ, zero, suc, ◌<◌, ◌≤◌, ◌⊎◌, List, [], ◌∷◌, length, get_or, sym, ap, ◌∙◌, arith, inl, inr}
+use Rattle.std.proofs.Common.{◌≡◌, ℕ, zero, suc, ◌<◌, ◌≤◌, ◌⊎◌, List, [], ◌∷◌, length, map, get_or, refl, sym, ap, ◌∙◌, arith, inl, inr}
 use Rattle.std.specs.Prelude.{All, Contains}
 use Rattle.std.specs.List.Sorted.{IsStrictlyIncreasing}
 use Rattle.std.specs.List.{slice_get}
@@ -34,6 +34,23 @@ module _ {X : Type 0} where
   -- what holds of whatever a list contains holds of each of its items
   pub All-from_contains : (P : X → Type 0) (xs : List X) → ((x : X) → Contains xs x → P x) → All P xs
   All-from_contains P xs each k d l = each (get_or xs k d) (Contains-get_or xs k d l)
+
+-- what a list contains is there once it is mapped, and nothing else is
+pub Contains-from_map : {X Y : Type 0} (f : X → Y) (xs : List X) (y : Y) → Contains (map f xs) y → (x : X) × Contains xs x × (f x ≡ y)
+Contains-from_map f [] y h = Contains-none y h _
+Contains-from_map f (x ∷ xs) y h =
+    elim (Contains-uncons (f x) (map f xs) y h) [
+      | inl e ↦ (x, Contains-here x xs x refl, sym e)
+      | inr rest ↦ let found = Contains-from_map f xs y rest in (found.0, Contains-later x xs found.0 found.1, found.2)
+    ]
+
+pub Contains-map : {X Y : Type 0} (f : X → Y) (xs : List X) (x : X) → Contains xs x → Contains (map f xs) (f x)
+Contains-map f [] x h = Contains-none x h _
+Contains-map f (z ∷ xs) x h =
+    elim (Contains-uncons z xs x h) [
+      | inl e ↦ Contains-here (f z) (map f xs) (f x) (ap f e)
+      | inr rest ↦ Contains-later (f z) (map f xs) (f x) (Contains-map f xs x rest)
+    ]
 
 -- numbers that increase, by their places
 pub below : (xs : List ℕ) (i j : ℕ) → IsStrictlyIncreasing xs → i < j → j < length xs → get_or xs i 0 < get_or xs j 0

@@ -1,17 +1,17 @@
 -- Nodes whose operands have other names.
-use Rattle.std.proofs.Common.{◌≡◌, ℕ, ◌<◌, List, [], ◌∷◌, get_or, map, refl, sym, ap, ◌∙◌, arith, inl, inr}
+use Rattle.std.proofs.Common.{◌≡◌, ℕ, ◌<◌, List, [], ◌∷◌, get_or, map, refl, sym, ◌∙◌, arith, inl, inr}
 use Rattle.std.specs.Prelude.{Contains}
 use Rattle.bv_dag.specs.Nodes.{Fits}
 use Rattle.bv_dag.specs.declared.nodes.Node.{Node}
 use Rattle.bv_dag.specs.declared.nodes.Node.TheVariants.{Num, Input, Not, Neg, Binary, Compare, Ite, Extract, Extend, Concat}
 use Rattle.term_trees.specs.Trees.{Tree, node_tree}
 use Rattle.query_pick.specs.Operands.{operands, renamed}
-use Rattle.query_pick.proofs.Lists.{Contains-here, Contains-later, Contains-uncons, Contains-none}
+use Rattle.query_pick.proofs.Lists.{Contains-here, Contains-later, Contains-map, Contains-uncons, Contains-none}
 
-first_of_two : (a b : ℕ) → Contains (a ∷ b ∷ []) a
+pub first_of_two : (a b : ℕ) → Contains (a ∷ b ∷ []) a
 first_of_two a b = Contains-here a (b ∷ []) a refl
 
-second_of_two : (a b : ℕ) → Contains (a ∷ b ∷ []) b
+pub second_of_two : (a b : ℕ) → Contains (a ∷ b ∷ []) b
 second_of_two a b = Contains-later a (b ∷ []) b (Contains-here b [] b refl)
 
 -- the tree of a node rests on its operands alone
@@ -90,7 +90,7 @@ operand_wide inputs ws (Extend by signed a) k fits h = one_of ws a k fits.0 h
 operand_wide inputs ws (Concat a b) k fits h = two_of ws a b k fits.0 fits.1 h
 
 -- the operands of a renamed node
-operands-renamed : (f : ℕ → ℕ) (n : Node) → operands (renamed f n) ≡ map f (operands n)
+pub operands-renamed : (f : ℕ → ℕ) (n : Node) → operands (renamed f n) ≡ map f (operands n)
 operands-renamed f (Num w v) = refl
 operands-renamed f (Input i) = refl
 operands-renamed f (Not a) = refl
@@ -101,14 +101,6 @@ operands-renamed f (Ite c a b) = refl
 operands-renamed f (Extract high low a) = refl
 operands-renamed f (Extend by signed a) = refl
 operands-renamed f (Concat a b) = refl
-
-Contains-map : (f : ℕ → ℕ) (ks : List ℕ) (k : ℕ) → Contains ks k → Contains (map f ks) (f k)
-Contains-map f [] k h = Contains-none k h _
-Contains-map f (j ∷ ks) k h =
-    elim (Contains-uncons j ks k h) [
-      | inl e ↦ Contains-here (f j) (map f ks) (f k) (ap f e)
-      | inr rest ↦ Contains-later (f j) (map f ks) (f k) (Contains-map f ks k rest)
-    ]
 
 -- what an operand becomes is an operand of the renamed node
 pub operand_renamed : (f : ℕ → ℕ) (n m : Node) (k : ℕ) → renamed f n ≡ m → Contains (operands n) k → Contains (operands m) (f k)

@@ -1,3 +1,5 @@
 pub mod Operands
 pub mod Cones
 pub mod Picks
+pub mod Shapes
+pub mod Occurring

@@ -1,5 +1,0 @@
-use Rattle.query_cache.proofs.Shaping.{SoFar}
-use Rattle.query_cache.proofs.shapes.Shapes.numbers.Given as goal
-
-abbrev pub invariant-loop-node : goal.invariant-loop-node
-invariant-loop-node l = SoFar l.fn.self l.self l.dag l.numbers.items l.node-index
