@@ -20,7 +20,6 @@ use elf_load::Region;
 use rv_machine::STACK_POINTER;
 use std::alloc::{AllocError as NoMemory, Global};
 use term_simplify::Builder;
-use term_table::Terms;
 
 /// The registers at the start.
 fn first_registers() -> [Value; 32]
@@ -116,7 +115,7 @@ impl State {
         let image = program.image();
         let regions = program.regions().as_slice();
         let mut memory = Pages::new(alloc, image)?;
-        let mut terms = Builder::new(Terms::new(alloc, count_bytes(regions)));
+        let mut terms = Builder::new(alloc, count_bytes(regions));
         place_inputs(&mut memory, &mut terms, regions)?;
         begin(alloc, image.entry(), memory, terms)
     }

@@ -1,5 +1,5 @@
 -- The value of a term lies between the ends that its top nodes tell.
-use Rattle.std.proofs.Common.{◌≡◌, ◌∙◌, ℕ, zero, suc, ◌+◌, ◌-◌, ◌*◌, ◌/◌, ◌%◌, ◌^◌, ◌<◌, ◌≤◌, Bool, true, false, bit_and, bit_or, List, [], length, Some, None, refl, ap, sym, arith, inl, inr}
+use Rattle.std.proofs.Common.{◌≡◌, ◌∙◌, ℕ, ◌+◌, ◌-◌, ◌*◌, ◌/◌, ◌%◌, ◌^◌, ◌<◌, ◌≤◌, Bool, true, false, bit_and, bit_or, List, [], length, Some, None, refl, ap, sym, arith, inl, inr}
 use Rattle.std.specs.Prelude.{◌==◌, nat_lt}
 use Rattle.std.specs.List.{All}
 use Rattle.std.proofs.Math.Nat.{div-add-mod, div-div-eq-div-mul, div-le_self, div-mul-le_self, mod-eq_of_lt, mul_comm, mul-le-mul_left, mul-le-mul_right}
@@ -14,9 +14,8 @@ use Rattle.term_trees.specs.Trees.{Tree, Constant, Complement, Two, Choice, Part
 use Rattle.term_trees.proofs.Ranges.{in_range}
 use Rattle.term_trees.proofs.Terms.{is_term}
 use Rattle.term_trees.proofs.TreeLaws.{value-tree_of}
-use Rattle.term_simplify.specs.Ends.{AreEnds, any, complement_ends, difference_ends, either_ends, ends_at, ends_of, from, joined_ends, larger, only, part_ends, part_told, quotient_ends, remainder_ends, smaller, sum_ends, two_ends, up_to, widened_ends}
+use Rattle.term_simplify.specs.Ends.{AreEnds, any, complement_ends, difference_ends, either_ends, ends_of, from, joined_ends, larger, only, part_ends, part_told, quotient_ends, remainder_ends, smaller, sum_ends, two_ends, up_to, widened_ends}
 use Rattle.term_simplify.specs.declared.ends.Ends.{Ends}
-use Rattle.term_simplify.specs.declared.ends.TheConstants.{DEPTH}
 use Rattle.term_simplify.proofs.EqualityNumbers.{mod_once}
 use Rattle.term_simplify.proofs.IntervalNumbers.{widened_below}
 use Rattle.term_simplify.proofs.Words.{by_parts, is_apart, le_tells, lt_tells, tests_not_below, tests_unequal}
@@ -330,39 +329,30 @@ lies_joined w z a b v u p q h k =
 
 -- ---- of a term
 module _ (inputs : ℕ) (input : List ℕ) (bytes : All (λ b. b < 256) input) where
-  abbrev Lies : ℕ → Tree → Type 0
-  Lies levels t = LiesIn (tree_width t) (ends_at levels t) (tree_value input t)
-
-  pub lies_at : (levels : ℕ) (t : Tree) → IsTerm inputs t → Lies levels t
-  unfolding ends_at
-  lies_at zero (Constant w v) term = lies_only w (record { width = w; number = v }) (in_range inputs input bytes (Constant w v) term)
-  lies_at zero t term = lies_any (tree_width t) (tree_width t) (tree_value input t) refl (in_range inputs input bytes t term)
-  lies_at (suc k) (Constant w v) term = lies_only w (record { width = w; number = v }) (in_range inputs input bytes (Constant w v) term)
-  lies_at (suc k) (Complement t) term =
-      lies_complement (tree_width t) (ends_at k t) (tree_value input t) (in_range inputs input bytes t term) (lies_at k t term)
-  lies_at (suc k) (Two op s t) term =
-      let second : IsOfWidth (tree_width s) (tree_value input t) = rw term.2 (in_range inputs input bytes t term.1) in
-      let lies : LiesIn (tree_width s) (ends_at k t) (tree_value input t) = rw term.2 (lies_at k t term.1) in
-      lies_two (tree_width s) (ends_at k s) (ends_at k t) (tree_value input s) (tree_value input t) (in_range inputs input bytes s term.0) second
-      (lies_at k s term.0) lies op (in_range inputs input bytes (Two op s t) term)
-  lies_at (suc k) (Choice c s t) term =
-      let second : IsOfWidth (tree_width s) (tree_value input t) = rw term.4 (in_range inputs input bytes t term.2) in
-      let lies : LiesIn (tree_width s) (ends_at k t) (tree_value input t) = rw term.4 (lies_at k t term.2) in
-      lies_either (tree_width s) (ends_at k s) (ends_at k t) (tree_value input s) (tree_value input t) (in_range inputs input bytes s term.1) second
-      (lies_at k s term.1) lies (tree_value input c)
-  lies_at (suc k) (Part high low t) term =
-      lies_part (tree_width t) (ends_at k t) (tree_value input t) (in_range inputs input bytes t term.0) (lies_at k t term.0) high low term.1
-      (in_range inputs input bytes (Part high low t) term)
-  lies_at (suc k) (Widened by signed t) term =
-      lies_widened (tree_width t) by signed (ends_at k t) (tree_value input t) (in_range inputs input bytes t term.0) term.1 term.2 (lies_at k t term.0)
-  lies_at (suc k) (Joined s t) term =
-      lies_joined (tree_width s) (tree_width t) (ends_at k s) (ends_at k t) (tree_value input s) (tree_value input t) (in_range inputs input bytes s term.0)
-      (in_range inputs input bytes t term.1) (lies_at k s term.0) (lies_at k t term.1)
-  lies_at (suc k) t term = lies_any (tree_width t) (tree_width t) (tree_value input t) refl (in_range inputs input bytes t term)
-
   pub lies_of : (t : Tree) → IsTerm inputs t → LiesIn (tree_width t) (ends_of t) (tree_value input t)
   unfolding ends_of
-  lies_of t term = lies_at DEPTH t term
+  lies_of (Constant w v) term = lies_only w (record { width = w; number = v }) (in_range inputs input bytes (Constant w v) term)
+  lies_of (Complement t) term =
+      lies_complement (tree_width t) (ends_of t) (tree_value input t) (in_range inputs input bytes t term) (lies_of t term)
+  lies_of (Two op s t) term =
+      let second : IsOfWidth (tree_width s) (tree_value input t) = rw term.2 (in_range inputs input bytes t term.1) in
+      let lies : LiesIn (tree_width s) (ends_of t) (tree_value input t) = rw term.2 (lies_of t term.1) in
+      lies_two (tree_width s) (ends_of s) (ends_of t) (tree_value input s) (tree_value input t) (in_range inputs input bytes s term.0) second
+      (lies_of s term.0) lies op (in_range inputs input bytes (Two op s t) term)
+  lies_of (Choice c s t) term =
+      let second : IsOfWidth (tree_width s) (tree_value input t) = rw term.4 (in_range inputs input bytes t term.2) in
+      let lies : LiesIn (tree_width s) (ends_of t) (tree_value input t) = rw term.4 (lies_of t term.2) in
+      lies_either (tree_width s) (ends_of s) (ends_of t) (tree_value input s) (tree_value input t) (in_range inputs input bytes s term.1) second
+      (lies_of s term.1) lies (tree_value input c)
+  lies_of (Part high low t) term =
+      lies_part (tree_width t) (ends_of t) (tree_value input t) (in_range inputs input bytes t term.0) (lies_of t term.0) high low term.1
+      (in_range inputs input bytes (Part high low t) term)
+  lies_of (Widened by signed t) term =
+      lies_widened (tree_width t) by signed (ends_of t) (tree_value input t) (in_range inputs input bytes t term.0) term.1 term.2 (lies_of t term.0)
+  lies_of (Joined s t) term =
+      lies_joined (tree_width s) (tree_width t) (ends_of s) (ends_of t) (tree_value input s) (tree_value input t) (in_range inputs input bytes s term.0)
+      (in_range inputs input bytes t term.1) (lies_of s term.0) (lies_of t term.1)
+  lies_of t term = lies_any (tree_width t) (tree_width t) (tree_value input t) refl (in_range inputs input bytes t term)
 
 -- a term whose least value isn't 0
 pub divides : (g : Graph) (id : ℕ) → IsDag g → id < length g.nodes → {n : ℕ} → n ≡ (ends_of (tree_of g id)).least.number → (n == 0) ≡ false →
@@ -391,5 +381,5 @@ part_tells a v high low x h is =
     ]
 
 -- ends are as wide as their term
-pub wide_ends : (inputs levels : ℕ) (t : Tree) → IsTerm inputs t → AreEnds (tree_width t) (ends_at levels t)
-wide_ends inputs levels t term = (lies_at inputs [] no_bytes levels t term).ends
+pub wide_ends : (inputs : ℕ) (t : Tree) → IsTerm inputs t → AreEnds (tree_width t) (ends_of t)
+wide_ends inputs t term = (lies_of inputs [] no_bytes t term).ends

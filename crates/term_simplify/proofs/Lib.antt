@@ -68,6 +68,7 @@ pub mod ZeroNumbers
 pub mod ZeroRules
 pub mod ZeroReading
 pub mod EndsReading
+pub mod Keeping
 pub mod EndsRules
 pub mod EndsTests
 pub mod EndsBuilding

@@ -1,7 +1,6 @@
--- The ends of a term: the least and the greatest value that its top nodes tell, as far down as
--- `DEPTH` of them. Where both are one number, the term is that number; and where those of two terms
+-- The ends of a term: the least and the greatest value that those of its operands tell. Where both are one number, the term is that number; and where those of two terms
 -- leave no doubt, a comparison of them is told.
-use Rattle.std.specs.Prelude.{ℕ, zero, suc, ◌+◌, ◌-◌, ◌/◌, ◌^◌, ◌≡◌, ◌==◌, ◌&&◌, ◌||◌, Bool, true, false, not, nat_le, nat_lt, Option, Some, None, if◌then◌else◌}
+use Rattle.std.specs.Prelude.{ℕ, ◌+◌, ◌-◌, ◌/◌, ◌^◌, ◌≡◌, ◌==◌, ◌&&◌, ◌||◌, Bool, true, false, not, nat_le, nat_lt, Option, Some, None, if◌then◌else◌}
 use Rattle.bv_dag.specs.BitVectors.{BitVector, bit, bvadd, bvnot, bvsub, bvudiv, concat, extract, is_negative}
 use Rattle.bv_dag.specs.Nodes.{compare, extend}
 use Rattle.bv_dag.specs.declared.nodes.BinaryOp.{BinaryOp}
@@ -10,7 +9,6 @@ use Rattle.bv_dag.specs.declared.nodes.Comparison.{Comparison}
 use Rattle.bv_dag.specs.declared.nodes.Comparison.TheVariants.{Ult, Slt, Eq}
 use Rattle.term_trees.specs.Trees.{Tree, Constant, Complement, Two, Choice, Part, Widened, Joined, tree_width}
 use Rattle.term_simplify.specs.declared.ends.Ends.{Ends}
-use Rattle.term_simplify.specs.declared.ends.TheConstants.{DEPTH}
 
 -- a number alone, any number up to it or from it on, and any number of so many bits
 abbrev pub only : BitVector → Ends
@@ -91,21 +89,16 @@ abbrev pub joined_ends : Ends → Ends → Ends
 joined_ends a b =
     record { least = concat a.least b.least; greatest = concat a.greatest b.greatest }
 
--- ---- Of a term, by so many levels of nodes.
-unfoldable pub ends_at : (levels : ℕ) → Tree → Ends
-ends_at zero (Constant w v) = only (record { width = w; number = v })
-ends_at zero t = any (tree_width t)
-ends_at (suc k) (Constant w v) = only (record { width = w; number = v })
-ends_at (suc k) (Complement t) = complement_ends (ends_at k t)
-ends_at (suc k) (Two op s t) = two_ends op (ends_at k s) (ends_at k t)
-ends_at (suc k) (Choice c s t) = either_ends (ends_at k s) (ends_at k t)
-ends_at (suc k) (Part high low t) = part_ends high low (ends_at k t)
-ends_at (suc k) (Widened by signed t) = widened_ends by signed (ends_at k t)
-ends_at (suc k) (Joined s t) = joined_ends (ends_at k s) (ends_at k t)
-ends_at (suc k) t = any (tree_width t)
-
+-- ---- Of a term.
 unfoldable pub ends_of : Tree → Ends
-ends_of t = ends_at DEPTH t
+ends_of (Constant w v) = only (record { width = w; number = v })
+ends_of (Complement t) = complement_ends (ends_of t)
+ends_of (Two op s t) = two_ends op (ends_of s) (ends_of t)
+ends_of (Choice c s t) = either_ends (ends_of s) (ends_of t)
+ends_of (Part high low t) = part_ends high low (ends_of t)
+ends_of (Widened by signed t) = widened_ends by signed (ends_of t)
+ends_of (Joined s t) = joined_ends (ends_of s) (ends_of t)
+ends_of t = any (tree_width t)
 
 -- a quotient whose divisor may be 0
 abbrev pub may_divide_by_zero : BinaryOp → (divisor : Tree) → Bool

@@ -21,6 +21,7 @@ pub mod Lifting
 pub mod Intervals
 pub mod Zeros
 pub mod Ends
+pub mod Kept
 pub mod Above
 pub mod Outside
 pub mod Values

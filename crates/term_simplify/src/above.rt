@@ -17,25 +17,25 @@ ghost use Rattle.term_simplify.specs.Steps.{Stands};
 
 use crate::builder::Builder;
 use crate::deciding::order_told;
-use crate::ends::{ends_of, only};
+use crate::ends::only;
 use crate::equalities::Equality;
 use crate::intervals::{Between, interval_of};
+use crate::known::Known;
 use crate::plan::number_at;
 use bv_dag::{BinaryOp, Comparison, Node, Word};
 use std::alloc::AllocError as NoMemory;
-use term_table::Terms;
 
 /// Whether the ends of a term tell that it is below a number, or that it isn't.
-fn is_told(terms: &Terms, id: usize, n: Word) -> bool
+fn is_told(terms: &Known, id: usize, n: Word) -> bool
     requires there { id < length terms.now.nodes }
     requires wide { n.width ≡ width_of terms.now id }
     ensures { result ≡ aboves.is_told (tree_of terms.now id) n }
 {
-    order_told(Comparison::Ult, ends_of(terms, id), only(n)).is_some()
+    order_told(Comparison::Ult, terms.ends_of(id), only(n)).is_some()
 }
 
 /// Whether one test of an interval is left.
-fn has_one_test(terms: &Terms, b: &Between) -> bool
+fn has_one_test(terms: &Known, b: &Between) -> bool
     requires { IsBetween terms.now b.now }
     ensures { result ≡ aboves.has_one_test (between_at terms.now b.now) }
 {
@@ -43,7 +43,7 @@ fn has_one_test(terms: &Terms, b: &Between) -> bool
 }
 
 /// The interval outside of which a term is above a number.
-fn interval_above(terms: &Terms, x: Word, b: usize) -> Option<Between>
+fn interval_above(terms: &Known, x: Word, b: usize) -> Option<Between>
     requires there { b < length terms.now.nodes }
     requires number { IsOfWidth (width_of terms.now b) x }
     ensures is { option_map (between_at terms.now) result
@@ -67,7 +67,7 @@ fn interval_above(terms: &Terms, x: Word, b: usize) -> Option<Between>
 }
 
 /// The interval outside of which a number is below a term.
-fn above_number(terms: &Terms, a: usize, b: usize) -> Option<Between>
+fn above_number(terms: &Known, a: usize, b: usize) -> Option<Between>
     requires { Fits terms.now.inputs (widths_of terms.now.nodes) (Node.Compare Comparison.Ult a b) }
     ensures is { option_map (between_at terms.now) result ≡ aboves.above_by Comparison.Ult
         (tree_number (tree_of terms.now a)) (tree_number (tree_of terms.now b))
@@ -83,7 +83,7 @@ fn above_number(terms: &Terms, a: usize, b: usize) -> Option<Between>
 }
 
 /// The interval outside of which a test holds, if it is such a one.
-fn above_by(terms: &Terms, op: Comparison, a: usize, b: usize) -> Option<Between>
+fn above_by(terms: &Known, op: Comparison, a: usize, b: usize) -> Option<Between>
     requires { Fits terms.now.inputs (widths_of terms.now.nodes) (Node.Compare op a b) }
     ensures is { option_map (between_at terms.now) result ≡ aboves.above_by op
         (tree_number (tree_of terms.now a)) (tree_number (tree_of terms.now b))
@@ -98,7 +98,7 @@ fn above_by(terms: &Terms, op: Comparison, a: usize, b: usize) -> Option<Between
 }
 
 /// The same of any node.
-pub(crate) fn above_of(terms: &Terms, node: Node) -> Option<Between>
+pub(crate) fn above_of(terms: &Known, node: Node) -> Option<Between>
     requires { Fits terms.now.inputs (widths_of terms.now.nodes) node }
     ensures some { IfSome result (λ i. IsAbove terms.now node i) }
     ensures none { result ≡ None → unshifted (tree_of terms.now) node

@@ -13,12 +13,12 @@ ghost use Rattle.term_simplify.specs.Steps.{Stands};
 ghost use Rattle.term_simplify.specs.WideSums.{IsWideSummand, wide_term};
 
 use crate::builder::Builder;
+use crate::known::Known;
 use crate::offsets::Summand;
 use crate::pairs::numbered_of;
 use crate::wide_sums::WideSummand;
 use bv_dag::{BinaryOp, Comparison, Node, Word};
 use std::alloc::AllocError as NoMemory;
-use term_table::Terms;
 
 /// A term that is another one and a number. The numbers of the two terms are in that.
 #[derive(Clone, Copy, Debug)]
@@ -81,7 +81,7 @@ fn balance_with(o: WideSummand, p: WideSummand) -> Option<WideBalance>
 }
 
 /// What an equality of two terms is of a term and a sum with a number, where each of them is one.
-pub(crate) fn balance_of(terms: &Terms, a: usize, b: usize) -> Option<WideBalance>
+pub(crate) fn balance_of(terms: &Known, a: usize, b: usize) -> Option<WideBalance>
     requires first { a < length terms.now.nodes }
     requires second { b < length terms.now.nodes }
     requires wide { width_of terms.now a ≡ width_of terms.now b }

@@ -7,10 +7,10 @@ ghost use Rattle.term_trees.specs.Trees.{tree_of};
 ghost use Rattle.term_simplify.specs.Plans.{Makes, AreAsWide};
 ghost use Rattle.term_simplify.specs.Plain.{is_ones, number_first, number_second, binary_by, plain_binary};
 
+use crate::known::Known;
 use crate::masks::masked;
 use crate::plan::{Plan, number, number_at, number_if, term_if, zero};
 use bv_dag::{BinaryOp, Node, Word};
-use term_table::Terms;
 
 /// The word of this width whose every bit is 1.
 #[tactic(auto, unfolding(bv_dag::specs::BitVectors::bvnot))]
@@ -99,7 +99,7 @@ fn binary_by(op: BinaryOp, left: Option<Word>, right: Option<Word>, a: usize, b:
 
 /// An operation of two terms.
 #[tactic(auto, using(crate::proofs::Reading::placing))]
-pub(crate) fn binary(terms: &Terms, op: BinaryOp, a: usize, b: usize) -> Plan
+pub(crate) fn binary(terms: &Known, op: BinaryOp, a: usize, b: usize) -> Plan
     requires { Fits terms.now.inputs (widths_of terms.now.nodes) (Node.Binary op a b) }
     ensures makes { Makes terms.now result
         (plain_binary op (tree_of terms.now a) (tree_of terms.now b)) }

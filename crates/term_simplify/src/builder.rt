@@ -1,6 +1,6 @@
 //! Terms, each simplified before it is put behind the others.
 
-ghost use Rattle.std.specs.Prelude.{◌≡◌, ◌↔◌, ◌<◌, ℕ, IsTrue, IfOk, IfSome, OnOk, OnErr, length, take, slice_get};
+ghost use Rattle.std.specs.Prelude.{◌≡◌, [], ◌↔◌, ◌<◌, ℕ, IsTrue, IfOk, IfSome, OnOk, OnErr, length, take, slice_get};
 ghost use Rattle.bv_dag.specs.Graphs.{Graph, val, width_of};
 ghost use Rattle.bv_dag.specs.Nodes.{Fits, node_value, node_width, widths_of};
 ghost use Rattle.term_trees.specs.Trees.{tree_of, node_tree, IsTerm};
@@ -15,6 +15,7 @@ use crate::choices::choice;
 use crate::comparisons::comparison;
 use crate::equalities::told_of;
 use crate::extensions::{extension, further, joined};
+use crate::known::Known;
 use crate::moves::move_of;
 use crate::narrowing::narrowing_of;
 use crate::parts::part;
@@ -22,7 +23,7 @@ use crate::plan::{Plan, complement, negative};
 use crate::recipe::{Recipe, alone};
 use crate::values::value_of;
 use bv_dag::{BinaryOp, Comparison, Node};
-use std::alloc::AllocError as NoMemory;
+use std::alloc::{AllocError as NoMemory, Global};
 use std::marker::Model;
 use term_table::Terms;
 
@@ -37,7 +38,7 @@ fn is_same(left: &Node, right: &Node) -> bool
 }
 
 /// The place of an equal node among the last few.
-fn recent(terms: &Terms, node: &Node) -> Option<usize>
+fn recent(terms: &Known, node: &Node) -> Option<usize>
     ensures { IfSome result (λ id. Makes terms.now (Plan.Term id)
         (node_tree (tree_of terms.now) node.now)) }
 {
@@ -51,7 +52,7 @@ fn recent(terms: &Terms, node: &Node) -> Option<usize>
 }
 
 /// What the node is simplified to at its own width, bits not taken through complements and choices.
-fn plan(terms: &Terms, node: Node) -> Recipe
+fn plan(terms: &Known, node: Node) -> Recipe
     requires { Fits terms.now.inputs (widths_of terms.now.nodes) node }
     ensures makes { Follows terms.now result (unlifted (tree_of terms.now) node) }
     ensures term { IsTerm terms.now.inputs (node_tree (tree_of terms.now) node) }
@@ -77,7 +78,7 @@ fn plan(terms: &Terms, node: Node) -> Recipe
 /// A table of terms over input bytes, to which simplified terms are added.
 #[derive(Drop)]
 pub struct Builder {
-    terms: Terms,
+    known: Known,
 }
 
 impl Model for Builder {
@@ -85,7 +86,7 @@ impl Model for Builder {
 
     ghost Value = { Graph };
 
-    ghost view = { λ b. b.terms };
+    ghost view = { λ b. b.known };
 }
 
 impl Builder {
@@ -97,31 +98,34 @@ impl Builder {
     ghost use Rattle.term_simplify.specs.Told.{unsummed, untold};
     ghost use Rattle.term_trees.specs.Growth.{Continues};
 
-    /// Builds on these terms, which stay as they are.
-    pub fn new(terms: Terms) -> Builder
-        ensures { result ≡ terms }
+    /// No terms yet, over so many input bytes.
+    pub fn new(alloc: Global, inputs: usize) -> Builder
+        ensures { result ≡ record { inputs = inputs; nodes = [] } }
     {
-        Builder { terms }
+        Builder {
+            known: Known::new(alloc, inputs),
+        }
     }
 
     /// The terms so far.
     pub fn terms(&self) -> &Terms
         ensures { result.now ≡ self.now }
     {
-        &self.terms
+        self.known.terms()
     }
 
-    pub fn into_terms(self) -> Terms
-        ensures { result ≡ self }
+    /// The terms, and what is known of them.
+    pub(crate) fn known(&self) -> &Known
+        ensures { result.now ≡ self.now }
     {
-        self.terms
+        &self.known
     }
 
     /// How many terms there are.
     pub fn len(&self) -> usize
         ensures { result ≡ length self.now.nodes }
     {
-        self.terms.len()
+        self.known.len()
     }
 
     /// An equal one; a change in one changes nothing in the other.
@@ -129,7 +133,7 @@ impl Builder {
         ensures { IfOk result (λ other. other ≡ self.now) }
     {
         Ok(Builder {
-            terms: self.terms.share()?,
+            known: self.known.share()?,
         })
     }
 
@@ -137,7 +141,7 @@ impl Builder {
     pub fn truncate(&mut self, len: usize)
         ensures { self.new ≡ record { inputs = self.old.inputs; nodes = take len self.old.nodes } }
     {
-        self.terms.truncate(len);
+        self.known.truncate(len);
     }
 
     /// The place of the node, which is put behind the others where it isn't one of the last.
@@ -148,9 +152,9 @@ impl Builder {
         ensures ok { OnOk result (Continues self.old self.new) }
         ensures err { OnErr result (self.new ≡ self.old) }
     {
-        match recent(&self.terms, &node) {
+        match recent(&self.known, &node) {
             Some(id) => Ok(id),
-            None => self.terms.push(node),
+            None => self.known.push(node),
         }
     }
 
@@ -177,7 +181,7 @@ impl Builder {
             ≡ further by signed (tree_of self.old id)) }
         ensures continues { Continues self.old self.new }
     {
-        let plan = further(&self.terms, by, signed, id);
+        let plan = further(&self.known, by, signed, id);
         self.stand(plan)
     }
 
@@ -216,7 +220,7 @@ impl Builder {
         match node {
             Node::Extract { high, low, operand } => self.bits(high, low, operand),
             _ => {
-                let recipe = plan(&self.terms, node);
+                let recipe = plan(&self.known, node);
                 self.carry_out(recipe)
             }
         }
@@ -243,7 +247,7 @@ impl Builder {
         ensures err { OnErr result (self.new ≡ self.old) }
         ensures term { IsTerm self.old.inputs (node_tree (tree_of self.old) node) }
     {
-        match narrowing_of(&self.terms, node) {
+        match narrowing_of(&self.known, node) {
             Some(narrow) => self.narrow(node, narrow),
             None => self.own(node),
         }
@@ -272,7 +276,7 @@ impl Builder {
         ensures err { OnErr result (self.new ≡ self.old) }
         ensures term { IsTerm self.old.inputs (node_tree (tree_of self.old) node) }
     {
-        match told_of(&self.terms, node) {
+        match told_of(&self.known, node) {
             Some(told) => self.tell(told),
             None => self.untold(node),
         }
@@ -286,7 +290,7 @@ impl Builder {
         ensures err { OnErr result (self.new ≡ self.old) }
         ensures term { IsTerm self.old.inputs (node_tree (tree_of self.old) node) }
     {
-        match above_of(&self.terms, node) {
+        match above_of(&self.known, node) {
             Some(interval) => self.outside(interval),
             None => self.unmoved(node),
         }
@@ -300,7 +304,7 @@ impl Builder {
         ensures err { OnErr result (self.new ≡ self.old) }
         ensures term { IsTerm self.old.inputs (node_tree (tree_of self.old) node) }
     {
-        match move_of(&self.terms, node) {
+        match move_of(&self.known, node) {
             Some(bits) => self.move_bits(bits),
             None => self.unshifted(node),
         }
@@ -313,7 +317,7 @@ impl Builder {
         ensures err { OnErr result (self.new ≡ self.old) }
         ensures term { IsTerm self.old.inputs (node_tree (tree_of self.old) node) }
     {
-        match value_of(&self.terms, node) {
+        match value_of(&self.known, node) {
             Some(plan) => self.stand(plan),
             None => self.unvalued(node),
         }

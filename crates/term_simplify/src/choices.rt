@@ -7,12 +7,12 @@ ghost use Rattle.term_trees.specs.Trees.{tree_of};
 ghost use Rattle.term_simplify.specs.Plans.{Makes};
 ghost use Rattle.term_simplify.specs.Plain.{bit_choice, choice_between, choice_on, plain_choice, tree_number};
 
+use crate::known::Known;
 use crate::plan::{Plan, complement, number_at};
 use bv_dag::{Node, Word};
-use term_table::Terms;
 
 /// A choice between two numbers.
-fn bit_choice(terms: &Terms, x: Word, y: Word, c: usize, a: usize, b: usize) -> Plan
+fn bit_choice(terms: &Known, x: Word, y: Word, c: usize, a: usize, b: usize) -> Plan
     requires there { c < length terms.now.nodes }
     requires first { a < length terms.now.nodes }
     requires fits { Fits terms.now.inputs (widths_of terms.now.nodes) (Node.Ite c a b) }
@@ -37,7 +37,7 @@ fn bit_choice(terms: &Terms, x: Word, y: Word, c: usize, a: usize, b: usize) -> 
 
 /// By the numbers that the two terms are.
 fn choice_between(
-    terms: &Terms,
+    terms: &Known,
     left: Option<Word>,
     right: Option<Word>,
     c: usize,
@@ -62,7 +62,7 @@ fn choice_between(
 }
 
 /// The first of two terms where the condition is 1, and else the second.
-pub(crate) fn choice(terms: &Terms, c: usize, a: usize, b: usize) -> Plan
+pub(crate) fn choice(terms: &Known, c: usize, a: usize, b: usize) -> Plan
     requires { Fits terms.now.inputs (widths_of terms.now.nodes) (Node.Ite c a b) }
     ensures makes { Makes terms.now result
         (plain_choice (tree_of terms.now c) (tree_of terms.now a) (tree_of terms.now b)) }

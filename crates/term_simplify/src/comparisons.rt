@@ -7,12 +7,12 @@ ghost use Rattle.term_trees.specs.Trees.{Tree, tree_of};
 ghost use Rattle.term_simplify.specs.Plans.{Makes, AreAsWide};
 ghost use Rattle.term_simplify.specs.Plain.{excludes, bit_under, equality_of, test_first, test_second, comparison_by, plain_comparison};
 
+use crate::known::Known;
 use crate::plan::{Plan, complement, number, number_at, number_if, under_zeros, zero};
 use bv_dag::{Comparison, Node, Word};
-use term_table::Terms;
 
 /// Whether a term is a narrower one widened by zeros, which is never worth so large a number.
-fn excludes(terms: &Terms, id: usize, value: u64) -> bool
+fn excludes(terms: &Known, id: usize, value: u64) -> bool
     requires { id < length terms.now.nodes }
     ensures { result ≡ excludes (tree_of terms.now id) value }
 {
@@ -23,7 +23,7 @@ fn excludes(terms: &Terms, id: usize, value: u64) -> bool
 }
 
 /// The term of one bit that a term is, alone or widened by zeros.
-fn bit_under(terms: &Terms, id: usize) -> Option<usize>
+fn bit_under(terms: &Known, id: usize) -> Option<usize>
     requires { id < length terms.now.nodes }
     ensures tree { option_map (tree_of terms.now) result ≡ bit_under (tree_of terms.now id) }
     ensures there { IfSome result (λ k. k < length terms.now.nodes) }
@@ -37,7 +37,7 @@ fn bit_under(terms: &Terms, id: usize) -> Option<usize>
 }
 
 /// Whether a term is a number.
-fn equality(terms: &Terms, id: usize, value: u64, otherwise: Plan) -> Plan
+fn equality(terms: &Known, id: usize, value: u64, otherwise: Plan) -> Plan
     requires { id < length terms.now.nodes }
     ensures { (tree : Tree) → Makes terms.now otherwise tree
         → Makes terms.now result (equality_of (tree_of terms.now id) value tree) }
@@ -58,7 +58,7 @@ fn equality(terms: &Terms, id: usize, value: u64, otherwise: Plan) -> Plan
 }
 
 /// A number and then a term.
-fn test_first(terms: &Terms, op: Comparison, x: Word, a: usize, b: usize) -> Plan
+fn test_first(terms: &Known, op: Comparison, x: Word, a: usize, b: usize) -> Plan
     requires there { b < length terms.now.nodes }
     requires fits { Fits terms.now.inputs (widths_of terms.now.nodes) (Node.Compare op a b) }
     ensures { Makes terms.now result (test_first op x (tree_of terms.now a) (tree_of terms.now b)) }
@@ -76,7 +76,7 @@ fn test_first(terms: &Terms, op: Comparison, x: Word, a: usize, b: usize) -> Pla
 }
 
 /// A term and then a number.
-fn test_second(terms: &Terms, op: Comparison, y: Word, a: usize, b: usize) -> Plan
+fn test_second(terms: &Known, op: Comparison, y: Word, a: usize, b: usize) -> Plan
     requires there { a < length terms.now.nodes }
     requires fits { Fits terms.now.inputs (widths_of terms.now.nodes) (Node.Compare op a b) }
     ensures { Makes terms.now result
@@ -99,7 +99,7 @@ fn test_second(terms: &Terms, op: Comparison, y: Word, a: usize, b: usize) -> Pl
 
 /// By the numbers that the operands are.
 fn comparison_by(
-    terms: &Terms,
+    terms: &Known,
     op: Comparison,
     left: Option<Word>,
     right: Option<Word>,
@@ -123,7 +123,7 @@ fn comparison_by(
 
 /// A test of two terms.
 #[tactic(auto, using(crate::proofs::Reading::placing))]
-pub(crate) fn comparison(terms: &Terms, op: Comparison, a: usize, b: usize) -> Plan
+pub(crate) fn comparison(terms: &Known, op: Comparison, a: usize, b: usize) -> Plan
     requires { Fits terms.now.inputs (widths_of terms.now.nodes) (Node.Compare op a b) }
     ensures makes { Makes terms.now result
         (plain_comparison op (tree_of terms.now a) (tree_of terms.now b)) }

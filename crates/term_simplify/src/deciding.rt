@@ -10,10 +10,10 @@ ghost use Rattle.term_simplify.specs.Ends.{AreEnds};
 ghost use Rattle.term_simplify.specs.Simplified.{compared};
 
 use crate::builder::Builder;
-use crate::ends::{Ends, ends_of, widened};
+use crate::ends::{Ends, widened};
+use crate::known::Known;
 use bv_dag::{Comparison, Node, Word};
 use std::alloc::AllocError as NoMemory;
-use term_table::Terms;
 
 /// Any number of so many bits, with sign.
 #[tactic(auto, unfolding(bv_dag::specs::BitVectors::bvnot))]
@@ -44,7 +44,7 @@ fn by_sign(a: Ends) -> Ends
 }
 
 /// The least and the greatest value of a term, with sign.
-fn signed_ends_of(terms: &Terms, id: usize) -> Ends
+fn signed_ends_of(terms: &Known, id: usize) -> Ends
     requires { id < length terms.now.nodes }
     ensures is { result ≡ ends.signed_ends_of (tree_of terms.now id) }
     ensures wide { AreEnds (width_of terms.now id) result }
@@ -57,12 +57,12 @@ fn signed_ends_of(terms: &Terms, id: usize) -> Ends
             operand,
         } => {
             if signed {
-                widened(by, true, by_sign(ends_of(terms, operand)))
+                widened(by, true, by_sign(terms.ends_of(operand)))
             } else {
-                by_sign(ends_of(terms, id))
+                by_sign(terms.ends_of(id))
             }
         }
-        _ => by_sign(ends_of(terms, id)),
+        _ => by_sign(terms.ends_of(id)),
     }
 }
 
@@ -99,14 +99,14 @@ fn are_apart(op: Comparison, a: Ends, b: Ends) -> bool
 }
 
 /// Whether an equality is told to fail.
-fn equality_told(terms: &Terms, a: usize, b: usize) -> Option<bool>
+fn equality_told(terms: &Known, a: usize, b: usize) -> Option<bool>
     requires first { a < length terms.now.nodes }
     requires second { b < length terms.now.nodes }
     requires wide { width_of terms.now a ≡ width_of terms.now b }
     ensures is { result ≡ ends.equality_told (tree_of terms.now a) (tree_of terms.now b) }
     ensures fit { IsDag terms.now }
 {
-    if are_apart(Comparison::Ult, ends_of(terms, a), ends_of(terms, b))
+    if are_apart(Comparison::Ult, terms.ends_of(a), terms.ends_of(b))
         || are_apart(
             Comparison::Slt,
             signed_ends_of(terms, a),
@@ -120,13 +120,13 @@ fn equality_told(terms: &Terms, a: usize, b: usize) -> Option<bool>
 }
 
 /// Whether a comparison holds on all input bytes, or on none.
-fn comparison_told(terms: &Terms, op: Comparison, a: usize, b: usize) -> Option<bool>
+fn comparison_told(terms: &Known, op: Comparison, a: usize, b: usize) -> Option<bool>
     requires { Fits terms.now.inputs (widths_of terms.now.nodes) (Node.Compare op a b) }
     ensures is { result ≡ ends.comparison_told op (tree_of terms.now a) (tree_of terms.now b) }
     ensures fit { IsDag terms.now }
 {
     match op {
-        Comparison::Ult => order_told(op, ends_of(terms, a), ends_of(terms, b)),
+        Comparison::Ult => order_told(op, terms.ends_of(a), terms.ends_of(b)),
         Comparison::Slt => order_told(op, signed_ends_of(terms, a), signed_ends_of(terms, b)),
         Comparison::Eq => equality_told(terms, a, b),
     }
@@ -141,7 +141,7 @@ impl Builder {
         ensures err { OnErr result (self.new ≡ self.old) }
         ensures term { IsTerm self.old.inputs (node_tree (tree_of self.old) (Node.Compare op a b)) }
     {
-        match comparison_told(self.terms(), op, a, b) {
+        match comparison_told(self.known(), op, a, b) {
             Some(holds) => {
                 let bit = Word::from_bool(holds);
                 self.plain(Node::Num {

@@ -15,11 +15,11 @@ ghost use Rattle.term_simplify.specs.Runs.{pieced};
 ghost use Rattle.term_simplify.specs.Steps.{Stands};
 
 use crate::builder::Builder;
+use crate::known::Known;
 use crate::narrowing::length_of;
 use crate::plan::number_at;
 use bv_dag::{BinaryOp, Node, Word};
 use std::alloc::AllocError as NoMemory;
-use term_table::Terms;
 
 /// A term of so many bits or fewer is divided in one operation: all its values are soon tried, and one node is cheaper to evaluate
 /// than the many of a long division.
@@ -107,7 +107,7 @@ fn dividend_by(operand: usize, by: Word) -> Option<Dividend>
 }
 
 /// The term and the number of an operation that is written out.
-fn dividend_of(terms: &Terms, op: BinaryOp, a: usize, b: usize) -> Option<Dividend>
+fn dividend_of(terms: &Known, op: BinaryOp, a: usize, b: usize) -> Option<Dividend>
     requires { Fits terms.now.inputs (widths_of terms.now.nodes) (Node.Binary op a b) }
     ensures some { IfSome result (λ d. IsDividend terms.now d) }
     ensures how { IfSome result (λ d. divisions.is_divisor d.width d.bits d.divisor ≡ true) }
@@ -459,7 +459,7 @@ impl Builder {
             (λ input. binary op (val self.old a input) (val self.old b input))) }
         ensures term { IsTerm self.old.inputs (node_tree (tree_of self.old) (Node.Binary op a b)) }
     {
-        match dividend_of(self.terms(), op, a, b) {
+        match dividend_of(self.known(), op, a, b) {
             Some(d) => self.divided_at(op, d),
             None => self.pieced_step(op, a, b),
         }

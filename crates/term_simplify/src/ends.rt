@@ -1,4 +1,4 @@
-//! The least and the greatest value that top nodes tell of a term.
+//! The least and the greatest value of a result, by those of its operands.
 
 ghost use Rattle.std.specs.Prelude.{◌≡◌, ◌+◌, ◌-◌, ◌<◌, ◌≤◌, ℕ, All, List, length, true, false};
 ghost use Rattle.bv_dag.specs.Graphs.{IsDag, val, width_of};
@@ -8,12 +8,9 @@ ghost use Rattle.term_simplify.specs.Ends.{AreEnds};
 
 use crate::binaries::ones;
 use crate::extensions::extended;
-use crate::plan::{number_at, zero};
-use bv_dag::{BinaryOp, Node, Word};
-use term_table::Terms;
-
-/// How many nodes deep a term is looked into.
-const DEPTH: u32 = 4;
+use crate::known::Known;
+use crate::plan::zero;
+use bv_dag::{BinaryOp, Word};
 
 /// The least and the greatest value of a term.
 #[derive(Clone, Copy, Debug)]
@@ -55,7 +52,7 @@ fn from(x: Word) -> Ends
 }
 
 /// Any number of so many bits.
-fn any(width: u32) -> Ends
+pub(crate) fn any(width: u32) -> Ends
     requires not_empty { 0 < width }
     requires at_most_64 { width ≤ 64 }
     ensures is { result ≡ ends.any width }
@@ -169,7 +166,7 @@ pub(crate) fn two(op: BinaryOp, a: Ends, b: Ends) -> Ends
 }
 
 /// Of one of two terms.
-fn either(a: Ends, b: Ends) -> Ends
+pub(crate) fn either(a: Ends, b: Ends) -> Ends
     requires first { AreEnds a.least.width a }
     requires second { AreEnds a.least.width b }
     ensures is { result ≡ ends.either_ends a b }
@@ -183,7 +180,7 @@ fn either(a: Ends, b: Ends) -> Ends
 
 /// Of bits of a term.
 #[tactic(auto, unfolding(bv_dag::specs::BitVectors::extract))]
-fn part(high: u32, low: u32, a: Ends) -> Ends
+pub(crate) fn part(high: u32, low: u32, a: Ends) -> Ends
     requires order { low ≤ high }
     requires within { high < a.least.width }
     requires wide { AreEnds a.least.width a }
@@ -202,7 +199,7 @@ fn part(high: u32, low: u32, a: Ends) -> Ends
 
 /// Of a complement.
 #[tactic(auto, unfolding(bv_dag::specs::BitVectors::bvnot))]
-fn complement(a: Ends) -> Ends
+pub(crate) fn complement(a: Ends) -> Ends
     requires { AreEnds a.least.width a }
     ensures is { result ≡ ends.complement_ends a }
     ensures wide { AreEnds a.least.width result }
@@ -228,7 +225,7 @@ pub(crate) fn widened(by: u32, signed: bool, a: Ends) -> Ends
 
 /// Of two terms that are joined.
 #[tactic(auto, unfolding(bv_dag::specs::BitVectors::concat))]
-fn joined(a: Ends, b: Ends) -> Ends
+pub(crate) fn joined(a: Ends, b: Ends) -> Ends
     requires first { AreEnds a.least.width a }
     requires second { AreEnds b.least.width b }
     requires at_most_64 { a.least.width + b.least.width ≤ 64 }
@@ -254,59 +251,8 @@ pub(crate) fn part_told(high: u32, low: u32, a: Ends) -> Option<Word>
     }
 }
 
-/// Of a term, by no level of nodes.
-fn ends_alone(terms: &Terms, id: usize) -> Ends
-    requires { id < length terms.now.nodes }
-    ensures is { result ≡ ends.ends_at 0 (tree_of terms.now id) }
-    ensures fit { IsDag terms.now }
-{
-    match number_at(terms, id) {
-        Some(number) => only(number),
-        None => any(terms.width_of(id)),
-    }
-}
-
-/// Of a term, by so many levels of nodes.
-fn ends_at(terms: &Terms, levels: u32, id: usize) -> Ends
-    requires { id < length terms.now.nodes }
-    ensures is { result ≡ ends.ends_at levels (tree_of terms.now id) }
-    ensures wide { AreEnds (width_of terms.now id) result }
-    ensures fit { IsDag terms.now }
-{
-    if levels == 0 {
-        return ends_alone(terms, id);
-    }
-    let under = levels - 1;
-    match terms.node(id) {
-        Node::Num { width, value } => only(Word::new(width, value)),
-        Node::Not(a) => complement(ends_at(terms, under, a)),
-        Node::Binary(op, a, b) => two(op, ends_at(terms, under, a), ends_at(terms, under, b)),
-        Node::Ite { yes, no, .. } => either(ends_at(terms, under, yes), ends_at(terms, under, no)),
-        Node::Extract { high, low, operand } => part(high, low, ends_at(terms, under, operand)),
-        Node::Extend {
-            by,
-            signed,
-            operand,
-        } => widened(by, signed, ends_at(terms, under, operand)),
-        Node::Concat { high, low } => {
-            joined(ends_at(terms, under, high), ends_at(terms, under, low))
-        }
-        _ => any(terms.width_of(id)),
-    }
-}
-
-/// Of a term.
-pub(crate) fn ends_of(terms: &Terms, id: usize) -> Ends
-    requires { id < length terms.now.nodes }
-    ensures is { result ≡ ends.ends_of (tree_of terms.now id) }
-    ensures wide { AreEnds (width_of terms.now id) result }
-    ensures fit { IsDag terms.now }
-{
-    ends_at(terms, DEPTH, id)
-}
-
 /// Whether an operation is a quotient whose divisor may be 0.
-pub(crate) fn may_divide_by_zero(terms: &Terms, op: BinaryOp, divisor: usize) -> bool
+pub(crate) fn may_divide_by_zero(terms: &Known, op: BinaryOp, divisor: usize) -> bool
     requires { divisor < length terms.now.nodes }
     ensures is { result ≡ ends.may_divide_by_zero op (tree_of terms.now divisor) }
     ensures quotient { result ≡ true → op ≡ BinaryOp.Udiv }
@@ -314,7 +260,7 @@ pub(crate) fn may_divide_by_zero(terms: &Terms, op: BinaryOp, divisor: usize) ->
         → 0 < (val terms.now divisor input).number }
 {
     match op {
-        BinaryOp::Udiv => ends_of(terms, divisor).least.number() == 0,
+        BinaryOp::Udiv => terms.ends_of(divisor).least.number() == 0,
         BinaryOp::Add
         | BinaryOp::Sub
         | BinaryOp::Mul

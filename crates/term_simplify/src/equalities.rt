@@ -17,10 +17,10 @@ use crate::balances::{WideBalance, balance_of};
 use crate::builder::Builder;
 use crate::extensions::extended;
 use crate::intervals::{Between, interval_of};
+use crate::known::Known;
 use crate::plan::number_at;
 use bv_dag::{BinaryOp, Comparison, Node, Word};
 use std::alloc::AllocError as NoMemory;
-use term_table::Terms;
 
 /// A term and the number that it is compared with.
 #[derive(Clone, Copy, Debug)]
@@ -89,7 +89,7 @@ fn with_term(term: usize, number: Option<Word>) -> Option<Equality>
 }
 
 /// Which operand of an operation is which number, exactly where the operation is `n`.
-fn undone_by(terms: &Terms, op: BinaryOp, a: usize, b: usize, n: Word) -> Option<Equality>
+fn undone_by(terms: &Known, op: BinaryOp, a: usize, b: usize, n: Word) -> Option<Equality>
     requires fits { Fits terms.now.inputs (widths_of terms.now.nodes) (Node.Binary op a b) }
     requires wide { n.width ≡ width_of terms.now a }
     ensures is { option_map (peeled_at terms.now) result
@@ -104,7 +104,7 @@ fn undone_by(terms: &Terms, op: BinaryOp, a: usize, b: usize, n: Word) -> Option
 }
 
 /// The operand of what widens it, and low bits of a number that are widened to it.
-fn undone_widened(terms: &Terms, by: u32, signed: bool, a: usize, n: Word) -> Option<Equality>
+fn undone_widened(terms: &Known, by: u32, signed: bool, a: usize, n: Word) -> Option<Equality>
     requires there { a < length terms.now.nodes }
     requires some { 1 ≤ by }
     requires wide { n.width ≡ width_of terms.now a + by }
@@ -125,7 +125,7 @@ fn undone_widened(terms: &Terms, by: u32, signed: bool, a: usize, n: Word) -> Op
 }
 
 /// Which of two joined terms is which number, exactly where they are `n`, or tells by itself that they are not.
-fn undone_joined(terms: &Terms, a: usize, b: usize, n: Word) -> Option<Equality>
+fn undone_joined(terms: &Known, a: usize, b: usize, n: Word) -> Option<Equality>
     requires fits { Fits terms.now.inputs (widths_of terms.now.nodes) (Node.Concat a b) }
     requires wide { n.width ≡ width_of terms.now a + width_of terms.now b }
     ensures is { option_map (peeled_at terms.now) result
@@ -161,7 +161,7 @@ fn undone_joined(terms: &Terms, a: usize, b: usize, n: Word) -> Option<Equality>
 }
 
 /// What is a number exactly where a term is one, by the term's top operation.
-pub(crate) fn undone(terms: &Terms, e: Equality) -> Option<Equality>
+pub(crate) fn undone(terms: &Known, e: Equality) -> Option<Equality>
     requires { IsEquality terms.now e }
     ensures is { option_map (peeled_at terms.now) result
         ≡ equalities.undone (tree_of terms.now e.term) e.number }
@@ -190,7 +190,7 @@ pub(crate) fn undone(terms: &Terms, e: Equality) -> Option<Equality>
 }
 
 /// The same as far as it goes.
-fn peeled(terms: &Terms, e: Equality) -> Equality
+fn peeled(terms: &Known, e: Equality) -> Equality
     requires { IsEquality terms.now e }
     ensures is_equality { IsEquality terms.now result }
     ensures is { peeled_at terms.now result
@@ -209,7 +209,7 @@ fn peeled(terms: &Terms, e: Equality) -> Equality
 }
 
 /// A term that is below a number.
-fn told_below(terms: &Terms, a: usize, y: Word, b: usize) -> Option<Told>
+fn told_below(terms: &Known, a: usize, y: Word, b: usize) -> Option<Told>
     requires fits { Fits terms.now.inputs (widths_of terms.now.nodes)
         (Node.Compare Comparison.Ult a b) }
     requires first { tree_number (tree_of terms.now a) ≡ None }
@@ -226,7 +226,7 @@ fn told_below(terms: &Terms, a: usize, y: Word, b: usize) -> Option<Told>
 }
 
 /// A term and then a number.
-fn told_second(terms: &Terms, op: Comparison, a: usize, y: Word, b: usize) -> Option<Told>
+fn told_second(terms: &Known, op: Comparison, a: usize, y: Word, b: usize) -> Option<Told>
     requires fits { Fits terms.now.inputs (widths_of terms.now.nodes) (Node.Compare op a b) }
     requires first { tree_number (tree_of terms.now a) ≡ None }
     requires second { tree_number (tree_of terms.now b) ≡ Some y }
@@ -255,7 +255,7 @@ fn told_second(terms: &Terms, op: Comparison, a: usize, y: Word, b: usize) -> Op
 }
 
 /// A number and then a term.
-fn told_first(terms: &Terms, op: Comparison, x: Word, a: usize, b: usize) -> Option<Told>
+fn told_first(terms: &Known, op: Comparison, x: Word, a: usize, b: usize) -> Option<Told>
     requires fits { Fits terms.now.inputs (widths_of terms.now.nodes) (Node.Compare op a b) }
     requires first { tree_number (tree_of terms.now a) ≡ Some x }
     requires second { tree_number (tree_of terms.now b) ≡ None }
@@ -272,7 +272,7 @@ fn told_first(terms: &Terms, op: Comparison, x: Word, a: usize, b: usize) -> Opt
 }
 
 /// Two terms that are no numbers.
-fn told_terms(terms: &Terms, op: Comparison, a: usize, b: usize) -> Option<Told>
+fn told_terms(terms: &Known, op: Comparison, a: usize, b: usize) -> Option<Told>
     requires fits { Fits terms.now.inputs (widths_of terms.now.nodes) (Node.Compare op a b) }
     requires first { tree_number (tree_of terms.now a) ≡ None }
     requires second { tree_number (tree_of terms.now b) ≡ None }
@@ -292,7 +292,7 @@ fn told_terms(terms: &Terms, op: Comparison, a: usize, b: usize) -> Option<Told>
 }
 
 /// What tells a test of two terms.
-fn told_by(terms: &Terms, op: Comparison, a: usize, b: usize) -> Option<Told>
+fn told_by(terms: &Known, op: Comparison, a: usize, b: usize) -> Option<Told>
     requires { Fits terms.now.inputs (widths_of terms.now.nodes) (Node.Compare op a b) }
     ensures some { IfSome result (λ t. Tells terms.now (Node.Compare op a b) t) }
     ensures none { result ≡ None → unmoved (tree_of terms.now) (Node.Compare op a b)
@@ -308,7 +308,7 @@ fn told_by(terms: &Terms, op: Comparison, a: usize, b: usize) -> Option<Told>
 }
 
 /// What tells a node, if it is such a test.
-pub(crate) fn told_of(terms: &Terms, node: Node) -> Option<Told>
+pub(crate) fn told_of(terms: &Known, node: Node) -> Option<Told>
     requires { Fits terms.now.inputs (widths_of terms.now.nodes) node }
     ensures some { IfSome result (λ t. Tells terms.now node t) }
     ensures none { result ≡ None → unmoved (tree_of terms.now) node

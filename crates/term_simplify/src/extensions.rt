@@ -7,10 +7,10 @@ ghost use Rattle.term_trees.specs.Trees.{tree_of};
 ghost use Rattle.term_simplify.specs.Plans.{Follows, HasRoom, Makes};
 ghost use Rattle.term_simplify.specs.Plain.{extension_by, further, join_of, joined_of};
 
+use crate::known::Known;
 use crate::plan::{Plan, number, number_at};
 use crate::recipe::{Above, Recipe, alone, stacked};
 use bv_dag::{Node, Word};
-use term_table::Terms;
 
 /// A number that is widened.
 pub(crate) fn extended(word: Word, by: u32, signed: bool) -> Word
@@ -25,7 +25,7 @@ pub(crate) fn extended(word: Word, by: u32, signed: bool) -> Word
 }
 
 /// A term with `by` further bits, which are zeros or copies of its sign.
-pub(crate) fn extension(terms: &Terms, by: u32, signed: bool, id: usize) -> Plan
+pub(crate) fn extension(terms: &Known, by: u32, signed: bool, id: usize) -> Plan
     requires { Fits terms.now.inputs (widths_of terms.now.nodes) (Node.Extend by signed id) }
     ensures makes { Makes terms.now result (extension_by by signed (tree_of terms.now id)) }
     ensures fit { IsDag terms.now }
@@ -57,7 +57,7 @@ pub(crate) fn extension(terms: &Terms, by: u32, signed: bool, id: usize) -> Plan
 }
 
 /// A term with `by` further bits, where there are any.
-pub(crate) fn further(terms: &Terms, by: u32, signed: bool, id: usize) -> Plan
+pub(crate) fn further(terms: &Known, by: u32, signed: bool, id: usize) -> Plan
     requires there { id < length terms.now.nodes }
     requires room { HasRoom by (width_of terms.now id) }
     ensures { Makes terms.now result (further by signed (tree_of terms.now id)) }
@@ -69,7 +69,7 @@ pub(crate) fn further(terms: &Terms, by: u32, signed: bool, id: usize) -> Plan
 }
 
 /// One term above another, which stays below zeros of that.
-fn join(terms: &Terms, high: usize, low: usize) -> Plan
+fn join(terms: &Known, high: usize, low: usize) -> Plan
     requires { Fits terms.now.inputs (widths_of terms.now.nodes) (Node.Concat high low) }
     ensures makes { Makes terms.now result
         (join_of (tree_of terms.now high) (tree_of terms.now low)) }
@@ -90,7 +90,7 @@ fn join(terms: &Terms, high: usize, low: usize) -> Plan
 }
 
 /// One term above another.
-pub(crate) fn joined(terms: &Terms, high: usize, low: usize) -> Recipe
+pub(crate) fn joined(terms: &Known, high: usize, low: usize) -> Recipe
     requires { Fits terms.now.inputs (widths_of terms.now.nodes) (Node.Concat high low) }
     ensures makes { Follows terms.now result
         (joined_of (tree_of terms.now high) (tree_of terms.now low)) }

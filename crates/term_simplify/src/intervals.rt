@@ -14,10 +14,10 @@ ghost use Rattle.term_simplify.specs.Told.{IsEquality, peeled_at};
 
 use crate::builder::Builder;
 use crate::equalities::{Equality, undone};
+use crate::known::Known;
 use crate::offsets::{Summand, offset_of};
 use bv_dag::{BinaryOp, Comparison, Node, Word};
 use std::alloc::AllocError as NoMemory;
-use term_table::Terms;
 
 /// A term that is at least one number and below another, or one of the two where these go round through 0.
 #[derive(Clone, Copy, Debug)]
@@ -46,7 +46,7 @@ fn interval_at(y: Word, o: Summand) -> Option<Between>
 }
 
 /// Where a term is below a number, if it is such a sum.
-fn interval_under(terms: &Terms, e: Equality) -> Option<Between>
+fn interval_under(terms: &Known, e: Equality) -> Option<Between>
     requires { IsEquality terms.now e }
     ensures is { option_map (between_at terms.now) result
         ≡ intervals.interval_under (Some (peeled_at terms.now e)) }
@@ -59,7 +59,7 @@ fn interval_under(terms: &Terms, e: Equality) -> Option<Between>
 }
 
 /// Where a term is below a number, if it is such a sum or one that is widened.
-pub(crate) fn interval_of(terms: &Terms, e: Equality) -> Option<Between>
+pub(crate) fn interval_of(terms: &Known, e: Equality) -> Option<Between>
     requires { IsEquality terms.now e }
     ensures is { option_map (between_at terms.now) result
         ≡ intervals.interval_of (tree_of terms.now e.term) e.number }

@@ -10,11 +10,11 @@ ghost use Rattle.term_simplify.specs.Steps.{Stands};
 ghost use Rattle.term_simplify.specs.Zeros.{binary_over_zeros};
 
 use crate::builder::Builder;
+use crate::known::Known;
 use crate::narrowing::is_zero;
 use crate::plan::{number_at, under_zeros};
 use bv_dag::{BinaryOp, Node};
 use std::alloc::AllocError as NoMemory;
-use term_table::Terms;
 
 /// A term above another one, which is widened by so many zeros.
 #[derive(Clone, Copy, Debug)]
@@ -42,7 +42,7 @@ fn joins(op: BinaryOp) -> bool
 }
 
 /// A term above zeros, and one of no more bits than these.
-fn joint_by(terms: &Terms, a: usize, b: usize) -> Option<Joint>
+fn joint_by(terms: &Known, a: usize, b: usize) -> Option<Joint>
     requires first { a < length terms.now.nodes }
     requires second { b < length terms.now.nodes }
     ensures some { IfSome result (λ j. IsJoint terms.now j) }
@@ -75,7 +75,7 @@ fn joint_by(terms: &Terms, a: usize, b: usize) -> Option<Joint>
 }
 
 /// Such terms, either way round, where an operation joins them.
-fn joint_of(terms: &Terms, op: BinaryOp, a: usize, b: usize) -> Option<Joint>
+fn joint_of(terms: &Known, op: BinaryOp, a: usize, b: usize) -> Option<Joint>
     requires { Fits terms.now.inputs (widths_of terms.now.nodes) (Node.Binary op a b) }
     ensures some { IfSome result (λ j. IsJoint terms.now j) }
     ensures tree { IfSome result (λ j. (otherwise : Tree)
@@ -124,7 +124,7 @@ impl Builder {
             (λ input. binary op (val self.old a input) (val self.old b input))) }
         ensures term { IsTerm self.old.inputs (node_tree (tree_of self.old) (Node.Binary op a b)) }
     {
-        match joint_of(self.terms(), op, a, b) {
+        match joint_of(self.known(), op, a, b) {
             Some(joint) => self.one_above(joint),
             None => self.over_zeros_step(op, a, b),
         }

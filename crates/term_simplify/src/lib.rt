@@ -7,7 +7,7 @@
 //! is made of as many bits of its operands, which are up to two terms more, and widened. Where operands have zeros at their low
 //! end, it is made of what stands above these. A sum of two terms with numbers is made of the terms, and then with one number. A
 //! test that another term tells is made of that term, an equality of two such sums of a sum, and one that the ends of its operands
-//! tell is a bit.
+//! tell is a bit; these, the least and the greatest value of a term, are found where it is put, and kept.
 #![tactic(auto)]
 
 mod above;
@@ -24,6 +24,7 @@ mod equalities;
 mod extensions;
 mod intervals;
 mod joints;
+mod known;
 mod lifting;
 mod machine;
 mod masks;

@@ -12,13 +12,13 @@ ghost use Rattle.term_simplify.specs.Lifting.{IsLifting, lifting_tree, node_span
 
 use crate::builder::Builder;
 use crate::choices::choice;
-use crate::ends::{ends_of, part_told};
+use crate::ends::part_told;
+use crate::known::Known;
 use crate::parts::{Span, part};
 use crate::plan::{Plan, complement, number, number_at};
 use crate::recipe::Recipe;
 use bv_dag::Node;
 use std::alloc::AllocError as NoMemory;
-use term_table::Terms;
 
 /// How many complements and choices bits are taken through.
 const LEVELS: u32 = 8;
@@ -45,7 +45,7 @@ fn node_span(node: Node) -> Option<Span>
 }
 
 /// The bits that a recipe makes, if there are no further ones above.
-fn span_made(terms: &Terms, recipe: Recipe) -> Option<Span>
+fn span_made(terms: &Known, recipe: Recipe) -> Option<Span>
     requires { RecipeFits terms.now recipe }
     ensures some { IfSome result (λ span. IsSpan terms.now span) }
     ensures is { IfSome result (λ span. recipe_tree terms.now recipe ≡ part_tree terms.now span) }
@@ -62,7 +62,7 @@ fn span_made(terms: &Terms, recipe: Recipe) -> Option<Span>
 }
 
 /// Whether one of two terms is a number.
-fn has_number(terms: &Terms, a: usize, b: usize) -> bool
+fn has_number(terms: &Known, a: usize, b: usize) -> bool
     requires first { a < length terms.now.nodes }
     requires second { b < length terms.now.nodes }
     ensures { result ≡ (is_some (tree_number (tree_of terms.now a))
@@ -72,7 +72,7 @@ fn has_number(terms: &Terms, a: usize, b: usize) -> bool
 }
 
 /// What bits are made of.
-fn lifting_at(terms: &Terms, span: Span) -> Option<Lifting>
+fn lifting_at(terms: &Known, span: Span) -> Option<Lifting>
     requires { IsSpan terms.now span }
     ensures some { IfSome result (λ m. IsLifting terms.now m) }
     ensures is { IfSome result (λ m. (levels : ℕ) → lifted (levels + 1) (part_tree terms.now span)
@@ -108,7 +108,7 @@ fn lifting_at(terms: &Terms, span: Span) -> Option<Lifting>
 }
 
 /// What a recipe is made as, where so many levels may still be gone down.
-fn lifting_of(terms: &Terms, levels: u32, recipe: Recipe) -> Option<Lifting>
+fn lifting_of(terms: &Known, levels: u32, recipe: Recipe) -> Option<Lifting>
     requires { RecipeFits terms.now recipe }
     ensures some { IfSome result (λ m. IsLifting terms.now m) }
     ensures further { IfSome result (λ m. 0 < levels) }
@@ -136,20 +136,20 @@ impl Builder {
             ≡ lifted levels (inner_part span.high span.low (tree_of self.old span.operand))) }
         ensures fit { IsDag self.old }
     {
-        let recipe = part(self.terms(), span.high, span.low, span.operand);
-        let Some(lifting) = lifting_of(self.terms(), levels, recipe) else {
+        let recipe = part(self.known(), span.high, span.low, span.operand);
+        let Some(lifting) = lifting_of(self.known(), levels, recipe) else {
             return self.followed(recipe);
         };
         match lifting {
             Lifting::OfComplement(under) => {
                 let bits = self.lifted(levels - 1, under)?;
-                let plan = complement(self.terms(), bits);
+                let plan = complement(self.known(), bits);
                 self.stand(plan)
             }
             Lifting::OfChoice { condition, yes, no } => {
                 let first = self.lifted(levels - 1, yes)?;
                 let second = self.lifted(levels - 1, no)?;
-                let plan = choice(self.terms(), condition, first, second);
+                let plan = choice(self.known(), condition, first, second);
                 self.stand(plan)
             }
         }
@@ -164,7 +164,7 @@ impl Builder {
         ensures term { IsTerm self.old.inputs
             (node_tree (tree_of self.old) (Node.Extract high low operand)) }
     {
-        match part_told(high, low, ends_of(self.terms(), operand)) {
+        match part_told(high, low, self.known().ends_of(operand)) {
             Some(word) => self.stand(number(word)),
             None => {
                 let len = self.len();

@@ -71,7 +71,7 @@ impl Builder {
             (val self.old a input)))) }
         ensures term { IsTerm self.old.inputs (tree_of self.old a) }
     {
-        let by = 32 - self.terms().width_of(a);
+        let by = 32 - self.known().width_of(a);
         let opposite = self.step(Node::Neg(a))?;
         let magnitude = self.step(Node::Ite {
             condition: negative,
@@ -94,7 +94,7 @@ impl Builder {
         ensures ok { IfOk result (λ id. Stands self.new id (magnitude_tree (tree_of self.old a)) 32
             (λ input. magnitude_word (val self.old a input))) }
     {
-        match under_signs(self.terms(), a) {
+        match under_signs(self.known(), a) {
             Some(narrow) => self.narrow_magnitude(negative, narrow),
             None => self.with_sign(negative, a),
         }

@@ -6,12 +6,12 @@ ghost use Rattle.term_simplify.specs.Plans.{Makes};
 ghost use Rattle.term_simplify.specs.Plain.{tree_number, keeps, masked, masks_nothing};
 
 use crate::binaries::ones;
+use crate::known::Known;
 use crate::plan::{Plan, number_at, term_if, under_zeros};
 use bv_dag::{BinaryOp, Word};
-use term_table::Terms;
 
 /// Whether every bit that a term may have, which is a narrower one widened by zeros, is 1 in the number.
-fn keeps(terms: &Terms, mask: Word, id: usize) -> bool
+fn keeps(terms: &Known, mask: Word, id: usize) -> bool
     requires { id < length terms.now.nodes }
     ensures { result ≡ keeps mask (tree_of terms.now id) }
 {
@@ -25,7 +25,7 @@ fn keeps(terms: &Terms, mask: Word, id: usize) -> bool
 }
 
 /// Whether a term is joined by & with a number that masks nothing of it.
-pub(crate) fn masks_nothing(terms: &Terms, op: BinaryOp, mask: usize, id: usize) -> bool
+pub(crate) fn masks_nothing(terms: &Known, op: BinaryOp, mask: usize, id: usize) -> bool
     requires mask { mask < length terms.now.nodes }
     requires term { id < length terms.now.nodes }
     ensures { result ≡ masks_nothing op (tree_number (tree_of terms.now mask)) (tree_of terms.now id) }
@@ -37,7 +37,7 @@ pub(crate) fn masks_nothing(terms: &Terms, op: BinaryOp, mask: usize, id: usize)
 }
 
 /// A term, where it is joined by & with a number that masks nothing of it, and else another plan.
-pub(crate) fn masked(terms: &Terms, op: BinaryOp, mask: usize, id: usize, otherwise: Plan) -> Plan
+pub(crate) fn masked(terms: &Known, op: BinaryOp, mask: usize, id: usize, otherwise: Plan) -> Plan
     requires mask { mask < length terms.now.nodes }
     requires term { id < length terms.now.nodes }
     ensures { (tree : Tree) → Makes terms.now otherwise tree

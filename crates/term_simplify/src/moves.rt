@@ -9,10 +9,10 @@ ghost use Rattle.term_simplify.specs.Moves.{IsMove, move_tree, unshifted, unvalu
 ghost use Rattle.term_simplify.specs.Simplified.{moves};
 
 use crate::builder::Builder;
+use crate::known::Known;
 use crate::plan::number_at;
 use bv_dag::{BinaryOp, Node, Word};
 use std::alloc::AllocError as NoMemory;
-use term_table::Terms;
 
 /// Which way bits are moved, and what comes in: zeros below, or zeros or copies of the sign above.
 #[derive(Clone, Copy, Debug)]
@@ -57,7 +57,7 @@ fn moves(by: Word) -> bool
 }
 
 /// The bits that an operation moves, if it is a shift of a term by a number below its width.
-fn move_by(terms: &Terms, op: BinaryOp, a: usize, b: usize) -> Option<Move>
+fn move_by(terms: &Known, op: BinaryOp, a: usize, b: usize) -> Option<Move>
     requires { Fits terms.now.inputs (widths_of terms.now.nodes) (Node.Binary op a b) }
     ensures some { IfSome result (λ m. IsMove terms.now m) }
     ensures tree { IfSome result (λ m. unvalued (tree_of terms.now) (Node.Binary op a b)
@@ -85,7 +85,7 @@ fn move_by(terms: &Terms, op: BinaryOp, a: usize, b: usize) -> Option<Move>
 }
 
 /// The bits that a node moves.
-pub(crate) fn move_of(terms: &Terms, node: Node) -> Option<Move>
+pub(crate) fn move_of(terms: &Known, node: Node) -> Option<Move>
     requires { Fits terms.now.inputs (widths_of terms.now.nodes) node }
     ensures some { IfSome result (λ m. IsMove terms.now m) }
     ensures tree { IfSome result (λ m. unvalued (tree_of terms.now) node

@@ -71,7 +71,7 @@ impl Builder {
             (λ input. widened_word (width_of self.old a) n
             (bvneg (low_word n (val self.old a input))))) }
     {
-        let width = self.terms().width_of(a);
+        let width = self.known().width_of(a);
         let low = self.low(n, a)?;
         let negative = self.plain_step(Node::Neg(low))?;
         self.widened_to(width, n, negative)
@@ -117,7 +117,7 @@ impl Builder {
             (ite (val self.old condition input) (low_word n (val self.old a input))
             (low_word n (val self.old b input))))) }
     {
-        let width = self.terms().width_of(a);
+        let width = self.known().width_of(a);
         let yes = self.low(n, a)?;
         let no = self.low(n, b)?;
         let chosen = self.plain_step(Node::Ite { condition, yes, no })?;
@@ -133,7 +133,7 @@ impl Builder {
             (λ input. compare op (val self.old a input) (val self.old b input))) }
     {
         let node = Node::Compare(op, a, b);
-        match narrowing_of(self.terms(), node) {
+        match narrowing_of(self.known(), node) {
             Some(n) => self.narrow_test(n, op, a, b),
             None => self.own_step(node),
         }
@@ -150,7 +150,7 @@ impl Builder {
             (val self.old no input))) }
     {
         let node = Node::Ite { condition, yes, no };
-        match narrowing_of(self.terms(), node) {
+        match narrowing_of(self.known(), node) {
             Some(n) => self.narrow_choice(n, condition, yes, no),
             None => self.own_step(node),
         }
@@ -205,12 +205,12 @@ impl Builder {
             (width_of self.old a)
             (λ input. binary op (val self.old a input) (val self.old b input))) }
     {
-        let width = self.terms().width_of(a);
+        let width = self.known().width_of(a);
         let left = self.low(n, a)?;
         let right = self.low(n, b)?;
         let low = self.own_step(Node::Binary(op, left, right))?;
         let result = self.widened_to(width, n, low)?;
-        if may_divide_by_zero(self.terms(), op, right) {
+        if may_divide_by_zero(self.known(), op, right) {
             self.or_ones_at(width, n, right, result)
         } else {
             Ok(result)

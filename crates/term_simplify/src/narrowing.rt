@@ -6,10 +6,10 @@ ghost use Rattle.bv_dag.specs.Nodes.{Fits, widths_of};
 ghost use Rattle.term_trees.specs.Trees.{tree_of};
 ghost use Rattle.term_simplify.specs.Narrowing as narrowings;
 
+use crate::known::Known;
 use crate::masks::masks_nothing;
 use crate::plan::number_at;
 use bv_dag::{BinaryOp, Node, Word};
-use term_table::Terms;
 
 /// So many low bits, which tell the others: those are zeros, or copies of the top one of these.
 #[derive(Clone, Copy, Debug)]
@@ -55,7 +55,7 @@ fn number_reach(x: Word) -> Reach
 }
 
 /// How many low bits tell a term, by its top node.
-pub(crate) fn reach_of(terms: &Terms, id: usize) -> Reach
+pub(crate) fn reach_of(terms: &Known, id: usize) -> Reach
     requires { id < length terms.now.nodes }
     ensures is { result ≡ narrowings.reach_of (tree_of terms.now id) }
     ensures few { result.unsigned ≤ 64 }
@@ -172,7 +172,7 @@ fn is_zero_first(op: BinaryOp, left: Option<Word>) -> bool
 }
 
 /// Whether an operation of two terms is made at their width.
-pub(crate) fn is_settled(terms: &Terms, op: BinaryOp, a: usize, b: usize) -> bool
+pub(crate) fn is_settled(terms: &Known, op: BinaryOp, a: usize, b: usize) -> bool
     requires first { a < length terms.now.nodes }
     requires second { b < length terms.now.nodes }
     ensures is { result ≡ narrowings.is_settled op (tree_of terms.now a) (tree_of terms.now b) }
@@ -188,7 +188,7 @@ pub(crate) fn is_settled(terms: &Terms, op: BinaryOp, a: usize, b: usize) -> boo
 }
 
 /// Of an operation of two terms.
-fn of_binary(terms: &Terms, op: BinaryOp, a: usize, b: usize) -> Option<Narrow>
+fn of_binary(terms: &Known, op: BinaryOp, a: usize, b: usize) -> Option<Narrow>
     requires first { a < length terms.now.nodes }
     requires second { b < length terms.now.nodes }
     ensures is { result ≡ narrowings.binary_narrowing op (tree_of terms.now a) (tree_of terms.now b) }
@@ -207,7 +207,7 @@ fn of_binary(terms: &Terms, op: BinaryOp, a: usize, b: usize) -> Option<Narrow>
 }
 
 /// Of two terms that are compared, or chosen from.
-fn of_pair(terms: &Terms, a: usize, b: usize) -> Option<Narrow>
+fn of_pair(terms: &Known, a: usize, b: usize) -> Option<Narrow>
     requires first { a < length terms.now.nodes }
     requires second { b < length terms.now.nodes }
     ensures is { result ≡ narrowings.pair_narrowing (tree_of terms.now a) (tree_of terms.now b) }
@@ -226,7 +226,7 @@ fn of_pair(terms: &Terms, a: usize, b: usize) -> Option<Narrow>
 }
 
 /// Of a choice between two terms.
-fn of_choice(terms: &Terms, condition: usize, a: usize, b: usize) -> Option<Narrow>
+fn of_choice(terms: &Known, condition: usize, a: usize, b: usize) -> Option<Narrow>
     requires condition { condition < length terms.now.nodes }
     requires first { a < length terms.now.nodes }
     requires second { b < length terms.now.nodes }
@@ -241,7 +241,7 @@ fn of_choice(terms: &Terms, condition: usize, a: usize, b: usize) -> Option<Narr
 }
 
 /// Of the negative of a term.
-fn of_negative(terms: &Terms, a: usize) -> Option<Narrow>
+fn of_negative(terms: &Known, a: usize) -> Option<Narrow>
     requires { a < length terms.now.nodes }
     ensures is { result ≡ narrowings.negative_narrowing (tree_of terms.now a) }
     ensures fit { IsDag terms.now }
@@ -254,7 +254,7 @@ fn of_negative(terms: &Terms, a: usize) -> Option<Narrow>
 }
 
 /// Of how few bits a node is made, where these are fewer than its width.
-pub(crate) fn narrowing_of(terms: &Terms, node: Node) -> Option<Narrow>
+pub(crate) fn narrowing_of(terms: &Known, node: Node) -> Option<Narrow>
     requires { Fits terms.now.inputs (widths_of terms.now.nodes) node }
     ensures is { result ≡ narrowings.node_narrowing (tree_of terms.now) node }
     ensures fit { IfSome result (λ _. IsDag terms.now) }

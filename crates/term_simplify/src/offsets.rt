@@ -16,11 +16,11 @@ ghost use Rattle.term_simplify.specs.WideSums.{IsWideSummand, wide_term};
 
 use crate::binaries::ones;
 use crate::builder::Builder;
+use crate::known::Known;
 use crate::plan::{number_at, zero};
 use crate::wide_sums::{WideSummand, wide_offset_of};
 use bv_dag::{BinaryOp, Node, Word};
 use std::alloc::AllocError as NoMemory;
-use term_table::Terms;
 
 /// A number that a term is added to, or taken from.
 #[derive(Clone, Copy, Debug)]
@@ -73,7 +73,7 @@ pub(crate) fn offset_from(
 }
 
 /// What an operation is of a term and a number, if it is a sum or difference of them.
-fn offset_by(terms: &Terms, op: BinaryOp, a: usize, b: usize) -> Option<Summand>
+fn offset_by(terms: &Known, op: BinaryOp, a: usize, b: usize) -> Option<Summand>
     requires { Fits terms.now.inputs (widths_of terms.now.nodes) (Node.Binary op a b) }
     ensures some { IfSome result (λ o. IsSummand terms.now (width_of terms.now a) o) }
     ensures is { option_map (offset_at terms.now) result
@@ -83,7 +83,7 @@ fn offset_by(terms: &Terms, op: BinaryOp, a: usize, b: usize) -> Option<Summand>
 }
 
 /// What a term is of a term and a number, if it is a sum or difference of them.
-pub(crate) fn offset_of(terms: &Terms, id: usize) -> Option<Summand>
+pub(crate) fn offset_of(terms: &Known, id: usize) -> Option<Summand>
     requires { id < length terms.now.nodes }
     ensures some { IfSome result (λ o. IsSummand terms.now (width_of terms.now id) o) }
     ensures is { option_map (offset_at terms.now) result
@@ -151,7 +151,7 @@ fn first_offset(op: BinaryOp, x: Word, o: WideSummand) -> Option<WideSummand>
 }
 
 /// The term and the number of which an operation is a sum or difference, where one of its operands alone is a number.
-fn offset_sum(terms: &Terms, op: BinaryOp, a: usize, b: usize) -> Option<WideSummand>
+fn offset_sum(terms: &Known, op: BinaryOp, a: usize, b: usize) -> Option<WideSummand>
     requires { Fits terms.now.inputs (widths_of terms.now.nodes) (Node.Binary op a b) }
     ensures some { IfSome result (λ o. IsWideSummand terms.now (width_of terms.now a) o) }
     ensures is { option_map (wide_offset_at terms.now) result
@@ -174,7 +174,7 @@ fn offset_sum(terms: &Terms, op: BinaryOp, a: usize, b: usize) -> Option<WideSum
 }
 
 /// The term of which a term is the negative.
-fn under_negative(terms: &Terms, id: usize) -> Option<usize>
+fn under_negative(terms: &Known, id: usize) -> Option<usize>
     requires { id < length terms.now.nodes }
     ensures tree { option_map (tree_of terms.now) result
         ≡ offsets.under_negative (tree_of terms.now id) }
@@ -187,7 +187,7 @@ fn under_negative(terms: &Terms, id: usize) -> Option<usize>
 }
 
 /// An operation with a number on the right of a sum, and with what is negative taken off.
-fn turned(terms: &Terms, op: BinaryOp, a: usize, b: usize) -> Operation
+fn turned(terms: &Known, op: BinaryOp, a: usize, b: usize) -> Operation
     requires { Fits terms.now.inputs (widths_of terms.now.nodes) (Node.Binary op a b) }
     ensures fits { Fits terms.now.inputs (widths_of terms.now.nodes)
         (Node.Binary result.op result.first result.second) }
@@ -283,10 +283,10 @@ impl Builder {
             (λ input. binary op (val self.old a input) (val self.old b input))) }
         ensures term { IsTerm self.old.inputs (node_tree (tree_of self.old) (Node.Binary op a b)) }
     {
-        match offset_sum(self.terms(), op, a, b) {
+        match offset_sum(self.known(), op, a, b) {
             Some(o) => self.wide_sum(o.number.width(), o),
             None => {
-                let made = turned(self.terms(), op, a, b);
+                let made = turned(self.known(), op, a, b);
                 self.unsummed_step(Node::Binary(made.op, made.first, made.second))
             }
         }

@@ -13,13 +13,13 @@ ghost use Rattle.term_simplify.specs.Steps.{Stands};
 ghost use Rattle.term_simplify.specs.WideSums.{IsWideSummand, wide_term};
 
 use crate::builder::Builder;
+use crate::known::Known;
 use crate::narrowing::{Reach, reach_of};
 use crate::offsets::Summand;
 use crate::plan::{number_at, zero};
 use crate::wide_sums::{WideSummand, wide_offset_of};
 use bv_dag::{BinaryOp, Node, Word};
 use std::alloc::AllocError as NoMemory;
-use term_table::Terms;
 
 /// An operation of two terms, and a number that it is added to, or taken from. The numbers of the two terms are in that.
 #[derive(Clone, Copy, Debug)]
@@ -98,7 +98,7 @@ fn pair_by(op: BinaryOp, o: WideSummand, p: WideSummand) -> Option<WidePair>
 }
 
 /// What a term is of a term and a number, unless it is a complement or a negative.
-pub(crate) fn numbered_of(terms: &Terms, id: usize) -> Option<WideSummand>
+pub(crate) fn numbered_of(terms: &Known, id: usize) -> Option<WideSummand>
     requires { id < length terms.now.nodes }
     ensures some { IfSome result (λ o. IsWideSummand terms.now (width_of terms.now id) o) }
     ensures is { option_map (wide_offset_at terms.now) result
@@ -120,7 +120,7 @@ fn is_shorter(a: Reach, b: Reach, width: u32) -> bool
 }
 
 /// Whether it is a number or has one.
-fn has_number(terms: &Terms, id: usize) -> bool
+fn has_number(terms: &Known, id: usize) -> bool
     requires { id < length terms.now.nodes }
     ensures { result ≡ pairs.has_number (tree_of terms.now id) }
 {
@@ -128,7 +128,7 @@ fn has_number(terms: &Terms, id: usize) -> bool
 }
 
 /// A term without a number as one with 0, where it is shorter than the sum that it meets.
-fn beside(terms: &Terms, sum: usize, id: usize) -> Option<WideSummand>
+fn beside(terms: &Known, sum: usize, id: usize) -> Option<WideSummand>
     requires sum { sum < length terms.now.nodes }
     requires there { id < length terms.now.nodes }
     ensures some { IfSome result (λ o. IsWideSummand terms.now (width_of terms.now id) o) }
@@ -151,7 +151,7 @@ fn beside(terms: &Terms, sum: usize, id: usize) -> Option<WideSummand>
 }
 
 /// The terms and the number of which an operation is a sum or difference, where one of its operands, or each, has a number.
-fn pair_of(terms: &Terms, op: BinaryOp, a: usize, b: usize) -> Option<WidePair>
+fn pair_of(terms: &Known, op: BinaryOp, a: usize, b: usize) -> Option<WidePair>
     requires { Fits terms.now.inputs (widths_of terms.now.nodes) (Node.Binary op a b) }
     ensures some { IfSome result (λ p. IsWidePair terms.now (width_of terms.now a) p) }
     ensures is { option_map (pair_at terms.now) result
@@ -203,7 +203,7 @@ impl Builder {
             (λ input. binary op (val self.old a input) (val self.old b input))) }
         ensures term { IsTerm self.old.inputs (node_tree (tree_of self.old) (Node.Binary op a b)) }
     {
-        match pair_of(self.terms(), op, a, b) {
+        match pair_of(self.known(), op, a, b) {
             Some(p) => self.paired(p.number.width(), p),
             None => self.sum_step(op, a, b),
         }

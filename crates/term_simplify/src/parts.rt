@@ -7,10 +7,10 @@ ghost use Rattle.term_trees.specs.Trees.{tree_of, tree_width};
 ghost use Rattle.term_simplify.specs.Plans.{Follows, Makes, IsSpan, IsInner, rest_of, within_widened};
 ghost use Rattle.term_simplify.specs.Plain.{inner_part, span_of};
 
+use crate::known::Known;
 use crate::plan::{Plan, number, number_at, under_zeros, zero};
 use crate::recipe::{Above, Recipe, stacked};
 use bv_dag::Node;
-use term_table::Terms;
 
 /// The bits of a term from `high` down to `low`.
 #[derive(Clone, Copy, Debug)]
@@ -76,7 +76,7 @@ fn within_widened(high: u32, low: u32, signed: bool, width: u32, operand: usize)
 }
 
 /// Whether they are all bits of the term.
-fn is_whole(terms: &Terms, span: Span) -> bool
+fn is_whole(terms: &Known, span: Span) -> bool
     requires { IsSpan terms.now span }
     ensures { result ≡ (span.low == 0
         && span.high + 1 == tree_width (tree_of terms.now span.operand)) }
@@ -86,7 +86,7 @@ fn is_whole(terms: &Terms, span: Span) -> bool
 }
 
 /// The same bits, as those of an operand in which they lie or begin.
-fn within_operand(terms: &Terms, span: Span) -> Option<Inner>
+fn within_operand(terms: &Known, span: Span) -> Option<Inner>
     requires { IsSpan terms.now span }
     ensures some { IfSome result (λ inner. IsInner terms.now span inner) }
     ensures none { IfNone result
@@ -140,7 +140,7 @@ fn within_operand(terms: &Terms, span: Span) -> Option<Inner>
 }
 
 /// Bits that are not those of an operand alone.
-fn span_plan(terms: &Terms, span: Span) -> Plan
+fn span_plan(terms: &Known, span: Span) -> Plan
     requires { IsSpan terms.now span }
     ensures { Makes terms.now result (span_of span.high span.low (tree_of terms.now span.operand)) }
 {
@@ -158,7 +158,7 @@ fn span_plan(terms: &Terms, span: Span) -> Plan
 }
 
 /// Bits that are not those of an operand alone: zeros where they lie above one.
-fn rest(terms: &Terms, span: Span) -> Plan
+fn rest(terms: &Known, span: Span) -> Plan
     requires { IsSpan terms.now span }
     ensures makes { Makes terms.now result
         (rest_of span.high span.low (tree_of terms.now span.operand)) }
@@ -177,7 +177,7 @@ fn rest(terms: &Terms, span: Span) -> Plan
 }
 
 /// The bits of a term from `high` down to `low`.
-pub(crate) fn part(terms: &Terms, high: u32, low: u32, operand: usize) -> Recipe
+pub(crate) fn part(terms: &Known, high: u32, low: u32, operand: usize) -> Recipe
     requires { Fits terms.now.inputs (widths_of terms.now.nodes) (Node.Extract high low operand) }
     ensures makes { Follows terms.now result (inner_part high low (tree_of terms.now operand)) }
     ensures fit { IsDag terms.now }

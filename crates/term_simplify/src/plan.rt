@@ -7,8 +7,8 @@ ghost use Rattle.term_trees.specs.Trees.{Tree, tree_of};
 ghost use Rattle.term_simplify.specs.Plans.{Makes, node_number, under_signs, under_zeros};
 ghost use Rattle.term_simplify.specs.Plain.{number_tree, tree_number, complement_of, plain_negative};
 
+use crate::known::Known;
 use bv_dag::{Node, Word};
-use term_table::Terms;
 
 /// A term that stands already, or a node that is yet to stand.
 #[derive(Clone, Copy, Debug)]
@@ -64,7 +64,7 @@ fn number_of(node: Node) -> Option<Word>
 }
 
 /// The number that a term is.
-pub(crate) fn number_at(terms: &Terms, id: usize) -> Option<Word>
+pub(crate) fn number_at(terms: &Known, id: usize) -> Option<Word>
     requires { id < length terms.now.nodes }
     ensures number { result ≡ tree_number (tree_of terms.now id) }
     ensures fit { IsDag terms.now }
@@ -73,7 +73,7 @@ pub(crate) fn number_at(terms: &Terms, id: usize) -> Option<Word>
 }
 
 /// The term that a term widens by zeros.
-pub(crate) fn under_zeros(terms: &Terms, id: usize) -> Option<usize>
+pub(crate) fn under_zeros(terms: &Known, id: usize) -> Option<usize>
     requires { id < length terms.now.nodes }
     ensures tree { option_map (tree_of terms.now) result ≡ under_zeros (tree_of terms.now id) }
     ensures there { IfSome result (λ k. k < length terms.now.nodes) }
@@ -92,7 +92,7 @@ pub(crate) fn under_zeros(terms: &Terms, id: usize) -> Option<usize>
 }
 
 /// The term that a term widens by its sign.
-pub(crate) fn under_signs(terms: &Terms, id: usize) -> Option<usize>
+pub(crate) fn under_signs(terms: &Known, id: usize) -> Option<usize>
     requires { id < length terms.now.nodes }
     ensures tree { option_map (tree_of terms.now) result ≡ under_signs (tree_of terms.now id) }
     ensures fit { IsDag terms.now }
@@ -110,7 +110,7 @@ pub(crate) fn under_signs(terms: &Terms, id: usize) -> Option<usize>
 }
 
 /// The complement of a term.
-pub(crate) fn complement(terms: &Terms, id: usize) -> Plan
+pub(crate) fn complement(terms: &Known, id: usize) -> Plan
     requires { id < length terms.now.nodes }
     ensures makes { Makes terms.now result (complement_of (tree_of terms.now id)) }
     ensures fit { IsDag terms.now }
@@ -123,7 +123,7 @@ pub(crate) fn complement(terms: &Terms, id: usize) -> Plan
 }
 
 /// The negative of a term.
-pub(crate) fn negative(terms: &Terms, id: usize) -> Plan
+pub(crate) fn negative(terms: &Known, id: usize) -> Plan
     requires { id < length terms.now.nodes }
     ensures makes { Makes terms.now result (plain_negative (tree_of terms.now id)) }
     ensures fit { IsDag terms.now }

@@ -15,11 +15,11 @@ ghost use Rattle.term_simplify.specs.Zeros.{binary_over_zeros};
 
 use crate::binaries::ones;
 use crate::builder::Builder;
+use crate::known::Known;
 use crate::masks::masks_nothing;
 use crate::plan::number_at;
 use bv_dag::{BinaryOp, Node, Word};
 use std::alloc::AllocError as NoMemory;
-use term_table::Terms;
 
 /// How many runs of a number's bits are cut off, at most.
 pub(crate) const RUNS: u32 = 4;
@@ -71,7 +71,7 @@ fn run_of(width: u32, number: u64) -> u32
 }
 
 /// Whether an operation of a term with this number, at `mask`, is cut.
-fn is_cut(terms: &Terms, op: BinaryOp, mask: usize, id: usize) -> bool
+fn is_cut(terms: &Known, op: BinaryOp, mask: usize, id: usize) -> bool
     requires mask { mask < length terms.now.nodes }
     requires term { id < length terms.now.nodes }
     ensures { result ≡ (is_bitwise op
@@ -94,7 +94,7 @@ fn mask_of(operand: usize, number: Word) -> Mask
 }
 
 /// The term and the number of an operation that is cut.
-fn mask_by(terms: &Terms, op: BinaryOp, a: usize, b: usize) -> Option<Mask>
+fn mask_by(terms: &Known, op: BinaryOp, a: usize, b: usize) -> Option<Mask>
     requires { Fits terms.now.inputs (widths_of terms.now.nodes) (Node.Binary op a b) }
     ensures some { IfSome result (λ m. IsMask terms.now m) }
     ensures bitwise { IfSome result (λ _. is_bitwise op ≡ true) }
@@ -236,7 +236,7 @@ impl Builder {
             (λ input. binary op (val self.old a input) (val self.old b input))) }
         ensures term { IsTerm self.old.inputs (node_tree (tree_of self.old) (Node.Binary op a b)) }
     {
-        match mask_by(self.terms(), op, a, b) {
+        match mask_by(self.known(), op, a, b) {
             Some(m) => self.cut(RUNS, op, m.width, m.number, m.operand),
             None => self.operation_step(op, a, b),
         }

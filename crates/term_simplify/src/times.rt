@@ -12,10 +12,10 @@ ghost use Rattle.term_simplify.specs.Times.{digit_op, other_digits, own, raised,
 
 use crate::binaries::ones;
 use crate::builder::Builder;
+use crate::known::Known;
 use crate::plan::number_at;
 use bv_dag::{BinaryOp, Node, Word};
 use std::alloc::AllocError as NoMemory;
-use term_table::Terms;
 
 /// A term of this width that is multiplied by a number.
 #[derive(Clone, Copy, Debug)]
@@ -77,7 +77,7 @@ fn product_with(operand: usize, by: Word) -> Option<Product>
 }
 
 /// The term and the number that an operation multiplies, if one of its operands alone is a number, and not 0 or 1.
-fn product_by(terms: &Terms, op: BinaryOp, a: usize, b: usize) -> Option<Product>
+fn product_by(terms: &Known, op: BinaryOp, a: usize, b: usize) -> Option<Product>
     requires { Fits terms.now.inputs (widths_of terms.now.nodes) (Node.Binary op a b) }
     ensures some { IfSome result (λ p. IsProduct terms.now p) }
     ensures tree { IfSome result (λ p. own (tree_of terms.now) (Node.Binary op a b)
@@ -99,7 +99,7 @@ fn product_by(terms: &Terms, op: BinaryOp, a: usize, b: usize) -> Option<Product
 }
 
 /// The term and the number that a node multiplies.
-fn product_of(terms: &Terms, node: Node) -> Option<Product>
+fn product_of(terms: &Known, node: Node) -> Option<Product>
     requires { Fits terms.now.inputs (widths_of terms.now.nodes) node }
     ensures some { IfSome result (λ p. IsProduct terms.now p) }
     ensures tree { IfSome result (λ p. own (tree_of terms.now) node
@@ -180,7 +180,7 @@ impl Builder {
             (λ input. node_value input (λ k. val self.old k input) node)) }
         ensures term { IsTerm self.old.inputs (node_tree (tree_of self.old) node) }
     {
-        match product_of(self.terms(), node) {
+        match product_of(self.known(), node) {
             Some(p) => self.times(p.width, 0, p.number, p.operand),
             None => self.unmultiplied_step(node),
         }

@@ -10,10 +10,10 @@ ghost use Rattle.term_simplify.specs.Plans.{PlanFits, plan_tree};
 ghost use Rattle.term_simplify.specs.Simplified.{simplified};
 ghost use Rattle.term_simplify.specs.Values as values;
 
-use crate::ends::{Ends, ends_of, two};
+use crate::ends::{Ends, two};
+use crate::known::Known;
 use crate::plan::{Plan, number};
 use bv_dag::{BinaryOp, Node, Word};
-use term_table::Terms;
 
 /// The one value between two ends.
 fn value_told(a: Ends) -> Option<Word>
@@ -37,15 +37,15 @@ fn is_dividend(op: BinaryOp, greatest: Word, least: Word) -> bool
 }
 
 /// What an operation is on all input bytes.
-fn two_told(terms: &Terms, op: BinaryOp, a: usize, b: usize) -> Option<Plan>
+fn two_told(terms: &Known, op: BinaryOp, a: usize, b: usize) -> Option<Plan>
     requires { Fits terms.now.inputs (widths_of terms.now.nodes) (Node.Binary op a b) }
     ensures is { option_map (plan_tree terms.now) result
         ≡ values.two_told op (tree_of terms.now a) (tree_of terms.now b) }
     ensures fits { IfSome result (PlanFits terms.now) }
     ensures fit { IsDag terms.now }
 {
-    let left = ends_of(terms, a);
-    let right = ends_of(terms, b);
+    let left = terms.ends_of(a);
+    let right = terms.ends_of(b);
     if is_dividend(op, left.greatest, right.least) {
         return Some(Plan::Term(a));
     }
@@ -56,7 +56,7 @@ fn two_told(terms: &Terms, op: BinaryOp, a: usize, b: usize) -> Option<Plan>
 }
 
 /// What a node is on all input bytes, if it is such an operation.
-pub(crate) fn value_of(terms: &Terms, node: Node) -> Option<Plan>
+pub(crate) fn value_of(terms: &Known, node: Node) -> Option<Plan>
     requires { Fits terms.now.inputs (widths_of terms.now.nodes) node }
     ensures fits { IfSome result (PlanFits terms.now) }
     ensures tree { IfSome result (λ plan. simplified (tree_of terms.now) node

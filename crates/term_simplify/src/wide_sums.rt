@@ -11,11 +11,11 @@ ghost use Rattle.term_simplify.specs.WideSums as sums;
 ghost use Rattle.term_simplify.specs.WideSums.{IsWideSummand, widened_two, widened_within};
 
 use crate::extensions::extended;
+use crate::known::Known;
 use crate::narrowing::{reach_of, unsigned_result};
 use crate::offsets::{Summand, offset_from, offset_of};
 use crate::plan::number_at;
 use bv_dag::{BinaryOp, Node, Word};
-use term_table::Terms;
 
 /// A number that a term, widened by zeros, is added to, or taken from. A term that isn't widened is so by no bits.
 #[derive(Clone, Copy, Debug)]
@@ -39,7 +39,7 @@ fn widened(by: u32, o: Summand) -> WideSummand
 }
 
 /// Whether no more bits tell a sum than there are, so that it doesn't wrap.
-fn is_exact(terms: &Terms, op: BinaryOp, a: usize, b: usize) -> bool
+fn is_exact(terms: &Known, op: BinaryOp, a: usize, b: usize) -> bool
     requires first { a < length terms.now.nodes }
     requires second { b < length terms.now.nodes }
     ensures { result ≡ sums.is_exact op (tree_of terms.now a) (tree_of terms.now b) }
@@ -54,7 +54,7 @@ fn is_exact(terms: &Terms, op: BinaryOp, a: usize, b: usize) -> bool
 }
 
 /// The number that a term is, widened.
-fn wide_number(terms: &Terms, by: u32, id: usize) -> Option<Word>
+fn wide_number(terms: &Known, by: u32, id: usize) -> Option<Word>
     requires there { id < length terms.now.nodes }
     requires room { width_of terms.now id + by ≤ 64 }
     ensures is { result ≡ tree_number (extension_by by false (tree_of terms.now id)) }
@@ -67,7 +67,7 @@ fn wide_number(terms: &Terms, by: u32, id: usize) -> Option<Word>
 }
 
 /// What a widened operation of two terms is of a widened term and a number.
-fn wide_two(terms: &Terms, by: u32, op: BinaryOp, a: usize, b: usize) -> Option<WideSummand>
+fn wide_two(terms: &Known, by: u32, op: BinaryOp, a: usize, b: usize) -> Option<WideSummand>
     requires fits { Fits terms.now.inputs (widths_of terms.now.nodes) (Node.Binary op a b) }
     requires some { 1 ≤ by }
     requires room { width_of terms.now a + by ≤ 64 }
@@ -87,7 +87,7 @@ fn wide_two(terms: &Terms, by: u32, op: BinaryOp, a: usize, b: usize) -> Option<
 }
 
 /// What a widened term is of a widened term and a number.
-fn widened_offset(terms: &Terms, by: u32, id: usize) -> Option<WideSummand>
+fn widened_offset(terms: &Known, by: u32, id: usize) -> Option<WideSummand>
     requires fits { Fits terms.now.inputs (widths_of terms.now.nodes) (Node.Extend by false id) }
     ensures some { IfSome result (λ o. IsWideSummand terms.now (width_of terms.now id + by) o) }
     ensures is { option_map (wide_offset_at terms.now) result
@@ -100,7 +100,7 @@ fn widened_offset(terms: &Terms, by: u32, id: usize) -> Option<WideSummand>
 }
 
 /// What a term is of a term and a number, if it is a sum or difference of them, or one that was widened.
-pub(crate) fn wide_offset_of(terms: &Terms, id: usize) -> Option<WideSummand>
+pub(crate) fn wide_offset_of(terms: &Known, id: usize) -> Option<WideSummand>
     requires { id < length terms.now.nodes }
     ensures some { IfSome result (λ o. IsWideSummand terms.now (width_of terms.now id) o) }
     ensures is { option_map (wide_offset_at terms.now) result

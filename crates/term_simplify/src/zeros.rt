@@ -10,11 +10,11 @@ ghost use Rattle.term_simplify.specs.Zeros as zeros;
 ghost use Rattle.term_simplify.specs.Zeros.{LeavesSome};
 
 use crate::builder::Builder;
+use crate::known::Known;
 use crate::narrowing::{is_settled, is_zero};
 use crate::plan::number_at;
 use bv_dag::{BinaryOp, Comparison, Node};
 use std::alloc::AllocError as NoMemory;
-use term_table::Terms;
 
 /// How many low bits of two operands, and of what is made of them, are zeros.
 #[derive(Clone, Copy, Debug)]
@@ -25,7 +25,7 @@ pub(crate) struct Zeros {
 }
 
 /// How many zeros a term is known to have at its low end, where it is joined.
-fn joined_zeros(terms: &Terms, id: usize) -> u32
+fn joined_zeros(terms: &Known, id: usize) -> u32
     requires { id < length terms.now.nodes }
     ensures is { result ≡ zeros.joined_zeros (tree_of terms.now id) }
     ensures few { result ≤ 64 }
@@ -42,7 +42,7 @@ fn joined_zeros(terms: &Terms, id: usize) -> u32
 }
 
 /// How many zeros any term is known to have at its low end.
-fn low_zeros(terms: &Terms, id: usize) -> u32
+fn low_zeros(terms: &Known, id: usize) -> u32
     requires { id < length terms.now.nodes }
     ensures is { result ≡ zeros.low_zeros (tree_of terms.now id) }
     ensures few { result ≤ 64 }
@@ -67,7 +67,7 @@ fn leaving_some(width: u32, z: Zeros) -> Option<Zeros>
 }
 
 /// The zeros that two terms have in common.
-fn common_zeros(terms: &Terms, a: usize, b: usize) -> Option<Zeros>
+fn common_zeros(terms: &Known, a: usize, b: usize) -> Option<Zeros>
     requires first { a < length terms.now.nodes }
     requires second { b < length terms.now.nodes }
     ensures is { result ≡ zeros.common_zeros (tree_of terms.now a) (tree_of terms.now b) }
@@ -87,7 +87,7 @@ fn common_zeros(terms: &Terms, a: usize, b: usize) -> Option<Zeros>
 }
 
 /// Those of a sum or a difference.
-fn sum_zeros(terms: &Terms, op: BinaryOp, a: usize, b: usize) -> Option<Zeros>
+fn sum_zeros(terms: &Known, op: BinaryOp, a: usize, b: usize) -> Option<Zeros>
     requires first { a < length terms.now.nodes }
     requires second { b < length terms.now.nodes }
     ensures is { result ≡ zeros.sum_zeros op (tree_of terms.now a) (tree_of terms.now b) }
@@ -106,7 +106,7 @@ fn sum_zeros(terms: &Terms, op: BinaryOp, a: usize, b: usize) -> Option<Zeros>
 }
 
 /// Those of a product.
-fn product_zeros(terms: &Terms, a: usize, b: usize) -> Option<Zeros>
+fn product_zeros(terms: &Known, a: usize, b: usize) -> Option<Zeros>
     requires first { a < length terms.now.nodes }
     requires second { b < length terms.now.nodes }
     ensures is { result ≡ zeros.product_zeros (tree_of terms.now a) (tree_of terms.now b) }
@@ -126,7 +126,7 @@ fn product_zeros(terms: &Terms, a: usize, b: usize) -> Option<Zeros>
 }
 
 /// Those of an operation.
-fn binary_zeros(terms: &Terms, op: BinaryOp, a: usize, b: usize) -> Option<Zeros>
+fn binary_zeros(terms: &Known, op: BinaryOp, a: usize, b: usize) -> Option<Zeros>
     requires first { a < length terms.now.nodes }
     requires second { b < length terms.now.nodes }
     ensures is { result ≡ zeros.binary_zeros op (tree_of terms.now a) (tree_of terms.now b) }
@@ -148,7 +148,7 @@ fn binary_zeros(terms: &Terms, op: BinaryOp, a: usize, b: usize) -> Option<Zeros
 }
 
 /// Those of a comparison.
-fn comparison_zeros(terms: &Terms, a: usize, b: usize) -> Option<Zeros>
+fn comparison_zeros(terms: &Known, a: usize, b: usize) -> Option<Zeros>
     requires first { a < length terms.now.nodes }
     requires second { b < length terms.now.nodes }
     ensures is { result ≡ zeros.comparison_zeros (tree_of terms.now a) (tree_of terms.now b) }
@@ -196,7 +196,7 @@ impl Builder {
             (λ input. zeros.word_above (width_of self.old a - z.result) z op (val self.old a input)
             (val self.old b input))) }
     {
-        let bits = self.terms().width_of(a) - z.result;
+        let bits = self.known().width_of(a) - z.result;
         let left = self.bits_from(z.first, bits, a)?;
         let right = self.bits_from(z.second, bits, b)?;
         let upper = self.plain_step(Node::Binary(op, left, right))?;
@@ -227,7 +227,7 @@ impl Builder {
             (λ input. zeros.test_above (width_of self.old a - z.result) z op (val self.old a input)
             (val self.old b input))) }
     {
-        let bits = self.terms().width_of(a) - z.result;
+        let bits = self.known().width_of(a) - z.result;
         let left = self.bits_from(z.first, bits, a)?;
         let right = self.bits_from(z.second, bits, b)?;
         self.plain_step(Node::Compare(op, left, right))
@@ -248,7 +248,7 @@ impl Builder {
             (λ input. binary op (val self.old a input) (val self.old b input))) }
         ensures term { IsTerm self.old.inputs (node_tree (tree_of self.old) (Node.Binary op a b)) }
     {
-        match binary_zeros(self.terms(), op, a, b) {
+        match binary_zeros(self.known(), op, a, b) {
             Some(z) => self.binary_above(z, op, a, b),
             None => self.plain_step(Node::Binary(op, a, b)),
         }
@@ -268,7 +268,7 @@ impl Builder {
             (λ input. compare op (val self.old a input) (val self.old b input))) }
         ensures term { IsTerm self.old.inputs (node_tree (tree_of self.old) (Node.Compare op a b)) }
     {
-        match comparison_zeros(self.terms(), a, b) {
+        match comparison_zeros(self.known(), a, b) {
             Some(z) => self.comparison_above(z, op, a, b),
             None => self.plain_step(Node::Compare(op, a, b)),
         }

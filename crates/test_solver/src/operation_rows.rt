@@ -9,7 +9,6 @@ use std::alloc::{AllocError as NoMemory, Global};
 use std::process::Abort;
 use std::test::Fail;
 use term_simplify::Builder;
-use term_table::Terms;
 
 // Two pages of zeros.
 const DATA: u32 = 0x11000;
@@ -151,7 +150,7 @@ fn on_terms(
     left: u32,
     right: u32,
 ) -> Result<Option<u64>, NoMemory> {
-    let mut builder = Builder::new(Terms::new(alloc, 0));
+    let mut builder = Builder::new(alloc, 0);
     let id = combined(rt, &mut builder, op, left, right)?;
     Ok(number_at(&builder, id))
 }

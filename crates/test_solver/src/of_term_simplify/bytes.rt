@@ -163,3 +163,61 @@ pub(crate) const DIVIDENDS: &[Step] = &[
     Gives(Call::Node(Node::Not(2)), 5),
     Gives(Call::Node(Node::Binary(BinaryOp::Urem, 2, 5)), 2),
 ];
+
+/// What a term's least and greatest value tell is known however deep it is: a remainder by 10 is below 10, five choices on.
+pub(crate) const DEEP: &[Step] = &[
+    Gives(X, 0),
+    Gives(
+        Call::Node(Node::Num {
+            width: 8,
+            value: 10,
+        }),
+        1,
+    ),
+    Gives(Call::Node(Node::Binary(BinaryOp::Urem, 0, 1)), 2),
+    Gives(OTHER, 3),
+    Gives(Call::Node(Node::Compare(Comparison::Ult, 3, 0)), 4),
+    Gives(ONE, 5),
+    Gives(
+        Call::Node(Node::Ite {
+            condition: 4,
+            yes: 2,
+            no: 5,
+        }),
+        6,
+    ),
+    Gives(
+        Call::Node(Node::Ite {
+            condition: 4,
+            yes: 6,
+            no: 5,
+        }),
+        7,
+    ),
+    Gives(
+        Call::Node(Node::Ite {
+            condition: 4,
+            yes: 7,
+            no: 5,
+        }),
+        8,
+    ),
+    Gives(
+        Call::Node(Node::Ite {
+            condition: 4,
+            yes: 8,
+            no: 5,
+        }),
+        9,
+    ),
+    Gives(
+        Call::Node(Node::Ite {
+            condition: 4,
+            yes: 9,
+            no: 5,
+        }),
+        10,
+    ),
+    Gives(Call::Node(Node::Compare(Comparison::Ult, 10, 1)), 11),
+    Stands(11, Node::Num { width: 1, value: 1 }),
+];

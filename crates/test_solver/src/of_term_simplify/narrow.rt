@@ -25,7 +25,6 @@ use std::alloc::AllocError as NoMemory;
 use std::process::Abort;
 use std::test::Fail;
 use term_simplify::Builder;
-use term_table::Terms;
 
 /// A term, by its node.
 pub(crate) enum New {
@@ -154,7 +153,7 @@ fn few_low_bits_tell_a_result(rt: HostRuntime) -> Result<(), Fail> {
     ];
     for (table, rows) in tables.iter().enumerate() {
         for (at, row) in rows.iter().enumerate() {
-            let mut builder = Builder::new(Terms::new(rt.alloc(), 2));
+            let mut builder = Builder::new(rt.alloc(), 2);
             assert!(rt; is_made(&rt, &mut builder, row)?, "table {table}, row {at}");
         }
     }

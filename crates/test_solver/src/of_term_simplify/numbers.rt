@@ -7,7 +7,6 @@ use std::alloc::AllocError as NoMemory;
 use std::process::Abort;
 use std::test::Fail;
 use term_simplify::Builder;
-use term_table::Terms;
 
 /// How many bits numbers have, these numbers in the places from 0 on, a call, and the number that it is folded to.
 type Row = (u32, &'static [u64], Call, u64);
@@ -171,7 +170,7 @@ fn is_folded(rt: &impl Abort, builder: &mut Builder, row: &Row) -> Result<bool, 
 #[test]
 fn numbers_are_folded_as_the_standard_has_them(rt: HostRuntime) -> Result<(), Fail> {
     for (at, row) in ROWS.iter().enumerate() {
-        let mut builder = Builder::new(Terms::new(rt.alloc(), 0));
+        let mut builder = Builder::new(rt.alloc(), 0);
         assert!(rt; is_folded(&rt, &mut builder, row)?, "row {at}");
     }
     Ok(())

@@ -1,7 +1,7 @@
 //! Calls in turn, each with the place that it answers and the terms that it makes on the way.
 
 use crate::of_term_simplify::bits::{MOVED, PARTS};
-use crate::of_term_simplify::bytes::{DIVIDENDS, MASKED, REMAINDERS, SIMPLIFIED};
+use crate::of_term_simplify::bytes::{DEEP, DIVIDENDS, MASKED, REMAINDERS, SIMPLIFIED};
 use crate::of_term_simplify::calls::{Call, called, is_node};
 use crate::of_term_simplify::lifted::LIFTED;
 use bv_dag::Node;
@@ -9,7 +9,6 @@ use std::alloc::AllocError as NoMemory;
 use std::process::Abort;
 use std::test::Fail;
 use term_simplify::Builder;
-use term_table::Terms;
 
 /// One of what is done to a builder in turn.
 pub(crate) enum Step {
@@ -48,16 +47,16 @@ fn goes_on_alone(builder: &mut Builder) -> Result<bool, NoMemory> {
     let copy = builder.share()?;
     takes_shared(&copy);
     builder.truncate(4);
-    let left = copy.into_terms().len();
+    let left = copy.len();
     Ok(builder.len() == 4 && 4 < all && left == all)
 }
 
 #[test]
 fn terms_of_an_input_byte(rt: HostRuntime) -> Result<(), Fail> {
     for steps in [
-        SIMPLIFIED, MASKED, REMAINDERS, DIVIDENDS, MOVED, PARTS, LIFTED,
+        SIMPLIFIED, MASKED, REMAINDERS, DIVIDENDS, DEEP, MOVED, PARTS, LIFTED,
     ] {
-        let mut builder = Builder::new(Terms::new(rt.alloc(), 2));
+        let mut builder = Builder::new(rt.alloc(), 2);
         check_steps(&rt, &mut builder, steps)?;
         assert!(rt; goes_on_alone(&mut builder)?);
     }

@@ -13,11 +13,11 @@ use Rattle.term_simplify.proofs.Reading.{has_term}
 use Rattle.term_simplify.proofs.builder.Builder.bits.Goals as goal
 
 pub ends_of-requires : goal.ends_of-requires
-ends_of-requires c = rw c.terms.ensures (has_term c.args.self.now c.args.operand (omega (arith, c.requires.1)))
+ends_of-requires c = rw c.known.ensures (has_term c.args.self.now c.args.operand (omega (arith, c.requires.1)))
 
 pub part_told-requires-clause-within : goal.part_told-requires-clause-within
 part_told-requires-clause-within c =
-    omega (arith, c.ends_of.ensures.wide.least, c.requires.1, ap (λ (k : Graph). width_of k c.args.operand) c.terms.ensures)
+    omega (arith, c.ends_of.ensures.wide.least, c.requires.1, ap (λ (k : Graph). width_of k c.args.operand) c.known.ensures)
 
 pub lifted-answer-requires : goal.lifted-answer-requires
 lifted-answer-requires c = record {
@@ -31,9 +31,9 @@ returns-in-Some-clause-ok c =
     let g = c.args.self.now in
     let k = c.stand.new.self in
     let node = Extract c.args.high c.args.low c.args.operand in
-    let term = is_term_of g node (rw c.terms.ensures at c.ends_of.ensures.fit) c.requires in
+    let term = is_term_of g node (rw c.known.ensures at c.ends_of.ensures.fit) c.requires in
     let told : part_told c.args.high c.args.low (ends_of (tree_of g c.args.operand)) ≡ Some c.in-Some.word =
-    ap (λ (t : Graph). part_told c.args.high c.args.low (ends_of (tree_of t c.args.operand))) (sym c.terms.ensures)
+    ap (λ (t : Graph). part_told c.args.high c.args.low (ends_of (tree_of t c.args.operand))) (sym c.known.ensures)
     ∙ ap (part_told c.args.high c.args.low) (sym c.ends_of.ensures.is) ∙ sym c.part_told.ensures ∙ c.in-Some.is in
     built_as g k c.stand.result node _ (λ input bytes. value-plain g.inputs input bytes (tree_of g) node term) c.stand.ensures.there
     (stood k c.stand.result _ _ c.stand.ensures.tree ((c.number.ensures g).is ∙ part_is_number c.args.high c.args.low (tree_of g c.args.operand) c.in-Some.word told))
@@ -47,7 +47,7 @@ returns-in-None-clause-ok c =
     let node = Extract c.args.high c.args.low c.args.operand in
     let term = is_term_of g node c.lifted-answer.ensures.fit c.requires in
     let told : part_told c.args.high c.args.low (ends_of (tree_of g c.args.operand)) ≡ None =
-    ap (λ (t : Graph). part_told c.args.high c.args.low (ends_of (tree_of t c.args.operand))) (sym c.terms.ensures)
+    ap (λ (t : Graph). part_told c.args.high c.args.low (ends_of (tree_of t c.args.operand))) (sym c.known.ensures)
     ∙ ap (part_told c.args.high c.args.low) (sym c.ends_of.ensures.is) ∙ sym c.part_told.ensures ∙ c.in-None.is in
     built_as g k c.settled.result node _ (λ input bytes. value-plain g.inputs input bytes (tree_of g) node term)
     (kept h k c.settled.result c.lifted-answer.result (λ m id. id < length m.nodes) c.settled.ensures.same c.settled.ensures.ok c.lifted-answer.ensures.there)
@@ -58,7 +58,7 @@ returns-in-None-clause-ok c =
 
 pub returns-in-Some-clause-term : goal.returns-in-Some-clause-term
 returns-in-Some-clause-term c =
-    is_term_of c.args.self.now (Extract c.args.high c.args.low c.args.operand) (rw c.terms.ensures at c.ends_of.ensures.fit) c.requires
+    is_term_of c.args.self.now (Extract c.args.high c.args.low c.args.operand) (rw c.known.ensures at c.ends_of.ensures.fit) c.requires
 
 pub returns-in-None-clause-term : goal.returns-in-None-clause-term
 returns-in-None-clause-term c =

@@ -10,7 +10,7 @@ stand-requires c = subst (λ (k : Graph). PlanFits k c.in-Some.plan) c.self.view
 
 pub returns-in-Some-clause-ok : goal.returns-in-Some-clause-ok
 returns-in-Some-clause-ok c =
-    valued_here c.self.inside.terms c.args.self.now c.stand.new.self c.stand.result c.args.node c.in-Some.plan c.self.view_is
+    valued_here c.self.inside.known c.args.self.now c.stand.new.self c.stand.result c.args.node c.in-Some.plan c.self.view_is
     c.in-Some.ensures.tree c.in-Some.ensures.worth c.stand.ensures.there c.stand.ensures.tree c.stand.ensures.ok
 
 pub returns-in-Some-clause-term : goal.returns-in-Some-clause-term

@@ -12,16 +12,16 @@ pub narrow_choice-requires-clause-first : goal.narrow_choice-requires-clause-fir
 narrow_choice-requires-clause-first c =
     let g = c.args.self.now in
     let node = Ite c.args.condition c.args.yes c.args.no in
-    let term = is_term_of g node (subst IsDag c.terms.ensures c.in-Some.ensures.fit) c.requires in
-    let is = narrowing_here _ g node _ _ c.terms.ensures c.narrowing_of.ensures.is c.in-Some.is in
+    let term = is_term_of g node (subst IsDag c.known.ensures c.in-Some.ensures.fit) c.requires in
+    let is = narrowing_here _ g node _ _ c.known.ensures c.narrowing_of.ensures.is c.in-Some.is in
     (choice_here g c.in-Some.n [] (λ k d h. absurd (omega (arith, h))) c.args.condition c.args.yes c.args.no term is).fewer
 
 pub returns-in-Some-clause-ok : goal.returns-in-Some-clause-ok
 returns-in-Some-clause-ok c =
     let g = c.args.self.now in
     let node = Ite c.args.condition c.args.yes c.args.no in
-    let term = is_term_of g node (subst IsDag c.terms.ensures c.in-Some.ensures.fit) c.requires in
-    let is = narrowing_here _ g node _ _ c.terms.ensures c.narrowing_of.ensures.is c.in-Some.is in
+    let term = is_term_of g node (subst IsDag c.known.ensures c.in-Some.ensures.fit) c.requires in
+    let is = narrowing_here _ g node _ _ c.known.ensures c.narrowing_of.ensures.is c.in-Some.is in
     if_ok _ _ _ c.narrow_choice.ensures.ok (λ id made. at_tree (choice_is (tree_of g c.args.condition) (tree_of g c.args.yes) (tree_of g c.args.no) c.in-Some.n is)
     (Stands-worth (λ input bytes. (choice_here g c.in-Some.n input bytes c.args.condition c.args.yes c.args.no term is).worth) made))
 
@@ -29,5 +29,5 @@ pub returns-in-None-clause-ok : goal.returns-in-None-clause-ok
 returns-in-None-clause-ok c =
     let g = c.args.self.now in
     let node = Ite c.args.condition c.args.yes c.args.no in
-    let none = narrowing_here _ g node _ _ c.terms.ensures c.narrowing_of.ensures.is c.in-None.is in
+    let none = narrowing_here _ g node _ _ c.known.ensures c.narrowing_of.ensures.is c.in-None.is in
     if_ok _ _ _ c.own_step.ensures.ok (λ id made. at_tree (as_own (tree_of g) node none) made)

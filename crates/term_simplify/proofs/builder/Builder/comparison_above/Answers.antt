@@ -10,12 +10,12 @@ use Rattle.term_simplify.proofs.Stepping.{Stands-grown, Stands-kept, Stands-wort
 use Rattle.term_simplify.proofs.builder.Builder.comparison_above.Goals as goal
 
 pub width_of-requires : goal.width_of-requires
-width_of-requires c = rw c.terms.ensures (there c.args.self.now c.args.a (width_of c.args.self.now c.args.a) refl (omega (arith, c.requires.leaves.fewer)))
+width_of-requires c = rw c.known.ensures (there c.args.self.now c.args.a (width_of c.args.self.now c.args.a) refl (omega (arith, c.requires.leaves.fewer)))
 
 pub bits_from-requires-2-clause-within : goal.bits_from-requires-2-clause-within
 bits_from-requires-2-clause-within c =
     let g = c.args.self.now in
-    let wide : c.width_of.result ≡ width_of g c.args.a = c.width_of.ensures.value ∙ ap (λ (h : Graph). width_of h c.args.a) c.terms.ensures in
+    let wide : c.width_of.result ≡ width_of g c.args.a = c.width_of.ensures.value ∙ ap (λ (h : Graph). width_of h c.args.a) c.known.ensures in
     let second = Stands-grown c.args.b (width_of g c.args.a) c.bits_from.ensures.continues (sym c.requires.second) (omega (arith, c.requires.leaves.fewer)) in
     omega (arith, second.width, wide, c.requires.leaves.second, c.requires.leaves.fewer)
 
@@ -28,7 +28,7 @@ bits_from-requires-2-clause-at_most_64 c =
 pub plain_step-requires : goal.plain_step-requires
 plain_step-requires c =
     let g = c.args.self.now in
-    let wide : c.width_of.result ≡ width_of g c.args.a = c.width_of.ensures.value ∙ ap (λ (h : Graph). width_of h c.args.a) c.terms.ensures in
+    let wide : c.width_of.result ≡ width_of g c.args.a = c.width_of.ensures.value ∙ ap (λ (h : Graph). width_of h c.args.a) c.known.ensures in
     let left = Stands-kept c.bits_from-2.ensures.continues c.in_ok-left.ensures.ok in
     (omega (arith, left.width, wide, c.requires.leaves.fewer), left.width ∙ sym c.in_ok-right.ensures.ok.width)
 
@@ -40,7 +40,7 @@ returns-clause-ok c =
     let s = tree_of g c.args.a in
     let t = tree_of g c.args.b in
     let w = width_of g c.args.a in
-    let wide : c.width_of.result ≡ w = c.width_of.ensures.value ∙ ap (λ (h : Graph). width_of h c.args.a) c.terms.ensures in
+    let wide : c.width_of.result ≡ w = c.width_of.ensures.value ∙ ap (λ (h : Graph). width_of h c.args.a) c.known.ensures in
     let bits = c.width_of.result - z.result in
     let second = Stands-grown c.args.b w c.bits_from.ensures.continues (sym c.requires.second) (omega (arith, c.requires.leaves.fewer)) in
     let left = Stands-kept c.bits_from-2.ensures.continues c.in_ok-left.ensures.ok in

@@ -9,7 +9,7 @@ use Rattle.term_simplify.proofs.builder.Builder.narrow_choice.Goals as goal
 
 pub width_of-width-requires : goal.width_of-width-requires
 width_of-width-requires c =
-    subst (λ (g : Graph). c.args.a < length g.nodes) (sym c.terms.ensures) (there c.args.self.now c.args.a _ refl (omega (arith, c.requires.first.fewer)))
+    subst (λ (g : Graph). c.args.a < length g.nodes) (sym c.known.ensures) (there c.args.self.now c.args.a _ refl (omega (arith, c.requires.first.fewer)))
 
 pub low-requires-2 : goal.low-requires-2
 low-requires-2 c = second_fewer c.args.a c.args.b c.args.n c.low.ensures.continues c.requires.first c.requires.second
@@ -25,7 +25,7 @@ widened_to-requires-clause-low c = c.in_ok-chosen.ensures.ok.width ∙ (Stands-k
 
 pub returns-clause-ok : goal.returns-clause-ok
 returns-clause-ok c =
-    let wide : c.width_of-width.result ≡ width_of c.args.self.now c.args.a = c.width_of-width.ensures.value ∙ ap (λ (g : Graph). width_of g c.args.a) c.terms.ensures in
+    let wide : c.width_of-width.result ≡ width_of c.args.self.now c.args.a = c.width_of-width.ensures.value ∙ ap (λ (g : Graph). width_of g c.args.a) c.known.ensures in
     let condition = Stands-kept c.low-2.ensures.continues (Stands-grown c.args.condition 1 c.low.ensures.continues c.requires.condition (omega arith)) in
     let yes = Stands-kept c.low-2.ensures.continues c.in_ok-yes.ensures.ok in
     let no = low_step c.args.n (second_grown c.args.a c.args.b c.args.n c.low.ensures.continues c.requires.first c.requires.second) c.in_ok-no.ensures.ok in

@@ -7,7 +7,7 @@ use Rattle.term_simplify.proofs.builder.Builder.narrow_magnitude.Goals as goal
 
 pub width_of-by-requires : goal.width_of-by-requires
 width_of-by-requires c =
-    subst (λ (g : Graph). c.args.a < length g.nodes) (sym c.terms.ensures) (there c.args.self.now c.args.a _ refl c.requires.not_empty)
+    subst (λ (g : Graph). c.args.a < length g.nodes) (sym c.known.ensures) (there c.args.self.now c.args.a _ refl c.requires.not_empty)
 
 pub step-requires-2 : goal.step-requires-2
 step-requires-2 c =
@@ -20,7 +20,7 @@ step-requires-2 c =
 pub returns-clause-ok : goal.returns-clause-ok
 returns-clause-ok c =
     let g = c.args.self.now in
-    let wide : c.width_of-by.result ≡ width_of g c.args.a = c.width_of-by.ensures.value ∙ ap (λ (h : Graph). width_of h c.args.a) c.terms.ensures in
+    let wide : c.width_of-by.result ≡ width_of g c.args.a = c.width_of-by.ensures.value ∙ ap (λ (h : Graph). width_of h c.args.a) c.known.ensures in
     let bit = Stands-grown c.args.negative 1 c.step.ensures.continues c.requires.bit (omega arith) in
     let whole = Stands-grown c.args.a (width_of g c.args.a) c.step.ensures.continues refl c.requires.not_empty in
     let opposite = neg_step (Stands-itself g c.args.a (width_of g c.args.a) refl c.requires.not_empty) c.in_ok-opposite.ensures.ok in

@@ -17,10 +17,10 @@ returns-in-Some-clause-ok c =
     let s = tree_of g c.args.a in
     let t = tree_of g c.args.b in
     let made = joint_of op s t (binary_over_zeros op s t) in
-    let term = is_term_of g node (subst IsDag c.terms.ensures c.in-Some.ensures.fit) c.requires in
+    let term = is_term_of g node (subst IsDag c.known.ensures c.in-Some.ensures.fit) c.requires in
     let is : (otherwise : Tree) → joint_of op s t otherwise ≡ joint_tree g c.in-Some.joint =
     subst (λ (h : Graph). (otherwise : Tree) → joint_of op (tree_of h c.args.a) (tree_of h c.args.b) otherwise ≡ joint_tree h c.in-Some.joint)
-    c.terms.ensures c.in-Some.ensures.tree in
+    c.known.ensures c.in-Some.ensures.tree in
     let h = c.one_above.new.self in
     let joint = joint_tree g c.in-Some.joint in
     if_ok _ _ _ (named g h c.one_above.result node joint made (sym (is _)) (built_as g h c.one_above.result node joint
@@ -30,4 +30,4 @@ returns-in-Some-clause-ok c =
 
 pub returns-in-Some-clause-term : goal.returns-in-Some-clause-term
 returns-in-Some-clause-term c =
-    is_term_of c.args.self.now (Binary c.args.op c.args.a c.args.b) (subst IsDag c.terms.ensures c.in-Some.ensures.fit) c.requires
+    is_term_of c.args.self.now (Binary c.args.op c.args.a c.args.b) (subst IsDag c.known.ensures c.in-Some.ensures.fit) c.requires

@@ -4,4 +4,4 @@ use Rattle.term_simplify.proofs.Building.{is_term_of}
 use Rattle.term_simplify.proofs.builder.Builder.own_step.Goals as goal
 
 pub returns-in-Some-clause-term : goal.returns-in-Some-clause-term
-returns-in-Some-clause-term c = is_term_of c.args.self.now c.args.node (subst IsDag c.terms.ensures c.in-Some.ensures.fit) c.requires
+returns-in-Some-clause-term c = is_term_of c.args.self.now c.args.node (subst IsDag c.known.ensures c.in-Some.ensures.fit) c.requires

@@ -6,4 +6,4 @@ use Rattle.term_simplify.proofs.builder.Builder.pieced_step.Goals as goal
 
 pub returns-in-Some-clause-term : goal.returns-in-Some-clause-term
 returns-in-Some-clause-term c =
-    is_term_of c.args.self.now (Binary c.args.op c.args.a c.args.b) (subst IsDag c.terms.ensures c.in-Some.ensures.fit) c.requires
+    is_term_of c.args.self.now (Binary c.args.op c.args.a c.args.b) (subst IsDag c.known.ensures c.in-Some.ensures.fit) c.requires

@@ -6,7 +6,7 @@ use Rattle.term_simplify.proofs.builder.Builder.plain.Goals as goal
 
 pub returns-in_default-clause-ok : goal.returns-in_default-clause-ok
 returns-in_default-clause-ok c =
-    built c.self.inside.terms c.args.self.now c.carry_out.new.self c.carry_out.result
+    built c.self.inside.known c.args.self.now c.carry_out.new.self c.carry_out.result
     c.plan-recipe.result c.args.node c.in_default.not-Extract c.self.view_is c.plan-recipe.ensures.term
     c.plan-recipe.ensures.makes c.carry_out.ensures.there c.carry_out.ensures.tree
     c.carry_out.ensures.ok

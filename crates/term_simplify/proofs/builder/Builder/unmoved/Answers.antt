@@ -7,7 +7,7 @@ use Rattle.term_simplify.proofs.builder.Builder.unmoved.Goals as goal
 
 pub returns-in-Some-clause-ok : goal.returns-in-Some-clause-ok
 returns-in-Some-clause-ok c =
-    told_here c.self.inside.terms c.args.self.now c.tell.new.self c.tell.result c.args.node c.in-Some.told c.self.view_is c.in-Some.ensures.some c.tell.ensures.ok
+    told_here c.self.inside.known c.args.self.now c.tell.new.self c.tell.result c.args.node c.in-Some.told c.self.view_is c.in-Some.ensures.some c.tell.ensures.ok
 
 pub returns-in-Some-clause-term : goal.returns-in-Some-clause-term
 returns-in-Some-clause-term c = is_term_of c.args.self.now c.args.node (subst IsDag c.self.view_is c.in-Some.ensures.fit) c.requires

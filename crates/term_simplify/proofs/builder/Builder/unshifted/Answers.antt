@@ -7,7 +7,7 @@ use Rattle.term_simplify.proofs.builder.Builder.unshifted.Goals as goal
 
 pub returns-in-Some-clause-ok : goal.returns-in-Some-clause-ok
 returns-in-Some-clause-ok c =
-    outside_here c.self.inside.terms c.args.self.now c.outside.new.self c.outside.result c.args.node c.in-Some.interval c.self.view_is c.in-Some.ensures.some
+    outside_here c.self.inside.known c.args.self.now c.outside.new.self c.outside.result c.args.node c.in-Some.interval c.self.view_is c.in-Some.ensures.some
     c.outside.ensures.ok
 
 pub returns-in-Some-clause-term : goal.returns-in-Some-clause-term

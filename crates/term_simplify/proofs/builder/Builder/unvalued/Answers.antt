@@ -8,7 +8,7 @@ pub returns-in-Some-clause-ok : goal.returns-in-Some-clause-ok
 returns-in-Some-clause-ok c =
     let own = is_term_of c.args.self.now c.args.node (subst IsDag c.self.view_is c.in-Some.ensures.fit) c.requires in
     let there = subst (λ (g : Graph). IsTerm g.inputs (node_tree (tree_of g) c.args.node)) (sym c.self.view_is) own in
-    moved_here c.self.inside.terms c.args.self.now c.move_bits.new.self c.move_bits.result c.in-Some.bits c.args.node c.self.view_is
+    moved_here c.self.inside.known c.args.self.now c.move_bits.new.self c.move_bits.result c.in-Some.bits c.args.node c.self.view_is
     c.in-Some.ensures.tree (λ input bytes. c.in-Some.ensures.worth input bytes there)
     c.move_bits.ensures.there c.move_bits.ensures.tree c.move_bits.ensures.ok
 
