@@ -1,5 +1,6 @@
--- The ends of a term: the least and the greatest value that those of its operands tell. Where both are one number, the term is that number; and where those of two terms
--- leave no doubt, a comparison of them is told.
+-- The ends of a term: the least and the greatest value that those of its operands tell. Where both
+-- are one number, the term is that number; and where those of two terms leave no doubt, a comparison
+-- of them is told.
 use Rattle.std.specs.Prelude.{ℕ, ◌+◌, ◌-◌, ◌/◌, ◌^◌, ◌≡◌, ◌==◌, ◌&&◌, ◌||◌, Bool, true, false, not, nat_le, nat_lt, Option, Some, None, if◌then◌else◌}
 use Rattle.bv_dag.specs.BitVectors.{BitVector, bit, bvadd, bvnot, bvsub, bvudiv, concat, extract, is_negative}
 use Rattle.bv_dag.specs.Nodes.{compare, extend}
