@@ -1,6 +1,6 @@
 -- What a term is simplified to at its own width: a tree, from the trees of its operands. Each rule
--- is decided by the numbers that operands are and by their top nodes. None compares two subtrees, and
--- none decides a relation between two input bytes.
+-- is decided by the numbers that operands are, and by their top nodes and ends. None compares two
+-- subtrees, and none decides a relation between two input bytes.
 use Rattle.std.specs.Prelude.{ℕ, suc, ◌+◌, ◌-◌, ◌^◌, ◌==◌, ◌&&◌, ◌||◌, Bool, true, false, is_some, not, nat_lt, nat_le, Option, Some, None, if◌then◌else◌}
 use Rattle.std.specs.Int.Bits.{bit_and}
 use Rattle.bv_dag.specs.BitVectors.{BitVector, bit, is_negative, bvnot, bvneg, extract, concat}

@@ -1,10 +1,11 @@
 -- What a term is simplified to: a tree, from the trees of its operands. What the ends of these tell
--- (`Values`) is a number, or the dividend of a remainder. A shift by a number moves bits; the numbers of sums are one (`Offsets`), stand
--- last (`Pairs`), and are on one side of an equality (`Balances`); an operation of which few low bits
--- tell the result is made of as many bits of its operands, and widened. At its own width a product by
--- a number is as `Times` has it, two terms without a bit in common are the one above the other
--- (`Joints`), zeros at the low end are left out (`Zeros`), and any other term is as `Plain` has it.
--- Each rule is decided by the numbers that operands are and by their top nodes.
+-- (`Values`) is a number, or the dividend of a remainder. A shift by a number moves bits; the numbers
+-- of sums are one (`Offsets`), stand last (`Pairs`), and are on one side of an equality
+-- (`Balances`); an operation of which few low bits tell the result is made of as many bits of its
+-- operands, and widened. At its own width a product by a number is as `Times` has it, two terms
+-- without a bit in common are the one above the other (`Joints`), zeros at the low end are left out
+-- (`Zeros`), and any other term is as `Plain` has it. Each rule is decided by the numbers that
+-- operands are, and by their top nodes and ends.
 use Rattle.std.specs.Prelude.{ℕ, ◌-◌, ◌^◌, ◌==◌, ◌&&◌, Bool, true, false, nat_lt, Option, Some, None, if◌then◌else◌}
 use Rattle.bv_dag.specs.BitVectors.{BitVector}
 use Rattle.bv_dag.specs.declared.nodes.BinaryOp.{BinaryOp}

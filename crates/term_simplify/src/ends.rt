@@ -256,8 +256,8 @@ pub(crate) fn may_divide_by_zero(terms: &Known, op: BinaryOp, divisor: usize) ->
     requires { divisor < length terms.now.nodes }
     ensures is { result ≡ ends.may_divide_by_zero op (tree_of terms.now divisor) }
     ensures quotient { result ≡ true → op ≡ BinaryOp.Udiv }
-    ensures divides { result ≡ false → op ≡ BinaryOp.Udiv → (input : List ℕ) → All (λ b. b < 256) input
-        → 0 < (val terms.now divisor input).number }
+    ensures divides { result ≡ false → op ≡ BinaryOp.Udiv → (input : List ℕ)
+        → All (λ b. b < 256) input → 0 < (val terms.now divisor input).number }
 {
     match op {
         BinaryOp::Udiv => terms.ends_of(divisor).least.number() == 0,

@@ -191,7 +191,8 @@ pub(crate) fn is_settled(terms: &Known, op: BinaryOp, a: usize, b: usize) -> boo
 fn of_binary(terms: &Known, op: BinaryOp, a: usize, b: usize) -> Option<Narrow>
     requires first { a < length terms.now.nodes }
     requires second { b < length terms.now.nodes }
-    ensures is { result ≡ narrowings.binary_narrowing op (tree_of terms.now a) (tree_of terms.now b) }
+    ensures is { result
+        ≡ narrowings.binary_narrowing op (tree_of terms.now a) (tree_of terms.now b) }
     ensures fit { IsDag terms.now }
 {
     if is_settled(terms, op, a, b) {
