@@ -16,7 +16,7 @@ place_inputs-requires-clause-mapped c =
 
 pub place_inputs-requires-clause-few : goal.place_inputs-requires-clause-few
 place_inputs-requires-clause-few c =
-    rw (c.new-terms.ensures, c.new-2.ensures, c.count_bytes.ensures, c.as_slice-regions.ensures, c.regions.ensures.value)
+    rw (c.new-terms.ensures, c.count_bytes.ensures, c.as_slice-regions.ensures, c.regions.ensures.value)
     (fitting_few c.args.program.now.image c.args.program.now.regions c.regions.ensures.fitted)
 
 pub returns-clause-first : goal.returns-clause-first
@@ -24,7 +24,7 @@ returns-clause-first c =
     if_first (IsFirst c.args.program.now) c.begin.result _ _ _ c.begin.ensures
     (rw (c.entry.ensures, c.image-image.ensures.value)
     (is_first c.args.program.now c.new-terms.result _ c.in_ok-memory.memory _
-    (rw (c.new-terms.ensures, c.new-2.ensures, c.count_bytes.ensures, c.as_slice-regions.ensures, c.regions.ensures.value) refl)
+    (rw (c.new-terms.ensures, c.count_bytes.ensures, c.as_slice-regions.ensures, c.regions.ensures.value) refl)
     (rw c.image-image.ensures.value at c.in_ok-memory.ensures.bytes)
     (rw c.image-image.ensures.value at c.in_ok-memory.ensures.flags)
     (rw (c.as_slice-regions.ensures, c.regions.ensures.value) at c.in_ok-place_inputs.ensures)))
@@ -34,7 +34,7 @@ returns-clause-open c =
     if_first (IsOpen c.args.program.now) c.begin.result _ _ _ c.begin.ensures
     (rw (c.entry.ensures, c.image-image.ensures.value)
     (is_open c.args.program.now c.new-terms.result _ c.in_ok-memory.memory _
-    (rw (c.new-terms.ensures, c.new-2.ensures, c.count_bytes.ensures, c.as_slice-regions.ensures, c.regions.ensures.value) refl)
+    (rw (c.new-terms.ensures, c.count_bytes.ensures, c.as_slice-regions.ensures, c.regions.ensures.value) refl)
     (rw c.image-image.ensures.value at c.in_ok-memory.ensures.bytes)
     (rw c.image-image.ensures.value at c.in_ok-memory.ensures.flags)
     (rw (c.as_slice-regions.ensures, c.regions.ensures.value) at c.in_ok-place_inputs.ensures)))
