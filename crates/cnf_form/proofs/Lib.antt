@@ -4,3 +4,4 @@ pub mod Meaning
 pub mod Pieces
 pub mod Variables
 pub mod Occurs
+pub mod Rising
