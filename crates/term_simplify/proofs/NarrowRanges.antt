@@ -1,15 +1,17 @@
 -- How many low bits tell a term is true of its value.
-use Rattle.std.proofs.Common.{◌≡◌, ◌∙◌, ℕ, ◌+◌, ◌-◌, ◌*◌, ◌^◌, ◌<◌, ◌≤◌, true, false, cond, List, ap, arith, inl, inr}
+use Rattle.std.proofs.Common.{◌≡◌, ◌∙◌, ℕ, ◌+◌, ◌-◌, ◌*◌, ◌^◌, ◌<◌, ◌≤◌, true, false, cond, List, ap, arith, inl, inr, subst, sym}
 use Rattle.std.specs.Int.{leading_zeros, w64}
 use Rattle.std.specs.List.{All}
-use Rattle.std.proofs.Math.Nat.{le-max_left, le-max_right, max-eq_left}
+use Rattle.std.proofs.Math.Nat.{le-max_left, le-max_right, le-min, max-eq_left, min-eq_left, min-eq_right}
 use Rattle.std.proofs.lemmas.Nat.{leading_length, pow-add}
-use Rattle.bv_dag.specs.BitVectors.{BitVector, IsBitVector, bvnot, is_negative, zero_extend}
+use Rattle.bv_dag.specs.BitVectors.{BitVector, IsBitVector, bvnot, is_negative}
 use Rattle.bv_dag.proofs.Numbers.{wider}
 use Rattle.term_trees.specs.Trees.{Tree, Constant, Widened, tree_width, tree_value, IsTerm}
 use Rattle.term_trees.proofs.Ranges.{in_range}
-use Rattle.term_simplify.specs.Narrowing.{length_of, number_reach, reach_of}
+use Rattle.term_simplify.specs.Ends.{ends_of}
+use Rattle.term_simplify.specs.Narrowing.{length_of, number_reach, reach_of, reach_up_to}
 use Rattle.term_simplify.specs.declared.narrowing.Reach.{Reach}
+use Rattle.term_simplify.proofs.EndsRules.{lies_of}
 use Rattle.term_simplify.proofs.Multiples.{has_bits}
 use Rattle.term_simplify.proofs.Words.{le_tells}
 use Rattle.term_simplify.proofs.SignedRange.{IsWithin, within_all, within_large, within_sign_extend, within_small}
@@ -74,27 +76,30 @@ number_told w v is =
     }
 
 -- ---- any term
+up_to_told : (w bits m : ℕ) (x : BitVector) → x.number ≤ m → m < 2 ^ 64 → 0 < bits → IsWithin w bits x → IsReach w (reach_up_to m bits) x
+up_to_told w bits m x most below some within =
+    let few : x.number < 2 ^ length_of m = omega (arith, most, length_holds m below) in
+    record {
+      some = length_some m;
+      few = few;
+      some_signed = le-min (omega arith) some;
+      within = elim (le_tells (length_of m + 1) bits) [
+        | inl p ↦ subst (λ k. k ≤ w → IsWithin w k x) (sym (min-eq_left p.1)) (within_small w (length_of m) x few)
+        | inr p ↦ subst (λ k. k ≤ w → IsWithin w k x) (sym (min-eq_right (omega (arith, p.1)))) (λ _. within)
+      ];
+    }
+
 pub told : (inputs : ℕ) (input : List ℕ) → All (λ b. b < 256) input → (t : Tree) → IsTerm inputs t →
     IsReach (tree_width t) (reach_of t) (tree_value input t)
-unfolding zero_extend
 told inputs input bytes (Constant w v) term = number_told w v term
-told inputs input bytes (Widened by false t) term =
-    let p = in_range inputs input bytes t term.0 in
-    record {
-      some = p.not_empty;
-      few = p.in_range;
-      some_signed = omega arith;
-      within = within_small (tree_width t + by) (tree_width t) (tree_value input (Widened by false t)) p.in_range;
-    }
 told inputs input bytes (Widened by true t) term =
     let p = in_range inputs input bytes t term.0 in
     let q = in_range inputs input bytes (Widened by true t) term in
-    record {
-      some = q.not_empty;
-      few = q.in_range;
-      some_signed = p.not_empty;
-      within = λ _. within_sign_extend (tree_width t) by _ p;
-    }
+    let lies = lies_of inputs input bytes (Widened by true t) term in
+    up_to_told (tree_width t + by) (tree_width t) (ends_of (Widened by true t)).greatest.number (tree_value input (Widened by true t)) lies.greatest
+    (omega (arith, lies.few, wider (tree_width t + by) 64 q.at_most_64)) p.not_empty (within_sign_extend (tree_width t) by _ p)
 told inputs input bytes t term =
     let p = in_range inputs input bytes t term in
-    record { some = p.not_empty; few = p.in_range; some_signed = p.not_empty; within = λ _. within_all (tree_width t) _ p }
+    let lies = lies_of inputs input bytes t term in
+    up_to_told (tree_width t) (tree_width t) (ends_of t).greatest.number (tree_value input t) lies.greatest
+    (omega (arith, lies.few, wider (tree_width t) 64 p.at_most_64)) p.not_empty (within_all (tree_width t) _ p)

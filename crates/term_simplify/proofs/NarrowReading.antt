@@ -10,23 +10,22 @@ use Rattle.bv_dag.specs.declared.nodes.Node.TheVariants.{Num, Input, Not, Neg, B
 use Rattle.term_trees.specs.Trees.{Tree, tree_of, node_tree, tree_width}
 use Rattle.term_trees.proofs.TreeLaws.{tree_by_cases, width-tree_of}
 use Rattle.term_simplify.specs.Plain.{tree_number}
-use Rattle.term_simplify.specs.Narrowing.{number_reach, reach_of, unsigned_result, signed_result, narrowest, are_numbers, is_settled, binary_narrowing, pair_narrowing, negative_narrowing}
+use Rattle.term_simplify.specs.Ends.{ends_of}
+use Rattle.term_simplify.specs.Narrowing.{number_reach, reach_of, reach_up_to, unsigned_result, signed_result, narrowest, are_numbers, is_settled, binary_narrowing, pair_narrowing, negative_narrowing}
 use Rattle.term_simplify.specs.declared.narrowing.Narrow.{Narrow}
 use Rattle.term_simplify.specs.declared.narrowing.Reach.{Reach}
 use Rattle.term_simplify.proofs.Reading.{width_at}
 
 -- ---- how many low bits tell a term
-abbrev reach : (unsigned signed : ℕ) → Reach
-reach m n = record { unsigned = m; signed = n }
+same_up_to : (m n j k : ℕ) → m ≡ j → n ≡ k → reach_up_to m n ≡ reach_up_to j k
+same_up_to m n j k e f = ap (λ x. reach_up_to x n) e ∙ ap (reach_up_to j) f
 
-same_reach : (m n j k : ℕ) → m ≡ j → n ≡ k → reach m n ≡ reach j k
-same_reach m n j k e f = ap (λ x. reach x n) e ∙ ap (λ x. reach j x) f
-
-reach_read : (f : ℕ → Tree) (n : Node) → ((w v : ℕ) → n ≡ Num w v → ⊥) →
-    ((by : ℕ) (signed : Bool) (a : ℕ) → n ≡ Extend by signed a → ⊥) →
-    reach (tree_width (node_tree f n)) (tree_width (node_tree f n)) ≡ reach_of (node_tree f n)
+-- of any other node than a number, or a term widened by sign
+reach_read : (f : ℕ → Tree) (n : Node) → ((w v : ℕ) → n ≡ Num w v → ⊥) → ((by a : ℕ) → n ≡ Extend by true a → ⊥) →
+    reach_up_to (ends_of (node_tree f n)).greatest.number (tree_width (node_tree f n)) ≡ reach_of (node_tree f n)
 reach_read f (Num w v) x y = absurd (x w v refl)
-reach_read f (Extend by signed a) x y = absurd (y by signed a refl)
+reach_read f (Extend by true a) x y = absurd (y by a refl)
+reach_read f (Extend by false a) x y = refl
 reach_read f (Input i) x y = refl
 reach_read f (Not a) x y = refl
 reach_read f (Neg a) x y = refl
@@ -41,30 +40,22 @@ module _ (g : Graph) (id : ℕ) (dag : IsDag g) where
       x ≡ record { width = w; number = v } → r ≡ number_reach x → r ≡ reach_of (tree_of g id)
   number_reach_at w v x r is e f = f ∙ ap number_reach e ∙ sym (ap reach_of (tree_by_cases g id (Num w v) dag is))
 
-  pub signed_reach_at : (by : ℕ) (signed : Bool) (a m n : ℕ) → slice_get g.nodes id ≡ Some (Extend by signed a) →
-      signed ≡ true → m ≡ width_of g id → n ≡ width_of g a →
-      record { unsigned = m; signed = n } ≡ reach_of (tree_of g id)
-  signed_reach_at by true a m n is s e f =
-      same_reach m n _ _ (e ∙ width_at g id _ dag is) (f ∙ sym (width-tree_of g a))
-      ∙ sym (ap reach_of (tree_by_cases g id _ dag is))
-  signed_reach_at by false a m n is s e f = cc
+  module _ (m : ℕ) (greatest : m ≡ (ends_of (tree_of g id)).greatest.number) where
+    greatest_read : (n : Node) → slice_get g.nodes id ≡ Some n → m ≡ (ends_of (node_tree (tree_of g) n)).greatest.number
+    greatest_read n is = greatest ∙ ap (λ t. (ends_of t).greatest.number) (tree_by_cases g id n dag is)
 
-  pub unsigned_reach_at : (by : ℕ) (signed : Bool) (a n : ℕ) → slice_get g.nodes id ≡ Some (Extend by signed a) →
-      signed ≡ false → n ≡ width_of g a →
-      record { unsigned = n; signed = n + 1 } ≡ reach_of (tree_of g id)
-  unsigned_reach_at by false a n is s f =
-      let wide : n ≡ tree_width (tree_of g a) = f ∙ sym (width-tree_of g a) in
-      same_reach n (n + 1) _ _ wide (ap (λ k. k + 1) wide)
-      ∙ sym (ap reach_of (tree_by_cases g id _ dag is))
-  unsigned_reach_at by true a n is s f = cc
+    pub signed_reach_at : (by a k : ℕ) → slice_get g.nodes id ≡ Some (Extend by true a) → k ≡ width_of g a →
+        reach_up_to m k ≡ reach_of (tree_of g id)
+    signed_reach_at by a k is e =
+        same_up_to m k _ _ (greatest_read (Extend by true a) is) (e ∙ sym (width-tree_of g a))
+        ∙ sym (ap reach_of (tree_by_cases g id (Extend by true a) dag is))
 
-  pub plain_reach_at : (n : Node) (m : ℕ) → slice_get g.nodes id ≡ Some n → ((w v : ℕ) → n ≡ Num w v → ⊥) →
-      ((by : ℕ) (signed : Bool) (a : ℕ) → n ≡ Extend by signed a → ⊥) → m ≡ width_of g id →
-      record { unsigned = m; signed = m } ≡ reach_of (tree_of g id)
-  plain_reach_at n m is x y e =
-      let wide : m ≡ tree_width (node_tree (tree_of g) n) = e ∙ width_at g id n dag is in
-      same_reach m m _ _ wide wide ∙ reach_read (tree_of g) n x y
-      ∙ sym (ap reach_of (tree_by_cases g id n dag is))
+    pub plain_reach_at : (n : Node) (k : ℕ) → slice_get g.nodes id ≡ Some n → ((w v : ℕ) → n ≡ Num w v → ⊥) →
+        ((by a : ℕ) → n ≡ Extend by true a → ⊥) → k ≡ width_of g id →
+        reach_up_to m k ≡ reach_of (tree_of g id)
+    plain_reach_at n k is x y e =
+        same_up_to m k _ _ (greatest_read n is) (e ∙ width_at g id n dag is) ∙ reach_read (tree_of g) n x y
+        ∙ sym (ap reach_of (tree_by_cases g id n dag is))
 
 -- ---- where an operation is made of fewer bits
 pub first_no_number : (s t : Tree) → is_some (tree_number s) ≡ false → are_numbers s t ≡ false

@@ -1,6 +1,5 @@
--- How few bits an operation takes. Where its operands are narrower terms, widened, or small numbers,
--- few low bits tell its result, and it is made of as many of theirs. It is decided by top nodes and
--- numbers alone.
+-- How few bits an operation takes. Where its operands are small, or narrower terms that were widened,
+-- few low bits tell its result, and it is made of as many of theirs.
 use Rattle.std.specs.Prelude.{ℕ, ◌+◌, ◌-◌, ◌<◌, ◌==◌, ◌&&◌, ◌||◌, Bool, true, false, is_some, max, min, nat_lt, nat_le, Option, Some, None, if◌then◌else◌}
 use Rattle.std.specs.Int.{leading_zeros, w64}
 use Rattle.bv_dag.specs.BitVectors.{BitVector, bvnot, is_negative}
@@ -9,6 +8,7 @@ use Rattle.bv_dag.specs.declared.nodes.BinaryOp.TheVariants.{Add, Sub, Mul, Udiv
 use Rattle.bv_dag.specs.declared.nodes.Node.{Node}
 use Rattle.bv_dag.specs.declared.nodes.Node.TheVariants.{Neg, Binary, Compare, Ite}
 use Rattle.term_trees.specs.Trees.{Tree, Constant, Widened, tree_width}
+use Rattle.term_simplify.specs.Ends.{ends_of}
 use Rattle.term_simplify.specs.Plain.{masks_nothing, tree_number}
 use Rattle.term_simplify.specs.declared.narrowing.Narrow.{Narrow}
 use Rattle.term_simplify.specs.declared.narrowing.Reach.{Reach}
@@ -25,11 +25,18 @@ number_reach x = record {
   signed = length_of (if is_negative x then (bvnot x).number else x.number) + 1;
 }
 
+-- a term that is no greater than this, and that so many bits tell with sign
+abbrev pub reach_up_to : (greatest bits : ℕ) → Reach
+reach_up_to greatest bits = record {
+  unsigned = length_of greatest;
+  signed = min (length_of greatest + 1) bits;
+}
+
 abbrev pub reach_of : Tree → Reach
 reach_of (Constant w v) = number_reach (record { width = w; number = v })
-reach_of (Widened by false t) = record { unsigned = tree_width t; signed = tree_width t + 1 }
-reach_of (Widened by true t) = record { unsigned = tree_width t + by; signed = tree_width t }
-reach_of t = record { unsigned = tree_width t; signed = tree_width t }
+reach_of (Widened by true t) =
+    reach_up_to (ends_of (Widened by true t)).greatest.number (tree_width t)
+reach_of t = reach_up_to (ends_of t).greatest.number (tree_width t)
 
 -- ---- How many low bits tell a result, from those that tell the operands; 64, as many as a term may
 -- have, where no fewer are known to.

@@ -54,7 +54,21 @@ fn number_reach(x: Word) -> Reach
     }
 }
 
-/// How many low bits tell a term, by its top node.
+/// How many low bits tell a term that is no greater than this, and that so many bits tell with sign.
+fn reach_up_to(greatest: u64, bits: u32) -> Reach
+    requires { bits ≤ 64 }
+    ensures is { result ≡ narrowings.reach_up_to greatest bits }
+    ensures few { result.unsigned ≤ 64 }
+    ensures signed { result.signed ≤ 65 }
+{
+    let unsigned = length_of(greatest);
+    Reach {
+        unsigned,
+        signed: (unsigned + 1).min(bits),
+    }
+}
+
+/// How many low bits tell a term.
 pub(crate) fn reach_of(terms: &Known, id: usize) -> Reach
     requires { id < length terms.now.nodes }
     ensures is { result ≡ narrowings.reach_of (tree_of terms.now id) }
@@ -62,30 +76,19 @@ pub(crate) fn reach_of(terms: &Known, id: usize) -> Reach
     ensures signed { result.signed ≤ 65 }
 {
     let width = terms.width_of(id);
+    let greatest = terms.ends_of(id).greatest.number();
     match terms.node(id) {
         Node::Num { width, value } => number_reach(Word::new(width, value)),
         Node::Extend {
-            signed,
-            operand,
-            ..
+            signed, operand, ..
         } => {
-            let narrow = terms.width_of(operand);
             if signed {
-                Reach {
-                    unsigned: width,
-                    signed: narrow,
-                }
+                reach_up_to(greatest, terms.width_of(operand))
             } else {
-                Reach {
-                    unsigned: narrow,
-                    signed: narrow + 1,
-                }
+                reach_up_to(greatest, width)
             }
         }
-        _ => Reach {
-            unsigned: width,
-            signed: width,
-        },
+        _ => reach_up_to(greatest, width),
     }
 }
 

@@ -157,14 +157,33 @@ pub(crate) const DIVIDENDS: &[Step] = &[
     Gives(Call::Node(Node::Binary(BinaryOp::Urem, 0, 1)), 2),
     Gives(Call::Node(Node::Binary(BinaryOp::Urem, 2, 1)), 2),
     Gives(Call::Node(Node::Num { width: 8, value: 9 }), 3),
-    Gives(Call::Node(Node::Binary(BinaryOp::Urem, 2, 3)), 4),
-    Stands(4, Node::Binary(BinaryOp::Urem, 2, 3)),
+    // Both have 4 bits.
+    Gives(Call::Node(Node::Binary(BinaryOp::Urem, 2, 3)), 7),
+    Stands(
+        4,
+        Node::Extract {
+            high: 3,
+            low: 0,
+            operand: 2,
+        },
+    ),
+    Stands(5, Node::Num { width: 4, value: 9 }),
+    Stands(6, Node::Binary(BinaryOp::Urem, 4, 5)),
+    Stands(
+        7,
+        Node::Extend {
+            by: 4,
+            signed: false,
+            operand: 6,
+        },
+    ),
     // By a term, which is 246 at least.
-    Gives(Call::Node(Node::Not(2)), 5),
-    Gives(Call::Node(Node::Binary(BinaryOp::Urem, 2, 5)), 2),
+    Gives(Call::Node(Node::Not(2)), 8),
+    Gives(Call::Node(Node::Binary(BinaryOp::Urem, 2, 8)), 2),
 ];
 
 /// What a term's least and greatest value tell is known however deep it is: a remainder by 10 is below 10, five choices on.
+/// Each choice is made of four bits.
 pub(crate) const DEEP: &[Step] = &[
     Gives(X, 0),
     Gives(
@@ -184,30 +203,6 @@ pub(crate) const DEEP: &[Step] = &[
             yes: 2,
             no: 5,
         }),
-        6,
-    ),
-    Gives(
-        Call::Node(Node::Ite {
-            condition: 4,
-            yes: 6,
-            no: 5,
-        }),
-        7,
-    ),
-    Gives(
-        Call::Node(Node::Ite {
-            condition: 4,
-            yes: 7,
-            no: 5,
-        }),
-        8,
-    ),
-    Gives(
-        Call::Node(Node::Ite {
-            condition: 4,
-            yes: 8,
-            no: 5,
-        }),
         9,
     ),
     Gives(
@@ -216,8 +211,34 @@ pub(crate) const DEEP: &[Step] = &[
             yes: 9,
             no: 5,
         }),
-        10,
+        11,
     ),
-    Gives(Call::Node(Node::Compare(Comparison::Ult, 10, 1)), 11),
-    Stands(11, Node::Num { width: 1, value: 1 }),
+    Gives(
+        Call::Node(Node::Ite {
+            condition: 4,
+            yes: 11,
+            no: 5,
+        }),
+        13,
+    ),
+    Gives(
+        Call::Node(Node::Ite {
+            condition: 4,
+            yes: 13,
+            no: 5,
+        }),
+        15,
+    ),
+    Gives(
+        Call::Node(Node::Ite {
+            condition: 4,
+            yes: 15,
+            no: 5,
+        }),
+        18,
+    ),
+    // The number 1 of four bits stood too far back to be found.
+    Stands(16, Node::Num { width: 4, value: 1 }),
+    Gives(Call::Node(Node::Compare(Comparison::Ult, 18, 1)), 19),
+    Stands(19, Node::Num { width: 1, value: 1 }),
 ];
