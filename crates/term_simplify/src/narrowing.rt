@@ -80,7 +80,9 @@ pub(crate) fn reach_of(terms: &Known, id: usize) -> Reach
     match terms.node(id) {
         Node::Num { width, value } => number_reach(Word::new(width, value)),
         Node::Extend {
-            signed, operand, ..
+            signed,
+            operand,
+            ..
         } => {
             if signed {
                 reach_up_to(greatest, terms.width_of(operand))
