@@ -30,7 +30,7 @@ use Rattle.text_parts.proofs.Tests.{lt_from}
 use Rattle.text_parts.proofs.Words.{behind_word, from_behind, from_named, from_number, number_back, starts_plain}
 use Rattle.tree_core.specs.declared.cause.Cause.{Cause}
 use Rattle.tree_core.specs.declared.choice.Choice.{Choice}
-use Rattle.cert_text.specs.Certificates.{blank_region}
+use Rattle.cert_text.specs.Texts.{blank_region}
 use Rattle.cert_text.specs.Legible.{IsSmallRegion}
 use Rattle.cert_text.specs.LineReading.{all, region, region_from}
 use Rattle.cert_text.proofs.Listed.{all_back, from_all}

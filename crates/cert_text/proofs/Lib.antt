@@ -1,4 +1,3 @@
-mod Increasing
 mod Listed
 mod BytesBack
 mod ItemsBack

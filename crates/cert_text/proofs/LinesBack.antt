@@ -4,7 +4,10 @@ use Rattle.std.specs.Prelude.{All, if◌then◌else◌, option_and_then}
 use Rattle.std.specs.List.{flat_map, list_all}
 use Rattle.std.proofs.lemmas.Bool.Decides.{nat_tests}
 use Rattle.std.proofs.lemmas.List.Elements.{All-head, All-tail}
-use Rattle.cnf_form.specs.Clauses.{IsClause}
+use Rattle.cert_form.specs.declared.cert.Limits.{Limits}
+use Rattle.cert_form.specs.declared.line.CertLine.{CertLine}
+use Rattle.cert_form.specs.declared.line.CertLine.TheVariants.{One, Split, Tried, Inputs, Nodes, Logic, Input, Base, Node, Assert, Check, Exit, Clause, Value, Witness, End, CutSteps, CutNodes}
+use Rattle.cnf_form.specs.Clauses.{IsClause, rise_above}
 use Rattle.cnf_form.specs.Literals.{Literal}
 use Rattle.cnf_form.specs.Refutations.{Step}
 use Rattle.hex.specs.Hex.{encode_lower}
@@ -18,15 +21,12 @@ use Rattle.text_parts.specs.Pieces.{behind, made, named, number, one, plain_numb
 use Rattle.text_parts.proofs.ItemsBack.{choice_back, eight_back}
 use Rattle.text_parts.proofs.Joined.{five_pieces, three_pieces}
 use Rattle.text_parts.proofs.Words.{behind_word, one_back, starts_plain, three_back}
-use Rattle.cert_text.specs.declared.cert.Limits.{Limits}
-use Rattle.cert_text.specs.Certificates.{TextLine, FormatLine, RegionsLine, BudgetsLine, WalkLine, blank_region, text_of}
+use Rattle.cert_text.specs.Texts.{TextLine, FormatLine, RegionsLine, BudgetsLine, WalkLine, blank_region, text_of}
 use Rattle.cert_text.specs.Legible.{AreInput, AreSmallLimits, IsLegibleLine, MayStand}
-use Rattle.cert_text.specs.LineReading.{budgets_line, clause_read, input_line, kind_at, line_behind, line_of, rise_above, walk_line, worded_input}
+use Rattle.cert_text.specs.LineReading.{budgets_line, clause_read, input_line, kind_at, line_behind, line_of, walk_line, worded_input}
 use Rattle.cert_text.specs.Lines.{input_text, line_text}
 use Rattle.cert_text.specs.declared.kind.LineKind.{LineKind}
 use Rattle.cert_text.specs.declared.kind.LineKind.TheVariants as kind
-use Rattle.cert_text.specs.declared.line.CertLine.{CertLine}
-use Rattle.cert_text.specs.declared.line.CertLine.TheVariants.{One, Split, Tried, Inputs, Nodes, Logic, Input, Base, Node, Assert, Check, Exit, Clause, Value, Witness, End, CutSteps, CutNodes}
 use Rattle.cert_text.proofs.BytesBack.{input_back}
 use Rattle.cert_text.proofs.ItemsBack.{hints_back, literals_back, regions_back, sides_back, word_true}
 
@@ -41,7 +41,7 @@ kind_of (Nodes nodes) = kind.Nodes
 kind_of Logic = kind.Logic
 kind_of (Input i) = kind.Declare
 kind_of Base = kind.Declare
-kind_of (Node said) = kind.Node
+kind_of (Node defined) = kind.Node
 kind_of (Assert id) = kind.Assert
 kind_of Check = kind.Check
 kind_of Exit = kind.Exit
@@ -75,7 +75,7 @@ kind_named (Nodes nodes) rest = refl
 kind_named Logic rest = refl
 kind_named (Input i) rest = refl
 kind_named Base rest = refl
-kind_named (Node said) rest = refl
+kind_named (Node defined) rest = refl
 kind_named (Assert id) rest = refl
 kind_named Check rest = refl
 kind_named Exit rest = refl
@@ -143,8 +143,8 @@ of_kind Logic rest small = rw (behind_word (line_text Logic) rest) refl
 of_kind (Input i) rest small =
     rw (numbered_back Input (codes "(declare-fun b") (codes " () (_ BitVec 8))\n") i rest small refl) refl
 of_kind Base rest small = rw (no_input rest, behind_word (line_text Base) rest) refl
-of_kind (Node said) rest small =
-    rw (node_line_back said.id said.width said.node rest small.0 small.1 small.2) refl
+of_kind (Node defined) rest small =
+    rw (node_line_back defined.id defined.width defined.node rest small.0 small.1 small.2) refl
 of_kind (Assert id) rest small =
     numbered_back Assert (codes "(assert (= n") (codes " (_ bv1 1)))\n") id rest small refl
 of_kind Check rest small = rw (behind_word (line_text Check) rest) refl

@@ -4,15 +4,17 @@ use Rattle.std.specs.Prelude.{All, if◌then◌else◌, option_and_then}
 use Rattle.std.specs.List.{flat_map, list_all}
 use Rattle.std.proofs.lemmas.Bool.{and_parts}
 use Rattle.std.proofs.lemmas.Option.{same_Some}
-use Rattle.cnf_form.specs.Clauses.{are_increasing}
+use Rattle.cert_form.specs.declared.cert.Limits.{Limits}
+use Rattle.cert_form.specs.declared.line.CertLine.{CertLine}
+use Rattle.cert_form.specs.declared.line.CertLine.TheVariants.{One, Split, Tried, Inputs, Nodes, Logic, Input, Base, Node, Assert, Check, Exit, Clause, Value, Witness, End, CutSteps, CutNodes}
+use Rattle.cert_form.specs.declared.node_line.DefinedNode.{DefinedNode}
+use Rattle.cnf_form.specs.Clauses.{are_increasing, rise_above}
 use Rattle.cnf_form.specs.Literals.{Literal}
 use Rattle.cnf_form.specs.Refutations.{Step}
 use Rattle.elf_load.specs.declared.region.Region.{Region}
 use Rattle.fork_spec.specs.Evidence.{Found}
 use Rattle.fork_spec.specs.Leaves.{IsSmall}
 use Rattle.hex.specs.Hex.{encode_lower}
-use Rattle.leaf_reader.specs.ReadingState.{line_said}
-use Rattle.leaf_reader.specs.declared.take_terms.NodeSaid.{NodeSaid}
 use Rattle.leaf_reader.proofs.ItemsFrom.{from_choice, from_eight}
 use Rattle.leaf_reader.proofs.LinesFrom.{from_node_line, made_from, word_from}
 use Rattle.leaf_reader.proofs.TermsSmall.{IsSmallNodeLine, node_line_small, word_small}
@@ -29,15 +31,12 @@ use Rattle.text_parts.specs.Pieces.{before, behind, eight, made, one, three}
 use Rattle.text_parts.proofs.Joined.{five_pieces, three_pieces}
 use Rattle.text_parts.proofs.Options.{map_from, or_from, then_from}
 use Rattle.text_parts.proofs.Words.{from_before, from_behind, from_one, from_three}
-use Rattle.cert_text.specs.declared.cert.Limits.{Limits}
-use Rattle.cert_text.specs.Certificates.{RegionsLine, BudgetsLine, blank_region, text_of}
+use Rattle.cert_text.specs.Texts.{RegionsLine, BudgetsLine, blank_region, text_of}
 use Rattle.cert_text.specs.Legible.{AreInput, AreSmallLimits, IsLegibleLine, IsSmallRegion}
-use Rattle.cert_text.specs.LineReading.{all, budgets_line, budgets_of, budgets_read, clause_read, fixed_line, found_from, hints_read, input_line, input_to_end, kind_at, line_of, node_read, region, regions_line, rise_above, said_in, value_read, walk_line, worded_input}
-use Rattle.cert_text.specs.Lines.{input_text, line_text}
+use Rattle.cert_text.specs.LineReading.{all, budgets_line, budgets_of, budgets_read, clause_read, defined_in, fixed_line, found_from, hints_read, input_line, input_to_end, kind_at, line_of, node_read, region, regions_line, value_read, walk_line, worded_input}
+use Rattle.cert_text.specs.Lines.{input_text, line_defining, line_text}
 use Rattle.cert_text.specs.declared.kind.LineKind.{LineKind}
 use Rattle.cert_text.specs.declared.kind.LineKind.TheVariants as kind
-use Rattle.cert_text.specs.declared.line.CertLine.{CertLine}
-use Rattle.cert_text.specs.declared.line.CertLine.TheVariants.{One, Split, Tried, Inputs, Nodes, Logic, Input, Base, Node, Assert, Check, Exit, Clause, Value, Witness, End, CutSteps, CutNodes}
 use Rattle.cert_text.proofs.BytesBack.{from_input}
 use Rattle.cert_text.proofs.ItemsBack.{from_hints, from_literals, from_regions, from_sides}
 use Rattle.cert_text.proofs.LinesBack.{budget_pieces, clause_pieces}
@@ -112,36 +111,36 @@ from_split text line rest h =
       d.1,
     )
 
-from_said : (line : LeafLine) (said : NodeSaid) → said_in line ≡ Some said → line ≡ line_said said
-from_said (NodeLine id width node) said h =
-    ap line_said (same_Some (record { id = id; width = width; node = node }) said h)
-from_said FormatLine said h = cc
-from_said (KindLine kind) said h = cc
-from_said (ChoicesLine choices) said h = cc
-from_said (PathLine path) said h = cc
-from_said (StepsLine steps) said h = cc
-from_said (EndLine word) said h = cc
-from_said (InputsLine n) said h = cc
-from_said (NodesLine n) said h = cc
-from_said (OutputsLine n) said h = cc
-from_said LogicLine said h = cc
-from_said (InputLine i) said h = cc
-from_said BaseLine said h = cc
-from_said (StatusLine id) said h = cc
-from_said (OutputLine i id) said h = cc
-from_said (AssertLine id) said h = cc
-from_said CheckLine said h = cc
-from_said ExitLine said h = cc
+from_defined : (line : LeafLine) (defined : DefinedNode) → defined_in line ≡ Some defined → line ≡ line_defining defined
+from_defined (NodeLine id width node) defined h =
+    ap line_defining (same_Some (record { id = id; width = width; node = node }) defined h)
+from_defined FormatLine defined h = cc
+from_defined (KindLine kind) defined h = cc
+from_defined (ChoicesLine choices) defined h = cc
+from_defined (PathLine path) defined h = cc
+from_defined (StepsLine steps) defined h = cc
+from_defined (EndLine word) defined h = cc
+from_defined (InputsLine n) defined h = cc
+from_defined (NodesLine n) defined h = cc
+from_defined (OutputsLine n) defined h = cc
+from_defined LogicLine defined h = cc
+from_defined (InputLine i) defined h = cc
+from_defined BaseLine defined h = cc
+from_defined (StatusLine id) defined h = cc
+from_defined (OutputLine i id) defined h = cc
+from_defined (AssertLine id) defined h = cc
+from_defined CheckLine defined h = cc
+from_defined ExitLine defined h = cc
 
 from_node : (text : List ℕ) (line : CertLine) (rest : List ℕ) → made Node (node_read text) ≡ Some (line, rest) → IsLine text line rest
 from_node text line rest h =
     let a = made_from Node (node_read text) line rest h in
-    let b = then_from (λ ((l, r) : LeafLine × List ℕ). option_map (λ (said : NodeSaid). (said, r)) (said_in l)) (node_line text) (a.0, rest) a.1 in
-    let d = map_from (λ (said : NodeSaid). (said, b.0.1)) (said_in b.0.0) (a.0, rest) b.2 in
-    let said : b.0.0 ≡ line_said a.0 = from_said b.0.0 d.0 d.1 ∙ ap (λ (p : NodeSaid × List ℕ). line_said p.0) d.2 in
-    let small : IsSmallNodeLine (line_said a.0) = subst IsSmallNodeLine said (node_line_small text b.0.0 b.0.1 b.1) in
+    let b = then_from (λ ((l, r) : LeafLine × List ℕ). option_map (λ (defined : DefinedNode). (defined, r)) (defined_in l)) (node_line text) (a.0, rest) a.1 in
+    let d = map_from (λ (defined : DefinedNode). (defined, b.0.1)) (defined_in b.0.0) (a.0, rest) b.2 in
+    let same : b.0.0 ≡ line_defining a.0 = from_defined b.0.0 d.0 d.1 ∙ ap (λ (p : DefinedNode × List ℕ). line_defining p.0) d.2 in
+    let small : IsSmallNodeLine (line_defining a.0) = subst IsSmallNodeLine same (node_line_small text b.0.0 b.0.1 b.1) in
     same_line text (Node a.0) line rest a.2 (
-      from_node_line text b.0.0 b.0.1 b.1 ∙ ap (λ (l : LeafLine). leaf.line_text l ++ b.0.1) said ∙ ap (λ (p : NodeSaid × List ℕ). leaf.line_text (line_said a.0) ++ p.1) d.2,
+      from_node_line text b.0.0 b.0.1 b.1 ∙ ap (λ (l : LeafLine). leaf.line_text l ++ b.0.1) same ∙ ap (λ (p : DefinedNode × List ℕ). leaf.line_text (line_defining a.0) ++ p.1) d.2,
       small,
     )
 

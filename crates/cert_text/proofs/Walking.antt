@@ -6,14 +6,15 @@ use Rattle.std.proofs.lemmas.Grind.{flat_map-append}
 use Rattle.std.proofs.lemmas.List.{nil_from_length}
 use Rattle.std.proofs.lemmas.List.Elements.{All-append, All-cons, All-nil}
 use Rattle.std.proofs.lemmas.Option.{none-some}
-use Rattle.cert_text.specs.Certificates.{Certificate, FormatLine, RegionsLine, BudgetsLine, WalkLine, cert_text, lines_text, text_of}
+use Rattle.cert_form.specs.Certificates.{Certificate}
+use Rattle.cert_form.specs.declared.line.CertLine.{CertLine}
+use Rattle.cert_form.specs.declared.line.CertLine.TheVariants.{One, Split, Tried, Inputs, Nodes, Logic, Input, Base, Node, Assert, Check, Exit, Clause, Value, Witness, End, CutSteps, CutNodes}
+use Rattle.cert_text.specs.Texts.{FormatLine, RegionsLine, BudgetsLine, WalkLine, cert_text, lines_text, text_of}
 use Rattle.cert_text.specs.Legible.{IsLegibleLine}
 use Rattle.cert_text.specs.LineReading.{walk_line}
 use Rattle.cert_text.specs.Lines.{line_text}
 use Rattle.cert_text.specs.Parts.{AreRead, IsRefusedBehind}
 use Rattle.cert_text.specs.Refusals.{BeginsWithNone}
-use Rattle.cert_text.specs.declared.line.CertLine.{CertLine}
-use Rattle.cert_text.specs.declared.line.CertLine.TheVariants.{One, Split, Tried, Inputs, Nodes, Logic, Input, Base, Node, Assert, Check, Exit, Clause, Value, Witness, End, CutSteps, CutNodes}
 use Rattle.cert_text.proofs.LinesBack.{walk_back}
 use Rattle.cert_text.proofs.LinesFrom.{from_walk}
 
@@ -27,7 +28,7 @@ some_line (Nodes nodes) = omega arith
 some_line Logic = omega arith
 some_line (Input i) = omega arith
 some_line Base = omega arith
-some_line (Node said) = omega arith
+some_line (Node defined) = omega arith
 some_line (Assert id) = omega arith
 some_line Check = omega arith
 some_line Exit = omega arith

@@ -5,16 +5,17 @@ use Rattle.std.proofs.lemmas.Grind.{flat_map-append}
 use Rattle.std.proofs.lemmas.List.{length-map}
 use Rattle.std.proofs.lemmas.List.Elements.{All-head, All-tail}
 use Rattle.std.proofs.lemmas.Option.{none-some, same_Some}
+use Rattle.cert_form.specs.Certificates.{Certificate}
+use Rattle.cert_form.specs.declared.cert.Limits.{Limits}
+use Rattle.cert_form.specs.declared.line.CertLine.{CertLine}
 use Rattle.elf_load.specs.declared.region.Region.{Region}
-use Rattle.cert_text.specs.declared.cert.Limits.{Limits}
 use Rattle.text_parts.specs.Pieces.{behind}
 use Rattle.text_parts.proofs.Words.{from_behind}
-use Rattle.cert_text.specs.Certificates.{Certificate, TextLine, FormatLine, RegionsLine, BudgetsLine, WalkLine, cert_text, lines_of, lines_text, text_of}
+use Rattle.cert_text.specs.Texts.{TextLine, FormatLine, RegionsLine, BudgetsLine, WalkLine, cert_text, lines_of, lines_text, text_of}
 use Rattle.cert_text.specs.Legible.{AreSmallLimits, IsLegible, IsLegibleLine, IsSmallRegion}
 use Rattle.cert_text.specs.LineReading.{budgets_line, line_behind, regions_line}
 use Rattle.cert_text.specs.Parts.{AreRead, HasHeading, IsRefusedBehind}
 use Rattle.cert_text.specs.Refusals.{AllStand, BeginsWithNone, EndsEarly, GoesOnOtherwise, IsRefusedAt}
-use Rattle.cert_text.specs.declared.line.CertLine.{CertLine}
 use Rattle.cert_text.proofs.LinesBack.{line_back}
 use Rattle.cert_text.proofs.LinesFrom.{from_budgets_line, from_regions_line}
 use Rattle.cert_text.proofs.Walking.{some_line, walk_text}

@@ -1,15 +1,16 @@
 -- Certificates that their texts tell from all others: those of which each number, choice and byte has a text of its own.
 use Rattle.std.specs.Prelude.{◌≡◌, ℕ, zero, suc, ◌<◌, All, List}
+use Rattle.cert_form.specs.Certificates.{Certificate}
+use Rattle.cert_form.specs.declared.cert.Limits.{Limits}
+use Rattle.cert_form.specs.declared.line.CertLine.{CertLine}
+use Rattle.cert_form.specs.declared.line.CertLine.TheVariants.{One, Split, Inputs, Nodes, Input, Node, Assert, Clause, Value, Witness, End, CutSteps}
 use Rattle.cnf_form.specs.Clauses.{IsClause}
 use Rattle.elf_load.specs.declared.region.Region.{Region}
 use Rattle.fork_spec.specs.Leaves.{IsCount, IsSmall, IsSmallChoice}
 use Rattle.fork_spec.specs.Walks.{Side}
 use Rattle.smt_text.specs.NodeText.{IsSmallNode}
 use Rattle.spent_text.specs.Legible.{HasSmallNumbers, IsLegibleFound}
-use Rattle.cert_text.specs.declared.cert.Limits.{Limits}
-use Rattle.cert_text.specs.Certificates.{Certificate, TextLine, FormatLine, RegionsLine, BudgetsLine, WalkLine}
-use Rattle.cert_text.specs.declared.line.CertLine.{CertLine}
-use Rattle.cert_text.specs.declared.line.CertLine.TheVariants.{One, Split, Inputs, Nodes, Input, Node, Assert, Clause, Value, Witness, End, CutSteps}
+use Rattle.cert_text.specs.Texts.{TextLine, FormatLine, RegionsLine, BudgetsLine, WalkLine}
 
 -- bytes
 abbrev pub AreInput : List ℕ → Type 0
@@ -22,7 +23,8 @@ IsLegibleLine (Split sides) = All (λ (side : Side). IsSmallChoice side.choice) 
 IsLegibleLine (Inputs inputs) = IsSmall inputs
 IsLegibleLine (Nodes nodes) = IsCount nodes
 IsLegibleLine (Input i) = IsCount i
-IsLegibleLine (Node said) = IsCount said.id × IsCount said.width × IsSmallNode said.node
+IsLegibleLine (Node defined) =
+    IsCount defined.id × IsCount defined.width × IsSmallNode defined.node
 IsLegibleLine (Assert id) = IsCount id
 IsLegibleLine (Clause step) = IsClause step.clause × HasSmallNumbers step
 IsLegibleLine (Value found) = IsLegibleFound found

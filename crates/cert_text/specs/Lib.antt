@@ -1,5 +1,5 @@
 pub mod Lines
-pub mod Certificates
+pub mod Texts
 pub mod Legible
 pub mod LineReading
 pub mod Refusals

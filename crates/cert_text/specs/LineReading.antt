@@ -1,25 +1,24 @@
 -- The line that a text begins with, at each place of a certificate's text.
-use Rattle.std.specs.Prelude.{ℕ, zero, suc, ◌+◌, ◌-◌, ◌*◌, Bool, ◌&&◌, nat_le, nat_lt, if◌then◌else◌, List, [], ◌∷◌, Option, None, Some, codes, length, option_map, option_and_then}
-use Rattle.std.specs.List.{list_all}
+use Rattle.std.specs.Prelude.{ℕ, zero, suc, ◌+◌, ◌-◌, ◌*◌, ◌&&◌, nat_le, if◌then◌else◌, List, [], ◌∷◌, Option, None, Some, codes, length, option_map, option_and_then}
 use Rattle.std.specs.Option.{option_or}
-use Rattle.cnf_form.specs.Clauses.{are_increasing}
+use Rattle.cert_form.specs.declared.cert.Limits.{Limits}
+use Rattle.cert_form.specs.declared.line.CertLine.{CertLine}
+use Rattle.cert_form.specs.declared.line.CertLine.TheVariants.{One, Split, Tried, Inputs, Nodes, Logic, Input, Base, Node, Assert, Check, Exit, Clause, Value, Witness, End, CutSteps, CutNodes}
+use Rattle.cert_form.specs.declared.node_line.DefinedNode.{DefinedNode}
+use Rattle.cnf_form.specs.Clauses.{rise_above}
 use Rattle.cnf_form.specs.Literals.{Literal}
 use Rattle.cnf_form.specs.Refutations.{Step}
 use Rattle.elf_load.specs.declared.region.Region.{Region}
 use Rattle.fork_spec.specs.Evidence.{Found}
-use Rattle.leaf_reader.specs.declared.take_terms.NodeSaid.{NodeSaid}
 use Rattle.smt_text.specs.LineReading.{assertion_said, count_to_end, if_word, node_line}
 use Rattle.smt_text.specs.Lines.{LeafLine, NodeLine}
 use Rattle.spent_text.specs.LineReading.{hint, literal, side}
 use Rattle.text_parts.specs.Items.{choice}
 use Rattle.text_parts.specs.Pieces.{Reader, before, behind, eight, made, named, number, one, three}
-use Rattle.cert_text.specs.declared.cert.Limits.{Limits}
-use Rattle.cert_text.specs.Certificates.{TextLine, FormatLine, RegionsLine, BudgetsLine, WalkLine, text_of}
+use Rattle.cert_text.specs.Texts.{TextLine, FormatLine, RegionsLine, BudgetsLine, WalkLine, text_of}
 use Rattle.cert_text.specs.Lines.{line_text}
 use Rattle.cert_text.specs.declared.kind.LineKind.{LineKind}
 use Rattle.cert_text.specs.declared.kind.LineKind.TheVariants as kind
-use Rattle.cert_text.specs.declared.line.CertLine.{CertLine}
-use Rattle.cert_text.specs.declared.line.CertLine.TheVariants.{One, Split, Tried, Inputs, Nodes, Logic, Input, Base, Node, Assert, Check, Exit, Clause, Value, Witness, End, CutSteps, CutNodes}
 
 -- ---- lists
 
@@ -56,19 +55,14 @@ input_to_end text = all byte (codes "\n") text
 -- ---- what stands behind the words of lines
 
 -- a node with its number and its width
-abbrev pub said_in : LeafLine → Option NodeSaid
-said_in (NodeLine id width node) = Some (record { id = id; width = width; node = node })
-said_in _ = None
+abbrev pub defined_in : LeafLine → Option DefinedNode
+defined_in (NodeLine id width node) = Some (record { id = id; width = width; node = node })
+defined_in _ = None
 
-abbrev pub node_read : Reader NodeSaid
+abbrev pub node_read : Reader DefinedNode
 node_read text =
-    option_and_then (λ (line, rest). option_map (λ said. (said, rest)) (said_in line))
+    option_and_then (λ (line, rest). option_map (λ defined. (defined, rest)) (defined_in line))
     (node_line text)
-
--- whether the variables are above a number, and increase
-abbrev pub rise_above : ℕ → List Literal → Bool
-rise_above n literals =
-    list_all (λ (l : Literal). nat_lt n l.variable) literals && are_increasing literals
 
 -- the hints behind the literals of a clause, which is one if its variables are from 1 on and increase
 abbrev pub hints_read : List Literal → Reader Step

@@ -1,19 +1,23 @@
 -- The lines of a certificate's walk.
 use Rattle.std.specs.Prelude.{ℕ, List, ◌++◌, codes}
+use Rattle.cert_form.specs.declared.line.CertLine.{CertLine}
+use Rattle.cert_form.specs.declared.line.CertLine.TheVariants.{One, Split, Tried, Inputs, Nodes, Logic, Input, Base, Node, Assert, Check, Exit, Clause, Value, Witness, End, CutSteps, CutNodes}
+use Rattle.cert_form.specs.declared.node_line.DefinedNode.{DefinedNode}
 use Rattle.hex.specs.Hex.{encode_lower}
-use Rattle.leaf_reader.specs.ReadingState.{line_said}
-use Rattle.smt_text.specs.Lines.{InputsLine, NodesLine, LogicLine, InputLine, BaseLine, AssertLine, CheckLine, ExitLine}
+use Rattle.smt_text.specs.Lines.{LeafLine, InputsLine, NodesLine, LogicLine, InputLine, BaseLine, NodeLine, AssertLine, CheckLine, ExitLine}
 use Rattle.smt_text.specs.Lines as leaf
 use Rattle.spent_text.specs.FoundLine.{found_text}
 use Rattle.spent_text.specs.LearntLine.{learnt_line}
 use Rattle.spent_text.specs.Sides.{sides_text}
 use Rattle.text_parts.specs.Names.{choice_text}
-use Rattle.cert_text.specs.declared.line.CertLine.{CertLine}
-use Rattle.cert_text.specs.declared.line.CertLine.TheVariants.{One, Split, Tried, Inputs, Nodes, Logic, Input, Base, Node, Assert, Check, Exit, Clause, Value, Witness, End, CutSteps, CutNodes}
 
 -- the bytes of an assignment behind a word
 abbrev pub input_text : (word input : List ℕ) → List ℕ
 input_text word input = word ++ encode_lower input ++ codes "\n"
+
+-- the line that defines a node
+abbrev pub line_defining : DefinedNode → LeafLine
+line_defining defined = NodeLine defined.id defined.width defined.node
 
 -- a line, with its line feed
 abbrev pub line_text : CertLine → List ℕ
@@ -25,7 +29,7 @@ line_text (Nodes nodes) = leaf.line_text (NodesLine nodes)
 line_text Logic = leaf.line_text LogicLine
 line_text (Input i) = leaf.line_text (InputLine i)
 line_text Base = leaf.line_text BaseLine
-line_text (Node said) = leaf.line_text (line_said said)
+line_text (Node defined) = leaf.line_text (line_defining defined)
 line_text (Assert id) = leaf.line_text (AssertLine id)
 line_text Check = leaf.line_text CheckLine
 line_text Exit = leaf.line_text ExitLine

@@ -1,13 +1,13 @@
 -- The heading and the walk, as they are read one behind the other.
 use Rattle.std.specs.Prelude.{◌≡◌, ◌≢◌, ℕ, suc, ◌+◌, List, ◌∷◌, [], ◌++◌, All, length}
 use Rattle.std.specs.List.{flat_map}
+use Rattle.cert_form.specs.declared.cert.Limits.{Limits}
+use Rattle.cert_form.specs.declared.line.CertLine.{CertLine}
 use Rattle.elf_load.specs.declared.region.Region.{Region}
-use Rattle.cert_text.specs.declared.cert.Limits.{Limits}
-use Rattle.cert_text.specs.Certificates.{FormatLine, RegionsLine, BudgetsLine, lines_text}
+use Rattle.cert_text.specs.Texts.{FormatLine, RegionsLine, BudgetsLine, lines_text}
 use Rattle.cert_text.specs.Legible.{AreSmallLimits, IsLegibleLine, IsSmallRegion}
 use Rattle.cert_text.specs.Lines.{line_text}
 use Rattle.cert_text.specs.Refusals.{BeginsWithNone}
-use Rattle.cert_text.specs.declared.line.CertLine.{CertLine}
 
 -- the text is a heading of these, and the rest
 pub record HasHeading (text : List ℕ) (regions : List Region) (budgets : Limits)

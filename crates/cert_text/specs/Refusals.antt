@@ -1,6 +1,6 @@
 -- Which texts are refused as certificates, and at which line.
 use Rattle.std.specs.Prelude.{◌≡◌, ◌≢◌, ◌⊎◌, ℕ, suc, ◌+◌, ◌<◌, List, [], ◌∷◌, ◌++◌, length}
-use Rattle.cert_text.specs.Certificates.{TextLine, lines_text, text_of}
+use Rattle.cert_text.specs.Texts.{TextLine, lines_text, text_of}
 use Rattle.cert_text.specs.Legible.{MayStand}
 
 -- each line may stand where it does, the first behind so many others

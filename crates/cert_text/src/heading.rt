@@ -3,8 +3,8 @@
 ghost use Rattle.std.specs.Prelude.{◌≡◌, IfOk, option_map};
 ghost use Rattle.cert_text.specs.LineReading as spec;
 
-use crate::cert::Limits;
 use crate::lists::take_all;
+use cert_form::Limits;
 use elf_load::Regions;
 use leaf_reader::{behind, one, three};
 use std::alloc::{AllocError as NoMemory, Global};

@@ -4,8 +4,8 @@ ghost use Rattle.std.specs.Prelude.{◌≡◌, option_and_then, option_map};
 ghost use Rattle.spent_text.specs.LineReading as spent;
 ghost use Rattle.cert_text.specs.LineReading as spec;
 
-use crate::line::Side;
 use crate::lists::Item;
+use cert_form::Side;
 use cnf_form::Lit;
 use elf_load::Region;
 use leaf_reader::{behind, eight, named, number, take_choice};

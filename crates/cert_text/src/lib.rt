@@ -2,17 +2,13 @@
 //! line that may not stand.
 #![tactic(auto)]
 
-mod cert;
 mod heading;
 mod items;
 mod kind;
-mod line;
 mod lists;
 mod printing;
 mod reading;
 mod walk;
 
-pub use cert::{Cert, Limits};
-pub use line::{CertLine, LearntClause, NodeLine, Side, Sides};
 pub use printing::print_cert;
 pub use reading::{CertRefused, read_cert};

@@ -2,22 +2,19 @@
 
 ghost use Rattle.std.specs.Prelude.{◌≡◌, ◌++◌, IfOk, OnOk, string_bytes};
 ghost use Rattle.std.specs.List.{flat_map};
+ghost use Rattle.cert_form.specs.declared.line.CertLine.TheVariants as walk;
 ghost use Rattle.spent_text.specs.Sides.{sides_text};
 ghost use Rattle.smt_text.specs.Lines as leaf;
 ghost use Rattle.smt_text.specs.Lines.{AssertLine, InputLine, InputsLine, NodesLine};
-ghost use Rattle.leaf_reader.specs.ReadingState.{line_said};
-ghost use Rattle.cert_text.specs.Certificates.{BudgetsLine, FormatLine, RegionsLine, blank_region, cert_text, text_of};
-ghost use Rattle.cert_text.specs.Lines.{input_text, line_text};
-ghost use Rattle.cert_text.specs.declared.line.CertLine.TheVariants as walk;
+ghost use Rattle.cert_text.specs.Texts.{BudgetsLine, FormatLine, RegionsLine, blank_region, cert_text, text_of};
+ghost use Rattle.cert_text.specs.Lines.{input_text, line_defining, line_text};
 
-use crate::cert::{Cert, Limits};
-use crate::line::{CertLine, Side};
 use byte_list::Bytes;
+use cert_form::{Cert, CertLine, DefinedNode, Limits, Side};
 use elf_load::Region;
 use leaf_part::Found;
-use leaf_reader::NodeSaid;
 use smt_text::{write_assert_line, write_input_line, write_node_line};
-use spent_text::{found_line, write_clause_line, write_side};
+use spent_text::{found_line, write_learnt_line, write_side};
 use std::alloc::{AllocError as NoMemory, Global};
 use text_parts::{push_numbered, write_choice};
 use tree_core::Choice;
@@ -106,11 +103,11 @@ fn write_nodes(text: &mut String, nodes: u64) -> Result<(), NoMemory>
 }
 
 /// Appends the line of a node.
-fn write_node(text: &mut String, said: NodeSaid) -> Result<(), NoMemory>
+fn write_node(text: &mut String, defined: DefinedNode) -> Result<(), NoMemory>
     ensures { OnOk result (string_bytes text.new
-        ≡ string_bytes text.old ++ leaf.line_text (line_said said)) }
+        ≡ string_bytes text.old ++ leaf.line_text (line_defining defined)) }
 {
-    write_node_line(text, said.id as usize, said.width, said.node)
+    write_node_line(text, defined.id as usize, defined.width, defined.node)
 }
 
 /// Appends the line of a value.
@@ -148,11 +145,11 @@ fn write_line(alloc: Global, text: &mut String, line: &CertLine) -> Result<(), N
         CertLine::Base => {
             text.push_str("(declare-fun base () (Array (_ BitVec 8) (_ BitVec 8)))\n")
         }
-        CertLine::Node(node) => write_node(text, node.said()),
+        CertLine::Node(node) => write_node(text, node.defined()),
         CertLine::Assert(id) => write_assert_line(text, *id as usize),
         CertLine::Check => text.push_str("(check-sat)\n"),
         CertLine::Exit => text.push_str("(exit)\n"),
-        CertLine::Clause(clause) => write_clause_line(text, clause.literals(), clause.hints()),
+        CertLine::Clause(clause) => write_learnt_line(text, clause.step()),
         CertLine::Value(found) => write_value(alloc, text, found),
         CertLine::Witness(input) => write_input(alloc, text, "w ", input),
         CertLine::End(input) => write_input(alloc, text, "end ", input),

@@ -1,15 +1,15 @@
 //! Reading a certificate.
 
 ghost use Rattle.std.specs.Prelude.{◌≡◌, IfErr, IfOk, Ok};
-ghost use Rattle.cert_text.specs.Certificates.{Certificate, cert_text};
+ghost use Rattle.cert_form.specs.Certificates.{Certificate};
+ghost use Rattle.cert_text.specs.Texts.{cert_text};
 ghost use Rattle.cert_text.specs.Legible.{IsLegible};
 ghost use Rattle.cert_text.specs.Refusals.{IsRefusedAt};
 ghost use Rattle.cert_text.specs.Parts.{AreRead, HasHeading, IsRefusedBehind};
 
-use crate::cert::{Cert, Limits};
 use crate::heading::{take_budgets, take_regions};
-use crate::line::CertLine;
 use crate::walk::take_line;
+use cert_form::{Cert, CertLine, Limits};
 use elf_load::Regions;
 use leaf_reader::behind;
 use std::alloc::{AllocError as NoMemory, Global};

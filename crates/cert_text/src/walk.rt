@@ -5,14 +5,12 @@ ghost use Rattle.cert_text.specs.LineReading as spec;
 ghost use Rattle.cert_text.specs.declared.kind.LineKind.TheVariants as kind;
 
 use crate::kind::LineKind;
-use crate::line::{CertLine, LearntClause, NodeLine, Sides};
 use crate::lists::take_all;
 use byte_list::Bytes;
-use cnf_form::Lit;
+use cert_form::{CertLine, DefinedNode, LearntClause, NodeLine, Sides};
+use cnf_form::{Clause, Lit, LogStep};
 use leaf_part::Found;
-use leaf_reader::{
-    NodeSaid, assertion_said, behind, eight, named, node_said, one, take_choice, take_count,
-};
+use leaf_reader::{assertion_said, behind, eight, named, node_said, one, take_choice, take_count};
 use std::alloc::{AllocError as NoMemory, Global};
 
 const WORDS: [(&str, LineKind); 17] = [
@@ -54,20 +52,6 @@ fn take_input(alloc: Global, text: &[u8]) -> Result<Option<(Bytes, &[u8])>, NoMe
     }
 }
 
-/// Whether each variable is larger than the one before it, from 1 on.
-fn is_clause(literals: &[Lit]) -> bool
-    ensures { result ≡ spec.rise_above 0 literals.now }
-{
-    let mut last = 0;
-    for literal in literals {
-        if literal.variable() <= last {
-            return false;
-        }
-        last = literal.variable();
-    }
-    true
-}
-
 /// The hints behind the literals of a clause, which is one if its variables are from 1 on and increase.
 fn take_hints(
     alloc: Global,
@@ -77,11 +61,14 @@ fn take_hints(
     ensures { IfOk result (λ found. option_map (λ found. (found.0, found.1.now)) found
         ≡ spec.hints_read literals.items text.now) }
 {
-    if !is_clause(&literals) {
+    let Some(clause) = Clause::from_ordered(literals) else {
         return Ok(None);
-    }
+    };
     match take_all(alloc, text, " 0\n")? {
-        Some((hints, rest)) => Ok(Some((LearntClause::new(alloc, literals, hints)?, rest))),
+        Some((hints, rest)) => {
+            let step = LogStep::new(clause, hints);
+            Ok(Some((LearntClause::new(alloc, step)?, rest)))
+        }
         None => Ok(None),
     }
 }
@@ -168,10 +155,16 @@ fn take_declared(text: &[u8]) -> Option<(CertLine, &[u8])>
 }
 
 /// A node, whatever its number and its width.
-fn take_said(text: &[u8]) -> Option<(NodeSaid, &[u8])>
+fn take_defined(text: &[u8]) -> Option<(DefinedNode, &[u8])>
     ensures { option_map (λ found. (found.0, found.1.now)) result ≡ spec.node_read text.now }
 {
-    node_said(text)
+    let (said, rest) = node_said(text)?;
+    let defined = DefinedNode {
+        id: said.id,
+        width: said.width,
+        node: said.node,
+    };
+    Some((defined, rest))
 }
 
 /// A node of a question.
@@ -180,8 +173,8 @@ fn take_node(alloc: Global, text: &[u8]) -> Result<Option<(CertLine, &[u8])>, No
     ensures { IfOk result (λ found. option_map (λ found. (found.0, found.1.now)) found
         ≡ spec.line_of kind.Node text.now) }
 {
-    match take_said(text) {
-        Some((said, rest)) => Ok(Some((CertLine::Node(NodeLine::new(alloc, said)?), rest))),
+    match take_defined(text) {
+        Some((defined, rest)) => Ok(Some((CertLine::Node(NodeLine::new(alloc, defined)?), rest))),
         None => Ok(None),
     }
 }

@@ -44,29 +44,15 @@ fn write_hints(text: &mut String, hints: &[usize]) -> Result<(), NoMemory>
     Ok(())
 }
 
-/// Appends the line of a clause with these literals, which follows by these hints.
-pub fn write_clause_line(
-    text: &mut String,
-    literals: &[Lit],
-    hints: &[usize],
-) -> Result<(), NoMemory>
-    ensures ok { OnOk result (string_bytes text.new ≡ string_bytes text.old
-        ++ learnt_line (record { clause = literals.now; hints = hints.now })) }
-    ensures small { OnOk result
-        (HasSmallNumbers (record { clause = literals.now; hints = hints.now })) }
-{
-    text.push_str("c")?;
-    write_literals(text, literals)?;
-    text.push_str(" 0")?;
-    write_hints(text, hints)?;
-    text.push_str(" 0\n")
-}
-
 /// Appends the line of a clause that was learnt.
 pub fn write_learnt_line(text: &mut String, step: &LogStep) -> Result<(), NoMemory>
     ensures ok { OnOk result (string_bytes text.new
         ≡ string_bytes text.old ++ learnt_line step.now) }
     ensures small { OnOk result (HasSmallNumbers step.now) }
 {
-    write_clause_line(text, step.clause().literals(), step.hints())
+    text.push_str("c")?;
+    write_literals(text, step.clause().literals())?;
+    text.push_str(" 0")?;
+    write_hints(text, step.hints())?;
+    text.push_str(" 0\n")
 }

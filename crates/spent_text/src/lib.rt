@@ -5,6 +5,6 @@ mod clause;
 mod found;
 mod sides;
 
-pub use clause::{write_clause_line, write_learnt_line};
+pub use clause::write_learnt_line;
 pub use found::found_line;
 pub use sides::write_side;

@@ -1,6 +1,7 @@
 //! Which texts are certificates, and at which line others are refused.
 
-use cert_text::{Cert, CertLine, print_cert, read_cert};
+use cert_form::{Cert, CertLine};
+use cert_text::{print_cert, read_cert};
 use std::alloc::{AllocError as NoMemory, Global};
 use std::test::Fail;
 

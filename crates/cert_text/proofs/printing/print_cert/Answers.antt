@@ -1,10 +1,11 @@
 use Rattle.std.proofs.Common.{◌≡◌, ◌∙◌, ◌++◌, ℕ, List, [], Vec, Global, ap, sym}
 use Rattle.std.specs.List.{flat_map}
+use Rattle.cert_form.specs.Certificates.{Certificate}
+use Rattle.cert_form.specs.declared.cert.Limits.{Limits}
+use Rattle.cert_form.specs.declared.line.CertLine.{CertLine}
 use Rattle.elf_load.specs.declared.region.Region.{Region}
-use Rattle.cert_text.specs.declared.cert.Limits.{Limits}
-use Rattle.cert_text.specs.Certificates.{Certificate, FormatLine, RegionsLine, BudgetsLine, cert_text, text_of}
+use Rattle.cert_text.specs.Texts.{FormatLine, RegionsLine, BudgetsLine, cert_text, text_of}
 use Rattle.cert_text.specs.Lines.{line_text}
-use Rattle.cert_text.specs.declared.line.CertLine.{CertLine}
 use Rattle.cert_text.proofs.Walking.{in_parts}
 use Rattle.cert_text.proofs.printing.print_cert.Goals as goal
 

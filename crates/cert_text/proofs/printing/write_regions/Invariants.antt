@@ -1,6 +1,6 @@
 use Rattle.std.proofs.Common.{◌≡◌, ◌++◌, string_bytes, take}
 use Rattle.std.specs.List.{flat_map}
-use Rattle.cert_text.specs.Certificates.{blank_region}
+use Rattle.cert_text.specs.Texts.{blank_region}
 use Rattle.cert_text.proofs.printing.write_regions.Given as goal
 
 abbrev pub invariant-loop-region : goal.invariant-loop-region

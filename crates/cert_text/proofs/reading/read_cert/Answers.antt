@@ -1,12 +1,13 @@
 use Rattle.std.proofs.Common.{◌≡◌, ◌∙◌, ℕ, List, Vec, Global, ap, subst, sym, Result, Ok, Err, Bor}
 use Rattle.std.specs.Prelude.{IfErr, IfOk}
+use Rattle.cert_form.specs.Certificates.{Certificate}
+use Rattle.cert_form.specs.declared.cert.Limits.{Limits}
+use Rattle.cert_form.specs.declared.line.CertLine.{CertLine}
 use Rattle.elf_load.specs.declared.region.Region.{Region}
-use Rattle.cert_text.specs.declared.cert.Limits.{Limits}
-use Rattle.cert_text.specs.Certificates.{Certificate, cert_text}
+use Rattle.cert_text.specs.Texts.{cert_text}
 use Rattle.cert_text.specs.Legible.{IsLegible}
 use Rattle.cert_text.specs.Parts.{AreRead, HasHeading, IsRefusedBehind}
 use Rattle.cert_text.specs.Refusals.{IsRefusedAt}
-use Rattle.cert_text.specs.declared.line.CertLine.{CertLine}
 use Rattle.cert_text.specs.declared.reading.CertRefused.{CertRefused}
 use Rattle.cert_text.proofs.Whole.{never_refused, one_cert, refused_behind, whole_legible, whole_text}
 use Rattle.cert_text.proofs.reading.read_cert.Goals as goal

@@ -1,6 +1,6 @@
 use Rattle.std.proofs.Common.{rules, ◌≡◌, ◌∙◌, ◌+◌, ◌<◌, ℕ, List, None, Some, ap, arith, length, option_map, subst, sym, Bor}
+use Rattle.cert_form.specs.declared.line.CertLine.{CertLine}
 use Rattle.cert_text.specs.LineReading.{walk_line}
-use Rattle.cert_text.specs.declared.line.CertLine.{CertLine}
 use Rattle.cert_text.proofs.Walking.{HasRead, read_one_more, refused_here, shorter}
 use Rattle.cert_text.proofs.reading.take_lines.Goals.{In-Some}
 use Rattle.cert_text.proofs.reading.take_lines.Goals as goal

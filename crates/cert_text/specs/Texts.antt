@@ -1,17 +1,12 @@
 -- The text of a certificate: a heading of three lines, and a walk through a fork tree.
 use Rattle.std.specs.Prelude.{ℕ, List, ◌∷◌, ◌++◌, codes, decimal, map}
 use Rattle.std.specs.List.{flat_map}
+use Rattle.cert_form.specs.Certificates.{Certificate}
+use Rattle.cert_form.specs.declared.cert.Limits.{Limits}
+use Rattle.cert_form.specs.declared.line.CertLine.{CertLine}
 use Rattle.elf_load.specs.declared.region.Region.{Region}
 use Rattle.test_files.specs.Tests.{region_text}
-use Rattle.cert_text.specs.declared.cert.Limits.{Limits}
 use Rattle.cert_text.specs.Lines.{line_text}
-use Rattle.cert_text.specs.declared.line.CertLine.{CertLine}
-
--- where the input bytes stand, what may be spent, and the lines of the walk
-pub record Certificate : Type 0 where
-  pub regions : List Region
-  pub budgets : Limits
-  pub lines : List CertLine
 
 -- One case for each line of the heading, and one for those of the walk.
 pub data TextLine : Type 0 where

@@ -36,7 +36,7 @@ impl Drop for Cert {
 }
 
 impl Model for Cert {
-    ghost use Rattle.cert_text.specs.Certificates.{Certificate};
+    ghost use Rattle.cert_form.specs.Certificates.{Certificate};
 
     ghost Value = { Certificate };
 
