@@ -17,7 +17,7 @@ from tables import HERE, put
 # The routines of more than one input byte, with their number. They are wide.py's.
 WIDE = {
     "base64": 4, "base64table": 4, "battery": 2, "bubble": 5, "crc16": 4, "crc32": 4, "crc8b": 4, "crctable": 4, "date": 4,
-    "decimal": 4, "dns": 8, "gcd": 2, "isqrt16": 2, "lz": 4, "modbus": 6, "packet": 6, "pin": 4, "priorities": 4, "q15": 2,
+    "decimal": 4, "dns": 8, "gcd": 2, "hist": 5, "isqrt16": 2, "lz": 4, "modbus": 6, "packet": 6, "pin": 4, "priorities": 4, "q15": 2,
     "records": 8, "ring": 4, "rle": 4, "sort": 4, "temp": 2, "tlv": 5, "vm": 4,
 }
 # Those of which the first two bytes alone are input, too.
