@@ -1,5 +1,5 @@
 -- Certificates that their texts tell from all others: those of which each number, choice and byte has a text of its own.
-use Rattle.std.specs.Prelude.{◌≡◌, ℕ, zero, suc, ◌<◌, All, List}
+use Rattle.std.specs.Prelude.{ℕ, zero, suc, ◌<◌, All, List}
 use Rattle.cert_form.specs.Certificates.{Certificate}
 use Rattle.cert_form.specs.declared.cert.Limits.{Limits}
 use Rattle.cert_form.specs.declared.line.CertLine.{CertLine}
