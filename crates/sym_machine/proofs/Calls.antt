@@ -25,10 +25,11 @@ use Rattle.sym_state.specs.Unfolding as symbolic
 use Rattle.sym_state.proofs.Grown.{Continues-refl}
 use Rattle.sym_machine.specs.Calls.{WritesOutput}
 use Rattle.sym_machine.specs.Steps.{Carries, Comes}
-use Rattle.sym_machine.specs.Stops.{DecidesBy, StandsAt, Stops, StopsAt}
+use Rattle.sym_machine.specs.Stops.{DecidesBy, Stops, StopsAt}
+use Rattle.sym_state.specs.Undecided.{StandsAt}
 use Rattle.sym_machine.specs.declared.halt.Halt.{Halt}
 use Rattle.sym_machine.specs.declared.halt.Halt.TheVariants.{Side as SideHalt, Number as NumberHalt, NoMemory}
-use Rattle.sym_machine.specs.declared.outcome.RunEnd.TheVariants.{Exits, Traps}
+use Rattle.sym_state.specs.declared.ended.RunEnd.TheVariants.{Exits, Traps}
 use Rattle.sym_machine.specs.declared.outcome.Step.{Step}
 use Rattle.sym_machine.specs.declared.outcome.Step.TheVariants.{Running, Ended}
 use Rattle.sym_machine.proofs.Standing.{Keeps-refl, map-map, registers-set, x-worth}

@@ -11,15 +11,15 @@ use Rattle.sym_state.specs.Moves.{IsGrown, counted}
 use Rattle.sym_state.specs.Symbolic.{Symbolic, IsFormed, concrete, stands_for}
 use Rattle.sym_state.specs.Unfolded.{unfolded}
 use Rattle.sym_state.specs.Unfolding.{execute_of}
-use Rattle.sym_state.proofs.Grown.{concrete-grown, holds-grown, unfolded-grown}
+use Rattle.sym_state.proofs.Grown.{concrete-grown, holds-grown, unfolded-grown, still_stands}
 use Rattle.sym_machine.specs.Fetching.{IsFetched, unfolded_by}
 use Rattle.sym_machine.specs.Steps.{AreUniform, Carries, Comes, Keeps, Steps, outcome_on}
 use Rattle.sym_machine.specs.Stops.{DecidesBy}
-use Rattle.sym_machine.specs.declared.outcome.RunEnd.{RunEnd}
-use Rattle.sym_machine.specs.declared.outcome.RunEnd.TheVariants.{Exits, Traps}
+use Rattle.sym_state.specs.declared.ended.RunEnd.{RunEnd}
+use Rattle.sym_state.specs.declared.ended.RunEnd.TheVariants.{Exits, Traps}
 use Rattle.sym_machine.specs.declared.outcome.Step.{Step}
 use Rattle.sym_machine.specs.declared.outcome.Step.TheVariants.{Running, Ended}
-use Rattle.sym_machine.proofs.Standing.{Keeps-made, Keeps-refl, still_stands}
+use Rattle.sym_machine.proofs.Standing.{Keeps-made, Keeps-refl}
 
 -- what an instruction leads to stands for the same assignments
 pub stands-kept : (s u : Symbolic) (input : List ℕ) → IsFormed s → Keeps s u → stands_for u input ≡ stands_for s input

@@ -21,14 +21,15 @@ use Rattle.sym_state.specs.Values.{bit_worth, worth_of}
 use Rattle.sym_state.specs.declared.value.Bit.{Bit}
 use Rattle.sym_state.specs.declared.value.Value.{Value}
 use Rattle.sym_state.specs.declared.value.Value.TheVariants.{Number}
-use Rattle.sym_state.proofs.Grown.{concrete-grown, unfolded-grown}
+use Rattle.sym_state.proofs.Grown.{IsGrown-trans, concrete-grown, unfolded-grown, still_stands, stood}
 use Rattle.sym_state.proofs.Opening.{stands-bytes}
 use Rattle.sym_machine.specs.Steps.{AreUniform, Carries, Comes}
-use Rattle.sym_machine.specs.Stops.{DecidesBy, StandsAt}
+use Rattle.sym_machine.specs.Stops.{DecidesBy}
+use Rattle.sym_state.specs.Undecided.{StandsAt}
 use Rattle.sym_machine.specs.declared.outcome.Step.{Step}
 use Rattle.sym_machine.specs.declared.outcome.Step.TheVariants.{Running}
 use Rattle.sym_machine.proofs.Unfolds.{expression-x, unfolded-onward, written}
-use Rattle.sym_machine.proofs.Standing.{Comes-by, Comes-made, IsGrown-trans, Keeps-moved, Keeps-onward, still_stands, stood, to_register-is, x-worth}
+use Rattle.sym_machine.proofs.Standing.{Comes-by, Comes-made, Keeps-moved, Keeps-onward, to_register-is, x-worth}
 
 -- ---- A register is written.
 pub comes_set : (s : Symbolic) (rd : ℕ) (v : Value) (of : State → ℕ)

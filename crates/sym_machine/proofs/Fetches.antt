@@ -15,10 +15,9 @@ use Rattle.sym_state.specs.Values.{byte_worth, worth_of}
 use Rattle.sym_state.specs.declared.value.Value.{Value}
 use Rattle.sym_state.specs.Unfolded.{Unfolded}
 use Rattle.sym_state.specs.Unfolding.{execute_word, next_unfolded}
-use Rattle.sym_state.proofs.Grown.{concrete-grown}
+use Rattle.sym_state.proofs.Grown.{concrete-grown, stood}
 use Rattle.sym_machine.specs.Fetching.{DecidesOnce, IsFetched, unfolded_by}
-use Rattle.sym_machine.specs.Stops.{StandsAt}
-use Rattle.sym_machine.proofs.Standing.{stood}
+use Rattle.sym_state.specs.Undecided.{StandsAt}
 
 pub zero_true : (n : ℕ) → n ≡ 0 → (n == 0) ≡ true
 zero_true n is = rw is refl

@@ -1,5 +1,5 @@
 -- Loads from addresses that are numbers, and that are terms.
-use Rattle.std.proofs.Common.{◌≡◌, ℕ, ◌/◌, ◌^◌, ◌<◌, ◌&&◌, Bool, true, false, List, [], ◌∷◌, refl, sym, ap, subst, ◌∙◌, arith}
+use Rattle.std.proofs.Common.{◌≡◌, ℕ, ◌/◌, ◌%◌, ◌^◌, ◌<◌, ◌&&◌, Bool, true, false, List, [], ◌∷◌, refl, sym, ap, subst, ◌∙◌, arith}
 use Rattle.std.specs.Prelude.{◌==◌, not, is_some, nat_lt, Result, Ok, Err, IfOk, Some}
 use Rattle.std.specs.Int.Bits.{bit_and}
 use Rattle.std.proofs.lemmas.Bool.Decides.{nat_tests}
@@ -26,15 +26,15 @@ use Rattle.sym_state.specs.Unfolding.{load, load_by, with_page}
 use Rattle.sym_state.specs.Values.{IsUnknown, worth_of}
 use Rattle.sym_state.specs.declared.value.Value.{Value}
 use Rattle.sym_state.proofs.Growing.{Continues-trans, number-grown}
-use Rattle.sym_state.proofs.Grown.{concrete-grown, unfolded-grown}
+use Rattle.sym_state.proofs.Grown.{IsGrown-trans, concrete-grown, unfolded-grown, still_stands, stood}
 use Rattle.sym_state.proofs.Opening.{stands-bytes}
 use Rattle.sym_machine.specs.Loading.{CarriesLoad, DecidesLoad, IsAligned, IsOnPage, mask_of, page_place}
 use Rattle.sym_machine.specs.Steps.{Carries, Comes}
-use Rattle.sym_machine.specs.Stops.{StandsAt}
-use Rattle.sym_machine.specs.declared.outcome.RunEnd.TheVariants.{Traps}
+use Rattle.sym_state.specs.Undecided.{StandsAt}
+use Rattle.sym_state.specs.declared.ended.RunEnd.TheVariants.{Traps}
 use Rattle.sym_machine.specs.declared.outcome.Step.{Step}
 use Rattle.sym_machine.specs.declared.outcome.Step.TheVariants.{Running, Ended}
-use Rattle.sym_machine.proofs.Standing.{AreAlike-grown, Comes-made, IsGrown-trans, Keeps-made, Keeps-onward, Keeps-refl, onward_with, still_stands, stood, to_register-is}
+use Rattle.sym_machine.proofs.Standing.{AreAlike-grown, Comes-made, Keeps-made, Keeps-onward, Keeps-refl, onward_with, to_register-is}
 use Rattle.sym_machine.proofs.Transfers.{address}
 use Rattle.sym_machine.proofs.Unfolds.{written}
 
@@ -301,19 +301,13 @@ page_stands old new width term v decides fits made =
     ∙ ap (λ ds. Needs decides.word ∷ ds) (aligned width (number_of old.terms term input) (fits input before))
     ∙ ap (λ p. Needs decides.word ∷ decisions_on width p) (sym (made.gives.worth input (stands-bytes old input before))))
 
-pub on_this_page : {E : Type 0} (old new : Symbolic) (r : Result ℕ E) (term : ℕ) (v : Value)
+-- it is a page, whatever is known where there is no assignment
+pub on_this_page : (old new : Symbolic) (page : ℕ) (width : LoadWidth) (term : ℕ) (v : Value) → DecidesLoad old width term
     → MakesValue old new v (λ input. number_of old.terms term input / 256)
-    → IfOk r (λ n. (input : List ℕ) → stands_for new input ≡ true → worth_of new.terms input v ≡ n) → IfOk r (IsOnPage old term)
-on_this_page old new (Err e) term v made known = tt
-on_this_page old new (Ok n) term v made known = λ input stands.
-    sym (made.gives.worth input (stands-bytes old input stands)) ∙ known input (still_stands old new input made.grown stands)
-
-pub small_page : {E : Type 0} (s : Symbolic) (r : Result ℕ E) (width : LoadWidth) (term : ℕ) → stands_for s s.sample ≡ true → DecidesLoad s width term
-    → IfOk r (IsOnPage s term) → IfOk r (λ page. page < 2 ^ 24)
-small_page s (Err e) width term sampled decides on = tt
-small_page s (Ok page) width term sampled decides on =
-    let below = decides.small s.sample sampled in
-    let here = on s.sample sampled in
+    → ((input : List ℕ) → stands_for new input ≡ true → worth_of new.terms input v ≡ page) → IsOnPage old term (page % 2 ^ 24)
+on_this_page old new page width term v decides made known = λ input stands.
+    let here = sym (made.gives.worth input (stands-bytes old input stands)) ∙ known input (still_stands old new input made.grown stands) in
+    let below = decides.small input stands in
     omega (arith, below, here)
 
 -- ---- A value that was loaded.

@@ -7,7 +7,6 @@ use Rattle.cow_pages.specs.SymbolicMemory.{memory_byte, memory_flags}
 use Rattle.cow_pages.specs.declared.byte.Byte.{Byte}
 use Rattle.rv_decode.specs.declared.ops.StoreWidth.TheVariants.{Sh, Sw}
 use Rattle.rv_spec.specs.Machine.{State, stored}
-use Rattle.rv_spec.specs.Machine as machine
 use Rattle.rv_spec.specs.Memory.{with_bytes}
 use Rattle.term_trees.specs.Growth.{Continues}
 use Rattle.sym_state.specs.Moves.{MakesByte, stored_at}

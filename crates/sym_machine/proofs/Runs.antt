@@ -9,18 +9,18 @@ use Rattle.rv_spec.specs.Machine.{State, Running as GoesOn, Ended as Stops, firs
 use Rattle.rv_spec.specs.Runs.{Run, IsRunOf, run, run_from, continued, after_outcome}
 use Rattle.sym_state.specs.Moves.{IsGrown, IsSame}
 use Rattle.sym_state.specs.Programs.{Program}
-use Rattle.sym_state.specs.Runs.{AreTermsOf, DecidedAlike, IsOpen, IsReady, left_to_do}
-use Rattle.sym_state.specs.Symbolic.{Symbolic, IsTrulyKnown, concrete, known_at, most_decisions, most_steps, nothing_known, stands_for}
+use Rattle.sym_state.specs.Runs.{AreTermsOf, DecidedAlike, IsEnded, IsOpen, left_to_do, run_end_on}
+use Rattle.sym_state.specs.Symbolic.{Symbolic, IsTrulyKnown, KnowsTruth, concrete, known_at, most_decisions, most_steps, nothing_known, stands_for}
+use Rattle.sym_state.specs.Undecided.{IsBranch, IsPin}
 use Rattle.sym_state.specs.Unfolding.{next_unfolded, unfolded_run}
-use Rattle.sym_state.proofs.Grown.{concrete-grown, stands-grown, unfolded-grown}
-use Rattle.sym_machine.specs.Advancing.{Advances, IsEnded, IsUnderway}
-use Rattle.sym_machine.specs.Steps.{Steps, run_end_on}
-use Rattle.sym_machine.specs.Stops.{IsBranch, IsPin}
+use Rattle.sym_state.specs.declared.ended.RunEnd.{RunEnd}
+use Rattle.sym_state.proofs.Grown.{concrete-grown, stands-grown, stood, unfolded-grown}
+use Rattle.sym_machine.specs.Advancing.{Advances, IsUnderway}
+use Rattle.sym_machine.specs.Steps.{Steps}
 use Rattle.sym_machine.specs.declared.stepping.Stop.TheVariants.{Branch as BranchStop, Pin as PinStop, Ended as EndedStop, Steps as StepsStop}
-use Rattle.sym_machine.specs.declared.outcome.RunEnd.{RunEnd}
 use Rattle.sym_machine.specs.declared.outcome.Step.{Step}
 use Rattle.sym_machine.specs.declared.outcome.Step.TheVariants.{Running, Ended}
-use Rattle.sym_machine.proofs.Standing.{ready-grown, stood}
+use Rattle.sym_machine.proofs.Standing.{knows-grown}
 
 -- of a run that has not ended
 run_more : (image : Image) (all : List Region) (input : List ℕ) (steps : ℕ) (s : State)
@@ -71,9 +71,6 @@ unfolded_more image all input steps s h =
 before_step : (s t : Symbolic) (step : Step) → Steps s t step → (input : List ℕ) → stands_for t input ≡ true → stands_for s input ≡ true
 before_step s t step made input stands = sym (made.same.same_cover input) ∙ stands
 
-sampled_after : (s t : Symbolic) (step : Step) → Steps s t step → stands_for s s.sample ≡ true → stands_for t t.sample ≡ true
-sampled_after s t step made sampled = ap (stands_for t) made.sample ∙ made.same.same_cover s.sample ∙ sampled
-
 none_in : {A : Type 0} (n place : ℕ) → get_or {A = Option A} (replicate n None) place None ≡ None
 none_in zero place = refl
 none_in (suc n) zero = refl
@@ -83,11 +80,8 @@ none_in (suc n) (suc place) = none_in n place
 none_known : (t : Symbolic) (place : ℕ) → t.known ≡ nothing_known → known_at t place ≡ None
 none_known t place is = ap (λ ks. get_or ks place None) is ∙ none_in most_decisions place
 
-pub ready_after : (s t : Symbolic) (step : Step) → Steps s t step → IsReady s → IsReady t
-ready_after s t step made ready = record {
-  sampled = sampled_after s t step made ready.sampled;
-  knows = λ place. subst (IsTrulyKnown t place) (sym (none_known t place made.known)) tt;
-}
+pub knows_after : (s t : Symbolic) (step : Step) → Steps s t step → KnowsTruth t
+knows_after s t step made place = subst (IsTrulyKnown t place) (sym (none_known t place made.known)) tt
 
 alike_after : (p : Program) (s t : Symbolic) (step : Step) → Steps s t step → IsOpen p s → DecidedAlike p t
 alike_after p s t step made was = record {
@@ -114,7 +108,7 @@ few_after s t step made few = omega (arith, made.few, made.steps, few)
 pub open_after : (p : Program) (s t : Symbolic) → Steps s t Running → IsOpen p s → IsOpen p t
 open_after p s t made was = record {
   inputs = made.inputs ∙ was.inputs;
-  ready = ready_after s t Running made was.ready;
+  knows = knows_after s t Running made;
   few_outputs = few_after s t Running made was.few_outputs;
   sound = λ input stands.
       let stood_for = before_step s t Running made input stands in
@@ -128,7 +122,6 @@ open_after p s t made was = record {
 pub ended_after : (p : Program) (s t : Symbolic) (end : RunEnd) → Steps s t (Ended end) → IsOpen p s → IsEnded p t end
 ended_after p s t end made was = record {
   inputs = made.inputs ∙ was.inputs;
-  sampled = sampled_after s t (Ended end) made was.ready.sampled;
   few_outputs = few_after s t (Ended end) made was.few_outputs;
   ends = λ input stands.
       let stood_for = before_step s t (Ended end) made input stands in
@@ -147,7 +140,7 @@ open-grown p s t grown was =
     let steps = steps-grown s t grown in
     record {
       inputs = grown.continues.inputs ∙ was.inputs;
-      ready = ready-grown s t grown was.ready;
+      knows = knows-grown s t grown was.knows;
       few_outputs =
           let outputs = ap (λ (r : Symbolic). length r.output) grown.same in
           omega (arith, outputs, steps, was.few_outputs);
@@ -176,16 +169,16 @@ pub record IsOnward (most : ℕ) (old now : Symbolic) : Type 0 where
   pub sample : now.sample ≡ old.sample
   pub less : left_to_do now ≤ left_to_do old
   pub within : now.steps ≤ most
-  pub ready : IsReady now
+  pub knows : KnowsTruth now
   pub opens : (p : Program) → IsOpen p old → IsOpen p now
 
-pub no_step : (most : ℕ) (s : Symbolic) → s.steps ≤ most → IsReady s → IsOnward most s s
-no_step most s within ready = record {
+pub no_step : (most : ℕ) (s : Symbolic) → s.steps ≤ most → KnowsTruth s → IsOnward most s s
+no_step most s within knows = record {
   same = record { same_choices = refl; same_cover = λ input. refl };
   sample = refl;
   less = omega arith;
   within = within;
-  ready = ready;
+  knows = knows;
   opens = λ p is. is;
 }
 
@@ -206,7 +199,7 @@ one_step most s t u few was room made =
       sample = made.sample ∙ was.sample;
       less = omega (arith, less, was.less);
       within = omega (arith, made.steps, room);
-      ready = ready_after t u Running made was.ready;
+      knows = knows_after t u Running made;
       opens = λ p is. open_after p t u made (was.opens p is);
     }
 
@@ -239,7 +232,7 @@ onward-grown most s t u was grown =
       sample = ap (λ (r : Symbolic). r.sample) grown.same ∙ was.sample;
       less = omega (arith, left, was.less);
       within = omega (arith, steps, was.within);
-      ready = ready-grown t u grown was.ready;
+      knows = knows-grown t u grown was.knows;
       opens = λ p is. open-grown p t u grown (was.opens p is);
     }
 

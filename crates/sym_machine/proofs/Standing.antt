@@ -1,5 +1,5 @@
 -- What a symbolic run stands for stays where terms are added, and what instructions keep.
-use Rattle.std.proofs.Common.{◌≡◌, ℕ, true, false, List, [], ◌∷◌, ◌++◌, length, map, refl, sym, ap, subst, ◌∙◌, arith}
+use Rattle.std.proofs.Common.{◌≡◌, ℕ, true, false, List, [], ◌∷◌, length, map, refl, sym, ap, subst, ◌∙◌, arith}
 use Rattle.std.specs.Prelude.{◌==◌, Option, None, Some, if◌then◌else◌, slice_get, slice_set}
 use Rattle.std.proofs.Math.ListN as lists
 use Rattle.std.proofs.lemmas.List.{map-set}
@@ -8,34 +8,24 @@ use Rattle.rv_decode.specs.declared.instr.Instr.{Instr}
 use Rattle.rv_spec.specs.Arithmetic.{sum32}
 use Rattle.rv_spec.specs.Machine.{State, Outcome, to_register, written, x}
 use Rattle.rv_spec.specs.Machine as machine
-use Rattle.sym_state.specs.Moves.{IsGrown, MakesValue, with_terms}
-use Rattle.sym_state.specs.Runs.{IsReady}
-use Rattle.sym_state.specs.Symbolic.{Symbolic, IsTrulyKnown, concrete, known_at, set_value, stands_for, value_at}
+use Rattle.sym_state.specs.Moves.{IsGrown, MakesValue}
+use Rattle.sym_state.specs.Symbolic.{Symbolic, IsTrulyKnown, KnowsTruth, concrete, known_at, set_value, stands_for, value_at}
+use Rattle.sym_state.specs.Undecided.{StandsAt}
 use Rattle.sym_state.specs.Values.{worth_of}
 use Rattle.sym_state.specs.declared.decided.Decided.{Decided}
 use Rattle.sym_state.specs.declared.value.Value.{Value}
 use Rattle.sym_state.specs.declared.value.Value.TheVariants.{Number}
 use Rattle.sym_state.proofs.Growing.{Continues-trans}
-use Rattle.sym_state.proofs.Grown.{Continues-refl, concrete-grown, stands-grown}
+use Rattle.sym_state.proofs.Grown.{Continues-refl, IsGrown-trans, concrete-grown, still_stands, stood}
 use Rattle.sym_state.proofs.Opening.{stands-bytes}
 use Rattle.sym_machine.specs.Steps.{AreUniform, Comes, Keeps}
-use Rattle.sym_machine.specs.Stops.{DecidesBy, StandsAt, Stops, StopsAt}
+use Rattle.sym_machine.specs.Stops.{DecidesBy, Stops, StopsAt}
 use Rattle.sym_machine.specs.declared.halt.Halt.{Halt}
 use Rattle.sym_machine.specs.declared.halt.Halt.TheVariants.{Side as SideHalt, Number as NumberHalt, NoMemory}
 use Rattle.sym_machine.specs.declared.outcome.Step.{Step}
 use Rattle.sym_machine.specs.declared.outcome.Step.TheVariants.{Running}
 
--- ---- More terms change nothing that a run stands for.
--- an assignment that a run stands for after terms were made it stood for before
-pub stood : (old new : Symbolic) (input : List ℕ) → IsGrown old new
-    → stands_for new input ≡ true → stands_for old input ≡ true
-stood old new input grown stands = sym (stands-grown old new input grown) ∙ stands
-
--- and the other way
-pub still_stands : (old new : Symbolic) (input : List ℕ) → IsGrown old new
-    → stands_for old input ≡ true → stands_for new input ≡ true
-still_stands old new input grown stands = stands-grown old new input grown ∙ stands
-
+-- ---- More terms: what was known is.
 known-grown : (old new : Symbolic) (place : ℕ) (known : Option Decided) → IsGrown old new
     → IsTrulyKnown old place known → IsTrulyKnown new place known
 known-grown old new place None grown is = tt
@@ -43,36 +33,12 @@ known-grown old new place (Some d) grown is = λ input stands.
     ap (λ (c : State). slice_get (step_decisions c) place) (concrete-grown old new input grown)
     ∙ is input (stood old new input grown stands)
 
-pub ready-grown : (old new : Symbolic) → IsGrown old new → IsReady old → IsReady new
-ready-grown old new grown ready = record {
-  sampled = ap (stands_for new) (ap (λ (s : Symbolic). s.sample) grown.same)
-      ∙ still_stands old new old.sample grown ready.sampled;
-  knows = λ place.
-      subst (IsTrulyKnown new place) (sym (ap (λ (s : Symbolic). known_at s place) grown.same))
-      (known-grown old new place (known_at old place) grown (ready.knows place));
-}
-
-pub IsGrown-trans : (old mid new : Symbolic) → IsGrown old mid → IsGrown mid new → IsGrown old new
-IsGrown-trans old mid new first second = record {
-  before = first.before;
-  same = second.same ∙ ap (λ (s : Symbolic). with_terms s new.terms) first.same;
-  continues = Continues-trans first.continues second.continues;
-  formed = second.formed;
-}
+pub knows-grown : (old new : Symbolic) → IsGrown old new → KnowsTruth old → KnowsTruth new
+knows-grown old new grown knows place =
+    subst (IsTrulyKnown new place) (sym (ap (λ (s : Symbolic). known_at s place) grown.same))
+    (known-grown old new place (known_at old place) grown (knows place))
 
 -- ---- What the step decides is what it was.
-pub StandsAt-grown : (old new : Symbolic) (place : ℕ) (decision : List ℕ → Decision)
-    → IsGrown old new
-    → StandsAt old place decision → StandsAt new place decision
-StandsAt-grown old new place decision grown stands = record {
-  front = stands.front;
-  back = stands.back;
-  before = stands.before;
-  is = λ input standing.
-      ap step_decisions (concrete-grown old new input grown)
-      ∙ stands.is input (stood old new input grown standing);
-}
-
 pub DecidesBy-grown : (old new : Symbolic) (instr : Instr) → IsGrown old new
     → DecidesBy old instr → DecidesBy new instr
 DecidesBy-grown old new instr grown decides = record {
@@ -91,19 +57,6 @@ AreAlike-grown old new decides grown are = record {
   alike = λ input standing.
       ap decides (sym (concrete-grown old new input grown))
       ∙ are.alike input (still_stands old new input grown standing);
-}
-
--- a decision that is the same on all assignments, in other words
-pub StandsAt-by : (s : Symbolic) (place : ℕ) (was is : List ℕ → Decision)
-    → ((input : List ℕ) → stands_for s input ≡ true → was input ≡ is input)
-    → StandsAt s place was → StandsAt s place is
-StandsAt-by s place was is same stands = record {
-  front = stands.front;
-  back = stands.back;
-  before = stands.before;
-  is = λ input standing.
-      stands.is input standing
-      ∙ ap (λ d. stands.front ++ d ∷ stands.back input) (same input standing);
 }
 
 -- what an instruction decides first stands behind its word

@@ -25,17 +25,17 @@ use Rattle.sym_state.specs.Unfolding as symbolic
 use Rattle.sym_state.specs.Unfolding.{store_by}
 use Rattle.sym_state.specs.Values.{worth_of}
 use Rattle.sym_state.specs.declared.value.Value.{Value}
-use Rattle.sym_state.proofs.Grown.{concrete-grown, concrete-with_terms, unfolded-grown, unfolded-with_terms}
+use Rattle.sym_state.proofs.Grown.{concrete-grown, concrete-with_terms, unfolded-grown, unfolded-with_terms, still_stands}
 use Rattle.sym_state.proofs.Opening.{stands-bytes}
 use Rattle.sym_machine.specs.Loading.{IsAligned, IsOnPage}
 use Rattle.sym_machine.specs.Steps.{Carries, Comes, Keeps, Puts}
 use Rattle.sym_machine.specs.Storing.{CarriesStore}
-use Rattle.sym_machine.specs.declared.outcome.RunEnd.TheVariants.{Traps}
+use Rattle.sym_state.specs.declared.ended.RunEnd.TheVariants.{Traps}
 use Rattle.sym_machine.specs.declared.outcome.Step.{Step}
 use Rattle.sym_machine.specs.declared.outcome.Step.TheVariants.{Running, Ended}
 use Rattle.sym_machine.proofs.Loads.{aligned, decisions_on, misaligned, on_page, place_by}
 use Rattle.sym_machine.proofs.Putting.{Keeps-went, with_put}
-use Rattle.sym_machine.proofs.Standing.{AreAlike-grown, Comes-made, Keeps-refl, still_stands, x-worth}
+use Rattle.sym_machine.proofs.Standing.{AreAlike-grown, Comes-made, Keeps-refl, x-worth}
 use Rattle.sym_machine.proofs.Transfers.{address}
 use Rattle.sym_machine.proofs.Unfolds.{expression-x}
 

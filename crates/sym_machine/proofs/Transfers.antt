@@ -16,13 +16,13 @@ use Rattle.sym_state.specs.Values.{IsUnknown, worth_of}
 use Rattle.sym_state.specs.declared.value.Value.{Value}
 use Rattle.sym_state.specs.declared.value.Value.TheVariants.{Term}
 use Rattle.sym_state.proofs.Growing.{number-grown}
-use Rattle.sym_state.proofs.Grown.{concrete-grown}
+use Rattle.sym_state.proofs.Grown.{concrete-grown, stood}
 use Rattle.sym_state.proofs.Opening.{stands-bytes}
 use Rattle.sym_machine.specs.Loading.{DecidesLoad, IsOnPage}
 use Rattle.sym_machine.specs.Stops.{Stops}
 use Rattle.sym_machine.specs.declared.halt.Halt.{Halt}
 use Rattle.sym_machine.specs.declared.outcome.Step.{Step}
-use Rattle.sym_machine.proofs.Standing.{Stops-made, stood, x-worth}
+use Rattle.sym_machine.proofs.Standing.{Stops-made, x-worth}
 use Rattle.sym_machine.proofs.Unfolds.{expression-x}
 
 -- the address that a register and an offset make

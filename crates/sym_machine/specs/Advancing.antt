@@ -1,28 +1,12 @@
 -- Where steps lead a symbolic run: as far as the machine's runs of a program go.
-use Rattle.std.specs.Prelude.{◌≡◌, ℕ, ◌*◌, ◌<◌, ◌≤◌, true, List, length, map, Some}
-use Rattle.rv_spec.specs.Memory.{count_of}
-use Rattle.rv_spec.specs.Runs.{run, IsRunOf}
+use Rattle.std.specs.Prelude.{◌≡◌, ℕ, ◌<◌, ◌≤◌}
 use Rattle.sym_state.specs.Moves.{IsSame}
 use Rattle.sym_state.specs.Programs.{Program}
-use Rattle.sym_state.specs.Runs.{AreTermsOf, DecidedAlike, IsOpen, left_to_do}
-use Rattle.sym_state.specs.Symbolic.{Symbolic, stands_for}
-use Rattle.sym_state.specs.Values.{byte_worth}
-use Rattle.sym_machine.specs.Steps.{run_end_on}
-use Rattle.sym_machine.specs.Stops.{IsBranch, IsPin}
-use Rattle.sym_machine.specs.declared.outcome.RunEnd.{RunEnd}
+use Rattle.sym_state.specs.Runs.{IsEnded, IsOpen, left_to_do}
+use Rattle.sym_state.specs.Symbolic.{Symbolic}
+use Rattle.sym_state.specs.Undecided.{IsBranch, IsPin}
 use Rattle.sym_machine.specs.declared.stepping.Stop.{Stop}
 use Rattle.sym_machine.specs.declared.stepping.Stop.TheVariants.{Branch, Pin, Ended, Steps}
-
--- all its runs have ended so, in the step made last
-pub record IsEnded (p : Program) (s : Symbolic) (end : RunEnd) : Type 0 where
-  pub inputs : s.terms.inputs ≡ count_of p.regions
-  pub sampled : stands_for s s.sample ≡ true
-  pub few_outputs : length s.output ≤ 4096 * s.steps
-  pub ends : (input : List ℕ) → stands_for s input ≡ true →
-      IsRunOf (run p.image p.regions input s.steps) s.steps s.path (Some (run_end_on s input end))
-      (map (byte_worth s.terms input) s.output)
-  pub alike : DecidedAlike p s
-  pub terms : AreTermsOf p s
 
 -- its runs are where it is, before a step that there is still room for
 pub record IsUnderway (p : Program) (most : ℕ) (s : Symbolic) : Type 0 where

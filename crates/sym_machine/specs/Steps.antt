@@ -1,8 +1,6 @@
 -- What an instruction makes of a symbolic run: what the machine makes of each of its states.
-use Rattle.std.specs.Prelude.{◌≡◌, ℕ, ◌+◌, ◌%◌, ◌≤◌, true, List, length, Some}
+use Rattle.std.specs.Prelude.{◌≡◌, ℕ, ◌+◌, ◌≤◌, true, List, length, Some}
 use Rattle.cow_pages.specs.SymbolicMemory.{memory_flags}
-use Rattle.rv_decode.specs.declared.ends.End.{End}
-use Rattle.rv_decode.specs.declared.ends.End.TheVariants.{Exit, Trapped}
 use Rattle.rv_decode.specs.declared.instr.Instr.{Instr}
 use Rattle.fork_spec.specs.Decisions.{Decision, instr_decisions, step_decisions}
 use Rattle.rv_spec.specs.Machine.{State, Outcome, next}
@@ -10,19 +8,12 @@ use Rattle.rv_spec.specs.Machine as machine
 use Rattle.rv_spec.specs.Memory.{with_bytes}
 use Rattle.term_trees.specs.Growth.{Continues}
 use Rattle.sym_state.specs.Moves.{IsSame}
-use Rattle.sym_state.specs.Symbolic.{Symbolic, IsFormed, concrete, nothing_known, stands_for, value_at}
+use Rattle.sym_state.specs.Runs.{run_end_on}
+use Rattle.sym_state.specs.Symbolic.{Symbolic, IsFormed, concrete, nothing_known, stands_for}
 use Rattle.sym_state.specs.Unfolded.{unfolded}
 use Rattle.sym_state.specs.Unfolding.{execute_of, next_unfolded}
-use Rattle.sym_state.specs.Values.{worth_of}
-use Rattle.sym_machine.specs.declared.outcome.RunEnd.{RunEnd}
-use Rattle.sym_machine.specs.declared.outcome.RunEnd.TheVariants.{Exits, Traps}
 use Rattle.sym_machine.specs.declared.outcome.Step.{Step}
 use Rattle.sym_machine.specs.declared.outcome.Step.TheVariants.{Running, Ended}
-
--- how a run ends on an assignment
-abbrev pub run_end_on : Symbolic → List ℕ → RunEnd → End
-run_end_on s input Exits = Exit (worth_of s.terms input (value_at s.registers 10) % 256)
-run_end_on s input (Traps trap) = Trapped trap
 
 -- what the machine has come to on an assignment, where a symbolic run stands so
 abbrev pub outcome_on : Symbolic → List ℕ → Step → Outcome

@@ -8,23 +8,23 @@ ghost use Rattle.fork_spec.specs.Decisions.{Number as Needs};
 ghost use Rattle.rv_spec.specs.Machine as machine;
 ghost use Rattle.rv_spec.specs.Machine.{addresses, x};
 ghost use Rattle.rv_spec.specs.Memory.{is_mapped};
-ghost use Rattle.sym_state.specs.Runs.{IsReady};
-ghost use Rattle.sym_state.specs.Symbolic.{concrete, most_decisions, stands_for};
+ghost use Rattle.sym_state.specs.Symbolic.{KnowsTruth, concrete, most_decisions, stands_for};
+ghost use Rattle.sym_state.specs.Undecided.{StandsAt};
 ghost use Rattle.sym_state.specs.Unfolded.{unfolded};
 ghost use Rattle.sym_state.specs.Unfolding as symbolic;
 ghost use Rattle.sym_machine.specs.Calls.{WritesOutput};
 ghost use Rattle.sym_machine.specs.Steps.{Carries, Comes};
-ghost use Rattle.sym_machine.specs.Stops.{DecidesBy, StandsAt, Stops};
+ghost use Rattle.sym_machine.specs.Stops.{DecidesBy, Stops};
 
 use crate::going::go_on_with;
 use crate::halt::Halt;
 use crate::needs::number_at;
-use crate::outcome::{RunEnd, Step, trapped};
+use crate::outcome::{Step, trapped};
 use crate::transfer;
 use rv_decode::{Register, Trap};
 use rv_machine::{EXIT, MOST_WRITTEN, WRITE, is_file};
 use std::alloc::AllocError as NoMemory;
-use sym_state::{State, Value};
+use sym_state::{RunEnd, State, Value};
 
 /// Whether each of so many addresses is on a mapped page.
 fn are_mapped(state: &State, start: u32, count: u32) -> bool
@@ -65,7 +65,7 @@ fn write_out(state: &mut State, start: u32, asked: u32) -> Result<Step, NoMemory
 
 /// The number in a register, at a place of the step's decisions.
 fn needs(state: &State, place: usize, register: Register) -> Result<u32, Halt>
-    requires ready { IsReady state.now }
+    requires knows { KnowsTruth state.now }
     requires in_range { place < most_decisions }
     requires stands { StandsAt state.now place
         (λ input. Needs (x (concrete state.now input) register)) }
@@ -78,7 +78,7 @@ fn needs(state: &State, place: usize, register: Register) -> Result<u32, Halt>
 
 /// Carries out the environment call that a7 names.
 pub(crate) fn call(state: &mut State) -> Result<Step, Halt>
-    requires ready { IsReady state.old }
+    requires knows { KnowsTruth state.old }
     requires decides { DecidesBy state.old Ecall }
     ensures ok { IfOk result (λ step. Carries state.old state.new step Ecall) }
     ensures err { IfErr result (Stops state.old state.new) }

@@ -7,8 +7,7 @@ ghost use Rattle.rv_spec.specs.Arithmetic as arithmetic;
 ghost use Rattle.rv_spec.specs.Machine as machine;
 ghost use Rattle.rv_spec.specs.Machine.{x};
 ghost use Rattle.sym_state.specs.Expressions.{combined_of, value_expression};
-ghost use Rattle.sym_state.specs.Runs.{IsReady};
-ghost use Rattle.sym_state.specs.Symbolic.{concrete, most_steps, stands_for};
+ghost use Rattle.sym_state.specs.Symbolic.{KnowsTruth, concrete, most_steps, stands_for};
 ghost use Rattle.sym_state.specs.Unfolded.{expression_at, unfolded};
 ghost use Rattle.sym_state.specs.Unfolding as symbolic;
 ghost use Rattle.sym_state.specs.Values.{IsWide, worth_of};
@@ -89,7 +88,7 @@ fn branch_on(
     rs2: Register,
     offset: u32,
 ) -> Result<Step, Halt>
-    requires ready { IsReady state.old }
+    requires knows { KnowsTruth state.old }
     requires decides { DecidesBy state.old (Branch test rs1 rs2 offset) }
     ensures ok { IfOk result (λ step. Carries state.old state.new step
         (Branch test rs1 rs2 offset)) }
@@ -105,7 +104,7 @@ fn branch_on(
 
 /// Jumps to the sum of a register and an offset, with its lowest bit cleared.
 fn jump_register(state: &mut State, rd: Register, rs1: Register, offset: u32) -> Result<Step, Halt>
-    requires ready { IsReady state.old }
+    requires knows { KnowsTruth state.old }
     requires decides { DecidesBy state.old (Jalr rd rs1 offset) }
     ensures ok { IfOk result (λ step. Carries state.old state.new step (Jalr rd rs1 offset)) }
     ensures err { IfErr result (Stops state.old state.new) }
@@ -120,7 +119,7 @@ fn jump_register(state: &mut State, rd: Register, rs1: Register, offset: u32) ->
 
 /// Carries out an instruction, where all that it needs is known.
 fn execute(state: &mut State, instr: Instr) -> Result<Step, Halt>
-    requires ready { IsReady state.old }
+    requires knows { KnowsTruth state.old }
     requires shifts { ShiftsBelow32 instr }
     requires decides { DecidesBy state.old instr }
     ensures ok { IfOk result (λ step. Carries state.old state.new step instr) }
@@ -176,7 +175,7 @@ fn execute(state: &mut State, instr: Instr) -> Result<Step, Halt>
 
 /// One step, where all that it needs is known.
 pub(crate) fn step(state: &mut State, decoded: &mut Decoded) -> Result<Step, Halt>
-    requires ready { IsReady state.old }
+    requires knows { KnowsTruth state.old }
     requires few { state.old.steps < most_steps }
     ensures ok { IfOk result (Steps state.old state.new) }
     ensures err { IfErr result (Stops state.old state.new) }

@@ -5,8 +5,7 @@ ghost use Rattle.rv_spec.specs.Machine as machine;
 ghost use Rattle.rv_spec.specs.Memory.{word_at};
 ghost use Rattle.sym_state.specs.Expressions.{value_expression, word_of};
 ghost use Rattle.sym_state.specs.Moves.{IsGrown, MakesValue};
-ghost use Rattle.sym_state.specs.Runs.{IsReady};
-ghost use Rattle.sym_state.specs.Symbolic.{concrete};
+ghost use Rattle.sym_state.specs.Symbolic.{KnowsTruth, concrete};
 ghost use Rattle.sym_state.specs.Unfolded.{unfolded};
 ghost use Rattle.sym_machine.specs.Fetching.{IsFetchedWord};
 ghost use Rattle.sym_machine.specs.Stops.{Stops};
@@ -33,7 +32,7 @@ pub(crate) fn word(state: &mut State, address: u32) -> Result<Value, NoMemory>
 
 /// The word of the instruction that comes next, or why there is none.
 pub(crate) fn fetch(state: &mut State) -> Result<Result<u32, Trap>, Halt>
-    requires ready { IsReady state.old }
+    requires knows { KnowsTruth state.old }
     ensures grown { IfOk result (λ _. IsGrown state.old state.new) }
     ensures ok { IfOk result (IsFetchedWord state.old) }
     ensures err { IfErr result (Stops state.old state.new) }

@@ -26,5 +26,4 @@ mod stepping;
 mod storing;
 mod transfer;
 
-pub use outcome::RunEnd;
 pub use stepping::{Advanced, Stop, advance};

@@ -9,8 +9,7 @@ ghost use Rattle.rv_spec.specs.Machine as machine;
 ghost use Rattle.term_trees.specs.Trees.{tree_of};
 ghost use Rattle.sym_state.specs.Expressions.{Number as ANumber, Unknown};
 ghost use Rattle.sym_state.specs.Moves.{IsGrown, MakesValue};
-ghost use Rattle.sym_state.specs.Runs.{IsReady};
-ghost use Rattle.sym_state.specs.Symbolic.{IsFormed, concrete, stands_for};
+ghost use Rattle.sym_state.specs.Symbolic.{IsFormed, KnowsTruth, concrete, stands_for};
 ghost use Rattle.sym_state.specs.Values.{IsUnknown};
 ghost use Rattle.sym_machine.specs.Loading.{CarriesLoad, DecidesLoad, IsAligned, IsOnPage, mask_of, page_place};
 ghost use Rattle.sym_machine.specs.Steps.{Carries};
@@ -25,6 +24,9 @@ use rv_decode::{LoadWidth, Register, RegisterOp, Trap};
 use rv_machine::is_load_aligned;
 use std::alloc::AllocError as NoMemory;
 use sym_state::{State, Value, bytes_of};
+
+/// How many pages there are.
+const PAGES: u32 = 1 << 24;
 
 /// Loads from an address that is known into a register.
 fn load_at(
@@ -75,7 +77,7 @@ fn page_place(width: LoadWidth) -> usize
 /// Whether the address that a term is is misaligned.
 pub(crate) fn is_misaligned(state: &mut State, width: LoadWidth, term: usize) -> Result<bool, Halt>
     requires formed { IsFormed state.old }
-    requires ready { IsReady state.old }
+    requires knows { KnowsTruth state.old }
     requires address { IsUnknown state.old.terms 32 term }
     requires decides { DecidesLoad state.old width term }
     ensures grown { IfOk result (λ _. IsGrown state.old state.new) }
@@ -92,9 +94,9 @@ pub(crate) fn is_misaligned(state: &mut State, width: LoadWidth, term: usize) ->
     Ok(number_at(state, 1, misaligned)? == 1)
 }
 
-/// The page of the address that a term is.
+/// The page of the address that a term is. A number that was told of a run that stands for no assignment may be past the last page.
 pub(crate) fn page_of(state: &mut State, width: LoadWidth, term: usize) -> Result<u32, Halt>
-    requires ready { IsReady state.old }
+    requires knows { KnowsTruth state.old }
     requires address { IsUnknown state.old.terms 32 term }
     requires decides { DecidesLoad state.old width term }
     requires aligned { IsAligned state.old width term }
@@ -104,7 +106,7 @@ pub(crate) fn page_of(state: &mut State, width: LoadWidth, term: usize) -> Resul
     ensures err { IfErr result (Stops state.old state.new) }
 {
     let page = state.combined(RegisterOp::Srl, Value::Term(term), Value::Number(8))?;
-    number_at(state, page_place(width), page)
+    Ok(number_at(state, page_place(width), page)? % PAGES)
 }
 
 /// Loads from this page into a register.
@@ -135,7 +137,7 @@ fn load_on(
 /// Loads from the address that a term is into a register.
 fn load_by(state: &mut State, width: LoadWidth, rd: Register, term: usize) -> Result<Step, Halt>
     requires formed { IsFormed state.old }
-    requires ready { IsReady state.old }
+    requires knows { KnowsTruth state.old }
     requires address { IsUnknown state.old.terms 32 term }
     requires decides { DecidesLoad state.old width term }
     ensures ok { IfOk result (λ step. (of : machine.State → ℕ)
@@ -161,7 +163,7 @@ pub(crate) fn load(
     rs1: Register,
     offset: u32,
 ) -> Result<Step, Halt>
-    requires ready { IsReady state.old }
+    requires knows { KnowsTruth state.old }
     requires decides { DecidesBy state.old (Load width rd rs1 offset) }
     ensures ok { IfOk result (λ step. Carries state.old state.new step (Load width rd rs1 offset)) }
     ensures err { IfErr result (Stops state.old state.new) }

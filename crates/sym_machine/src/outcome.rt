@@ -3,14 +3,7 @@
 ghost use Rattle.std.specs.Prelude.{◌≡◌};
 
 use rv_decode::Trap;
-
-/// How all runs that a symbolic run stands for end.
-#[derive(Clone, Copy, Debug, PartialEq, Eq)]
-pub enum RunEnd {
-    /// They exit, with the low byte of x10.
-    Exits,
-    Traps(Trap),
-}
+use sym_state::RunEnd;
 
 /// What an instruction that was carried out leads to.
 #[derive(Clone, Copy, Debug, PartialEq, Eq)]

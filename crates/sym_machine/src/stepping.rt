@@ -1,16 +1,15 @@
 //! Steps, one after the other.
 
 ghost use Rattle.std.specs.Prelude.{◌≤◌, IfOk};
-ghost use Rattle.sym_state.specs.Runs.{IsReady};
-ghost use Rattle.sym_state.specs.Symbolic.{most_steps};
+ghost use Rattle.sym_state.specs.Symbolic.{KnowsTruth, most_steps};
 ghost use Rattle.sym_machine.specs.Advancing.{Advances};
 
 use crate::decoded::Decoded;
 use crate::execute::step;
 use crate::halt::Halt;
-use crate::outcome::{RunEnd, Step};
+use crate::outcome::Step;
 use std::alloc::AllocError as NoMemory;
-use sym_state::State;
+use sym_state::{RunEnd, State};
 
 /// Why a symbolic run makes no step more.
 #[derive(Clone, Copy, Debug, PartialEq, Eq)]
@@ -35,7 +34,7 @@ pub struct Advanced {
 
 // Makes steps on a run that is of no use after want of memory.
 fn go_on(state: &mut State, most: u32) -> Result<Stop, NoMemory>
-    requires ready { IsReady state.old }
+    requires knows { KnowsTruth state.old }
     requires within { state.old.steps ≤ most }
     requires steps { most ≤ most_steps }
     ensures { IfOk result (Advances most state.old state.new) }
@@ -56,7 +55,7 @@ fn go_on(state: &mut State, most: u32) -> Result<Stop, NoMemory>
 /// Makes steps on a share of a run until all runs have ended, or so many were made in all, or a step needs to know what may differ
 /// from run to run.
 pub fn advance(state: &State, most: u32) -> Result<Advanced, NoMemory>
-    requires ready { IsReady state.now }
+    requires knows { KnowsTruth state.now }
     requires within { state.now.steps ≤ most }
     requires steps { most ≤ most_steps }
     ensures { IfOk result (λ advanced. Advances most state.now advanced.run advanced.stop) }

@@ -8,8 +8,7 @@ ghost use Rattle.rv_decode.specs.declared.instr.Instr.TheVariants.{Store};
 ghost use Rattle.rv_spec.specs.Machine as machine;
 ghost use Rattle.term_trees.specs.Trees.{tree_of};
 ghost use Rattle.sym_state.specs.Expressions.{Number as ANumber, Unknown};
-ghost use Rattle.sym_state.specs.Runs.{IsReady};
-ghost use Rattle.sym_state.specs.Symbolic.{IsFormed, concrete, stands_for};
+ghost use Rattle.sym_state.specs.Symbolic.{IsFormed, KnowsTruth, concrete, stands_for};
 ghost use Rattle.sym_state.specs.Values.{IsUnknown};
 ghost use Rattle.sym_machine.specs.Loading.{DecidesLoad, IsAligned, IsOnPage};
 ghost use Rattle.sym_machine.specs.Steps.{Carries};
@@ -78,7 +77,7 @@ fn store_on(
 /// Stores a register to the address that a term is.
 fn store_by(state: &mut State, width: StoreWidth, term: usize, rs2: Register) -> Result<Step, Halt>
     requires formed { IsFormed state.old }
-    requires ready { IsReady state.old }
+    requires knows { KnowsTruth state.old }
     requires address { IsUnknown state.old.terms 32 term }
     requires decides { DecidesLoad state.old (as_load width) term }
     ensures ok { IfOk result (λ step. (of : machine.State → ℕ)
@@ -105,7 +104,7 @@ pub(crate) fn store(
     rs2: Register,
     offset: u32,
 ) -> Result<Step, Halt>
-    requires ready { IsReady state.old }
+    requires knows { KnowsTruth state.old }
     requires decides { DecidesBy state.old (Store width rs1 rs2 offset) }
     ensures ok { IfOk result (λ step. Carries state.old state.new step
         (Store width rs1 rs2 offset)) }

@@ -1,6 +1,6 @@
 -- A run to which terms were added is where it was, stands for the same assignments, and has the same
 -- terms.
-use Rattle.std.proofs.Common.{◌≡◌, ℕ, ◌&&◌, List, [], ◌∷◌, length, map, refl, ap, ◌∙◌, arith}
+use Rattle.std.proofs.Common.{◌≡◌, ℕ, ◌&&◌, List, [], ◌∷◌, true, length, map, refl, sym, ap, ◌∙◌, arith}
 use Rattle.std.specs.Prelude.{All, ◌==◌}
 use Rattle.std.specs.List.{list_all}
 use Rattle.std.proofs.Math.Path.{fun_ext}
@@ -18,7 +18,7 @@ use Rattle.sym_state.specs.Symbolic.{Symbolic, IsFormed, concrete, stands_for}
 use Rattle.sym_state.specs.Unfolded.{unfolded}
 use Rattle.sym_state.specs.Values.{IsByte, IsWide, byte_worth, worth_of}
 use Rattle.sym_state.proofs.Expressing.{byte_expression-grown, expression-grown}
-use Rattle.sym_state.proofs.Growing.{byte_worth-grown, number-grown, worth-grown}
+use Rattle.sym_state.proofs.Growing.{Continues-trans, byte_worth-grown, number-grown, worth-grown}
 
 pub Continues-refl : (g : Graph) → Continues g g
 Continues-refl g = record { inputs = refl; front = take_all (length g.nodes) g.nodes (omega arith) }
@@ -80,3 +80,21 @@ concrete-grown old new input grown =
 
 pub unfolded-grown : (old new : Symbolic) → IsGrown old new → unfolded new ≡ unfolded old
 unfolded-grown old new grown = ap unfolded grown.same ∙ unfolded-with_terms old new.terms grown.before grown.continues
+
+-- an assignment that a run stands for after terms were made it stood for before
+pub stood : (old new : Symbolic) (input : List ℕ) → IsGrown old new
+    → stands_for new input ≡ true → stands_for old input ≡ true
+stood old new input grown stands = sym (stands-grown old new input grown) ∙ stands
+
+-- and the other way
+pub still_stands : (old new : Symbolic) (input : List ℕ) → IsGrown old new
+    → stands_for old input ≡ true → stands_for new input ≡ true
+still_stands old new input grown stands = stands-grown old new input grown ∙ stands
+
+pub IsGrown-trans : (old mid new : Symbolic) → IsGrown old mid → IsGrown mid new → IsGrown old new
+IsGrown-trans old mid new first second = record {
+  before = first.before;
+  same = second.same ∙ ap (λ (s : Symbolic). with_terms s new.terms) first.same;
+  continues = Continues-trans first.continues second.continues;
+  formed = second.formed;
+}

@@ -15,3 +15,5 @@ pub mod StoredOn
 pub mod Taking
 pub mod Indices
 pub mod IndexNodes
+pub mod Tests
+pub mod Undecided

@@ -26,7 +26,7 @@ use Rattle.rv_spec.specs.Runs.{run_from}
 use Rattle.sym_state.specs.Expressions.{Expression, Number as ANumber, byte_expression, value_expression}
 use Rattle.sym_state.specs.Placing.{HasBytes, PutsBytes, bytes_expressed, bytes_worth, first_run, number_values}
 use Rattle.sym_state.specs.Programs.{Program}
-use Rattle.sym_state.specs.Runs.{IsFirst, IsOpen}
+use Rattle.sym_state.specs.Runs.{IsFirst, IsOpen, IsSampled}
 use Rattle.sym_state.specs.Unfolded.{first_unfolded, inputs_placed, unfolded}
 use Rattle.sym_state.specs.Unfolding.{unfolded_run}
 use Rattle.sym_state.specs.Symbolic.{IsFormed, IsTrulyKnown, Symbolic, concrete, condition_of, known_at, nothing_known, stands_for}
@@ -160,10 +160,7 @@ module _ (p : Program) (start terms : Graph) (image memory : SymbolicMemory)
   unfolding run_from decisions_from unfolded_run
   is_open = record {
     inputs = puts.continues.inputs ∙ inputs;
-    ready = record {
-      sampled = zeros_stand p.image.entry memory terms;
-      knows = λ place. subst (IsTrulyKnown (first_run p.image.entry memory terms) place) (sym (known_nowhere p.image.entry memory terms place)) tt;
-    };
+    knows = λ place. subst (IsTrulyKnown (first_run p.image.entry memory terms) place) (sym (known_nowhere p.image.entry memory terms place)) tt;
     few_outputs = omega arith;
     sound = λ input stands.
         ap (λ s. record { state = s; end = None; steps = 0 }) (sym (state_is input (stands-bytes (first_run p.image.entry memory terms) input stands)));
@@ -176,3 +173,8 @@ pub if_first : {E : Type 0} (P : Symbolic → Type 0) (r : Result Symbolic E) (e
     → IfOk r (λ s. s ≡ first_run entry memory terms) → P (first_run entry memory terms) → IfOk r P
 if_first P (Err e) entry memory terms is holds = tt
 if_first P (Ok s) entry memory terms is holds = subst P (sym is) holds
+
+-- so its sample is one of its assignments
+pub first_sampled : {E : Type 0} (r : Result Symbolic E) (entry : ℕ) (memory : SymbolicMemory) (terms : Graph)
+    → IfOk r (λ s. s ≡ first_run entry memory terms) → IfOk r IsSampled
+first_sampled r entry memory terms is = if_first IsSampled r entry memory terms is (zeros_stand entry memory terms)

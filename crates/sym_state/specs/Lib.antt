@@ -3,6 +3,8 @@ pub mod Symbolic
 pub mod Moves
 pub mod Programs
 pub mod Runs
+pub mod Undecided
+pub mod Narrowed
 pub mod Placing
 pub mod Places
 pub mod Expressions

@@ -6,7 +6,7 @@ ghost use Rattle.rv_machine.specs.Pages.{AreMapped, IsMapped, filled};
 ghost use Rattle.rv_spec.specs.Machine as machine;
 ghost use Rattle.rv_spec.specs.Memory.{count_of, placed};
 ghost use Rattle.sym_state.specs.Placing.{HasBytes, PutsBytes, bytes_expressed, bytes_worth, first_run, inputs_filled, number_values};
-ghost use Rattle.sym_state.specs.Runs.{IsFirst, IsOpen};
+ghost use Rattle.sym_state.specs.Runs.{IsFirst, IsOpen, IsSampled};
 ghost use Rattle.sym_state.specs.Unfolded.{inputs_placed};
 
 use crate::known::Known;
@@ -111,6 +111,7 @@ impl State {
     pub fn first(alloc: Global, program: &Program) -> Result<State, NoMemory>
         ensures first { IfOk result (IsFirst program.now) }
         ensures open { IfOk result (IsOpen program.now) }
+        ensures sampled { IfOk result IsSampled }
     {
         let image = program.image();
         let regions = program.regions().as_slice();

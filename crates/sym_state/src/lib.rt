@@ -14,12 +14,14 @@
 //! - `first`: the run of all assignments
 //! - `program`: what is run
 //! - `decided`, `known`: what is known of a decision, and of those of a step
+//! - `ended`: how runs end
 //! - `laws`: what holds of the terms of runs
 #![tactic(auto)]
 
 mod bytes;
 mod code;
 mod decided;
+mod ended;
 mod first;
 mod indexing;
 mod known;
@@ -39,6 +41,7 @@ mod ways;
 
 pub use code::Code;
 pub use decided::Decided;
+pub use ended::RunEnd;
 pub use lists::listed;
 pub use program::Program;
 pub use selecting::bytes_of;

@@ -6,8 +6,8 @@ use rv_decode::Trap;
 use std::alloc::Global;
 use std::process::Abort;
 use std::test::Fail;
-use sym_machine::{RunEnd, Stop, advance};
-use sym_state::State;
+use sym_machine::{Stop, advance};
+use sym_state::{RunEnd, State};
 
 fn name_of(stop: &Stop) -> &'static str {
     match stop {

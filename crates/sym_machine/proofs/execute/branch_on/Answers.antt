@@ -1,9 +1,9 @@
 use Rattle.sym_machine.proofs.Executing.{branches, side_next}
-use Rattle.sym_machine.proofs.Standing.{ready-grown}
+use Rattle.sym_machine.proofs.Standing.{knows-grown}
 use Rattle.sym_machine.proofs.execute.branch_on.Goals as goal
 
-pub side_of-requires-clause-ready : goal.side_of-requires-clause-ready
-side_of-requires-clause-ready c = ready-grown c.args.state.now c.passes.new.self c.in_ok-bit.ensures.ok.grown c.requires.ready
+pub side_of-requires-clause-knows : goal.side_of-requires-clause-knows
+side_of-requires-clause-knows c = knows-grown c.args.state.now c.passes.new.self c.in_ok-bit.ensures.ok.grown c.requires.knows
 
 pub side_of-requires-clause-stands : goal.side_of-requires-clause-stands
 side_of-requires-clause-stands c =

@@ -1,12 +1,13 @@
 use Rattle.sym_machine.proofs.Executing.{jumps, target_next}
-use Rattle.sym_machine.proofs.Standing.{IsGrown-trans, ready-grown}
+use Rattle.sym_machine.proofs.Standing.{knows-grown}
+use Rattle.sym_state.proofs.Grown.{IsGrown-trans}
 use Rattle.sym_machine.proofs.execute.jump_register.Goals as goal
 
-pub number_at-requires-clause-ready : goal.number_at-requires-clause-ready
-number_at-requires-clause-ready c =
-    ready-grown c.args.state.now c.cleared.new.self
+pub number_at-requires-clause-knows : goal.number_at-requires-clause-knows
+number_at-requires-clause-knows c =
+    knows-grown c.args.state.now c.cleared.new.self
     (IsGrown-trans c.args.state.now c.combined.new.self c.cleared.new.self c.in_ok-sum.ensures.ok.grown c.in_ok-target.ensures.ok.grown)
-    c.requires.ready
+    c.requires.knows
 
 pub number_at-requires-clause-stands : goal.number_at-requires-clause-stands
 number_at-requires-clause-stands c =

@@ -2,12 +2,12 @@ use Rattle.std.proofs.Common.{Some, None}
 use Rattle.rv_decode.specs.declared.ends.Trap.TheVariants.{Illegal}
 use Rattle.sym_machine.proofs.Counting.{counts_instr, counts_trap}
 use Rattle.sym_machine.proofs.Fetches.{fetch_word}
-use Rattle.sym_machine.proofs.Standing.{DecidesBy-grown, ready-grown}
+use Rattle.sym_machine.proofs.Standing.{DecidesBy-grown, knows-grown}
 use Rattle.sym_machine.proofs.execute.step.Goals as goal
 use Rattle.sym_machine.proofs.execute.step.Goals.{in-Ok+in-Some+in_ok-step-in-Some, in-Ok+in-None, in-Err}
 
-pub execute-requires-clause-ready : goal.execute-requires-clause-ready
-execute-requires-clause-ready c = ready-grown c.args.state.now c.fetch.new.state c.in_ok-word.ensures.grown c.requires.ready
+pub execute-requires-clause-knows : goal.execute-requires-clause-knows
+execute-requires-clause-knows c = knows-grown c.args.state.now c.fetch.new.state c.in_ok-word.ensures.grown c.requires.knows
 
 pub execute-requires-clause-decides : goal.execute-requires-clause-decides
 execute-requires-clause-decides c =

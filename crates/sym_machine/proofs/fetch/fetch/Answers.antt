@@ -1,7 +1,8 @@
 use Rattle.std.proofs.Common.{◌∙◌, sym}
 use Rattle.sym_state.proofs.Opening.{stands-bytes}
 use Rattle.sym_machine.proofs.Fetches.{code_word, fetch_misaligned, fetch_refused, word_first}
-use Rattle.sym_machine.proofs.Standing.{ready-grown, still_stands}
+use Rattle.sym_machine.proofs.Standing.{knows-grown}
+use Rattle.sym_state.proofs.Grown.{still_stands}
 use Rattle.sym_machine.proofs.fetch.fetch.Goals as goal
 
 pub returns-then-pc-ne0-clause-ok : goal.returns-then-pc-ne0-clause-ok
@@ -11,10 +12,10 @@ pub returns-in-Closed-clause-ok : goal.returns-in-Closed-clause-ok
 returns-in-Closed-clause-ok c =
     fetch_refused c.args.state.now (rw c.pc-pc.ensures.value at c.if-pc-ne0.false) (rw (c.in-Closed.is, c.pc-pc.ensures.value) at c.code.ensures.code)
 
-pub number_at-requires-clause-ready : goal.number_at-requires-clause-ready
-number_at-requires-clause-ready c =
+pub number_at-requires-clause-knows : goal.number_at-requires-clause-knows
+number_at-requires-clause-knows c =
     let made = rw (c.code.ensures.same, c.pc-pc.ensures.value) at c.in_ok-value-in-Bytes.ensures.ok in
-    ready-grown c.args.state.now c.word.new.state made.grown c.requires.ready
+    knows-grown c.args.state.now c.word.new.state made.grown c.requires.knows
 
 pub number_at-requires-clause-stands : goal.number_at-requires-clause-stands
 number_at-requires-clause-stands c =

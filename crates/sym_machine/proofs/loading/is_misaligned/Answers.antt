@@ -2,7 +2,7 @@ use Rattle.std.proofs.Common.{sym, ◌∙◌}
 use Rattle.sym_state.proofs.Forms.{grows}
 use Rattle.sym_state.proofs.Grown.{Continues-refl}
 use Rattle.sym_machine.proofs.Loads.{misaligned_is, misaligned_stands, never_misaligned}
-use Rattle.sym_machine.proofs.Standing.{ready-grown}
+use Rattle.sym_machine.proofs.Standing.{knows-grown}
 use Rattle.sym_machine.proofs.loading.is_misaligned.Goals as goal
 
 pub returns-then-mask-eq0-clause-ok : goal.returns-then-mask-eq0-clause-ok
@@ -11,8 +11,8 @@ returns-then-mask-eq0-clause-ok c = λ input stands. never_misaligned c.args.wid
 pub returns-then-mask-eq0-clause-grown : goal.returns-then-mask-eq0-clause-grown
 returns-then-mask-eq0-clause-grown c = grows c.args.state.now c.args.state.now.terms c.requires.formed (Continues-refl c.args.state.now.terms)
 
-pub number_at-requires-clause-ready : goal.number_at-requires-clause-ready
-number_at-requires-clause-ready c = ready-grown _ _ c.in_ok-misaligned.ensures.grown c.requires.ready
+pub number_at-requires-clause-knows : goal.number_at-requires-clause-knows
+number_at-requires-clause-knows c = knows-grown _ _ c.in_ok-misaligned.ensures.grown c.requires.knows
 
 pub number_at-requires-clause-stands : goal.number_at-requires-clause-stands
 number_at-requires-clause-stands c =

@@ -6,12 +6,12 @@ use Rattle.sym_state.specs.Expressions.{Number, Unknown, value_expression}
 use Rattle.sym_state.specs.Values.{worth_of}
 use Rattle.sym_machine.specs.Loading.{CarriesLoad}
 use Rattle.sym_machine.proofs.Loads.{carries_if, carries_load}
-use Rattle.sym_machine.proofs.Standing.{ready-grown}
+use Rattle.sym_machine.proofs.Standing.{knows-grown}
 use Rattle.sym_machine.proofs.Transfers.{address_is, decides_by_term, of_result, stops_made, sum_expressed}
 use Rattle.sym_machine.proofs.loading.load.Goals as goal
 
-pub load_by-requires-clause-ready : goal.load_by-requires-clause-ready
-load_by-requires-clause-ready c = ready-grown _ _ c.in_ok-sum.ensures.ok.grown c.requires.ready
+pub load_by-requires-clause-knows : goal.load_by-requires-clause-knows
+load_by-requires-clause-knows c = knows-grown _ _ c.in_ok-sum.ensures.ok.grown c.requires.knows
 
 pub load_by-requires-clause-decides : goal.load_by-requires-clause-decides
 load_by-requires-clause-decides c =

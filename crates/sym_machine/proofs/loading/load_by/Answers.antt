@@ -6,7 +6,8 @@ use Rattle.sym_state.specs.Expressions.{Unknown}
 use Rattle.sym_state.proofs.Expressing.{tree-kept}
 use Rattle.sym_state.proofs.Growing.{IsUnknown-grown}
 use Rattle.sym_machine.proofs.Loads.{DecidesLoad-grown, carries-made, carries_misaligned}
-use Rattle.sym_machine.proofs.Standing.{IsGrown-trans, ready-grown}
+use Rattle.sym_machine.proofs.Standing.{knows-grown}
+use Rattle.sym_state.proofs.Grown.{IsGrown-trans}
 use Rattle.sym_machine.proofs.Transfers.{address-made, aligned_is, page-grown}
 use Rattle.sym_machine.proofs.loading.load_by.Goals as goal
 
@@ -21,8 +22,8 @@ returns-then-branch-clause-ok c = λ of is.
     c.args.width c.args.rd (Unknown (tree_of t.terms c.args.term))
     (λ input stands. aligned_is s t c.args.width c.args.term grown c.requires.address c.in_ok-is_misaligned.ensures.ok input stands ∙ ap not c.if-branch.true)))
 
-pub page_of-requires-clause-ready : goal.page_of-requires-clause-ready
-page_of-requires-clause-ready c = ready-grown _ _ c.in_ok-is_misaligned.ensures.grown c.requires.ready
+pub page_of-requires-clause-knows : goal.page_of-requires-clause-knows
+page_of-requires-clause-knows c = knows-grown _ _ c.in_ok-is_misaligned.ensures.grown c.requires.knows
 
 pub page_of-requires-clause-address : goal.page_of-requires-clause-address
 page_of-requires-clause-address c = IsUnknown-grown _ _ 32 c.args.term c.in_ok-is_misaligned.ensures.grown.continues (omega arith) c.requires.address

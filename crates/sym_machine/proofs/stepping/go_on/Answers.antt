@@ -2,10 +2,10 @@ use Rattle.sym_machine.proofs.Runs.{all_steps, no_step, one_step, smaller, stops
 use Rattle.sym_machine.proofs.stepping.go_on.Goals as goal
 
 pub loop-decoded-init : goal.loop-decoded-init
-loop-decoded-init c = record { onward = no_step c.args.most c.args.state.now c.requires.within c.requires.ready }
+loop-decoded-init c = record { onward = no_step c.args.most c.args.state.now c.requires.within c.requires.knows }
 
-pub step-requires-clause-ready : goal.step-requires-clause-ready
-step-requires-clause-ready c = c.loop-decoded.invariant.onward.ready
+pub step-requires-clause-knows : goal.step-requires-clause-knows
+step-requires-clause-knows c = c.loop-decoded.invariant.onward.knows
 
 pub loop-decoded-smaller : goal.loop-decoded-smaller
 loop-decoded-smaller c =

@@ -7,12 +7,12 @@ use Rattle.sym_state.specs.Expressions.{Number, Unknown, value_expression}
 use Rattle.sym_state.specs.Values.{worth_of}
 use Rattle.sym_machine.specs.Storing.{CarriesStore}
 use Rattle.sym_machine.proofs.Stores.{carries_if, carries_store}
-use Rattle.sym_machine.proofs.Standing.{ready-grown}
+use Rattle.sym_machine.proofs.Standing.{knows-grown}
 use Rattle.sym_machine.proofs.Transfers.{address_is, decides_by_term, of_result, stops_made, sum_expressed}
 use Rattle.sym_machine.proofs.storing.store.Goals as goal
 
-pub store_by-requires-clause-ready : goal.store_by-requires-clause-ready
-store_by-requires-clause-ready c = ready-grown _ _ c.in_ok-sum.ensures.ok.grown c.requires.ready
+pub store_by-requires-clause-knows : goal.store_by-requires-clause-knows
+store_by-requires-clause-knows c = knows-grown _ _ c.in_ok-sum.ensures.ok.grown c.requires.knows
 
 pub store_by-requires-clause-decides : goal.store_by-requires-clause-decides
 store_by-requires-clause-decides c =

@@ -1,6 +1,6 @@
 use Rattle.std.proofs.Common.{refl}
 use Rattle.sym_state.specs.Runs.{IsFirst, IsOpen}
-use Rattle.sym_state.proofs.Opening.{fitting_few, if_first, image_mapped, is_first, is_open}
+use Rattle.sym_state.proofs.Opening.{first_sampled, fitting_few, if_first, image_mapped, is_first, is_open}
 use Rattle.sym_state.proofs.state.State.first.Goals as goal
 
 pub count_bytes-requires : goal.count_bytes-requires
@@ -38,3 +38,6 @@ returns-clause-open c =
     (rw c.image-image.ensures.value at c.in_ok-memory.ensures.bytes)
     (rw c.image-image.ensures.value at c.in_ok-memory.ensures.flags)
     (rw (c.as_slice-regions.ensures, c.regions.ensures.value) at c.in_ok-place_inputs.ensures)))
+
+pub returns-clause-sampled : goal.returns-clause-sampled
+returns-clause-sampled c = first_sampled c.begin.result _ _ _ c.begin.ensures
