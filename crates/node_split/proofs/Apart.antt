@@ -10,10 +10,10 @@ use Rattle.rv_spec.specs.Machine.{State, first_state}
 use Rattle.rv_spec.specs.Runs.{Run, run, run_from}
 use Rattle.fork_spec.specs.Partings.{ArePlacesApart, IsOnSide}
 use Rattle.fork_tree.specs.NodesApart.{AreKidsApart}
-use Rattle.sym_machine.specs.Stops.{StandsAt}
 use Rattle.sym_state.specs.Programs.{Program}
 use Rattle.sym_state.specs.Runs.{IsOpen}
 use Rattle.sym_state.specs.Symbolic.{Symbolic, concrete, stands_for}
+use Rattle.sym_state.specs.Undecided.{StandsAt}
 use Rattle.node_split.specs.Rules.{Piece, content_place}
 
 -- a list that goes on from another

@@ -1,78 +1,41 @@
--- The sides of a branch, and questions about them.
+-- Questions about the sides of a branch.
 use Rattle.std.proofs.Common.{◌≡◌, ℕ, ◌<◌, Bool, true, false, ◌&&◌, List, [], ◌∷◌, ◌++◌, length, refl, sym, ap, subst, ◌∙◌}
-use Rattle.std.specs.Prelude.{All, IfOk, None, Some, Result, Ok, Err, ◌==◌, not}
+use Rattle.std.specs.Prelude.{All, IfOk, None, Result, Ok, Err, ◌==◌, not}
 use Rattle.std.proofs.lemmas.Bool.{and_parts}
-use Rattle.bv_dag.specs.Graphs.{Graph, number_of, width_of}
+use Rattle.bv_dag.specs.Graphs.{Graph, number_of}
 use Rattle.bv_dag.specs.Queries.{IsUnsatisfiable, holds}
 use Rattle.fork_spec.specs.Evidence.{Learnt}
-use Rattle.fork_spec.specs.Leaves.{IsSmallChoice, are_bytes}
+use Rattle.fork_spec.specs.Leaves.{are_bytes}
 use Rattle.fork_spec.proofs.ByteLists.{are_bytes-each, are_bytes-of}
 use Rattle.query_front.specs.Asks.{IsAsked, with_term}
 use Rattle.query_front.specs.declared.asked.Asked.TheVariants.{Spent}
-use Rattle.rv_spec.specs.Arithmetic.{one_where}
-use Rattle.fork_spec.specs.Decisions.{Side as OnSide}
-use Rattle.sym_machine.specs.Stops.{IsBranch}
-use Rattle.sym_state.specs.Moves.{MakesTerm}
+use Rattle.sym_state.specs.Runs.{IsSampled}
 use Rattle.sym_state.specs.Symbolic.{Symbolic, IsFormed, condition_of, stands_for}
-use Rattle.sym_state.specs.declared.decided.Decided.TheVariants.{Side}
-use Rattle.sym_state.proofs.Grown.{Continues-refl, holds-grown}
+use Rattle.sym_state.proofs.Grown.{holds-grown}
 use Rattle.sym_state.proofs.Opening.{stands-bytes}
+use Rattle.sym_state.proofs.Tests.{all_true, equals}
 use Rattle.term_trees.specs.Growth.{Continues}
 use Rattle.tree_core.specs.declared.budgets.Budgets.{Budgets}
 use Rattle.tree_core.specs.declared.choice.Choice.{Choice}
 use Rattle.tree_core.specs.declared.choice.Choice.TheVariants.{No, Yes}
-use Rattle.node_split.specs.Learning.{IsLearntFor}
-use Rattle.node_split.specs.Narrowing.{IsNarrowed, IsNarrower, IsForced, is_side}
+use Rattle.run_leaves.specs.Learning.{IsLearntFor}
+use Rattle.run_sides.specs.Narrowing.{IsNarrower}
+use Rattle.run_sides.specs.Sides.{IsSideTested, branch_choice, is_side}
+use Rattle.run_sides.specs.declared.branch.Tested.{Tested}
+use Rattle.run_sides.proofs.Sides.{holds-last}
 use Rattle.node_split.specs.Rules.{Piece}
-use Rattle.node_split.specs.Splits.{IsBranchSide, IsRunOn, IsSide, IsSideTested, branch_choice}
-use Rattle.node_split.specs.declared.branch.Tested.{Tested}
-use Rattle.node_split.proofs.Bytes.{all_true, not_false, not_true, one_is}
-use Rattle.node_split.proofs.Increasing.{equals}
+use Rattle.node_split.specs.Splits.{IsBranchSide, IsRunOn, IsSide}
 use Rattle.node_split.proofs.Sharing.{side_in}
-use Rattle.node_split.proofs.Sides.{decision_there, holds-last, narrower, side_run, stands-narrowed}
 
--- the term itself is 1 where the branch is taken
-pub tested_yes : (s : Symbolic) (term : ℕ) → IsFormed s → width_of s.terms term ≡ 1 → IsSideTested s term true (record { run = s; test = term })
-tested_yes s term formed bit = record { formed = formed; same = refl; continues = Continues-refl s.terms; bit = bit; tells = λ input bytes. refl }
-
--- and its other where it isn't
-pub tested_no : (s new : Symbolic) (term negated : ℕ) → MakesTerm s new 1 negated (λ input. one_where (not (number_of s.terms term input == 1)))
-    → IsSideTested s term false (record { run = new; test = negated })
-tested_no s new term negated makes = record {
-  formed = makes.grown.before;
-  same = makes.grown.same;
-  continues = makes.gives.continues;
-  bit = makes.gives.width;
-  tells = λ input bytes. ap (λ n. n == 1) (makes.gives.worth input bytes) ∙ one_is (not (number_of s.terms term input == 1));
-}
-
-decides_side : (side : Bool) (n : ℕ) → is_side side n ≡ true → OnSide (n == 1) ≡ OnSide side
-decides_side true n is = ap OnSide is
-decides_side false n is = ap OnSide (not_true (n == 1) is)
-
--- a run on one side of a branch
-pub side_narrower : (s : Symbolic) (g : Graph) (term test : ℕ) (side : Bool) (sample : List ℕ) → IsFormed s → IsBranch s term → Continues s.terms g
-    → ((input : List ℕ) → All (λ b. b < 256) input → (number_of g test input == 1) ≡ is_side side (number_of s.terms term input))
-    → stands_for s sample ≡ true → is_side side (number_of s.terms term sample) ≡ true
-    → IsNarrower s (side_run s g 1 (Side side) (branch_choice side) test sample) (branch_choice side) (λ input. is_side side (number_of s.terms term input))
-side_narrower s g term test side sample formed at grown tells stands on =
-    narrower s g 1 1 term (Side side) (branch_choice side) test sample (λ input. is_side side (number_of s.terms term input))
-    (λ input. OnSide (number_of s.terms term input == 1)) formed grown at tells
-    (λ input is. decides_side side (number_of s.terms term input) is) stands on
-
--- which is then a side of the fork
+-- a run on one side of a branch is a side of the fork
 pub side_ok : {E : Type 0} (r : Result Piece E) (run : Symbolic) (choice : Choice) → IfOk r (IsRunOn choice run)
-    → IfOk r (λ kid. (s : Symbolic) (test : List ℕ → Bool) → IsNarrower s run choice test → IsSide s choice test kid)
-side_ok (Ok kid) run choice on = λ s test narrows. record { run = run; on = on; narrower = narrows }
+    → IfOk r (λ kid. (s : Symbolic) (test : List ℕ → Bool) → IsNarrower s run choice test → IsSampled run → IsSide s choice test kid)
+side_ok (Ok kid) run choice on = λ s test narrows sampled. record { run = run; on = on; narrower = narrows; sampled = sampled }
 side_ok (Err e) run choice on = tt
 
 pub sides_ok : {E : Type 0} (r : Result Piece E) (P Q : Piece → Type 0) → IfOk r P → ((kid : Piece) → P kid → Q kid) → IfOk r Q
 sides_ok (Ok kid) P Q is turn = turn kid is
 sides_ok (Err e) P Q is turn = tt
-
-pub small_choice : (side : Bool) → IsSmallChoice (branch_choice side)
-small_choice true = tt
-small_choice false = tt
 
 -- the side on which no assignment is known is one of the fork
 pub branch_side : (budgets : Budgets) (s : Symbolic) (term : ℕ) (side : Bool) (kid : Piece)
@@ -107,42 +70,10 @@ pub assigned_each : (s : Symbolic) (input : List ℕ) → stands_for s input ≡
 assigned_each s input stands =
     equals (length input) s.terms.inputs (and_parts (length input == s.terms.inputs) _ (and_parts (are_bytes input) (holds (condition_of s) input) stands).1).0
 
--- ---- A branch is settled where the other side has no assignment.
-other_is : (side : Bool) (n : ℕ) → is_side (not side) n ≡ false → (n == 1) ≡ side
-other_is true n h = not_false (n == 1) h
-other_is false n h = h
-
-pub branch_settled : (s : Symbolic) (term : ℕ) (side : Bool) → IsBranch s term
-    → ((input : List ℕ) → stands_for s input ≡ true → is_side (not side) (number_of s.terms term input) ≡ false)
-    → IsForced s 1 (Side side)
-branch_settled s term side at none = record {
-  in_range = at.in_range;
-  unknown = at.unknown;
-  settled = λ input stands.
-      decision_there s 1 (λ i. OnSide (number_of s.terms term i == 1)) at.stands input stands
-      ∙ ap Some (ap OnSide (other_is side (number_of s.terms term input) (none input stands)));
-}
-
 -- the sample is on its side
 pub own_side : (b : Bool) (n : ℕ) → b ≡ (n == 1) → is_side b n ≡ true
 own_side true n is = sym is
 own_side false n is = ap not (sym is)
-
--- ---- A run that is narrowed by what is 1 on one side.
-pub tested_narrowed : (s u : Symbolic) (term : ℕ) (side : Bool) (t : Tested) → IsSideTested s term side t
-    → u ≡ record t.run { condition = t.run.condition ++ t.test ∷ [] }
-    → IsNarrowed s u (λ input. is_side side (number_of s.terms term input))
-tested_narrowed s u term side t is at =
-    let g = t.run.terms in
-    let form : u ≡ record s { terms = g; condition = s.condition ++ t.test ∷ [] }
-    = at ∙ ap (λ (r : Symbolic). record r { condition = r.condition ++ t.test ∷ [] }) is.same in record {
-      same = form
-          ∙ ap (λ (r : Symbolic). record s { terms = r.terms; condition = r.condition; sample = r.sample }) (sym form);
-      continues = subst (λ (r : Symbolic). Continues s.terms r.terms) (sym form) is.continues;
-      covers = λ input.
-          ap (λ (r : Symbolic). stands_for r input) form
-          ∙ stands-narrowed s g 1 (Side side) (branch_choice side) t.test [] (λ i. is_side side (number_of s.terms term i)) is.formed is.continues is.tells input;
-    }
 
 -- ---- The question about the other side.
 module _ (s : Symbolic) (term : ℕ) (side : Bool) (t : Tested) (is : IsSideTested s term side t) where

@@ -17,42 +17,54 @@ use Rattle.fork_tree.specs.declared.content.Content.{Content}
 use Rattle.fork_tree.specs.declared.content.Content.TheVariants.{Open, Shut}
 use Rattle.fork_tree.specs.declared.work.Parts.{Parts}
 use Rattle.fork_tree.specs.declared.work.Parts.TheVariants.{Finished, CutSteps, Kids}
-use Rattle.sym_machine.specs.Advancing.{Advances, IsEnded, IsUnderway, StoppedBy}
-use Rattle.sym_machine.specs.declared.outcome.RunEnd.{RunEnd}
+use Rattle.sym_machine.specs.Advancing.{Advances, IsUnderway, StoppedBy}
 use Rattle.sym_machine.specs.declared.stepping.Stop.{Stop}
 use Rattle.sym_state.specs.Moves.{IsSame, informed}
 use Rattle.sym_state.specs.Places.{run_place}
 use Rattle.sym_state.specs.Programs.{Program}
-use Rattle.sym_state.specs.Runs.{IsOpen, left_to_do}
-use Rattle.sym_state.specs.Symbolic.{Symbolic, IsFormed, most_decisions, most_steps}
+use Rattle.sym_state.specs.Runs.{IsEnded, IsOpen, IsSampled, left_to_do}
+use Rattle.sym_state.specs.Symbolic.{Symbolic, IsFormed, most_decisions, most_steps, stands_for}
 use Rattle.sym_state.specs.declared.decided.Decided.{Decided}
-use Rattle.node_split.specs.Leaving.{HasTextRoom}
+use Rattle.sym_state.specs.declared.ended.RunEnd.{RunEnd}
+use Rattle.run_leaves.specs.Leaving.{HasTextRoom}
+use Rattle.run_leaves.specs.Places.{IsLeafAt, end_place}
+use Rattle.run_sides.specs.Narrowing.{IsForced}
+use Rattle.run_sides.proofs.Sides.{GoesOn, goes_settled}
 use Rattle.node_split.specs.Rules.{Piece, leaf_place, rules_of}
 use Rattle.node_split.specs.Splits.{IsForkOf, IsForked}
 use Rattle.node_split.specs.Working.{IsOnward}
-use Rattle.node_split.proofs.Sides.{GoesOn, goes_settled}
-use Rattle.node_split.specs.Narrowing.{IsForced}
 use Rattle.node_split.specs.declared.forked.Forked.{Forked}
 use Rattle.node_split.specs.declared.forked.Forked.TheVariants.{One, Split}
 
-pub onward_self : (p : Program) (most : ℕ) (s : Symbolic) (stop : Stop) → StoppedBy p most s stop → IsOnward p most s s stop
-onward_self p most s stop is = record {
+pub onward_self : (p : Program) (most : ℕ) (s : Symbolic) (stop : Stop) → StoppedBy p most s stop → IsSampled s → IsOnward p most s s stop
+onward_self p most s stop is sampled = record {
   stopped = is;
   same = record { same_choices = refl; same_cover = λ input. refl };
+  sampled = sampled;
   less = omega arith;
 }
 
+-- its sample is still one of its assignments
+sampled_along : (t u v : Symbolic) → IsSampled t → u.sample ≡ t.sample → v.sample ≡ u.sample → ((input : List ℕ) → stands_for v input ≡ stands_for t input) → IsSampled v
+sampled_along t u v sampled same again covers = ap (stands_for v) (again ∙ same) ∙ covers t.sample ∙ sampled
+
 -- it goes on along the one side of a fork
 onward_along : (p : Program) (most : ℕ) (s t u v : Symbolic) (was next : Stop) → IsOnward p most s t was → IsOpen p t → GoesOn t u
-    → Advances most u v next → IsOnward p most s v next
-onward_along p most s t u v was next on now goes far = record {
+    → u.sample ≡ t.sample → Advances most u v next → IsOnward p most s v next
+onward_along p most s t u v was next on now goes same far = record {
   stopped = far.stopped p (goes.is_open p now);
   same = record {
     same_choices = far.same.same_choices ∙ goes.choices ∙ on.same.same_choices;
     same_cover = λ input. far.same.same_cover input ∙ goes.covers input ∙ on.same.same_cover input;
   };
+  sampled = sampled_along t u v on.sampled same far.sample (λ input. far.same.same_cover input ∙ goes.covers input);
   less = omega (arith, far.less, goes.less, on.less);
 }
+
+-- its leaf ends it
+pub ends_at : (p : Program) (budgets : Budgets) (cut : Option Cause) (nodes : Option ℕ) (s : Symbolic) (part : Part)
+    → IsLeafAt p budgets [] nodes (end_place s cut) part → EndsAs (rules_of p budgets) run_place leaf_place cut nodes s part
+ends_at p budgets cut nodes s part is = record { same_choices = is.choices; same_cover = is.covers; right = is.right; cause = is.cut }
 
 -- it has become a leaf
 leaf_since : (p : Program) (budgets : Budgets) (cut : Option Cause) (s t : Symbolic) (part : Part) → IsSame s t
@@ -127,6 +139,7 @@ ended_writable p s end steps was small within most =
 -- ---- A run that was stopped at a fork: there is room for a step more, and this is what the fork makes of it.
 pub record IsAtFork (p : Program) (budgets : Budgets) (s : Symbolic) (forked : Forked) : Type 0 where
   pub underway : IsUnderway p budgets.steps s
+  pub sampled : IsSampled s
   pub goes : IsForked budgets s forked
 
 -- it goes on one way, by a decision of its next step that it is told
@@ -148,7 +161,7 @@ module _ (p : Program) (budgets : Budgets) (u : Symbolic) (forked : Forked) (at 
     pub fork_goes : (s v : Symbolic) (was next : Stop) → IsOnward p budgets.steps s u was
         → Advances budgets.steps (informed u place d) v next → IsOnward p budgets.steps s v next
     fork_goes s v was next on far =
-        onward_along p budgets.steps s u (informed u place d) v was next on at.underway.is_open goes far
+        onward_along p budgets.steps s u (informed u place d) v was next on at.underway.is_open goes refl far
 
     pub fork_smaller : (v : Symbolic) (next : Stop) → Advances budgets.steps (informed u place d) v next
         → left_to_do v < left_to_do u
@@ -162,6 +175,6 @@ fork_parts p budgets u forked kids at is = (
   record {
     same_choices = refl;
     same_cover = λ input. refl;
-    well = (at.underway.is_open, at.underway.room);
+    well = record { is_open = at.underway.is_open; sampled = at.sampled; room = at.underway.room };
   },
 )

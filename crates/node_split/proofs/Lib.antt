@@ -1,14 +1,9 @@
 pub mod Apart
 pub mod Branching
-pub mod Bytes
-pub mod Copying
-pub mod Cutting
 pub mod Increasing
 pub mod Parting
-pub mod Pinning
+pub mod Sampling
 pub mod Sharing
-pub mod Sides
 pub mod SidesOfValues
 pub mod Valuing
 pub mod Following
-pub mod Leaving

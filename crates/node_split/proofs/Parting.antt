@@ -14,16 +14,16 @@ use Rattle.fork_spec.specs.Walks.{Side, are_sides, is_one_cut_at_most}
 use Rattle.fork_tree.specs.Written.{side_of_kid}
 use Rattle.fork_tree.specs.Contents.{choices_in, cut_in}
 use Rattle.fork_tree.specs.Works.{IsPart}
-use Rattle.sym_machine.specs.Stops.{IsBranch}
 use Rattle.sym_state.specs.Places.{run_place}
 use Rattle.sym_state.specs.Programs.{Program}
 use Rattle.sym_state.specs.Runs.{IsOpen, left_to_do}
 use Rattle.sym_state.specs.Symbolic.{Symbolic, stands_for}
-use Rattle.node_split.specs.Narrowing.{is_side}
+use Rattle.sym_state.specs.Undecided.{IsBranch}
+use Rattle.sym_state.proofs.Tests.{not_true}
+use Rattle.run_sides.specs.Sides.{branch_choice, is_side}
 use Rattle.node_split.specs.Rules.{Piece, content_place, leaf_place, rules_of}
-use Rattle.node_split.specs.Splits.{IsBranchSide, IsForkOf, IsSide, IsSideIn, branch_choice}
+use Rattle.node_split.specs.Splits.{IsBranchSide, IsForkOf, IsSide, IsSideIn}
 use Rattle.node_split.proofs.Apart.{AreTwoSides, IsOnFork, kids_apart}
-use Rattle.node_split.proofs.Bytes.{not_true}
 use Rattle.node_split.proofs.Sharing.{count-cons, on_fork_in, placed_in, side_in, two_in}
 
 one_of_two : (met one : Bool) → one_if (met && not one) + (one_if (met && one) + 0) ≡ one_if met

@@ -1,6 +1,6 @@
 -- A run on one side of a fork: what it stands for, and where it stands.
 use Rattle.std.proofs.Common.{◌≡◌, ◌≢◌, ℕ, ◌+◌, ◌<◌, Bool, true, false, ◌&&◌, cond, List, [], ◌∷◌, ◌++◌, refl, sym, ap, ◌∙◌, subst, arith}
-use Rattle.std.specs.Prelude.{IsTrue, Option, None, if◌then◌else◌, count_by}
+use Rattle.std.specs.Prelude.{IsTrue, Option, None, Some, if◌then◌else◌, count_by}
 use Rattle.std.proofs.lemmas.List.Sums.{sum_by-cons}
 use Rattle.std.proofs.lemmas.Bool.{and_parts}
 use Rattle.fork_spec.specs.Decisions.{Decision}
@@ -11,7 +11,7 @@ use Rattle.tree_core.specs.declared.choice.Choice.{Choice}
 use Rattle.fork_spec.specs.Partings.{Place, IsOnSide}
 use Rattle.fork_spec.specs.Parts.{Part}
 use Rattle.fork_spec.specs.Walks.{Side}
-use Rattle.fork_tree.specs.Written.{side_of_kid}
+use Rattle.fork_tree.specs.Written.{IsCutOr, side_of_kid}
 use Rattle.fork_tree.specs.Contents.{cut_in}
 use Rattle.fork_tree.specs.Works.{IsPart}
 use Rattle.fork_tree.specs.declared.content.Content.{Content}
@@ -20,8 +20,9 @@ use Rattle.sym_state.specs.Places.{run_place}
 use Rattle.sym_state.specs.Programs.{Program}
 use Rattle.sym_state.specs.Runs.{IsOpen, left_to_do}
 use Rattle.sym_state.specs.Symbolic.{Symbolic, stands_for}
-use Rattle.node_split.specs.Rules.{Piece, content_place, leaf_place, rules_of}
-use Rattle.node_split.specs.Splits.{HoldsRun, IsSide, IsSideIn}
+use Rattle.run_leaves.specs.Places.{IsLeafAt, side_place}
+use Rattle.node_split.specs.Rules.{IsWorkable, Piece, content_place, leaf_place, rules_of}
+use Rattle.node_split.specs.Splits.{HoldsRun, IsSide, IsSideIn, leaf_side}
 use Rattle.node_split.proofs.Apart.{AreTwoSides, IsOnFork}
 
 held : (c : Content Symbolic Part) (run : Symbolic) → HoldsRun c run
@@ -75,21 +76,19 @@ two_runs s decision c d one_test other_test one other is_one is_other differ dec
 -- it is a run with less to do
 held_part : (p : Program) (budgets : Budgets) (limit : ℕ) (sides : List Choice) (kid : Piece)
     (c : Content Symbolic Part) (run : Symbolic) → HoldsRun c run → kid.is_leaf ≡ false
-    → IsOpen p run → run.steps < budgets.steps → left_to_do run < limit
+    → IsWorkable p budgets run → left_to_do run < limit
     → IsPart (rules_of p budgets) leaf_place limit sides kid c
-held_part p budgets limit sides kid (Open a) run is no_leaf one few less = (
-  no_leaf,
-  (subst (IsOpen p) (sym is) one, subst (λ (r : Symbolic). r.steps < budgets.steps) (sym is) few),
-  subst (λ (r : Symbolic). left_to_do r < limit) (sym is) less,
-)
-held_part p budgets limit sides kid (Shut part) run is no_leaf one few less = absurd is
+held_part p budgets limit sides kid (Open a) run is no_leaf well less =
+    (no_leaf, subst (IsWorkable p budgets) (sym is) well, subst (λ (r : Symbolic). left_to_do r < limit) (sym is) less)
+held_part p budgets limit sides kid (Shut part) run is no_leaf well less = absurd is
 
 pub side_part : (p : Program) (budgets : Budgets) (sides : List Choice) (s : Symbolic)
     (choice : Choice) (test : List ℕ → Bool) (kid : Piece) → IsOpen p s → s.steps < budgets.steps
     → IsSide s choice test kid
     → IsPart (rules_of p budgets) leaf_place (left_to_do s) sides kid kid.content
 side_part p budgets sides s choice test kid was few side =
-    held_part p budgets (left_to_do s) sides kid kid.content side.run side.on.holds side.on.no_leaf (side.narrower.is_open p was) (omega (arith, few, side.narrower.steps)) side.narrower.less
+    held_part p budgets (left_to_do s) sides kid kid.content side.run side.on.holds side.on.no_leaf
+    (record { is_open = side.narrower.is_open p was; sampled = side.sampled; room = omega (arith, few, side.narrower.steps) }) side.narrower.less
 
 -- as a side it isn't cut
 pub side_form : (s : Symbolic) (choice : Choice) (test : List ℕ → Bool) (kid : Piece)
@@ -108,6 +107,18 @@ side_in p budgets sides s choice test kid was few side = record {
   covers = side-covers s choice test kid side;
   part = side_part p budgets sides s choice test kid was few side;
   form = side_form s choice test kid side;
+}
+
+-- a side that is a leaf is one of the program's fork
+pub leaf_in : (p : Program) (budgets : Budgets) (sides : List Choice) (s : Symbolic) (choice : Choice) (cause : Cause) (test : List ℕ → Bool) (part : Part)
+    → IsLeafAt p budgets sides None (side_place s choice test cause) part
+    → IsSideIn p budgets sides s choice (Some cause) test (leaf_side choice part)
+leaf_in p budgets sides s choice cause test part is = record {
+  same = refl;
+  placed = is.choices;
+  covers = is.covers;
+  part = (refl, is.right, subst (IsCutOr true) (sym is.cut) tt);
+  form = ap {B = Side} (λ c. record { choice = choice; cut = c }) is.cut;
 }
 
 -- ---- A side of a fork, whether it is a run or a leaf.

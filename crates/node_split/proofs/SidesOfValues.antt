@@ -20,21 +20,21 @@ use Rattle.fork_tree.specs.Written.{side_of_kid}
 use Rattle.fork_spec.proofs.Walking.{part_into_values, part_into_values_and_rest}
 use Rattle.fork_tree.specs.Contents.{choices_in, cut_in}
 use Rattle.fork_tree.specs.Works.{IsPart}
-use Rattle.sym_machine.specs.Stops.{IsPin, StandsAt}
 use Rattle.sym_state.specs.declared.decided.Decided.TheVariants.{Number}
 use Rattle.sym_state.specs.Places.{run_place}
 use Rattle.sym_state.specs.Programs.{Program}
 use Rattle.sym_state.specs.Runs.{IsOpen, left_to_do}
 use Rattle.sym_state.specs.Symbolic.{Symbolic, stands_for}
-use Rattle.node_split.specs.Narrowing.{IsForced}
+use Rattle.sym_state.specs.Undecided.{IsPin, StandsAt}
+use Rattle.sym_state.proofs.Tests.{all_true, equals, not_true, same}
+use Rattle.sym_state.proofs.Undecided.{decision_there}
+use Rattle.run_leaves.specs.Values.{AreValues, HasValue}
+use Rattle.run_leaves.proofs.Cutting.{has_none}
+use Rattle.run_sides.specs.Narrowing.{IsForced}
 use Rattle.node_split.specs.Rules.{Piece, content_place, leaf_place, rules_of}
 use Rattle.node_split.specs.Splits.{AreSidesOf, IsForkOf, IsSideIn, IsValueSide}
-use Rattle.node_split.specs.Values.{AreValues, HasValue}
 use Rattle.node_split.proofs.Apart.{AreOtherSides, AreTwoSides, IsOnFork, kids_apart}
-use Rattle.node_split.proofs.Bytes.{all_true, not_true}
-use Rattle.node_split.proofs.Cutting.{has_none}
-use Rattle.node_split.proofs.Sides.{decision_there}
-use Rattle.node_split.proofs.Increasing.{counted-once, equals, or-true, same}
+use Rattle.node_split.proofs.Increasing.{counted-once, or-true}
 use Rattle.node_split.proofs.Sharing.{count-cons, on_fork_in, passed_in, placed_in, side-choices, side-covers, side_form, side_on_fork, side_part, side_passes, two_runs}
 
 -- the first is one of them

@@ -13,7 +13,7 @@ use Rattle.fork_tree.specs.Works.{Rules}
 use Rattle.fork_tree.specs.declared.content.Content.{Content}
 use Rattle.sym_state.specs.Places.{run_place}
 use Rattle.sym_state.specs.Programs.{Program, program_code}
-use Rattle.sym_state.specs.Runs.{IsOpen, left_to_do}
+use Rattle.sym_state.specs.Runs.{IsOpen, IsSampled, left_to_do}
 use Rattle.sym_state.specs.Symbolic.{Symbolic}
 
 -- who works the runs of a program, and what its exploration may spend
@@ -63,7 +63,13 @@ worker_code = code_by (Program × (ℕ × (ℕ × (ℕ × (ℕ × Order)))))
       };
     }) (λ _. refl)
 
--- runs are open with steps left; leaves are right as the report claims
+-- a run of the program that has steps left, with a sample that is one of its assignments
+pub record IsWorkable (p : Program) (budgets : Budgets) (s : Symbolic) : Type 0 where
+  pub is_open : IsOpen p s
+  pub sampled : IsSampled s
+  pub room : s.steps < budgets.steps
+
+-- runs are workable; leaves are right as the report claims
 abbrev pub rules_of : Program → Budgets → Rules Symbolic Part
 rules_of p budgets = record {
   left = left_to_do;
@@ -71,7 +77,7 @@ rules_of p budgets = record {
   nodes = budgets.nodes;
   order = budgets.order;
   decides = λ input. decisions p.image p.regions input budgets.steps;
-  IsWell = λ s. IsOpen p s × (s.steps < budgets.steps);
+  IsWell = IsWorkable p budgets;
   IsRight = λ sides nodes part. IsRight p.image p.regions budgets sides nodes part;
 }
 

@@ -1,7 +1,7 @@
 -- What becomes of a run at a fork: it goes on one way, or is split into sides.
-use Rattle.std.specs.Prelude.{◌≡◌, ℕ, ◌&&◌, ◌==◌, ◌<◌, Bool, true, false, All, IsTrue, List, [], ◌∷◌, ◌++◌, Option, None}
+use Rattle.std.specs.Prelude.{◌≡◌, ℕ, ◌&&◌, ◌==◌, ◌<◌, Bool, true, false, IsTrue, List, [], ◌∷◌, ◌++◌, Option, None}
 use Rattle.std.specs.Arc.{arc_value}
-use Rattle.bv_dag.specs.Graphs.{number_of, width_of}
+use Rattle.bv_dag.specs.Graphs.{number_of}
 use Rattle.fork_spec.specs.Evidence.{Found}
 use Rattle.fork_spec.specs.Parts.{Part}
 use Rattle.fork_spec.specs.Walks.{is_one_cut_at_most}
@@ -12,16 +12,15 @@ use Rattle.fork_tree.specs.declared.content.Content.{Content}
 use Rattle.fork_tree.specs.declared.content.Content.TheVariants.{Open, Shut}
 use Rattle.sym_state.specs.Places.{run_place}
 use Rattle.sym_state.specs.Programs.{Program}
-use Rattle.sym_state.specs.Runs.{IsOpen, left_to_do}
-use Rattle.sym_state.specs.Symbolic.{Symbolic, IsFormed, stands_for}
-use Rattle.term_trees.specs.Growth.{Continues}
+use Rattle.sym_state.specs.Runs.{IsOpen, IsSampled, left_to_do}
+use Rattle.sym_state.specs.Symbolic.{Symbolic, stands_for}
 use Rattle.tree_core.specs.declared.budgets.Budgets.{Budgets}
 use Rattle.tree_core.specs.declared.cause.Cause.{Cause}
 use Rattle.tree_core.specs.declared.choice.Choice.{Choice}
 use Rattle.tree_core.specs.declared.choice.Choice.TheVariants.{No, Yes, Value}
-use Rattle.node_split.specs.Narrowing.{IsNarrower, IsForced, is_side}
+use Rattle.run_sides.specs.Narrowing.{IsForced, IsNarrower}
+use Rattle.run_sides.specs.Sides.{branch_choice, is_side}
 use Rattle.node_split.specs.Rules.{Piece, content_place, leaf_place, rules_of}
-use Rattle.node_split.specs.declared.branch.Tested.{Tested}
 use Rattle.node_split.specs.declared.forked.Forked.{Forked}
 use Rattle.node_split.specs.declared.forked.Forked.TheVariants.{One, Split}
 
@@ -42,6 +41,7 @@ pub record IsSide (s : Symbolic) (choice : Choice) (test : List ℕ → Bool)
   pub run : Symbolic
   pub on : IsRunOn choice run kid
   pub narrower : IsNarrower s run choice test
+  pub sampled : IsSampled run
 
 -- A side of a fork of a program's run into sides with these choices, a run or a leaf that is cut for this cause: it stands for
 -- those of the run's assignments that pass a test.
@@ -59,20 +59,6 @@ pub record IsSideIn (p : Program) (budgets : Budgets) (sides : List Choice) (s :
 -- the side that is this leaf
 abbrev pub leaf_side : Choice → Part → Piece
 leaf_side choice part = record { choice = choice; content = Shut part; is_leaf = true }
-
--- the choice of a branch's side
-abbrev pub branch_choice : Bool → Choice
-branch_choice false = No
-branch_choice true = Yes
-
--- a run has a term of one bit that is 1 just on one side of another term
-pub record IsSideTested (s : Symbolic) (term : ℕ) (side : Bool) (t : Tested) : Type 0 where
-  pub formed : IsFormed s
-  pub same : t.run ≡ record s { terms = t.run.terms }
-  pub continues : Continues s.terms t.run.terms
-  pub bit : width_of t.run.terms t.test ≡ 1
-  pub tells : (input : List ℕ) → All (λ b. b < 256) input
-      → (number_of t.run.terms t.test input == 1) ≡ is_side side (number_of s.terms term input)
 
 -- one side of a branch: a run, or a leaf that is cut by conflicts
 abbrev pub IsBranchSide : Budgets → Symbolic → (term : ℕ) → (side : Bool) → Piece → Type 0

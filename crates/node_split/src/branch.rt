@@ -5,76 +5,26 @@ ghost use Rattle.std.specs.Prelude.{◌≡◌, ◌∷◌, [], ◌<◌, ◌≤◌
 ghost use Rattle.bv_dag.specs.Graphs.{number_of, width_of};
 ghost use Rattle.query_front.specs.Asks.{IsAsked};
 ghost use Rattle.query_front.specs.declared.asked.Asked.TheVariants.{Spent};
-ghost use Rattle.sym_machine.specs.Stops.{IsBranch};
-ghost use Rattle.sym_state.specs.Runs.{IsReady};
+ghost use Rattle.sym_state.specs.Runs.{IsSampled};
 ghost use Rattle.sym_state.specs.Symbolic.{Symbolic, condition_of, stands_for};
+ghost use Rattle.sym_state.specs.Undecided.{IsBranch};
 ghost use Rattle.tree_core.specs.declared.budgets.Budgets.{Budgets};
-ghost use Rattle.node_split.specs.Leaving.{HasTextRoom};
-ghost use Rattle.node_split.specs.Narrowing.{is_side};
-ghost use Rattle.node_split.specs.Splits.{IsBranchSide, IsForked, IsSide, IsSideTested, branch_choice};
+ghost use Rattle.run_leaves.specs.Leaving.{HasTextRoom};
+ghost use Rattle.run_sides.specs.Sides.{IsSideTested, branch_choice, is_side};
+ghost use Rattle.node_split.specs.Splits.{IsBranchSide, IsForked, IsSide};
 
 use crate::asking::ask_run;
-use crate::cut::cut_conflicts;
-use crate::forked::{Forked, narrow, run_kid, sample_of, sampled};
+use crate::forked::{Forked, leaf_kid, run_kid, sampled};
 use byte_list::Bytes;
 use fork_tree::Content;
 use leaf_part::{LeafPart, Learnt};
 use query_front::{Asked, Shared};
+use run_leaves::{cut_conflicts, sample_of};
+use run_sides::{SIDE, Tested, choice_of, take_side, with_test};
 use std::alloc::{AllocError as NoMemory, Global};
 use std::sync::Wait;
 use sym_state::{Decided, State};
-use tree_core::{Budgets, Choice, Kid};
-
-/// Where the side of a branch stands among the decisions of its step: behind the step's word.
-const SIDE: usize = 1;
-
-/// A run, with a term of one bit that is 1 on one side of a branch.
-pub struct Tested {
-    pub run: State,
-    pub test: usize,
-}
-
-impl Drop for Tested {
-    fn drop(self) {
-        let Self {
-            run: _run,
-            test: _test,
-        } = self;
-    }
-}
-
-impl Tested {
-    // The run, and the term.
-    fn into_parts(self) -> (State, usize)
-        ensures run { result.0 ≡ self.run }
-        ensures test { result.1 ≡ self.test }
-    {
-        let Self { run, test } = self;
-        (run, test)
-    }
-}
-
-fn choice_of(side: bool) -> Choice
-    ensures { result ≡ branch_choice side }
-{
-    match side {
-        false => Choice::No,
-        true => Choice::Yes,
-    }
-}
-
-// A share of a run, with what is 1 on this side of a branch.
-fn with_test(state: &State, term: usize, side: bool) -> Result<Tested, NoMemory>
-    requires { IsBranch state.now term }
-    ensures { IfOk result (IsSideTested state.now term side) }
-{
-    let mut run = state.share()?;
-    if side {
-        return Ok(Tested { run, test: term });
-    }
-    let test = run.negated(term)?;
-    Ok(Tested { run, test })
-}
+use tree_core::{Budgets, Kid};
 
 // The side of a branch, with an assignment that is on it.
 fn open_side(
@@ -92,9 +42,8 @@ fn open_side(
         → IsSide s (branch_choice side)
         (λ input. is_side side (number_of s.terms term input)) kid) }
 {
-    let (mut run, test) = tested.into_parts();
-    narrow(&mut run, choice_of(side), test, sample)?;
-    run.know(SIDE, Decided::Side(side));
+    let mut run = take_side(tested, side)?;
+    run.sample_by(sample);
     run_kid(alloc, choice_of(side), run)
 }
 
@@ -114,7 +63,8 @@ fn spent_side(
         → IsBranchSide budgets s term side kid) }
 {
     tested.run.assert(tested.test)?;
-    cut_conflicts(alloc, &mut tested.run, choice_of(side), learnt)
+    let leaf = cut_conflicts(alloc, &mut tested.run, choice_of(side), learnt)?;
+    Ok(leaf_kid(choice_of(side), leaf))
 }
 
 // The side of a branch on which the sample isn't, if it has an assignment or may have one.
@@ -127,7 +77,7 @@ fn other_side(
     side: bool,
     budgets: &Budgets,
 ) -> Result<Option<Kid<Content<State, LeafPart>>>, NoMemory>
-    requires ready { IsReady state.now }
+    requires sampled { IsSampled state.now }
     requires writable { HasTextRoom state.now }
     requires at { IsBranch state.now term }
     ensures some { IfOk result (λ kid. IfSome kid (IsBranchSide budgets.now state.now term side)) }
@@ -160,7 +110,7 @@ fn own_side(
     term: usize,
     side: bool,
 ) -> Result<Kid<Content<State, LeafPart>>, NoMemory>
-    requires ready { IsReady state.now }
+    requires sampled { IsSampled state.now }
     requires at { IsBranch state.now term }
     requires on_side { is_side side (number_of state.now.terms term state.now.sample) ≡ true }
     ensures { IfOk result (IsSide state.now (branch_choice side)
@@ -197,7 +147,7 @@ pub(crate) fn at_branch(
     term: usize,
     budgets: &Budgets,
 ) -> Result<Forked, NoMemory>
-    requires ready { IsReady state.now }
+    requires sampled { IsSampled state.now }
     requires writable { HasTextRoom state.now }
     requires at { IsBranch state.now term }
     requires some { 1 ≤ budgets.now.targets }

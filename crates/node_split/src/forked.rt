@@ -1,13 +1,10 @@
 //! What a fork makes of a run.
 
-ghost use Rattle.std.specs.Prelude.{◌≡◌, ◌<◌, All, IfOk, OnOk, length};
-ghost use Rattle.bv_dag.specs.Graphs.{val, width_of};
-ghost use Rattle.fork_spec.specs.Leaves.{IsSmallChoice};
-ghost use Rattle.sym_state.specs.Moves.{narrowed};
-ghost use Rattle.node_split.specs.Splits.{IsRunOn};
+ghost use Rattle.std.specs.Prelude.{◌≡◌, ◌<◌, IfOk, length};
+ghost use Rattle.bv_dag.specs.Graphs.{val};
+ghost use Rattle.node_split.specs.Splits.{IsRunOn, leaf_side};
 
 use bv_dag::Word;
-use byte_list::Bytes;
 use fork_tree::Content;
 use leaf_part::LeafPart;
 use query_pick::pick_terms;
@@ -35,27 +32,6 @@ pub fn sampled(alloc: Global, state: &State, term: usize) -> Result<Word, NoMemo
     Ok(words[picked.ids[0]])
 }
 
-/// A copy of the sample of a run.
-pub(crate) fn sample_of(alloc: Global, state: &State) -> Result<Bytes, NoMemory>
-    ensures { IfOk result (λ sample. sample ≡ state.now.sample) }
-{
-    Ok(Bytes::from_slice(alloc, state.sample().as_slice())?)
-}
-
-/// Narrows a run to the side of a fork on which a term is 1, as it is on this sample.
-pub fn narrow(state: &mut State, choice: Choice, term: usize, sample: Bytes) -> Result<(), NoMemory>
-    requires small { IsSmallChoice choice }
-    requires bit { width_of state.old.terms term ≡ 1 }
-    requires each_input { length sample ≡ state.old.terms.inputs }
-    ensures narrowed { OnOk result (state.new ≡ narrowed state.old choice term sample) }
-    ensures bytes { OnOk result (All (λ b. b < 256) sample) }
-{
-    state.choose(choice)?;
-    state.assert(term)?;
-    state.sample_by(sample);
-    Ok(())
-}
-
 /// The side of a fork that is this run.
 pub(crate) fn run_kid(
     alloc: Global,
@@ -70,4 +46,15 @@ pub(crate) fn run_kid(
         content: Content::Open(run),
         is_leaf: false,
     })
+}
+
+/// The side of a fork that is this leaf.
+pub(crate) fn leaf_kid(choice: Choice, leaf: LeafPart) -> Kid<Content<State, LeafPart>>
+    ensures { result ≡ leaf_side choice leaf }
+{
+    Kid {
+        choice,
+        content: Content::Shut(leaf),
+        is_leaf: true,
+    }
 }

@@ -5,15 +5,11 @@
 //! - `asking`: a question about a run
 //! - `branch`, `pin`: the two kinds of forks; `values`: the values that a pin finds
 //! - `forked`: what a fork makes of a run
-//! - `leaf`: the terms of a leaf; `finish`, `cut`: the leaves of runs that go on no more
 #![tactic(auto)]
 
 mod asking;
 mod branch;
-mod cut;
-mod finish;
 mod forked;
-mod leaf;
 mod pin;
 mod values;
 mod worker;

@@ -2,48 +2,40 @@
 
 ghost use Rattle.std.specs.Prelude.{◌≡◌, ◌==◌, ◌≤◌, All, IfOk, length};
 ghost use Rattle.bv_dag.specs.Graphs.{number_of};
-ghost use Rattle.sym_machine.specs.Stops.{IsPin};
-ghost use Rattle.sym_state.specs.Runs.{IsReady};
+ghost use Rattle.sym_state.specs.Runs.{IsSampled};
 ghost use Rattle.sym_state.specs.Symbolic.{IsFormed};
+ghost use Rattle.sym_state.specs.Undecided.{IsPin};
 ghost use Rattle.tree_core.specs.declared.choice.Choice.TheVariants.{Value as OfValue};
-ghost use Rattle.node_split.specs.Leaving.{HasTextRoom};
-ghost use Rattle.node_split.specs.Narrowing.{IsNarrower};
+ghost use Rattle.run_leaves.specs.Leaving.{HasTextRoom};
+ghost use Rattle.run_leaves.specs.Values.{AreValues, HasValue};
+ghost use Rattle.run_sides.specs.Narrowing.{IsNarrower};
 ghost use Rattle.node_split.specs.Splits.{AreSidesOf, IsForked};
-ghost use Rattle.node_split.specs.Values.{AreValues, HasValue, IsLeft};
+ghost use Rattle.node_split.specs.Values.{IsLeft};
 ghost use Rattle.node_split.specs.declared.values.Left.TheVariants.{Nothing};
 
-use crate::cut::{cut_conflicts, cut_targets};
-use crate::forked::{Forked, narrow, run_kid};
+use crate::forked::{Forked, leaf_kid, run_kid};
 use crate::values::{Left, find_values};
 use byte_list::Bytes;
 use fork_tree::Content;
 use leaf_part::{Found, LeafPart};
 use query_front::Shared;
-use rv_decode::Test;
+use run_leaves::{cut_conflicts, cut_targets};
+use run_sides::{Pin, value_side};
 use std::alloc::{AllocError as NoMemory, Global};
 use std::sync::Wait;
-use sym_state::{Decided, State, Value};
+use sym_state::{Decided, State};
 use tree_core::{Budgets, Choice, Kid};
 
-/// A term that has to be a number, and where that number stands among the decisions of the step that needs it.
-#[derive(Clone, Copy, Debug)]
-pub struct Pin {
-    pub place: usize,
-    pub term: usize,
-}
-
-// The side on which the term has this value: the step knows it there.
-fn value_side(alloc: Global, state: &State, pin: &Pin, at: &Found) -> Result<State, NoMemory>
+// The side on which the term has this value, with an assignment on which it has.
+fn found_side(alloc: Global, state: &State, pin: &Pin, at: &Found) -> Result<State, NoMemory>
     requires at { IsPin state.now pin.now.place pin.now.term }
     requires has { HasValue state.now pin.now.term at.now }
-    ensures { IfOk result (λ side. IsNarrower state.now side (OfValue at.now.value)
+    ensures narrower { IfOk result (λ side. IsNarrower state.now side (OfValue at.now.value)
         (λ input. number_of state.now.terms pin.now.term input == at.now.value)) }
+    ensures sampled { IfOk result IsSampled }
 {
-    let mut side = state.share()?;
-    let equal = side.tested(Test::Beq, Value::Term(pin.term), Value::Number(at.value))?;
-    let sample = Bytes::from_slice(alloc, at.input.as_slice())?;
-    narrow(&mut side, Choice::Value(at.value), equal, sample)?;
-    side.know(pin.place, Decided::Number(at.value));
+    let mut side = value_side(state, pin, at.value)?;
+    side.sample_by(Bytes::from_slice(alloc, at.input.as_slice())?);
     Ok(side)
 }
 
@@ -60,7 +52,7 @@ fn value_sides(
 {
     let mut kids = Vec::with_capacity(alloc, found.len())?;
     for at in found {
-        let side = value_side(alloc, state, pin, at)?;
+        let side = found_side(alloc, state, pin, at)?;
         kids.push(run_kid(alloc, Choice::Value(at.value), side)?)?;
     }
     Ok(kids)
@@ -91,7 +83,7 @@ fn part(
         Left::More => cut_targets(alloc, rest, pin.term, found)?,
         Left::Unknown(learnt) => cut_conflicts(alloc, rest, Choice::Rest, learnt)?,
     };
-    kids.push(last)?;
+    kids.push(leaf_kid(Choice::Rest, last))?;
     Ok(Forked::Split(kids))
 }
 
@@ -104,7 +96,7 @@ pub(crate) fn at_pin(
     pin: &Pin,
     budgets: &Budgets,
 ) -> Result<Forked, NoMemory>
-    requires ready { IsReady state.now }
+    requires sampled { IsSampled state.now }
     requires writable { HasTextRoom state.now }
     requires at { IsPin state.now pin.now.place pin.now.term }
     requires some { 1 ≤ budgets.now.targets }

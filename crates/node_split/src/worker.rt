@@ -5,18 +5,19 @@ ghost use Rattle.fork_spec.specs.Leaves.{IsSmall};
 ghost use Rattle.fork_tree.specs.Works.{IsWorked};
 ghost use Rattle.sym_state.specs.Places.{run_place};
 ghost use Rattle.rv_spec.specs.Memory.{count_of};
-ghost use Rattle.sym_state.specs.Symbolic.{most_steps};
-ghost use Rattle.sym_state.specs.Runs.{IsReady};
+ghost use Rattle.sym_state.specs.Symbolic.{KnowsTruth, most_steps};
+ghost use Rattle.sym_state.specs.Runs.{IsSampled};
 ghost use Rattle.sym_machine.specs.Advancing.{Advances, StoppedBy};
 ghost use Rattle.node_split.specs.Rules.{leaf_place, rules_of};
 
 use crate::branch::at_branch;
-use crate::finish::{cut_nodes, cut_steps, finish};
 use crate::forked::Forked;
-use crate::pin::{Pin, at_pin};
+use crate::pin::at_pin;
 use fork_tree::{Parts, Work};
 use leaf_part::LeafPart;
 use query_front::{Counts, Shared};
+use run_leaves::{cut_nodes, cut_steps, finish};
+use run_sides::Pin;
 use std::alloc::{AllocError as NoMemory, Global};
 use std::marker::Model;
 use std::sync::Wait;
@@ -99,7 +100,7 @@ impl Worker {
 
     // Advances a run, and puts in its place what came of it.
     fn resume(&self, run: &mut State) -> Result<Stop, NoMemory>
-        requires ready { IsReady run.old }
+        requires knows { KnowsTruth run.old }
         requires within { run.old.steps ≤ self.now.budgets.steps }
         ensures { IfOk result (Advances self.now.budgets.steps run.old run.new) }
     {
@@ -117,6 +118,7 @@ impl Worker {
         mut stop: Stop,
     ) -> Result<Parts<State, LeafPart>, NoMemory>
         requires stopped { StoppedBy self.now.program self.now.budgets.steps run stop }
+        requires sampled { IsSampled run }
         ensures { IfOk result (IsWorked
             (rules_of self.now.program self.now.budgets) run_place leaf_place run) }
     {

@@ -1,7 +1,7 @@
 use Rattle.std.proofs.Common.{arith}
 use Rattle.std.specs.Prelude.{◌==◌}
 use Rattle.bv_dag.proofs.TermLaws.{there}
-use Rattle.node_split.proofs.Branching.{branch_settled}
+use Rattle.run_sides.proofs.Branching.{branch_settled}
 use Rattle.node_split.proofs.Parting.{sides_of_branch}
 use Rattle.node_split.proofs.branch.at_branch.Goals as goal
 

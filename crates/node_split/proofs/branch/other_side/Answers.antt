@@ -3,7 +3,7 @@ use Rattle.node_split.proofs.branch.other_side.Goals as goal
 
 pub ask_run-requires-clause-sampled : goal.ask_run-requires-clause-sampled
 ask_run-requires-clause-sampled g c =
-    tested_sampled c.args.state.now c.args.term c.args.side c.in_ok-tested.tested c.in_ok-tested.ensures c.requires.ready.sampled
+    tested_sampled c.args.state.now c.args.term c.args.side c.in_ok-tested.tested c.in_ok-tested.ensures c.requires.sampled
 
 pub open_side-requires-clause-each_input : goal.open_side-requires-clause-each_input
 open_side-requires-clause-each_input g c =

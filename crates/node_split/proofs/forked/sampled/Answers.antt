@@ -4,7 +4,7 @@ use Rattle.bv_dag.specs.BitVectors.{BitVector}
 use Rattle.bv_dag.specs.Graphs.{Graph, val, width_of}
 use Rattle.bv_dag.specs.Nodes.{values}
 use Rattle.bv_dag.proofs.Fitting.{length-values}
-use Rattle.node_split.proofs.Copying.{first_copied, first_within}
+use Rattle.node_split.proofs.Sampling.{first_copied, first_within}
 use Rattle.node_split.proofs.forked.sampled.Goals as goal
 
 pub index-requires-2 : goal.index-requires-2

@@ -1,7 +1,7 @@
 use Rattle.std.proofs.Common.{sym, ap, subst, ◌∙◌, arith}
 use Rattle.fork_spec.specs.Evidence.{Found}
 use Rattle.sym_state.specs.declared.decided.Decided.TheVariants.{Number}
-use Rattle.node_split.specs.Narrowing.{IsForced}
+use Rattle.run_sides.specs.Narrowing.{IsForced}
 use Rattle.node_split.specs.Values.{IsLeft}
 use Rattle.node_split.proofs.SidesOfValues.{value_settled}
 use Rattle.node_split.proofs.pin.at_pin.Goals as goal

@@ -15,7 +15,8 @@ loop-at-preserved c =
     let side : IsValueSide s term c.at-item.result kid = record {
       run = c.in_ok-side.side;
       on = subst (λ v. IsRunOn (Value v) c.in_ok-side.side kid) (ap (λ (f : Found). f.value) c.at.view_is) c.in_ok-run_kid.ensures;
-      narrower = c.in_ok-side.ensures;
+      narrower = c.in_ok-side.ensures.narrower;
+      sampled = c.in_ok-side.ensures.sampled;
     } in
     rw (c.in_ok-push.ensures.items, (take_at_read c.args.found.now c.loop-at.at-index c.at-item.result c.loop-at-test.true).1)
     (subst (λ f. AreSidesOf s term (before ++ f ∷ []) (c.loop-at.kids.items ++ kid ∷ [])) c.at-item.is

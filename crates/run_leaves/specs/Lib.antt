@@ -1,0 +1,5 @@
+pub mod Copies
+pub mod Learning
+pub mod Leaving
+pub mod Values
+pub mod Places
