@@ -17,9 +17,10 @@ use Rattle.rv_spec.specs.Machine.{State, is_load_aligned, to_register, trapped, 
 use Rattle.rv_spec.specs.Machine as machine
 use Rattle.rv_spec.specs.Memory.{is_mapped}
 use Rattle.sym_state.specs.Expressions.{Expression, Number as ANumber, combined_of, value_expression}
-use Rattle.sym_state.specs.Loading.{is_place, loaded_on}
+use Rattle.sym_state.specs.Loading.{is_place}
 use Rattle.sym_state.specs.Moves.{IsGrown, MakesValue}
 use Rattle.sym_state.specs.Selecting.{MakesLoaded}
+use Rattle.sym_state.specs.Updates.{loaded_on}
 use Rattle.sym_state.specs.Symbolic.{Symbolic, concrete, stands_for}
 use Rattle.sym_state.specs.Unfolded.{Unfolded, expression_at, unfolded}
 use Rattle.sym_state.specs.Unfolding.{load, load_by, with_page}
@@ -141,7 +142,7 @@ module _ (s : Symbolic) (of : State → ℕ) (at : List ℕ → ℕ)
     pub carries_loaded : (mid new : Symbolic) (step : Step) (v : Value) → is_some (memory_flags s.memory page) ≡ true
         → IsGrown s mid
         → ((input : List ℕ) → stands_for s input ≡ true → worth_of mid.terms input v ≡ machine.loaded width (concrete s input).byte (at input))
-        → value_expression mid.terms v ≡ loaded_on width (unfolded s).byte page e
+        → value_expression mid.terms v ≡ loaded_on width (unfolded s).byte (unfolded s).updates page e
         → step ≡ Running → new ≡ onward_with mid rd v → CarriesLoad of s new step width rd e
     carries_loaded mid new step v mapped grown worth made running there = record {
       comes = subst (λ (t : Symbolic). Comes s t step (λ c. machine.load c width rd (of c))) (sym there)
@@ -158,7 +159,7 @@ module _ (s : Symbolic) (of : State → ℕ) (at : List ℕ → ℕ)
           }));
       alike = record { made = decisions_on width page; alike = decides };
       terms = λ input stands.
-          written s mid new rd v (loaded_on width (unfolded s).byte page e) grown there made
+          written s mid new rd v (loaded_on width (unfolded s).byte (unfolded s).updates page e) grown there made
           ∙ rw mapped refl ∙ by_page input stands;
     }
 

@@ -11,6 +11,7 @@ use Rattle.rv_spec.specs.Memory.{with_bytes}
 use Rattle.term_trees.specs.Growth.{Continues}
 use Rattle.sym_state.specs.Moves.{MakesByte, stored_at}
 use Rattle.sym_state.specs.Symbolic.{Symbolic, IsFormed, concrete, stands_for}
+use Rattle.sym_state.specs.Updates.{without}
 use Rattle.sym_state.specs.Values.{IsWide, byte_worth, worth_of}
 use Rattle.sym_state.specs.declared.value.Value.{Value}
 use Rattle.sym_state.proofs.Growing.{Continues-trans, IsWide-grown, worth-grown}
@@ -35,20 +36,26 @@ module _ (old mid new : Symbolic) (address : ℕ) (byte : Byte) (number : List �
     (bytes : (at : ℕ) → memory_byte new.memory at
     ≡ (if at == address then byte else memory_byte mid.memory at))
     (flags : (page : ℕ) → memory_flags new.memory page ≡ memory_flags mid.memory page) where
-  same : new ≡ record old { memory = new.memory; terms = new.terms }
-  same =
+  there_now : new ≡ record mid { memory = new.memory; updates = new.updates }
+  there_now =
       there
-      ∙ ap (λ m. record mid { memory = m }) (sym (ap (λ (s : Symbolic). s.memory) there))
-      ∙ ap (λ (s : Symbolic). record s { memory = new.memory }) made.grown.same
-      ∙ ap (λ g. record old { memory = new.memory; terms = g })
+      ∙ ap (λ m. record mid { memory = m; updates = without address mid.updates })
+      (sym (ap (λ (s : Symbolic). s.memory) there))
+      ∙ ap (λ ts. record mid { memory = new.memory; updates = ts })
+      (sym (ap (λ (s : Symbolic). s.updates) there))
+
+  same : new ≡ record old { memory = new.memory; terms = new.terms; updates = new.updates }
+  same =
+      there_now
+      ∙ ap (λ (s : Symbolic). record s { memory = new.memory; updates = new.updates }) made.grown.same
+      ∙ ap (λ g. record old { memory = new.memory; terms = g; updates = new.updates })
       (sym (ap (λ (s : Symbolic). s.terms) there))
 
   concrete-put : (input : List ℕ)
       → concrete new input
       ≡ with_put (concrete mid input) address (byte_worth mid.terms input byte ∷ [])
   concrete-put input =
-      ap (λ (s : Symbolic). concrete s input)
-      (there ∙ ap (λ m. record mid { memory = m }) (sym (ap (λ (s : Symbolic). s.memory) there)))
+      ap (λ (s : Symbolic). concrete s input) there_now
       ∙ ap (λ f. record (concrete (record mid { memory = new.memory }) input) { flags = f })
       (fun_ext flags)
       ∙ ap (λ (f : ℕ → ℕ). record (concrete mid input) { byte = f })
@@ -94,7 +101,8 @@ pub puts_more : (old mid new : Symbolic) (address next : ℕ) (v : Value) (b : �
     (λ input. b (worth_of old.terms input v) ∷ bs (worth_of old.terms input v))
 puts_more old mid new address next v b bs is_next wide first second = record {
   before = first.before;
-  same = second.same ∙ ap (λ (s : Symbolic). record s { memory = new.memory; terms = new.terms })
+  same = second.same
+      ∙ ap (λ (s : Symbolic). record s { memory = new.memory; terms = new.terms; updates = new.updates })
       first.same;
   continues = Continues-trans first.continues second.continues;
   formed = second.formed;

@@ -15,14 +15,16 @@ use Rattle.rv_spec.specs.Machine as machine
 use Rattle.rv_spec.specs.Memory.{can_write, has_w}
 use Rattle.term_trees.specs.Trees.{tree_of}
 use Rattle.sym_state.specs.Expressions.{Expression, Number as ANumber, Unknown, combined_of, value_expression}
+use Rattle.sym_state.specs.KeptUpdates.{updates_expressed}
 use Rattle.sym_state.specs.Moves.{IsGrown, with_terms}
 use Rattle.sym_state.specs.Placing.{bytes_expressed, bytes_worth}
 use Rattle.sym_state.specs.Scattering.{MakesStored}
 use Rattle.sym_state.specs.Storing.{stored_on}
 use Rattle.sym_state.specs.Symbolic.{Symbolic, concrete, stands_for, value_at}
+use Rattle.sym_state.specs.Updates.{ExpressedUpdates}
 use Rattle.sym_state.specs.Unfolded.{Unfolded, expression_at, unfolded}
 use Rattle.sym_state.specs.Unfolding as symbolic
-use Rattle.sym_state.specs.Unfolding.{store_by}
+use Rattle.sym_state.specs.Unfolding.{store_by, with_store}
 use Rattle.sym_state.specs.Values.{worth_of}
 use Rattle.sym_state.specs.declared.value.Value.{Value}
 use Rattle.sym_state.proofs.Grown.{concrete-grown, concrete-with_terms, unfolded-grown, unfolded-with_terms, still_stands}
@@ -129,7 +131,7 @@ module _ (s : Symbolic) (of : State → ℕ) (at : List ℕ → ℕ)
     pub carries_stored : (mid new : Symbolic) (step : Step) → has_w (memory_flags s.memory page) ≡ true → Keeps s mid
         → ((input : List ℕ) → stands_for s input ≡ true
         → concrete mid input ≡ with_put (concrete s input) (at input) (machine.stored width (x (concrete s input) rs2)))
-        → unfolded mid ≡ record (unfolded s) { byte = stored_on width (unfolded s).byte page e value }
+        → unfolded mid ≡ with_store (unfolded s) width page e value
         → step ≡ Running → new ≡ record mid { pc = sum32 mid.pc 4 } → CarriesStore of s new step width rs2 e
     carries_stored mid new step can kept put made running there = record {
       comes = subst (λ (t : Symbolic). Comes s t step makes) (sym there)
@@ -185,13 +187,18 @@ stored_is s mid width page term rs2 v is fits on made input stands =
 
 pub stored_terms : (s mid : Symbolic) (width : StoreWidth) (page term rs2 : ℕ) (v : Value) → v ≡ value_at s.registers rs2
     → MakesStored s mid width page term v
-    → unfolded mid ≡ record (unfolded s) { byte = stored_on width (unfolded s).byte page (Unknown (tree_of s.terms term)) (expression_at (unfolded s).registers rs2) }
+    → unfolded mid ≡ with_store (unfolded s) width page (Unknown (tree_of s.terms term)) (expression_at (unfolded s).registers rs2)
 stored_terms s mid width page term rs2 v is made =
     ap unfolded made.same
-    ∙ ap (λ f. record (unfolded (with_terms s mid.terms)) { flags = f; byte = bytes_expressed mid.terms mid.memory }) made.flags
-    ∙ ap (λ (u : Unfolded). record u { byte = bytes_expressed mid.terms mid.memory }) (unfolded-with_terms s mid.terms made.before made.continues)
-    ∙ ap (λ (b : ℕ → Expression). record (unfolded s) { byte = b }) made.expressed
-    ∙ ap (λ e. record (unfolded s) { byte = stored_on width (unfolded s).byte page (Unknown (tree_of s.terms term)) e })
+    ∙ ap (λ f. record (unfolded (with_terms s mid.terms)) { flags = f; byte = bytes_expressed mid.terms mid.memory; updates = updates_expressed mid.terms mid.updates }) made.flags
+    ∙ ap (λ (u : Unfolded). record u { byte = bytes_expressed mid.terms mid.memory; updates = updates_expressed mid.terms mid.updates })
+    (unfolded-with_terms s mid.terms made.before made.continues)
+    ∙ ap (λ (b : ℕ → Expression). record (unfolded s) { byte = b; updates = updates_expressed mid.terms mid.updates }) made.expressed
+    ∙ ap (λ (ts : List ExpressedUpdates). record (unfolded s) {
+      byte = stored_on width (unfolded s).byte page (Unknown (tree_of s.terms term)) (value_expression s.terms v);
+      updates = ts;
+    }) made.updates
+    ∙ ap (with_store (unfolded s) width page (Unknown (tree_of s.terms term)))
     (ap (value_expression s.terms) is ∙ sym (expression-x s rs2))
 
 -- ---- After terms were made.

@@ -14,11 +14,13 @@ use Rattle.rv_spec.specs.Memory.{is_mapped}
 use Rattle.sym_state.specs.Expressions.{Expression, Number as ANumber, byte_expression, register_byte, value_expression}
 use Rattle.sym_state.specs.Moves.{IsGrown, stored_at}
 use Rattle.sym_state.specs.Symbolic.{Symbolic, set_value, value_at}
+use Rattle.sym_state.specs.Updates.{without}
 use Rattle.sym_state.specs.Unfolded.{Unfolded, expression_at, set_expression, unfolded}
 use Rattle.sym_state.specs.Unfolding.{linked, onward, to_register, with_put, write}
 use Rattle.sym_state.specs.declared.value.Value.{Value}
 use Rattle.sym_state.specs.declared.value.Value.TheVariants.{Number}
 use Rattle.sym_state.proofs.Grown.{unfolded-grown}
+use Rattle.sym_state.proofs.Updating.{without-expressed}
 use Rattle.sym_machine.specs.Calls.{WritesOutput}
 use Rattle.sym_machine.proofs.Standing.{map-map, onward_with}
 
@@ -72,8 +74,9 @@ pub unfolded-put : {E : Type 0} (old mid new : Symbolic) (address : ℕ) (byte :
     → OnOk r (unfolded new ≡ with_put (unfolded old) address (e ∷ []))
 unfolded-put old mid new address byte e (Err x) grown is there bytes flags = tt
 unfolded-put old mid new address byte e (Ok x) grown is there bytes flags =
-    ap unfolded (there ∙ ap (λ m. record mid { memory = m }) (sym (ap (λ (s : Symbolic). s.memory) there)))
-    ∙ ap (λ (f : ℕ → Expression). record (unfolded (record mid { memory = new.memory })) { byte = f })
+    ap unfolded (there ∙ ap (λ m. record mid { memory = m; updates = without address mid.updates }) (sym (ap (λ (s : Symbolic). s.memory) there)))
+    ∙ ap (λ ts. record (unfolded (record mid { memory = new.memory })) { updates = ts }) (sym (without-expressed mid.terms address mid.updates))
+    ∙ ap (λ (f : ℕ → Expression). record (unfolded (record mid { memory = new.memory })) { byte = f; updates = without address (unfolded mid).updates })
     (fun_ext (λ at. ap (byte_expression mid.terms) (bytes at) ∙ expression-if mid.terms (at == address) byte (memory_byte mid.memory at)))
     ∙ ap (λ f. record (with_put (unfolded mid) address (byte_expression mid.terms byte ∷ [])) { flags = f }) (fun_ext flags)
     ∙ ap (λ u. with_put u address (byte_expression mid.terms byte ∷ [])) (unfolded-grown old mid grown)

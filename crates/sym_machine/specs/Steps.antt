@@ -41,7 +41,7 @@ pub record Comes (old new : Symbolic) (step : Step) (makes : State → Outcome) 
 -- but that terms were made.
 pub record Puts (old new : Symbolic) (address : ℕ) (bytes : List ℕ → List ℕ) : Type 0 where
   pub before : IsFormed old
-  pub same : new ≡ record old { memory = new.memory; terms = new.terms }
+  pub same : new ≡ record old { memory = new.memory; terms = new.terms; updates = new.updates }
   pub continues : Continues old.terms new.terms
   pub formed : IsFormed new
   pub flags : (page : ℕ) → memory_flags new.memory page ≡ memory_flags old.memory page

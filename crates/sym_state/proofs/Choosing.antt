@@ -11,7 +11,8 @@ use Rattle.term_simplify.specs.Builds.{BuildsNode}
 use Rattle.term_trees.specs.Growth.{Continues}
 use Rattle.term_trees.specs.Trees.{Tree}
 use Rattle.sym_state.specs.Expressions.{are_equal, byte_choice, byte_expression}
-use Rattle.sym_state.specs.Values.{GivesBit, GivesByte, GivesTerm, IsBit, IsByte, bit_worth, byte_worth}
+use Rattle.sym_state.specs.Values.{GivesBit, GivesByte, GivesTerm, GivesValue, IsBit, IsByte, IsWide, bit_worth, byte_worth, worth_of}
+use Rattle.sym_state.specs.declared.value.Value.{Value}
 use Rattle.sym_state.specs.declared.value.Bit.{Bit}
 use Rattle.sym_state.specs.declared.value.Bit.TheVariants.{Term}
 use Rattle.sym_state.proofs.Growing.{Continues-trans, number-grown}
@@ -43,14 +44,13 @@ pub ite-number : (c s t : BitVector) → (ite c s t).number ≡ (if c.number == 
 unfolding ite
 ite-number c s t = refl
 
-pub gives_choice : {E : Type 0} (f g h : Graph) (r : Result ℕ E) (bit a b : ℕ) (first second : List ℕ → ℕ) → Continues f g
-    → width_of f bit ≡ 1 → width_of g a ≡ 8
+chosen_is : (f g h : Graph) (w bit a b id : ℕ) (first second : List ℕ → ℕ) → Continues f g
+    → width_of f bit ≡ 1 → width_of g a ≡ w
     → ((input : List ℕ) → All (λ n. n < 256) input → number_of g a input ≡ first input)
     → ((input : List ℕ) → All (λ n. n < 256) input → number_of g b input ≡ second input)
-    → IfOk r (BuildsNode g h (Ite bit a b))
-    → IfOk r (λ id. GivesTerm f h 8 id (λ input. if number_of f bit input == 1 then first input else second input))
-gives_choice f g h (Err e) bit a b first second grown is_bit wide one other built = tt
-gives_choice f g h (Ok id) bit a b first second grown is_bit wide one other built = record {
+    → BuildsNode g h (Ite bit a b) id
+    → GivesTerm f h w id (λ input. if number_of f bit input == 1 then first input else second input)
+chosen_is f g h w bit a b id first second grown is_bit wide one other built = record {
   continues = Continues-trans grown built.continues;
   width = built.width ∙ wide;
   worth = λ input bytes.
@@ -61,6 +61,27 @@ gives_choice f g h (Ok id) bit a b first second grown is_bit wide one other buil
       ∙ ap (λ n. if number_of f bit input == 1 then n else number_of g b input) (one input bytes)
       ∙ ap (λ n. if number_of f bit input == 1 then first input else n) (other input bytes);
 }
+
+pub gives_choice : {E : Type 0} (f g h : Graph) (w : ℕ) (r : Result ℕ E) (bit a b : ℕ) (first second : List ℕ → ℕ) → Continues f g
+    → width_of f bit ≡ 1 → width_of g a ≡ w
+    → ((input : List ℕ) → All (λ n. n < 256) input → number_of g a input ≡ first input)
+    → ((input : List ℕ) → All (λ n. n < 256) input → number_of g b input ≡ second input)
+    → IfOk r (BuildsNode g h (Ite bit a b))
+    → IfOk r (λ id. GivesTerm f h w id (λ input. if number_of f bit input == 1 then first input else second input))
+gives_choice f g h w (Err e) bit a b first second grown is_bit wide one other built = tt
+gives_choice f g h w (Ok id) bit a b first second grown is_bit wide one other built =
+    chosen_is f g h w bit a b id first second grown is_bit wide one other built
+
+-- the value that a choice is
+pub gives_value : (f g h : Graph) (v : Value) (bit a b id : ℕ) (first second : List ℕ → ℕ)
+    → ((input : List ℕ) → All (λ n. n < 256) input → number_of g a input ≡ first input)
+    → ((input : List ℕ) → All (λ n. n < 256) input → number_of g b input ≡ second input)
+    → Continues f g → width_of f bit ≡ 1 → width_of g a ≡ 32 → BuildsNode g h (Ite bit a b) id → IsWide h v
+    → ((input : List ℕ) → worth_of h input v ≡ number_of h id input)
+    → GivesValue f h v (λ input. if number_of f bit input == 1 then first input else second input)
+gives_value f g h v bit a b id first second one other grown is_bit has_width built wide worth =
+    let gives = chosen_is f g h 32 bit a b id first second grown is_bit has_width one other built in
+    record { continues = gives.continues; wide = wide; worth = λ input bytes. worth input ∙ gives.worth input bytes }
 
 equal_worth : (g : Graph) (input : List ℕ) (a b : Byte) → are_equal (byte_expression g a) (byte_expression g b) ≡ true
     → byte_worth g input a ≡ byte_worth g input b

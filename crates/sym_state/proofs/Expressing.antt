@@ -1,10 +1,12 @@
 -- What values are made of, as expressions.
 use Rattle.std.proofs.Common.{◌≡◌, ℕ, ◌<◌, List, refl, sym, ap, ◌∙◌, arith}
+use Rattle.std.proofs.Math.Path.{fun_ext}
 use Rattle.std.specs.Prelude.{Some, Result, Ok, Err, IfOk, slice_get}
 use Rattle.bv_dag.specs.BitVectors.{BitVector}
 use Rattle.bv_dag.specs.Graphs.{Graph, IsDag, width_of}
 use Rattle.bv_dag.specs.declared.nodes.Node.TheVariants.{Num}
 use Rattle.bv_dag.proofs.TermLaws.{there}
+use Rattle.cow_pages.specs.SymbolicMemory.{SymbolicMemory, memory_byte}
 use Rattle.cow_pages.specs.declared.byte.Byte.{Byte}
 use Rattle.cow_pages.specs.declared.byte.Byte.TheVariants.{Number as ByteNumber, Term as ByteTerm}
 use Rattle.term_simplify.specs.Builds.{Builds}
@@ -12,6 +14,7 @@ use Rattle.term_trees.specs.Growth.{Continues}
 use Rattle.term_trees.specs.Trees.{Tree, tree_of}
 use Rattle.term_trees.proofs.TreeLaws.{tree_by_cases, tree-grown}
 use Rattle.sym_state.specs.Expressions.{Number, Unknown, bit_expression, byte_expression, settled, settled_by, value_expression}
+use Rattle.sym_state.specs.Placing.{HasBytes, bytes_expressed}
 use Rattle.sym_state.specs.Values.{IsBit, IsByte, IsUnknown, IsWide}
 use Rattle.sym_state.specs.declared.value.Bit.{Bit}
 use Rattle.sym_state.specs.declared.value.Bit.TheVariants.{Known, Term as BitTerm}
@@ -33,6 +36,11 @@ byte_expression-grown g h (ByteTerm id) grown is = ap (λ t. Unknown t) (tree-ke
 pub bit_expression-grown : (g h : Graph) (b : Bit) → Continues g h → IsBit g b → bit_expression h b ≡ bit_expression g b
 bit_expression-grown g h (Known b) grown is = refl
 bit_expression-grown g h (BitTerm id) grown is = ap (λ t. Unknown t) (tree-kept g h id 1 grown is.width (omega arith))
+
+pub bytes_expressed-grown : (g h : Graph) (memory : SymbolicMemory) → Continues g h → HasBytes g memory
+    → bytes_expressed h memory ≡ bytes_expressed g memory
+bytes_expressed-grown g h memory grown has =
+    fun_ext (λ address. byte_expression-grown g h (memory_byte memory address) grown (has address))
 
 -- ---- What a node is.
 pub settled_number : (g : Graph) (id w v : ℕ) → IsDag g → slice_get g.nodes id ≡ Some (Num w v) → Number v ≡ settled (tree_of g id)

@@ -1,12 +1,12 @@
 -- The form of a run stays where terms are added.
-use Rattle.std.proofs.Common.{◌≡◌, ℕ, Bool, List, [], ◌∷◌, get_or, refl, sym, subst, ◌∙◌, arith}
+use Rattle.std.proofs.Common.{◌≡◌, ℕ, Bool, List, get_or, refl, sym, subst, ◌∙◌, arith}
 use Rattle.std.specs.Prelude.{All, Result, Ok, Err, IfOk, OnErr}
-use Rattle.std.proofs.lemmas.List.Elements.{All-nil, All-cons, All-head, All-tail}
 use Rattle.bv_dag.specs.Graphs.{Graph}
 use Rattle.bv_dag.specs.Queries.{AreBits}
 use Rattle.cow_pages.specs.SymbolicMemory.{SymbolicMemory, memory_byte}
 use Rattle.cow_pages.specs.declared.byte.Byte.{Byte}
 use Rattle.term_trees.specs.Growth.{Continues}
+use Rattle.sym_state.specs.KeptUpdates.{AreUpdates, KeptUpdates}
 use Rattle.sym_state.specs.Moves.{IsGrown, MakesBit, MakesByte, MakesTerm, MakesValue, with_terms}
 use Rattle.sym_state.specs.Placing.{HasBytes}
 use Rattle.sym_state.specs.Symbolic.{Symbolic, IsFormed}
@@ -14,10 +14,7 @@ use Rattle.sym_state.specs.Values.{GivesBit, GivesByte, GivesTerm, GivesValue, I
 use Rattle.sym_state.specs.declared.value.Bit.{Bit}
 use Rattle.sym_state.specs.declared.value.Value.{Value}
 use Rattle.sym_state.proofs.Growing.{IsByte-grown, IsWide-grown, width-kept}
-
-All-by : {A : Type 0} (P Q : A → Type 0) (xs : List A) → ((x : A) → P x → Q x) → All P xs → All Q xs
-All-by P Q [] f all = All-nil Q
-All-by P Q (x ∷ xs) f all = All-cons Q x xs (f x (All-head P x xs all)) (All-by P Q xs f (All-tail P x xs all))
+use Rattle.sym_state.proofs.Updating.{All-by, updates-grown}
 
 pub AreBits-grown : (g h : Graph) (ids : List ℕ) → Continues g h → AreBits g ids → AreBits h ids
 AreBits-grown g h ids grown bits k d below = width-kept g h (get_or ids k d) 1 grown (bits k d below) (omega arith)
@@ -37,12 +34,13 @@ formed-grown s g f grown = record {
   places = f.places;
   each_input = f.each_input ∙ sym grown.inputs;
   sample_bytes = f.sample_bytes;
+  updates = updates-grown s.terms g grown s.memory s.updates f.memory f.updates;
 }
 
 -- and where bytes were put to memory too
-pub formed-put : (s : Symbolic) (g : Graph) (m : SymbolicMemory) → IsFormed s → Continues s.terms g → HasBytes g m
-    → IsFormed (record s { memory = m; terms = g })
-formed-put s g m f grown has =
+pub formed-put : (s : Symbolic) (g : Graph) (m : SymbolicMemory) (ts : List KeptUpdates) → IsFormed s → Continues s.terms g → HasBytes g m
+    → All (AreUpdates g m) ts → IsFormed (record s { memory = m; terms = g; updates = ts })
+formed-put s g m ts f grown has all =
     let kept = formed-grown s g f grown in
     record {
       all_registers = kept.all_registers;
@@ -58,6 +56,7 @@ formed-put s g m f grown has =
       places = kept.places;
       each_input = kept.each_input;
       sample_bytes = kept.sample_bytes;
+      updates = all;
     }
 
 pub grows : (s : Symbolic) (g : Graph) → IsFormed s → Continues s.terms g → IsGrown s (with_terms s g)

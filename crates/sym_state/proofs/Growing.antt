@@ -5,6 +5,7 @@ use Rattle.std.specs.Prelude.{◌==◌, All, Result, Ok, Err, IfOk}
 use Rattle.bv_dag.specs.BitVectors.{BitVector}
 use Rattle.bv_dag.specs.Graphs.{Graph, number_of, width_of}
 use Rattle.bv_dag.proofs.TermLaws.{there}
+use Rattle.cow_pages.specs.SymbolicMemory.{SymbolicMemory, memory_byte}
 use Rattle.cow_pages.specs.declared.byte.Byte.{Byte}
 use Rattle.cow_pages.specs.declared.byte.Byte.TheVariants.{Number as ByteNumber, Term as ByteTerm}
 use Rattle.term_simplify.specs.Builds.{Builds}
@@ -12,6 +13,7 @@ use Rattle.term_simplify.specs.Plain.{tree_number}
 use Rattle.term_trees.specs.Growth.{Continues}
 use Rattle.term_trees.specs.Trees.{Tree}
 use Rattle.term_trees.proofs.TreeLaws.{tree-grown, value-grown, width-grown}
+use Rattle.sym_state.specs.Placing.{HasBytes}
 use Rattle.sym_state.specs.Values.{GivesTerm, IsBit, IsByte, IsUnknown, IsWide, bit_worth, byte_worth, worth_of}
 use Rattle.sym_state.specs.declared.value.Bit.{Bit}
 use Rattle.sym_state.specs.declared.value.Bit.TheVariants.{Known, Term as BitTerm}
@@ -58,6 +60,9 @@ byte_worth-grown g h input (ByteTerm id) grown is = number-grown g h id 8 input 
 pub IsByte-grown : (g h : Graph) (b : Byte) → Continues g h → IsByte g b → IsByte h b
 IsByte-grown g h (ByteNumber n) grown is = is
 IsByte-grown g h (ByteTerm id) grown is = IsUnknown-grown g h 8 id grown (omega arith) is
+
+pub memory-grown : (g h : Graph) (memory : SymbolicMemory) → Continues g h → HasBytes g memory → HasBytes h memory
+memory-grown g h memory grown has address = IsByte-grown g h (memory_byte memory address) grown (has address)
 
 pub IsBit-grown : (g h : Graph) (b : Bit) → Continues g h → IsBit g b → IsBit h b
 IsBit-grown g h (Known b) grown is = tt

@@ -13,12 +13,15 @@ use Rattle.cow_pages.specs.declared.byte.Byte.{Byte}
 use Rattle.fork_spec.specs.Leaves.{are_bytes}
 use Rattle.term_trees.specs.Growth.{Continues}
 use Rattle.sym_state.specs.Expressions.{Expression, byte_expression, value_expression}
+use Rattle.sym_state.specs.KeptUpdates.{updates_expressed}
 use Rattle.sym_state.specs.Moves.{IsGrown, with_terms}
 use Rattle.sym_state.specs.Symbolic.{Symbolic, IsFormed, concrete, stands_for}
+use Rattle.sym_state.specs.Updates.{ExpressedUpdates}
 use Rattle.sym_state.specs.Unfolded.{unfolded}
 use Rattle.sym_state.specs.Values.{IsByte, IsWide, byte_worth, worth_of}
 use Rattle.sym_state.proofs.Expressing.{byte_expression-grown, expression-grown}
 use Rattle.sym_state.proofs.Growing.{Continues-trans, byte_worth-grown, number-grown, worth-grown}
+use Rattle.sym_state.proofs.Updating.{map-same, updates_expressed-grown}
 
 pub Continues-refl : (g : Graph) → Continues g g
 Continues-refl g = record { inputs = refl; front = take_all (length g.nodes) g.nodes (omega arith) }
@@ -42,10 +45,6 @@ pub stands-with_terms : (s : Symbolic) (g : Graph) (input : List ℕ) → IsForm
     → stands_for (with_terms s g) input ≡ stands_for s input
 stands-with_terms s g input formed grown = ap (λ b. are_bytes input && b) (holds-grown s.terms g s.condition input grown formed.bits)
 
-map-same : {A B : Type 0} (P : A → Type 0) (f g : A → B) (xs : List A) → ((x : A) → P x → f x ≡ g x) → All P xs → map f xs ≡ map g xs
-map-same P f g [] same all = refl
-map-same P f g (x ∷ xs) same all = cc (same x (All-head P x xs all), map-same P f g xs same (All-tail P x xs all))
-
 pub bytes-grown : (g h : Graph) (input : List ℕ) (bs : List Byte) → Continues g h → All (IsByte g) bs
     → map (byte_worth h input) bs ≡ map (byte_worth g input) bs
 bytes-grown g h input bs grown each = map-same (IsByte g) (byte_worth h input) (byte_worth g input) bs (λ b. byte_worth-grown g h input b grown) each
@@ -64,10 +63,12 @@ pub unfolded-with_terms : (s : Symbolic) (g : Graph) → IsFormed s → Continue
 unfolded-with_terms s g formed grown =
     ap (λ es. record (unfolded (with_terms s g)) { registers = es })
     (map-same (IsWide s.terms) (value_expression g) (value_expression s.terms) s.registers (λ v. expression-grown s.terms g v grown) formed.wide)
-    ∙ ap (λ (bytes : ℕ → Expression). record (unfolded s) { byte = bytes; output = map (byte_expression g) s.output })
+    ∙ ap (λ (bytes : ℕ → Expression). record (unfolded s) { byte = bytes; output = map (byte_expression g) s.output; updates = updates_expressed g s.updates })
     (fun_ext (λ a. byte_expression-grown s.terms g (memory_byte s.memory a) grown (formed.memory a)))
-    ∙ ap (λ es. record (unfolded s) { output = es })
+    ∙ ap (λ es. record (unfolded s) { output = es; updates = updates_expressed g s.updates })
     (map-same (IsByte s.terms) (byte_expression g) (byte_expression s.terms) s.output (λ b. byte_expression-grown s.terms g b grown) formed.bytes)
+    ∙ ap (λ (ts : List ExpressedUpdates). record (unfolded s) { updates = ts })
+    (updates_expressed-grown s.terms g grown s.memory s.updates formed.updates)
 
 -- ---- The same run, with more terms.
 pub stands-grown : (old new : Symbolic) (input : List ℕ) → IsGrown old new → stands_for new input ≡ stands_for old input

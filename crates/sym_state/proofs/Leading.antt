@@ -2,7 +2,6 @@
 use Rattle.std.proofs.Common.{◌≡◌, ℕ, zero, suc, ◌+◌, ◌-◌, ◌*◌, ◌/◌, ◌%◌, ◌^◌, ◌<◌, ◌≤◌, Bool, true, false, List, [], ◌∷◌, ◌++◌, length, map, refl, sym, ap, subst, ◌∙◌, arith}
 use Rattle.std.specs.Prelude.{◌==◌, All, IfSome, IfOk, OnOk, Result, Ok, Err, Option, Some, None, if◌then◌else◌}
 use Rattle.std.specs.Option.{option_map}
-use Rattle.std.proofs.Math.Path.{fun_ext}
 use Rattle.std.proofs.Math.Nat.{add-mul, div-div-eq-div-mul, mod-eq_of_lt, mod-lt, mod-one, mul_assoc, mul_comm, two-pow-succ, zero-mul}
 use Rattle.std.proofs.lemmas.Bool.Decides.{nat_tests}
 use Rattle.std.proofs.lemmas.Nat.{mod-pow-add, pow-add, pow_pos}
@@ -25,7 +24,7 @@ use Rattle.sym_state.specs.Values.{GivesBit, IsBit, IsByte, bit_worth, byte_wort
 use Rattle.sym_state.specs.declared.selecting.Place.{Place}
 use Rattle.sym_state.specs.declared.value.Bit.{Bit}
 use Rattle.sym_state.specs.declared.value.Bit.TheVariants.{Term}
-use Rattle.sym_state.proofs.Expressing.{bit_expression-grown, byte_expression-grown, tree-kept}
+use Rattle.sym_state.proofs.Expressing.{bit_expression-grown, byte_expression-grown, bytes_expressed-grown, tree-kept}
 use Rattle.sym_state.proofs.Growing.{Continues-trans, IsBit-grown, IsByte-grown, bit_worth-grown, byte_worth-grown, number-grown}
 use Rattle.sym_state.proofs.Grown.{Continues-refl}
 
@@ -35,9 +34,6 @@ bits-grown g h [] grown are = All-nil (IsBit h)
 bits-grown g h (b ∷ bits) grown are =
     All-cons (IsBit h) b bits (IsBit-grown g h b grown (All-head (IsBit g) b bits are))
     (bits-grown g h bits grown (All-tail (IsBit g) b bits are))
-
-pub memory-grown : (g h : Graph) (memory : SymbolicMemory) → Continues g h → HasBytes g memory → HasBytes h memory
-memory-grown g h memory grown has address = IsByte-grown g h (memory_byte memory address) grown (has address)
 
 pub reached-grown : (g h : Graph) (input : List ℕ) (scale : ℕ) (bits : List Bit) (start : ℕ) → Continues g h → AreBitsOf g bits
     → reached h input scale bits start ≡ reached g input scale bits start
@@ -56,11 +52,6 @@ expressions-grown g h (b ∷ bits) grown are =
       bit_expression-grown g h b grown (All-head (IsBit g) b bits are),
       expressions-grown g h bits grown (All-tail (IsBit g) b bits are),
     )
-
-pub bytes_expressed-grown : (g h : Graph) (memory : SymbolicMemory) → Continues g h → HasBytes g memory
-    → bytes_expressed h memory ≡ bytes_expressed g memory
-bytes_expressed-grown g h memory grown has =
-    fun_ext (λ address. byte_expression-grown g h (memory_byte memory address) grown (has address))
 
 pub found-grown : (g h : Graph) (found : Option Byte) → Continues g h → IfSome found (IsByte g)
     → option_map (byte_expression h) found ≡ option_map (byte_expression g) found

@@ -2,6 +2,7 @@ pub mod Deciding
 pub mod Filling
 pub mod Forms
 pub mod Growing
+pub mod Updating
 pub mod Listing
 pub mod Naming
 pub mod Expressing
@@ -11,6 +12,10 @@ pub mod Choosing
 pub mod Leading
 pub mod Coming
 pub mod Scattered
+pub mod LastStored
+pub mod Recalled
+pub mod Noted
+pub mod Dropping
 pub mod StoredOn
 pub mod Taking
 pub mod Indices

@@ -24,7 +24,9 @@ use Rattle.rv_spec.specs.Machine.{first_registers, first_state}
 use Rattle.rv_spec.specs.Memory.{byte_of, count_of, flags_of, placed}
 use Rattle.rv_spec.specs.Runs.{run_from}
 use Rattle.sym_state.specs.Expressions.{Expression, Number as ANumber, byte_expression, value_expression}
-use Rattle.sym_state.specs.Placing.{HasBytes, PutsBytes, bytes_expressed, bytes_worth, first_run, number_values}
+use Rattle.sym_state.specs.KeptUpdates.{AreUpdates}
+use Rattle.sym_state.specs.First.{first_run, number_values}
+use Rattle.sym_state.specs.Placing.{HasBytes, PutsBytes, bytes_expressed, bytes_worth}
 use Rattle.sym_state.specs.Programs.{Program}
 use Rattle.sym_state.specs.Runs.{IsFirst, IsOpen, IsSampled}
 use Rattle.sym_state.specs.Unfolded.{first_unfolded, inputs_placed, unfolded}
@@ -94,6 +96,7 @@ first_formed entry memory terms small has = record {
   places = refl;
   each_input = length-replicate terms.inputs 0;
   sample_bytes = All-replicate (λ b. b < 256) terms.inputs 0 (omega arith);
+  updates = All-nil (AreUpdates terms memory);
 }
 
 -- a run stands for lists of bytes

@@ -1,6 +1,6 @@
 -- A store to the address that a term is: what memory is afterwards, and what it is worth.
-use Rattle.std.proofs.Common.{◌≡◌, ◌≢◌, ℕ, ◌+◌, ◌-◌, ◌*◌, ◌/◌, ◌%◌, ◌^◌, ◌<◌, ◌&&◌, Bool, true, false, List, [], refl, sym, ap, ◌∙◌, arith}
-use Rattle.std.specs.Prelude.{◌==◌, All, Result, Ok, Err, OnOk, if◌then◌else◌, nat_le, nat_lt}
+use Rattle.std.proofs.Common.{◌≡◌, ◌≢◌, ℕ, ◌+◌, ◌-◌, ◌*◌, ◌/◌, ◌%◌, ◌^◌, ◌<◌, ◌≤◌, ◌&&◌, Bool, true, false, List, refl, sym, ap, ◌∙◌, arith}
+use Rattle.std.specs.Prelude.{◌==◌, All, Result, Ok, Err, IfOk, if◌then◌else◌, nat_le, nat_lt}
 use Rattle.std.proofs.Math.Path.{fun_ext}
 use Rattle.std.proofs.lemmas.Bool.{and_parts}
 use Rattle.std.proofs.lemmas.Bool.Decides.{nat_tests}
@@ -18,21 +18,26 @@ use Rattle.rv_spec.specs.Memory.{with_bytes}
 use Rattle.term_simplify.specs.Builds.{BuildsNode}
 use Rattle.term_trees.specs.Growth.{Continues}
 use Rattle.term_trees.specs.Trees.{tree_of}
-use Rattle.sym_state.specs.Expressions.{Expression, register_byte, value_expression}
+use Rattle.sym_state.specs.Expressions.{Expression, Unknown, register_byte, value_expression}
 use Rattle.sym_state.specs.Indexing.{index_of}
+use Rattle.sym_state.specs.KeptUpdates.{AreUpdates, byte_with, update_expressed, updates_expressed}
 use Rattle.sym_state.specs.Loading.{bytes, is_place, way_by}
 use Rattle.sym_state.specs.Placing.{HasBytes, bytes_expressed, bytes_worth}
 use Rattle.sym_state.specs.Scattering.{AreWayBits, MakesBytes, MakesStored, Scatters, come_to, expressed_after, listed_byte, worth_after}
-use Rattle.sym_state.specs.Selecting.{IsWay}
+use Rattle.sym_state.specs.Selecting.{IsWay, as_way}
 use Rattle.sym_state.specs.Storing.{byte_after, replaced, way_bits}
 use Rattle.sym_state.specs.Symbolic.{Symbolic, IsFormed}
+use Rattle.sym_state.specs.Updates.{Update, site_of, updates_after, updates_along, updates_with}
 use Rattle.sym_state.specs.Values.{IsWide, byte_worth, worth_of}
+use Rattle.sym_state.specs.declared.updates.Site.{Site}
+use Rattle.sym_state.specs.declared.updates.Update as code
 use Rattle.sym_state.specs.declared.value.Value.{Value}
 use Rattle.sym_state.specs.declared.ways.Way.{Way}
 use Rattle.sym_state.proofs.Forms.{formed-put}
-use Rattle.sym_state.proofs.Expressing.{expression-grown}
-use Rattle.sym_state.proofs.Growing.{Continues-trans, byte_worth-grown, number-grown, width-kept, worth-grown}
-use Rattle.sym_state.proofs.Leading.{bytes_expressed-grown}
+use Rattle.sym_state.proofs.Expressing.{bytes_expressed-grown, expression-grown, tree-kept}
+use Rattle.sym_state.proofs.Growing.{Continues-trans, IsWide-grown, byte_worth-grown, memory-grown, number-grown, width-kept, worth-grown}
+use Rattle.sym_state.proofs.Updating.{updates-grown, updates_expressed-grown}
+use Rattle.sym_state.proofs.Noted.{updates_noted, updates_with-expressed}
 use Rattle.sym_state.proofs.Scattered.{as_way-grown, come_to-grown, place_small}
 
 -- ---- The bits of a way.
@@ -40,11 +45,10 @@ extract-number : (high low : ℕ) (x : BitVector) → (extract high low x).numbe
 unfolding extract
 extract-number high low x = refl
 
-pub way_bits-made : (g h : Graph) (width : LoadWidth) (page term bits : ℕ) (way : Way) → IsWay g width page term way
-    → BuildsNode g h (Extract (way.first + way.count - 1) way.first way.term) bits → AreWayBits h way bits
-way_bits-made g h width page term bits way is built =
-    let some = is.some in
-    let within = is.within in
+pub way_bits-made : {E : Type 0} (g h : Graph) (r : Result ℕ E) (way : Way) → 0 < way.count → way.first + way.count ≤ width_of g way.term
+    → IfOk r (BuildsNode g h (Extract (way.first + way.count - 1) way.first way.term)) → IfOk r (AreWayBits h way)
+way_bits-made g h (Err e) way some within built = tt
+way_bits-made g h (Ok bits) way some within built =
     let there : 0 < width_of g way.term = omega (arith, some, within) in
     let many : way.first + way.count - 1 - way.first + 1 ≡ way.count = omega (arith, some) in
     record {
@@ -171,6 +175,15 @@ stores : (width : StoreWidth) (page a v : ℕ) (byte : ℕ → ℕ) → is_place
 stores width page a v byte here =
     fun_ext (λ x. replaced_by width page a v byte x (nat_le (256 * page) x && nat_lt x (256 * page + 256)) refl here)
 
+-- a place of another page is none of this one
+out_of : (page a : ℕ) (t : Bool) → (nat_le (256 * page) a && nat_lt a (256 * page + 256)) ≡ t → a / 256 ≢ page → t ≡ false
+out_of page a true is off =
+    let both = and_parts (nat_le (256 * page) a) (nat_lt a (256 * page + 256)) is in
+    let low : 256 * page ≤ a = let t = both.0 in grind (arith, nat_tests, t) in
+    let high : a < 256 * page + 256 = let t = both.1 in grind (arith, nat_tests, t) in
+    absurd (off (omega (arith, low, high)))
+out_of page a false is off = refl
+
 -- ---- From the address that a term is.
 replaced-same : {A : Type 0} (start count : ℕ) (f g b : ℕ → A) → ((x : ℕ) → f x ≡ g x) → replaced start count f b ≡ replaced start count g b
 replaced-same start count f g b same = fun_ext (λ x. ap (λ n. if nat_le start x && nat_lt x (start + count) then n else b x) (same x))
@@ -213,26 +226,88 @@ module _ (s : Symbolic) (f h : Graph) (width : StoreWidth) (page term : ℕ) (va
         ap (λ (e : ℕ → Expression). e x) (bytes_expressed-grown s.terms h s.memory grown formed.memory),
       )
 
-  pub makes_stored : {E : Type 0} (k : Graph) (o : SymbolicMemory) (r : Result (Unit {0}) E) → Continues h k → HasBytes k o
-      → OnOk r (Scatters h k s.memory o (as_load width) page way stored 256)
-      → OnOk r (MakesStored s (record s { memory = o; terms = k }) width page term value)
-  makes_stored k o (Err e) more has scatters = tt
-  makes_stored k o (Ok u) more has scatters = record {
-    before = formed;
-    same = refl;
-    continues = Continues-trans grown more;
-    formed = formed-put s k o formed (Continues-trans grown more) has;
-    flags = scatters.flags;
-    worth = λ input small here.
-        scatters.worth input small
-        ∙ replaced-same (256 * page) 256 _ _ (bytes_worth h s.memory input) (worth_by input small here)
-        ∙ ap (replaced (256 * page) 256 (stored_at_place (as_load width) (number_of s.terms term input) (worth_of s.terms input value) (bytes_worth s.terms s.memory input)))
-        (memory_is input)
-        ∙ stores width page (number_of s.terms term input) (worth_of s.terms input value) (bytes_worth s.terms s.memory input) here;
-    expressed =
-        scatters.expressed
-        ∙ replaced-same (256 * page) 256 _ _ (bytes_expressed h s.memory) expressed_by
-        ∙ ap (replaced (256 * page) 256 (byte_after (bytes_expressed s.terms s.memory) (as_load width) (way_by (index_of (tree_of s.terms term)) (as_load width) page (tree_of s.terms term))
-        (λ at. register_byte at (value_expression s.terms value))))
-        (bytes_expressed-grown s.terms h s.memory grown formed.memory);
-  }
+  -- ---- With the list that the store goes to.
+  module _ (bits : ℕ) (are : AreWayBits h way bits) (k : Graph) (o : SymbolicMemory) (more : Continues h k) (has : HasBytes k o)
+      (scatters : Scatters h k s.memory o (as_load width) page way stored 256) where
+    abbrev site : Site
+    site = site_of (as_load width) page (as_way s.terms way)
+
+    abbrev one : code.Update
+    one = record { bits = bits; value = value }
+
+    all : Continues s.terms k
+    all = Continues-trans grown more
+
+    after_is : (input : List ℕ) → All (λ b. b < 256) input → (a : ℕ) (t : Bool) → (nat_le (256 * page) a && nat_lt a (256 * page + 256)) ≡ t
+        → bytes_worth k o input a ≡ (if t then worth_after h s.memory (as_load width) way stored input a else bytes_worth h s.memory input a)
+    after_is input small a t is =
+        ap (λ (f : ℕ → ℕ). f a) (scatters.worth input small)
+        ∙ ap (λ b. if b then worth_after h s.memory (as_load width) way stored input a else bytes_worth h s.memory input a) is
+
+    before_is : (input : List ℕ) (a : ℕ) → bytes_worth h s.memory input a ≡ bytes_worth k s.memory input a
+    before_is input a = sym (byte_worth-grown h k input (memory_byte s.memory a) more (memory-grown s.terms h s.memory grown formed.memory a))
+
+    elsewhere_is : (input : List ℕ) → All (λ b. b < 256) input → (a : ℕ) → a / 256 ≢ page
+        → bytes_worth k o input a ≡ bytes_worth k s.memory input a
+    elsewhere_is input small a off =
+        after_is input small a false (out_of page a (nat_le (256 * page) a && nat_lt a (256 * page + 256)) refl off)
+        ∙ before_is input a
+
+    here_is : (input : List ℕ) → All (λ b. b < 256) input → (a : ℕ) → a / 256 ≡ page
+        → bytes_worth k o input a ≡ byte_with k site input a one (bytes_worth k s.memory input a)
+    here_is input small a on =
+        after_is input small a true (let low : 256 * page ≤ a = omega (arith, on) in let high : a < 256 * page + 256 = omega (arith, on) in grind (arith, nat_tests, low, high))
+        ∙ ap (λ n. if a / bytes (as_load width) * bytes (as_load width) == way.start + n * 2 ^ way.scale
+        then byte_worth h input (listed_byte stored (a % bytes (as_load width))) else bytes_worth h s.memory input a)
+        (sym (are.worth input small) ∙ sym (number-grown h k bits way.count input more are.width are.some))
+        ∙ ap (λ n. if a / bytes (as_load width) * bytes (as_load width) == way.start + number_of k bits input * 2 ^ way.scale then n else bytes_worth h s.memory input a)
+        (made.worth (a % bytes (as_load width)) (place_small (as_load width) a) input small
+        ∙ ap (λ v. byte_up v (a % bytes (as_load width)))
+        (worth-grown s.terms f input value first wide ∙ sym (worth-grown s.terms k input value all wide)))
+        ∙ ap (byte_with k site input a one) (before_is input a)
+
+    pub updates_are : All (AreUpdates k o) (updates_with site s.memory one s.updates)
+    updates_are =
+        updates_noted k s.memory o site one elsewhere_is here_is s.updates is.some is.short
+        (memory-grown s.terms k s.memory all formed.memory)
+        (record { bits = width-kept h k bits way.count more are.width are.some; wide = IsWide-grown s.terms k value all wide })
+        (updates-grown s.terms k all s.memory s.updates formed.memory formed.updates)
+
+    pub updates_expressed_are : updates_expressed k (updates_with site s.memory one s.updates)
+        ≡ updates_after width (bytes_expressed s.terms s.memory) (updates_expressed s.terms s.updates) page (Unknown (tree_of s.terms term)) (value_expression s.terms value)
+    updates_expressed_are =
+        updates_with-expressed k site s.memory one s.updates
+        ∙ ap (λ (b : ℕ → Expression). updates_with site b (update_expressed k one) (updates_expressed k s.updates))
+        (bytes_expressed-grown s.terms k s.memory all formed.memory)
+        ∙ ap (updates_with site (bytes_expressed s.terms s.memory) (update_expressed k one))
+        (updates_expressed-grown s.terms k all s.memory s.updates formed.updates)
+        ∙ ap (λ (e : Update). updates_with site (bytes_expressed s.terms s.memory) e (updates_expressed s.terms s.updates)) one_expressed
+        ∙ ap (λ w. updates_along (bytes_expressed s.terms s.memory) (as_load width) page w (value_expression s.terms value) (updates_expressed s.terms s.updates)) is.is
+      where
+        one_expressed : update_expressed k one ≡ record { bits = way_bits (as_way s.terms way); value = value_expression s.terms value }
+        one_expressed = cc (
+          tree-kept h k bits way.count more are.width are.some ∙ are.tree ∙ ap way_bits (as_way-grown s.terms h way grown there),
+          expression-grown s.terms k value all wide,
+        )
+
+    pub stored_made : MakesStored s (record s { memory = o; terms = k; updates = updates_with site s.memory one s.updates }) width page term value
+    stored_made = record {
+      before = formed;
+      same = refl;
+      continues = all;
+      formed = formed-put s k o (updates_with site s.memory one s.updates) formed all has updates_are;
+      flags = scatters.flags;
+      worth = λ input small here.
+          scatters.worth input small
+          ∙ replaced-same (256 * page) 256 _ _ (bytes_worth h s.memory input) (worth_by input small here)
+          ∙ ap (replaced (256 * page) 256 (stored_at_place (as_load width) (number_of s.terms term input) (worth_of s.terms input value) (bytes_worth s.terms s.memory input)))
+          (memory_is input)
+          ∙ stores width page (number_of s.terms term input) (worth_of s.terms input value) (bytes_worth s.terms s.memory input) here;
+      expressed =
+          scatters.expressed
+          ∙ replaced-same (256 * page) 256 _ _ (bytes_expressed h s.memory) expressed_by
+          ∙ ap (replaced (256 * page) 256 (byte_after (bytes_expressed s.terms s.memory) (as_load width) (way_by (index_of (tree_of s.terms term)) (as_load width) page (tree_of s.terms term))
+          (λ at. register_byte at (value_expression s.terms value))))
+          (bytes_expressed-grown s.terms h s.memory grown formed.memory);
+      updates = updates_expressed_are;
+    }

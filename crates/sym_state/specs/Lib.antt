@@ -16,3 +16,7 @@ pub mod Scattering
 pub mod Unfolded
 pub mod Unfolding
 pub mod Codes
+pub mod Updates
+pub mod KeptUpdates
+pub mod Recalling
+pub mod First

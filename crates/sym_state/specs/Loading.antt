@@ -7,7 +7,7 @@ use Rattle.rv_spec.specs.Arithmetic.{sum32}
 use Rattle.rv_spec.specs.Machine.{is_load_aligned}
 use Rattle.term_trees.specs.Trees.{Tree, tree_width}
 use Rattle.sym_state.specs.Expressions.{Expression, Number, Unknown, bit_in, byte_choice, widened_byte, widened_half, word_of}
-use Rattle.sym_state.specs.Indexing.{Index, index_of}
+use Rattle.sym_state.specs.Indexing.{Index}
 
 -- what is loaded, low byte first
 abbrev pub loaded : LoadWidth → (ℕ → Expression) → ℕ → Expression
@@ -101,11 +101,6 @@ byte_along byte width page way by =
     or_zero (selected way.scale (byte_behind byte width page by)
     (bits_of way.first way.count way.term) way.start)
 
--- the byte that is so far behind the address that a term is
-abbrev pub byte_by : (byte : ℕ → Expression) → LoadWidth → (page : ℕ) → Tree → (by : ℕ) → Expression
-byte_by byte width page t by = byte_along byte width page (way_by (index_of t) width page t) by
-
--- what is loaded from an address on a page
-abbrev pub loaded_on : LoadWidth → (ℕ → Expression) → (page : ℕ) → (address : Expression) → Expression
-loaded_on width byte page (Number address) = loaded width byte address
-loaded_on width byte page (Unknown t) = loaded width (byte_by byte width page t) 0
+-- what is loaded along a way
+abbrev pub loaded_along : LoadWidth → (ℕ → Expression) → (page : ℕ) → Way → Expression
+loaded_along width byte page way = loaded width (byte_along byte width page way) 0

@@ -6,6 +6,7 @@ use Rattle.cow_pages.specs.declared.byte.Byte.{Byte}
 use Rattle.term_trees.specs.Growth.{Continues}
 use Rattle.tree_core.specs.declared.choice.Choice.{Choice}
 use Rattle.sym_state.specs.Symbolic.{Symbolic, IsFormed, nothing_known, stands_for}
+use Rattle.sym_state.specs.Updates.{without}
 use Rattle.sym_state.specs.Values.{GivesBit, GivesByte, GivesTerm, GivesValue}
 use Rattle.sym_state.specs.declared.decided.Decided.{Decided}
 use Rattle.sym_state.specs.declared.value.Bit.{Bit}
@@ -49,7 +50,10 @@ informed s place d = record s { known = slice_set s.known place (Some d) }
 
 -- with a byte at an address
 abbrev pub stored_at : Symbolic → ℕ → Byte → Symbolic
-stored_at s address byte = record s { memory = memory_with s.memory address byte }
+stored_at s address byte = record s {
+  memory = memory_with s.memory address byte;
+  updates = without address s.updates;
+}
 
 -- on one side of a fork, where this term is to be 1 too
 abbrev pub narrowed : Symbolic → Choice → ℕ → List ℕ → Symbolic

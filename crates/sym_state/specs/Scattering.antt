@@ -12,11 +12,13 @@ use Rattle.rv_spec.specs.Memory.{with_bytes}
 use Rattle.term_trees.specs.Growth.{Continues}
 use Rattle.term_trees.specs.Trees.{tree_of}
 use Rattle.sym_state.specs.Expressions.{Expression, Unknown, byte_expression, register_byte, value_expression}
+use Rattle.sym_state.specs.KeptUpdates.{updates_expressed}
 use Rattle.sym_state.specs.Loading.{bytes, is_place}
 use Rattle.sym_state.specs.Placing.{PutsBytes, bytes_expressed, bytes_worth}
 use Rattle.sym_state.specs.Selecting.{as_way}
 use Rattle.sym_state.specs.Storing.{byte_after, replaced, stored_on, way_bits}
 use Rattle.sym_state.specs.Symbolic.{Symbolic, IsFormed}
+use Rattle.sym_state.specs.Updates.{updates_after}
 use Rattle.sym_state.specs.Values.{IsByte, byte_worth, worth_of}
 use Rattle.sym_state.specs.declared.value.Value.{Value}
 use Rattle.sym_state.specs.declared.ways.Way as code
@@ -83,7 +85,7 @@ Scatters old new before now width page way stored count =
 -- misaligned. Nothing else was done but that terms were made.
 pub record MakesStored (old new : Symbolic) (width : StoreWidth) (page term : ℕ) (value : Value) : Type 0 where
   pub before : IsFormed old
-  pub same : new ≡ record old { memory = new.memory; terms = new.terms }
+  pub same : new ≡ record old { memory = new.memory; terms = new.terms; updates = new.updates }
   pub continues : Continues old.terms new.terms
   pub formed : IsFormed new
   pub flags : memory_flags new.memory ≡ memory_flags old.memory
@@ -94,4 +96,8 @@ pub record MakesStored (old new : Symbolic) (width : StoreWidth) (page term : �
       (machine.stored width (worth_of old.terms input value))
   pub expressed : bytes_expressed new.terms new.memory
       ≡ stored_on width (bytes_expressed old.terms old.memory) page (Unknown (tree_of old.terms term))
+      (value_expression old.terms value)
+  pub updates : updates_expressed new.terms new.updates
+      ≡ updates_after width (bytes_expressed old.terms old.memory)
+      (updates_expressed old.terms old.updates) page (Unknown (tree_of old.terms term))
       (value_expression old.terms value)

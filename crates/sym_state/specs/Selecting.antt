@@ -11,10 +11,12 @@ use Rattle.term_trees.specs.Growth.{Continues}
 use Rattle.term_trees.specs.Trees.{tree_of}
 use Rattle.sym_state.specs.Expressions.{Expression, Unknown, bit_expression, byte_expression, value_expression}
 use Rattle.sym_state.specs.Indexing.{index_of}
-use Rattle.sym_state.specs.Loading.{Way, bits_of, byte_behind, chosen, is_place, loaded_on, or_zero, selected, way_by}
+use Rattle.sym_state.specs.KeptUpdates.{updates_expressed}
+use Rattle.sym_state.specs.Loading.{Way, bits_of, byte_behind, chosen, is_place, or_zero, selected, way_by}
 use Rattle.sym_state.specs.Moves.{IsGrown}
 use Rattle.sym_state.specs.Placing.{bytes_expressed, bytes_worth}
 use Rattle.sym_state.specs.Symbolic.{Symbolic}
+use Rattle.sym_state.specs.Updates.{loaded_on}
 use Rattle.sym_state.specs.Values.{IsBit, IsByte, IsWide, bit_worth, byte_worth, worth_of}
 use Rattle.sym_state.specs.declared.selecting.Place.{Place}
 use Rattle.sym_state.specs.declared.ways.Way as code
@@ -122,7 +124,8 @@ pub record MakesLoaded (old new : Symbolic) (width : LoadWidth) (page term : ℕ
       ≡ machine.loaded width (bytes_worth old.terms old.memory input)
       (number_of old.terms term input)
   pub expression : value_expression new.terms value
-      ≡ loaded_on width (bytes_expressed old.terms old.memory) page (Unknown (tree_of old.terms term))
+      ≡ loaded_on width (bytes_expressed old.terms old.memory)
+      (updates_expressed old.terms old.updates) page (Unknown (tree_of old.terms term))
 
 -- ---- The way to the address that a term is, as the code finds it.
 abbrev pub as_way : Graph → code.Way → Way

@@ -13,6 +13,7 @@ use Rattle.term_trees.specs.Trees.{Tree, Constant}
 use Rattle.sym_state.specs.Expressions.{Expression, Number, Unknown, byte_choice, register_byte, settled}
 use Rattle.sym_state.specs.Indexing.{index_of}
 use Rattle.sym_state.specs.Loading.{Way, bytes, way_by}
+use Rattle.sym_state.specs.declared.ways.Stride.{Stride}
 
 -- the bytes that are stored, low byte first
 abbrev pub stored : StoreWidth → Expression → List Expression
@@ -31,21 +32,27 @@ with_expressions byte address (e ∷ es) =
 abbrev pub way_bits : Way → Tree
 way_bits way = part_of (way.first + way.count - 1) way.first way.term
 
--- which number its bits are where it comes to an address
-abbrev pub steps_to : Way → (address : ℕ) → ℕ
-steps_to way address = (address - way.start) / 2 ^ way.scale
+-- the stride in which it leads on
+abbrev pub stride_of : Way → Stride
+stride_of way = record { start = way.start; count = way.count; scale = way.scale }
 
--- its bits can lead there
-abbrev pub may_come : Way → (address : ℕ) → Bool
-may_come way address =
-    nat_le way.start address
-    && (((address - way.start) % 2 ^ way.scale == 0) && nat_lt (steps_to way address) (2 ^ way.count))
+-- which number the bits are where they lead to an address
+abbrev pub steps_to : Stride → (address : ℕ) → ℕ
+steps_to stride address = (address - stride.start) / 2 ^ stride.scale
+
+-- so many bits can lead there
+abbrev pub may_come : Stride → (address : ℕ) → Bool
+may_come stride address =
+    nat_le stride.start address
+    && (((address - stride.start) % 2 ^ stride.scale == 0)
+    && nat_lt (steps_to stride address) (2 ^ stride.count))
 
 -- 1 where it comes to an address
 abbrev pub comes_to : Way → (address : ℕ) → Expression
 comes_to way address =
-    if may_come way address
-    then settled (comparison_of Eq (way_bits way) (Constant way.count (steps_to way address)))
+    if may_come (stride_of way) address
+    then settled (comparison_of Eq (way_bits way)
+    (Constant way.count (steps_to (stride_of way) address)))
     else Number 0
 
 -- ---- A store by a term.

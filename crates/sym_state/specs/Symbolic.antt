@@ -9,6 +9,7 @@ use Rattle.fork_spec.specs.Decisions.{Decision, Side, Number as Needs, step_deci
 use Rattle.rv_spec.specs.Machine.{State}
 use Rattle.tree_core.specs.declared.choice.Choice.{Choice}
 use Rattle.fork_spec.specs.Leaves.{IsSmallChoice, IsSmallStep, are_bytes}
+use Rattle.sym_state.specs.KeptUpdates.{AreUpdates, KeptUpdates}
 use Rattle.sym_state.specs.Values.{IsByte, IsWide, byte_worth, worth_of}
 use Rattle.sym_state.specs.declared.decided.Decided.{Decided}
 use Rattle.sym_state.specs.declared.decided.Decided.TheVariants.{Side as KnownSide, Number as KnownNumber}
@@ -33,6 +34,8 @@ pub record Symbolic : Type 0 where
   pub known : List (Option Decided)
   -- an assignment that meets the condition
   pub sample : List ℕ
+  -- the last stores by terms
+  pub updates : List KeptUpdates
 
 -- the most steps that a budget may allow
 abbrev pub most_steps : ℕ
@@ -105,3 +108,4 @@ pub record IsFormed (s : Symbolic) : Type 0 where
   pub places : length s.known ≡ most_decisions
   pub each_input : length s.sample ≡ s.terms.inputs
   pub sample_bytes : All (λ b. b < 256) s.sample
+  pub updates : All (AreUpdates s.terms s.memory) s.updates

@@ -9,7 +9,9 @@ use Rattle.rv_spec.specs.Machine.{first_registers}
 use Rattle.rv_spec.specs.Memory.{flags_of, byte_of, is_in}
 use Rattle.term_trees.specs.Trees.{Byte}
 use Rattle.sym_state.specs.Expressions.{Expression, Number, Unknown, value_expression, byte_expression}
+use Rattle.sym_state.specs.KeptUpdates.{updates_expressed}
 use Rattle.sym_state.specs.Placing.{bytes_expressed}
+use Rattle.sym_state.specs.Updates.{ExpressedUpdates}
 use Rattle.sym_state.specs.Symbolic.{Symbolic}
 
 pub record Unfolded : Type 0 where
@@ -21,6 +23,8 @@ pub record Unfolded : Type 0 where
   -- the bytes written so far
   pub output : List Expression
   pub path : List PathStep
+  -- the last stores by terms
+  pub updates : List ExpressedUpdates
 
 abbrev pub unfolded : Symbolic → Unfolded
 unfolded s = record {
@@ -30,6 +34,7 @@ unfolded s = record {
   byte = bytes_expressed s.terms s.memory;
   output = map (byte_expression s.terms) s.output;
   path = s.path;
+  updates = updates_expressed s.terms s.updates;
 }
 
 -- memory with the input bytes in the regions, numbered in their order from one on
@@ -48,6 +53,7 @@ first_unfolded image regions = record {
   byte = inputs_placed regions 0 (λ address. Number (byte_of image address));
   output = [];
   path = [];
+  updates = [];
 }
 
 abbrev pub expression_at : List Expression → ℕ → Expression

@@ -1,7 +1,7 @@
 -- What a step of the machine makes of a symbolic run, where it decides so: each instruction makes its
 -- terms in one way. The cases are the machine's. A step that traps makes nothing but what its path
 -- notes before the trap.
-use Rattle.std.specs.Prelude.{ℕ, zero, suc, ◌+◌, ◌%◌, ◌==◌, Bool, true, false, min, List, [], ◌∷◌, ◌++◌, map, if◌then◌else◌, is_some, Option, Some, None}
+use Rattle.std.specs.Prelude.{ℕ, zero, suc, ◌%◌, ◌==◌, Bool, true, false, min, List, [], ◌∷◌, ◌++◌, map, if◌then◌else◌, is_some, Option, Some, None}
 use Rattle.std.specs.List.{list_all}
 use Rattle.elf_load.specs.Images.{Image}
 use Rattle.elf_load.specs.declared.region.Region.{Region}
@@ -25,8 +25,8 @@ use Rattle.rv_spec.specs.Machine.{addresses}
 use Rattle.rv_spec.specs.Memory.{has_w, is_mapped}
 use Rattle.rv_spec.specs.Runs.{run}
 use Rattle.sym_state.specs.Expressions.{Expression, Number, combined_of}
-use Rattle.sym_state.specs.Loading.{loaded_on}
 use Rattle.sym_state.specs.Storing.{stored_on, with_expressions}
+use Rattle.sym_state.specs.Updates.{loaded_on, updates_after, without_bytes}
 use Rattle.sym_state.specs.Unfolded.{Unfolded, expression_at, first_unfolded, set_expression}
 
 -- at the next instruction, with these registers
@@ -40,16 +40,26 @@ to_register u rd e = onward u (set_expression u.registers rd e)
 -- from an address on this page
 abbrev pub load : Unfolded → LoadWidth → (rd page : ℕ) → (address : Expression) → Unfolded
 load u width rd page address =
-    if is_some (u.flags page) then to_register u rd (loaded_on width u.byte page address) else u
+    if is_some (u.flags page) then to_register u rd (loaded_on width u.byte u.updates page address)
+    else u
 
 abbrev pub with_put : Unfolded → ℕ → List Expression → Unfolded
-with_put u address es = record u { byte = with_expressions u.byte address es }
+with_put u address es = record u {
+  byte = with_expressions u.byte address es;
+  updates = without_bytes address es u.updates;
+}
+
+abbrev pub with_store : Unfolded → StoreWidth → (page : ℕ) → (address value : Expression) → Unfolded
+with_store u width page address e = record u {
+  byte = stored_on width u.byte page address e;
+  updates = updates_after width u.byte u.updates page address e;
+}
 
 -- to an address on this page
 abbrev pub store : Unfolded → StoreWidth → (page : ℕ) → (address value : Expression) → Unfolded
 store u width page address e =
     if has_w (u.flags page)
-    then onward (record u { byte = stored_on width u.byte page address e }) u.registers else u
+    then onward (with_store u width page address e) u.registers else u
 
 abbrev pub noted : Unfolded → PathStep → Unfolded
 noted u step = record u { path = u.path ++ step ∷ [] }

@@ -5,7 +5,8 @@ ghost use Rattle.cow_pages.specs.SymbolicMemory.{memory_flags};
 ghost use Rattle.rv_machine.specs.Pages.{AreMapped, IsMapped, filled};
 ghost use Rattle.rv_spec.specs.Machine as machine;
 ghost use Rattle.rv_spec.specs.Memory.{count_of, placed};
-ghost use Rattle.sym_state.specs.Placing.{HasBytes, PutsBytes, bytes_expressed, bytes_worth, first_run, inputs_filled, number_values};
+ghost use Rattle.sym_state.specs.First.{first_run, number_values};
+ghost use Rattle.sym_state.specs.Placing.{HasBytes, PutsBytes, bytes_expressed, bytes_worth, inputs_filled};
 ghost use Rattle.sym_state.specs.Runs.{IsFirst, IsOpen, IsSampled};
 ghost use Rattle.sym_state.specs.Unfolded.{inputs_placed};
 
@@ -103,6 +104,7 @@ fn begin(alloc: Global, entry: u32, memory: Pages, terms: Builder) -> Result<Sta
         steps: 0,
         known: Known::nothing(),
         sample: Bytes::from_vec(vec![in alloc; 0; inputs]?),
+        updates: Vec::new(alloc),
     })
 }
 

@@ -9,6 +9,7 @@
 //! - `bytes`: bytes of memory as values, and values as bytes
 //! - `indexing`, `ways`, `selecting`, `loading`: what is loaded from an address that is a term
 //! - `scattering`, `storing`: what is stored to one
+//! - `updates`, `recalling`: what was stored so of late, and loads that take it
 //! - `code`: what stands where an instruction is fetched
 //! - `lists`: what copies share, copied out
 //! - `first`: the run of all assignments
@@ -31,10 +32,12 @@ mod loading;
 mod moves;
 mod operations;
 mod program;
+mod recalling;
 mod scattering;
 mod selecting;
 mod state;
 mod storing;
+mod updates;
 mod value;
 mod values;
 mod ways;

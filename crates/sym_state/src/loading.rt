@@ -14,10 +14,12 @@ ghost use Rattle.sym_state.specs.Placing.{HasBytes};
 ghost use Rattle.sym_state.specs.Selecting.{AreBitsOf, Loads, MakesLoaded};
 
 use crate::bytes::{from_byte, from_half, from_word};
+use crate::recalling::recalled;
 use crate::selecting::{Place, byte_by, push_bits};
 use crate::state::State;
+use crate::updates::{Site, updates_at};
 use crate::value::{Bit, Value};
-use crate::ways::way_to;
+use crate::ways::{way_bits, way_to};
 use cow_pages::Pages;
 use rv_decode::LoadWidth;
 use std::alloc::AllocError as NoMemory;
@@ -129,6 +131,16 @@ impl State {
             start: way.start,
             scale: way.scale,
         };
-        load_from(&mut self.terms, &self.memory, place, &bits)
+        let site = Site {
+            page,
+            width,
+            stride: way.stride(),
+        };
+        let Some(list) = updates_at(&self.updates, site) else {
+            return load_from(&mut self.terms, &self.memory, place, &bits);
+        };
+        let before = load_from(&mut self.terms, &list.before, place, &bits)?;
+        let bits = way_bits(&mut self.terms, way)?;
+        recalled(&mut self.terms, width, bits, list, before)
     }
 }

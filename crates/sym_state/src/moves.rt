@@ -10,6 +10,7 @@ ghost use Rattle.sym_state.specs.Values.{IsByte, IsWide};
 
 use crate::decided::Decided;
 use crate::state::State;
+use crate::updates::give_up;
 use crate::value::Value;
 use byte_list::Bytes;
 use cow_pages::Byte;
@@ -87,7 +88,7 @@ impl State {
         Ok(())
     }
 
-    /// Puts a byte to an address of a mapped page.
+    /// Puts a byte to an address of a mapped page. A list of updates for a byte there is given up.
     pub fn put(&mut self, address: u32, byte: Byte) -> Result<(), NoMemory>
         requires mapped { IsSome (memory_flags self.old.memory (address / 256)) }
         requires is_byte { IsByte self.old.terms byte }
@@ -100,7 +101,9 @@ impl State {
         ensures err { OnErr result (self.new ≡ self.old) }
         ensures formed { IsFormed self.new }
     {
-        self.memory.write(address, byte)
+        self.memory.write(address, byte)?;
+        give_up(&mut self.updates, address);
+        Ok(())
     }
 
     /// Notes the side of a fork.

@@ -10,7 +10,6 @@ ghost use Rattle.sym_state.specs.Placing.{HasBytes};
 ghost use Rattle.sym_state.specs.Scattering.{AreBytesFor, AreWayBits, MakesBytes, Scatters, come_to, expressed_after, worth_after};
 ghost use Rattle.sym_state.specs.Selecting.{as_way};
 ghost use Rattle.sym_state.specs.Storing as storing;
-ghost use Rattle.sym_state.specs.Storing.{may_come, steps_to};
 ghost use Rattle.sym_state.specs.Values.{GivesBit, GivesByte, IsBit, IsByte, IsWide, bit_worth, byte_worth};
 
 use crate::bytes::{byte_at, choice};
@@ -54,23 +53,6 @@ pub(crate) fn low_bytes(
     Ok(bytes)
 }
 
-/// How often a way leads on to come to an address, if it may.
-fn steps_to(way: Way, address: u32) -> Option<u64>
-    requires few { way.scale + way.count ≤ 31 }
-    ensures { (terms : Graph) → result
-        ≡ (if may_come (as_way terms way) address then Some (steps_to (as_way terms way) address) else None) }
-{
-    if address < way.start {
-        return None;
-    }
-    let far = address - way.start;
-    let steps = far >> way.scale;
-    if far % (1 << way.scale) != 0 || steps >= 1 << way.count {
-        return None;
-    }
-    Some(u64::from(steps))
-}
-
 /// Whether a way comes to an address.
 fn comes_to(terms: &mut Builder, way: Way, bits: usize, address: u32) -> Result<Bit, NoMemory>
     requires few { way.scale + way.count ≤ 31 }
@@ -81,7 +63,7 @@ fn comes_to(terms: &mut Builder, way: Way, bits: usize, address: u32) -> Result<
     ensures expression { IfOk result (λ bit. bit_expression terms.new bit
         ≡ storing.comes_to (as_way terms.old way) address) }
 {
-    let Some(steps) = steps_to(way, address) else {
+    let Some(steps) = way.stride().steps_to(address) else {
         return Ok(Bit::Known(false));
     };
     let number = terms.num(way.count, steps)?;

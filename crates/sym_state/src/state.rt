@@ -9,6 +9,7 @@ ghost use Rattle.sym_state.specs.Values.{IsByte, IsWide};
 use crate::decided::Decided;
 use crate::known::Known;
 use crate::selecting::byte_in;
+use crate::updates::{UpdateList, shared};
 use crate::value::Value;
 use byte_list::Bytes;
 use cow_pages::{Byte, Pages};
@@ -43,6 +44,8 @@ pub struct State {
     pub(crate) known: Known,
     /// An assignment that meets the condition.
     pub(crate) sample: Bytes,
+    /// The last stores by terms.
+    pub(crate) updates: Vec<UpdateList>,
 }
 
 impl Drop for State {
@@ -60,6 +63,7 @@ impl Drop for State {
             steps: _steps,
             known: _known,
             sample: _sample,
+            updates: _tables,
         } = self;
     }
 }
@@ -85,6 +89,7 @@ impl Model for State {
       steps = s.steps;
       known = s.known;
       sample = s.sample;
+      updates = s.updates.items;
     } };
 
     ghost invariant = { λ s. spec.IsFormed (record {
@@ -99,6 +104,7 @@ impl Model for State {
       steps = s.steps;
       known = s.known;
       sample = s.sample;
+      updates = s.updates.items;
     }) };
 }
 
@@ -131,6 +137,7 @@ impl State {
             steps: self.steps,
             known: self.known.copy(),
             sample: Bytes::from_slice(self.alloc, self.sample.as_slice())?,
+            updates: shared(self.alloc, &self.updates)?,
         })
     }
 

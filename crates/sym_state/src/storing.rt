@@ -10,9 +10,9 @@ ghost use Rattle.sym_state.specs.Values.{IsWide};
 use crate::scattering::{Along, low_bytes, scatter};
 use crate::selecting::bytes_of;
 use crate::state::State;
+use crate::updates::{Site, Update, updates_with};
 use crate::value::Value;
-use crate::ways::way_to;
-use bv_dag::Node;
+use crate::ways::{way_bits, way_to};
 use rv_decode::{LoadWidth, StoreWidth};
 use std::alloc::AllocError as NoMemory;
 
@@ -28,7 +28,7 @@ pub fn as_load(width: StoreWidth) -> LoadWidth
 }
 
 impl State {
-    /// Stores a value to the address that a term is, where that stands on this mapped page. After want of memory it may be stored in part.
+    /// Stores a value to the address that a term is, where that stands on this mapped page. After want of memory it may be stored in part, and no list of updates is kept.
     pub fn store_on(
         &mut self,
         width: StoreWidth,
@@ -44,11 +44,7 @@ impl State {
     {
         let width = as_load(width);
         let way = way_to(self.terms.terms(), width, page, term);
-        let bits = self.terms.build(Node::Extract {
-            high: way.first + way.count - 1,
-            low: way.first,
-            operand: way.term,
-        })?;
+        let bits = way_bits(&mut self.terms, way)?;
         let bytes = low_bytes(self.alloc, &mut self.terms, value, bytes_of(width))?;
         let along = Along {
             width,
@@ -56,6 +52,16 @@ impl State {
             way,
             bits,
         };
-        scatter(&mut self.terms, &mut self.memory, along, &bytes)
+        let site = Site {
+            page,
+            width,
+            stride: way.stride(),
+        };
+        let one = Update { bits, value };
+        let updates = updates_with(self.alloc, &self.updates, site, &self.memory, one)?;
+        self.updates = Vec::new(self.alloc);
+        scatter(&mut self.terms, &mut self.memory, along, &bytes)?;
+        self.updates = updates;
+        Ok(())
     }
 }

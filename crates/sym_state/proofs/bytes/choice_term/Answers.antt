@@ -18,7 +18,7 @@ pub returns-clause-ok : goal.returns-clause-ok
 returns-clause-ok c =
     let both = Continues-trans c.in_ok-first.ensures.ok.continues c.in_ok-second.ensures.ok.continues in
     let first = width-kept _ _ _ 8 c.in_ok-second.ensures.ok.continues c.in_ok-first.ensures.ok.width (omega arith) in
-    gives_choice _ _ _ c.build.result c.args.bit _ _ _ _ both c.requires.bit first
+    gives_choice _ _ _ 8 c.build.result c.args.bit _ _ _ _ both c.requires.bit first
     (λ input bytes. given-grown (omega arith) c.in_ok-first.ensures.ok c.in_ok-second.ensures.ok.continues input bytes)
     (λ input bytes. later-byte c.args.second c.in_ok-first.ensures.ok.continues c.requires.second c.in_ok-second.ensures.ok input bytes)
     c.build.ensures.ok

@@ -1,5 +1,5 @@
-use Rattle.sym_state.proofs.Leading.{bits-grown, memory-grown}
-use Rattle.sym_state.proofs.Growing.{IsByte-grown}
+use Rattle.sym_state.proofs.Leading.{bits-grown}
+use Rattle.sym_state.proofs.Growing.{memory-grown, IsByte-grown}
 use Rattle.sym_state.proofs.Taking.{loads_half, takes-before, takes-kept}
 use Rattle.sym_state.proofs.loading.load_half.Goals as goal
 

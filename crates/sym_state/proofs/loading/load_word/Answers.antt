@@ -1,5 +1,5 @@
-use Rattle.sym_state.proofs.Leading.{bits-grown, memory-grown}
-use Rattle.sym_state.proofs.Growing.{Continues-trans, IsByte-grown}
+use Rattle.sym_state.proofs.Leading.{bits-grown}
+use Rattle.sym_state.proofs.Growing.{memory-grown, Continues-trans, IsByte-grown}
 use Rattle.sym_state.proofs.Taking.{loads_word, takes-before, takes-kept}
 use Rattle.sym_state.proofs.loading.load_word.Goals as goal
 

@@ -2,7 +2,7 @@ use Rattle.std.proofs.Common.{◌≡◌, ℕ, ◌+◌, ◌*◌, ◌/◌, arith, 
 use Rattle.std.specs.Prelude.{IsSome, Option}
 use Rattle.cow_pages.specs.SymbolicMemory.{memory_flags}
 use Rattle.sym_state.specs.Placing.{HasBytes}
-use Rattle.sym_state.proofs.Leading.{memory-grown}
+use Rattle.sym_state.proofs.Growing.{memory-grown}
 use Rattle.sym_state.proofs.Scattered.{AreBytesFor-grown, AreWayBits-grown, scatters_more}
 use Rattle.sym_state.proofs.scattering.scatter.Goals as goal
 

@@ -4,8 +4,8 @@ use Rattle.std.specs.Prelude.{IfOk}
 use Rattle.sym_state.specs.Selecting.{AreBitsOf, Selects}
 use Rattle.sym_state.specs.Values.{IsBit}
 use Rattle.sym_state.specs.declared.value.Bit.TheVariants.{Term}
-use Rattle.sym_state.proofs.Growing.{Continues-trans, width-kept}
-use Rattle.sym_state.proofs.Leading.{bits-grown, found-is, memory-grown, selects_either}
+use Rattle.sym_state.proofs.Growing.{memory-grown, Continues-trans, width-kept}
+use Rattle.sym_state.proofs.Leading.{bits-grown, found-is, selects_either}
 use Rattle.sym_state.proofs.selecting.+selected.Goals as goal
 
 pub selected-requires-in-Term-2 : goal.selected-requires-in-Term-2
