@@ -91,6 +91,14 @@ impl Checker {
         )
     }
 
+    /// Whether the step's clause follows by its hints from the clauses.
+    pub fn follows(&mut self, step: &LogStep) -> Result<bool, NoMemory>
+        ensures answer { IfOk result (λ yes. yes ≡ follows self.old step.now.clause step.now.hints) }
+        ensures same { self.new ≡ self.old }
+    {
+        follows(&mut self.marks, self.clauses.clauses(), &[], step)
+    }
+
     /// Whether the step's clause follows by its hints from the clauses, and is a superset of none of them.
     pub fn may_come_next(&mut self, step: &LogStep) -> Result<bool, NoMemory>
         ensures answer { IfOk result (λ yes. yes
@@ -98,7 +106,7 @@ impl Checker {
             && is_new self.old step.now.clause)) }
         ensures same { self.new ≡ self.old }
     {
-        if !follows(&mut self.marks, self.clauses.clauses(), &[], step)? {
+        if !self.follows(step)? {
             return Ok(false);
         }
         self.is_new(step.clause())
