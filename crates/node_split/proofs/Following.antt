@@ -1,15 +1,13 @@
 -- A run that goes on until it forks, ends or is cut: what becomes of it then becomes of the run that
 -- it was.
-use Rattle.std.proofs.Common.{◌≡◌, ℕ, ◌*◌, ◌<◌, ◌≤◌, List, [], ◌∷◌, ◌++◌, get_or, length, refl, ap, subst, ◌∙◌, arith}
+use Rattle.std.proofs.Common.{◌≡◌, ℕ, ◌<◌, ◌≤◌, List, [], ◌∷◌, ◌++◌, get_or, refl, ap, subst, ◌∙◌, arith}
 use Rattle.std.specs.Global.{Vec}
 use Rattle.std.specs.Prelude.{Option, None, Some}
-use Rattle.rv_spec.specs.Memory.{count_of}
 use Rattle.tree_core.specs.Covers.{one_if}
 use Rattle.tree_core.specs.declared.budgets.Budgets.{Budgets}
 use Rattle.tree_core.specs.declared.cause.Cause.{Cause}
 use Rattle.tree_core.specs.declared.cause.Cause.TheVariants.{Steps as StepsSpent}
 use Rattle.tree_core.specs.declared.choice.Choice.{Choice}
-use Rattle.fork_spec.specs.Leaves.{IsSmall}
 use Rattle.fork_spec.specs.Parts.{Part}
 use Rattle.fork_tree.specs.Contents.{choices_in}
 use Rattle.fork_tree.specs.Works.{EndsAs, IsPart, IsRunAt, IsWorked}
@@ -22,11 +20,9 @@ use Rattle.sym_machine.specs.declared.stepping.Stop.{Stop}
 use Rattle.sym_state.specs.Moves.{IsSame, informed}
 use Rattle.sym_state.specs.Places.{run_place}
 use Rattle.sym_state.specs.Programs.{Program}
-use Rattle.sym_state.specs.Runs.{IsEnded, IsOpen, IsSampled, left_to_do}
-use Rattle.sym_state.specs.Symbolic.{Symbolic, IsFormed, most_decisions, most_steps, stands_for}
+use Rattle.sym_state.specs.Runs.{IsOpen, IsSampled, left_to_do}
+use Rattle.sym_state.specs.Symbolic.{Symbolic, IsFormed, most_decisions, stands_for}
 use Rattle.sym_state.specs.declared.decided.Decided.{Decided}
-use Rattle.sym_state.specs.declared.ended.RunEnd.{RunEnd}
-use Rattle.run_leaves.specs.Leaving.{HasTextRoom}
 use Rattle.run_leaves.specs.Places.{IsLeafAt, end_place}
 use Rattle.run_sides.specs.Narrowing.{IsForced}
 use Rattle.run_sides.proofs.Sides.{GoesOn, goes_settled}
@@ -117,24 +113,6 @@ worked_since p budgets s t (Kids kids run) same less is = (
   split_since p budgets s t kids.items same less is.0,
   run_since p budgets s t run same is.1,
 )
-
--- ---- There is room for the numbers of its texts.
-writable : (s : Symbolic) (inputs steps : ℕ) → s.terms.inputs ≡ inputs → IsSmall inputs → length s.output ≤ 4096 * s.steps
-    → s.steps ≤ steps → steps ≤ most_steps → HasTextRoom s
-writable s inputs steps is small few within most = record {
-  few_inputs = omega (arith, is, small);
-  few_outputs = omega (arith, few, within, most);
-}
-
-pub open_writable : (p : Program) (s : Symbolic) (steps : ℕ) → IsOpen p s → IsSmall (count_of p.regions) → s.steps ≤ steps → steps ≤ most_steps
-    → HasTextRoom s
-open_writable p s steps was small within most =
-    writable s (count_of p.regions) steps was.inputs small was.few_outputs within most
-
-pub ended_writable : (p : Program) (s : Symbolic) (end : RunEnd) (steps : ℕ) → IsEnded p s end → IsSmall (count_of p.regions)
-    → s.steps ≤ steps → steps ≤ most_steps → HasTextRoom s
-ended_writable p s end steps was small within most =
-    writable s (count_of p.regions) steps was.inputs small was.few_outputs within most
 
 -- ---- A run that was stopped at a fork: there is room for a step more, and this is what the fork makes of it.
 pub record IsAtFork (p : Program) (budgets : Budgets) (s : Symbolic) (forked : Forked) : Type 0 where

@@ -1,6 +1,5 @@
 pub mod Apart
 pub mod Branching
-pub mod Increasing
 pub mod Parting
 pub mod Sampling
 pub mod Sharing

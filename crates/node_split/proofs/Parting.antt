@@ -21,15 +21,11 @@ use Rattle.sym_state.specs.Symbolic.{Symbolic, stands_for}
 use Rattle.sym_state.specs.Undecided.{IsBranch}
 use Rattle.sym_state.proofs.Tests.{not_true}
 use Rattle.run_sides.specs.Sides.{branch_choice, is_side}
+use Rattle.run_sides.proofs.Branching.{one_of_two}
 use Rattle.node_split.specs.Rules.{Piece, content_place, leaf_place, rules_of}
 use Rattle.node_split.specs.Splits.{IsBranchSide, IsForkOf, IsSide, IsSideIn}
 use Rattle.node_split.proofs.Apart.{AreTwoSides, IsOnFork, kids_apart}
 use Rattle.node_split.proofs.Sharing.{count-cons, on_fork_in, placed_in, side_in, two_in}
-
-one_of_two : (met one : Bool) → one_if (met && not one) + (one_if (met && one) + 0) ≡ one_if met
-one_of_two true true = refl
-one_of_two true false = refl
-one_of_two false one = refl
 
 -- a branch is on the side that its test tells
 on_no : (b : Bool) → not b ≡ true → IsOnSide No (OnSide b)

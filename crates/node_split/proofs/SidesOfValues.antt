@@ -27,14 +27,14 @@ use Rattle.sym_state.specs.Runs.{IsOpen, left_to_do}
 use Rattle.sym_state.specs.Symbolic.{Symbolic, stands_for}
 use Rattle.sym_state.specs.Undecided.{IsPin, StandsAt}
 use Rattle.sym_state.proofs.Tests.{all_true, equals, not_true, same}
-use Rattle.sym_state.proofs.Undecided.{decision_there}
 use Rattle.run_leaves.specs.Values.{AreValues, HasValue}
 use Rattle.run_leaves.proofs.Cutting.{has_none}
+use Rattle.run_leaves.proofs.Increasing.{counted-once, or-true}
 use Rattle.run_sides.specs.Narrowing.{IsForced}
+use Rattle.run_sides.proofs.Pinning.{pin_settled}
 use Rattle.node_split.specs.Rules.{Piece, content_place, leaf_place, rules_of}
 use Rattle.node_split.specs.Splits.{AreSidesOf, IsForkOf, IsSideIn, IsValueSide}
 use Rattle.node_split.proofs.Apart.{AreOtherSides, AreTwoSides, IsOnFork, kids_apart}
-use Rattle.node_split.proofs.Increasing.{counted-once, or-true}
 use Rattle.node_split.proofs.Sharing.{count-cons, on_fork_in, passed_in, placed_in, side-choices, side-covers, side_form, side_on_fork, side_part, side_passes, two_runs}
 
 -- the first is one of them
@@ -340,10 +340,5 @@ one_value s term (f ∷ g ∷ fs) d few all input stands = absurd (omega (arith,
 pub value_settled : (s : Symbolic) (place term : ℕ) (found : List Found) (d : Found) → IsPin s place term → length found ≡ 1
     → ((input : List ℕ) → stands_for s input ≡ true → is_among (values_of found) (number_of s.terms term input) ≡ true)
     → IsForced s place (Number (get_or found 0 d).value)
-value_settled s place term found d at few all = record {
-  in_range = at.in_range;
-  unknown = at.unknown;
-  settled = λ input stands.
-      decision_there s place (number_there s term) at.stands input stands
-      ∙ ap (λ n. Some (Needs n)) (one_value s term found d few all input stands);
-}
+value_settled s place term found d at few all =
+    pin_settled s place term (get_or found 0 d).value at (one_value s term found d few all)

@@ -1,7 +1,7 @@
 //! The leaves of runs that are cut at a fork: where more values were found than there may be sides, and where the budget of
 //! conflicts was spent.
 
-ghost use Rattle.std.specs.Prelude.{◌≡◌, ◌<◌, ◌++◌, ◌∷◌, [], ℕ, List, Bool, IfOk, None, length, map, not};
+ghost use Rattle.std.specs.Prelude.{◌≡◌, ◌<◌, ◌++◌, ◌∷◌, [], ℕ, List, Bool, IfOk, None, Some, length, map, not};
 ghost use Rattle.bv_dag.specs.Graphs.{number_of, width_of};
 ghost use Rattle.fork_spec.specs.Evidence.{is_among, values_of};
 ghost use Rattle.fork_spec.specs.Leaves.{IsSmallChoice};
@@ -36,7 +36,8 @@ pub fn cut_conflicts(
 ) -> Result<LeafPart, NoMemory>
     requires small { IsSmallChoice choice }
     requires writable { HasTextRoom run.old }
-    ensures { IfOk result (λ part. (p : Program) (budgets : Budgets) (sides : List spec.Choice)
+    ensures sample { IfOk result (λ part. part.sample ≡ None) }
+    ensures leaf { IfOk result (λ part. (p : Program) (budgets : Budgets) (sides : List spec.Choice)
         (s : Symbolic) (test : List ℕ → Bool)
         → IsOpen p s → s.steps < budgets.steps → IsFormed s → IsNarrowed s run.old test
         → IsLearntFor budgets.conflicts (condition_of run.old) learnt
@@ -60,7 +61,8 @@ pub fn cut_targets(
 ) -> Result<LeafPart, NoMemory>
     requires writable { HasTextRoom run.old }
     requires width { width_of run.old.terms term ≡ 32 }
-    ensures { IfOk result (λ part. (p : Program) (budgets : Budgets) (s : Symbolic)
+    ensures sample { IfOk result (λ part. part.sample ≡ Some run.old.sample) }
+    ensures leaf { IfOk result (λ part. (p : Program) (budgets : Budgets) (s : Symbolic)
         → IsOpen p s → s.steps < budgets.steps → IsFormed s → IsUnknown s.terms 32 term
         → IsWithout s term (values_of found.items) run.old
         → IsSampled run.old

@@ -23,7 +23,8 @@ use tree_core::Cause;
 /// The leaf of a run that has spent its steps. The run is of no use after that.
 pub fn cut_steps(alloc: Global, state: &mut State) -> Result<LeafPart, NoMemory>
     requires writable { HasTextRoom state.old }
-    ensures { IfOk result (λ part. (p : Program) (budgets : Budgets)
+    ensures sample { IfOk result (λ part. part.sample ≡ Some state.old.sample) }
+    ensures leaf { IfOk result (λ part. (p : Program) (budgets : Budgets)
         → budgets.steps ≡ state.old.steps → IsOpen p state.old → IsSampled state.old
         → IsLeafAt p budgets [] None (end_place state.old (Some Steps)) part) }
 {
@@ -42,7 +43,8 @@ pub fn cut_steps(alloc: Global, state: &mut State) -> Result<LeafPart, NoMemory>
 /// The leaf of a run that may not part, since there are so many nodes. The run is of no use after that.
 pub fn cut_nodes(alloc: Global, state: &mut State, nodes: u32) -> Result<LeafPart, NoMemory>
     requires writable { HasTextRoom state.old }
-    ensures { IfOk result (λ part. (p : Program) (budgets : Budgets)
+    ensures sample { IfOk result (λ part. part.sample ≡ None) }
+    ensures leaf { IfOk result (λ part. (p : Program) (budgets : Budgets)
         → state.old.steps < budgets.steps → budgets.nodes ≤ nodes → IsOpen p state.old
         → IsLeafAt p budgets [] (Some nodes) (end_place state.old (Some Nodes)) part) }
 {
@@ -55,7 +57,8 @@ pub fn cut_nodes(alloc: Global, state: &mut State, nodes: u32) -> Result<LeafPar
 // The leaf of a run whose runs have all trapped so.
 fn trapped(alloc: Global, state: &mut State, trap: Trap) -> Result<LeafPart, NoMemory>
     requires writable { HasTextRoom state.old }
-    ensures { IfOk result (λ part. (p : Program) (budgets : Budgets)
+    ensures sample { IfOk result (λ part. part.sample ≡ Some state.old.sample) }
+    ensures leaf { IfOk result (λ part. (p : Program) (budgets : Budgets)
         → IsEnded p state.old (Traps trap) → IsSampled state.old
         → state.old.steps ≤ budgets.steps
         → IsLeafAt p budgets [] None (end_place state.old None) part) }
@@ -78,7 +81,8 @@ fn exit_status(state: &mut State) -> Result<usize, NoMemory>
 // The leaf of a run whose runs have all exited.
 fn exited(alloc: Global, state: &mut State) -> Result<LeafPart, NoMemory>
     requires writable { HasTextRoom state.old }
-    ensures { IfOk result (λ part. (p : Program) (budgets : Budgets)
+    ensures sample { IfOk result (λ part. part.sample ≡ Some state.old.sample) }
+    ensures leaf { IfOk result (λ part. (p : Program) (budgets : Budgets)
         → IsEnded p state.old Exits → IsSampled state.old
         → state.old.steps ≤ budgets.steps
         → IsLeafAt p budgets [] None (end_place state.old None) part) }
@@ -93,7 +97,8 @@ fn exited(alloc: Global, state: &mut State) -> Result<LeafPart, NoMemory>
 /// The leaf of a run whose runs have all ended so. The run is of no use after that.
 pub fn finish(alloc: Global, state: &mut State, end: RunEnd) -> Result<LeafPart, NoMemory>
     requires writable { HasTextRoom state.old }
-    ensures { IfOk result (λ part. (p : Program) (budgets : Budgets)
+    ensures sample { IfOk result (λ part. part.sample ≡ Some state.old.sample) }
+    ensures leaf { IfOk result (λ part. (p : Program) (budgets : Budgets)
         → IsEnded p state.old end → IsSampled state.old
         → state.old.steps ≤ budgets.steps
         → IsLeafAt p budgets [] None (end_place state.old None) part) }

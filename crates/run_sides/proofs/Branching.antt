@@ -1,5 +1,5 @@
 -- The sides of a branch.
-use Rattle.std.proofs.Common.{◌≡◌, ℕ, ◌<◌, Bool, true, false, List, [], ◌∷◌, ◌++◌, refl, sym, ap, subst, ◌∙◌}
+use Rattle.std.proofs.Common.{◌≡◌, ℕ, ◌+◌, ◌<◌, Bool, true, false, ◌&&◌, List, [], ◌∷◌, ◌++◌, refl, sym, ap, subst, ◌∙◌}
 use Rattle.std.specs.Prelude.{All, Some, ◌==◌, not}
 use Rattle.bv_dag.specs.Graphs.{Graph, number_of, width_of}
 use Rattle.fork_spec.specs.Decisions.{Side as OnSide}
@@ -14,6 +14,7 @@ use Rattle.sym_state.proofs.Grown.{Continues-refl}
 use Rattle.sym_state.proofs.Tests.{not_false, not_true, one_is}
 use Rattle.sym_state.proofs.Undecided.{decision_there}
 use Rattle.term_trees.specs.Growth.{Continues}
+use Rattle.tree_core.specs.Covers.{one_if}
 use Rattle.run_sides.specs.Narrowing.{IsForced, IsNarrower}
 use Rattle.run_sides.specs.Sides.{IsSideTested, branch_choice, is_side}
 use Rattle.run_sides.specs.declared.branch.Tested.{Tested}
@@ -82,3 +83,9 @@ tested_narrowed s u term side t is at =
           ap (λ (r : Symbolic). stands_for r input) form
           ∙ stands-narrowed s g 1 (Side side) (branch_choice side) t.test (λ i. is_side side (number_of s.terms term i)) is.formed is.continues is.tells input;
     }
+
+-- an assignment is on one of the two sides
+pub one_of_two : (met one : Bool) → one_if (met && not one) + (one_if (met && one) + 0) ≡ one_if met
+one_of_two true true = refl
+one_of_two true false = refl
+one_of_two false one = refl

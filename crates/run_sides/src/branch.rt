@@ -31,8 +31,8 @@ impl Drop for Tested {
 }
 
 impl Tested {
-    // The run, and the term.
-    fn into_parts(self) -> (State, usize)
+    /// The run, and the term.
+    pub fn into_parts(self) -> (State, usize)
         ensures run { result.0 ≡ self.run }
         ensures test { result.1 ≡ self.test }
     {

@@ -13,7 +13,7 @@ pub returns : goal.returns
 returns c = λ budgets s term tested learning p was few.
     let side = c.args.side in
     let test = λ (input : List ℕ). is_side side (number_of s.terms term input) in
-    let leaf = rw c.choice_of.ensures at c.in_ok-leaf.ensures in
+    let leaf = rw c.choice_of.ensures at c.in_ok-leaf.ensures.leaf in
     rw (c.leaf_kid.ensures, c.choice_of-2.ensures) (
       Some Conflicts,
       refl,

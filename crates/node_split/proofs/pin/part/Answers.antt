@@ -35,13 +35,13 @@ returns c = λ p was few.
           (values_and_rest p budgets s term found Targets c.in_ok-kids.kids.items _ c.args.pin.now.place was few c.requires.at.stands c.requires.values c.requires.some
           (cut_by_targets budgets found left.2) (rw c.deref.ensures.value at c.in_ok-kids.ensures)
           (leaf_in p budgets sides s Rest Targets none w.in_ok-last-in-More.last
-          (w.in_ok-last-in-More.ensures p budgets s was few formed c.requires.at.is_term left.0 left.1 c.requires.values left.2)))
+          (w.in_ok-last-in-More.ensures.leaf p budgets s was few formed c.requires.at.is_term left.0 left.1 c.requires.values left.2)))
       | in-Unknown+in_ok-last-in-Unknown w ↦
           let left = rw w.in-Unknown.is at c.requires.left in
           rw w.last-is
           (values_and_rest p budgets s term found Conflicts c.in_ok-kids.kids.items _ c.args.pin.now.place was few c.requires.at.stands c.requires.values c.requires.some
           refl (rw c.deref.ensures.value at c.in_ok-kids.ensures)
           (leaf_in p budgets sides s Rest Conflicts none w.in_ok-last-in-Unknown.last
-          (w.in_ok-last-in-Unknown.ensures p budgets sides s none was few formed
+          (w.in_ok-last-in-Unknown.ensures.leaf p budgets sides s none was few formed
           (without_narrowed s term (values_of found) c.args.rest.now formed left.0) left.1)))
     ])

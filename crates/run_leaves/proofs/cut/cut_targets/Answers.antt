@@ -5,6 +5,7 @@ use Rattle.fork_spec.specs.Evidence.{Spent}
 use Rattle.fork_spec.specs.Parts.{OnTargets}
 use Rattle.tree_core.specs.declared.cause.Cause.TheVariants.{Targets}
 use Rattle.tree_core.specs.declared.choice.Choice.TheVariants.{Rest}
+use Rattle.sym_state.specs.Symbolic.{Symbolic}
 use Rattle.run_leaves.proofs.Cutting.{chosen, cut_part, full_cut, targets_side, term_there, writable_chosen}
 use Rattle.run_leaves.proofs.Leaving.{first_number, first_there, first_width, leaf_ok}
 use Rattle.run_leaves.proofs.cut.cut_targets.Goals as goal
@@ -25,8 +26,8 @@ leaf_of-requires c = record {
       (writable_chosen c.args.run.now Rest c.requires.writable);
 }
 
-pub returns : goal.returns
-returns c =
+pub returns-clause-leaf : goal.returns-clause-leaf
+returns-clause-leaf c =
     let new = c.leaf_terms.new.state in
     let spent : Spent = record { term = c.index.result.now; found = c.args.found.items } in
     leaf_ok c.leaf_of.result (cut_part new c.in_ok-terms.terms Targets (Some new.sample) (Some (OnTargets spent))) _ (rw c.in_ok-sample.ensures at c.leaf_of.ensures)
@@ -38,3 +39,8 @@ returns c =
     (ap (width_of graph) c.index.ensures ∙ first_width c.args.run.now.terms graph c.args.term c.index.result.now c.in_ok-terms.terms.more.items copies ∙ c.requires.width)
     (λ input. ap (λ k. number_of graph k input) c.index.ensures ∙ first_number c.args.run.now.terms graph c.args.term c.index.result.now c.in_ok-terms.terms.more.items input copies)
     few c.requires.writable (rw c.in_ok-choose.ensures.ok at c.in_ok-terms.ensures.grown))
+
+pub returns-clause-sample : goal.returns-clause-sample
+returns-clause-sample c =
+    leaf_ok c.leaf_of.result (cut_part c.leaf_terms.new.state c.in_ok-terms.terms Targets (Some c.leaf_terms.new.state.sample) (Some (OnTargets (record { term = c.index.result.now; found = c.args.found.items })))) _ (rw c.in_ok-sample.ensures at c.leaf_of.ensures)
+    (ap (λ (s : Symbolic). Some s.sample) (rw c.in_ok-choose.ensures.ok at c.in_ok-terms.ensures.grown).same)

@@ -1,7 +1,8 @@
-use Rattle.std.proofs.Common.{subst, sym, arith}
-use Rattle.std.specs.Prelude.{None}
+use Rattle.std.proofs.Common.{subst, sym, arith, ap, ◌∙◌}
+use Rattle.std.specs.Prelude.{None, Some}
 use Rattle.fork_spec.specs.declared.end.LeafEnd.TheVariants.{Exits}
 use Rattle.sym_state.proofs.Grown.{IsGrown-trans}
+use Rattle.sym_state.specs.Symbolic.{Symbolic}
 use Rattle.run_leaves.proofs.Leaving.{IsStatus, ends_as, exited_whole, first_there, full-left, full_as, leaf_ok, left_part, status_picked, status_there, terms_before}
 use Rattle.run_leaves.proofs.ends.exited.Goals as goal
 
@@ -27,8 +28,8 @@ leaf_of-requires c =
           c.in_ok-terms.terms.more.items c.in_ok-status.ensures c.in_ok-terms.ensures.more)).byte);
     }
 
-pub returns : goal.returns
-returns c =
+pub returns-clause-leaf : goal.returns-clause-leaf
+returns-clause-leaf c =
     leaf_ok c.leaf_of.result (left_part c.leaf_terms.new.state c.in_ok-terms.terms (Exits c.index-status.result.now)) _ (rw c.in_ok-sample_of.ensures at c.leaf_of.ensures)
     (λ p budgets was sampled within. ends_as p budgets None c.args.state.now c.leaf_terms.new.state c.in_ok-terms.terms (Exits c.index-status.result.now)
     (IsGrown-trans c.args.state.now c.exit_status.new.state c.leaf_terms.new.state c.in_ok-status.ensures.grown c.in_ok-terms.ensures.grown)
@@ -38,3 +39,8 @@ returns c =
     (subst (IsStatus c.args.state.now c.in_ok-terms.terms.condition.graph) (sym c.index-status.ensures)
     (status_picked c.args.state.now c.exit_status.new.state c.in_ok-terms.terms.condition.graph c.in_ok-status.status c.index-status.result.now
     c.in_ok-terms.terms.more.items c.in_ok-status.ensures c.in_ok-terms.ensures.more)) within))
+
+pub returns-clause-sample : goal.returns-clause-sample
+returns-clause-sample c =
+    leaf_ok c.leaf_of.result (left_part c.leaf_terms.new.state c.in_ok-terms.terms (Exits c.index-status.result.now)) _ (rw c.in_ok-sample_of.ensures at c.leaf_of.ensures)
+    (ap (λ (s : Symbolic). Some s.sample) c.in_ok-terms.ensures.grown.same ∙ ap (λ (s : Symbolic). Some s.sample) c.in_ok-status.ensures.grown.same)

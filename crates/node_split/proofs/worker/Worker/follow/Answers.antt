@@ -2,7 +2,8 @@ use Rattle.std.proofs.Common.{sym, arith}
 use Rattle.std.specs.Prelude.{None, Some}
 use Rattle.tree_core.specs.declared.cause.Cause.TheVariants.{Steps}
 use Rattle.fork_tree.specs.declared.work.Parts.TheVariants.{Finished, CutSteps, Kids}
-use Rattle.node_split.proofs.Following.{IsAtFork, ended_writable, ends_at, fork_goes, fork_open, fork_parts, fork_place, fork_smaller, onward_self, open_writable, worked_since}
+use Rattle.run_leaves.proofs.Room.{ended_writable, open_writable}
+use Rattle.node_split.proofs.Following.{IsAtFork, ends_at, fork_goes, fork_open, fork_parts, fork_place, fork_smaller, onward_self, worked_since}
 use Rattle.node_split.proofs.worker.Worker.follow.Goals as goal
 use Rattle.node_split.proofs.worker.Worker.follow.Goals.{in-Branch+in_ok-forked-in-Branch, in-Pin+in_ok-forked-in-Pin}
 
@@ -25,7 +26,7 @@ returns-in-Steps g c =
     let at = rw c.in-Steps.is at on.stopped in
     rw (← c.self.view_is)
     (worked_since p budgets c.args.run c.loop-stop.run (CutSteps c.in_ok-cut_steps-in-Steps.field-0) on.same on.less
-    (ends_at p budgets (Some Steps) None c.loop-stop.run c.in_ok-cut_steps-in-Steps.field-0 (c.in_ok-cut_steps-in-Steps.ensures p budgets (sym at.1) at.0 on.sampled)))
+    (ends_at p budgets (Some Steps) None c.loop-stop.run c.in_ok-cut_steps-in-Steps.field-0 (c.in_ok-cut_steps-in-Steps.ensures.leaf p budgets (sym at.1) at.0 on.sampled)))
 
 pub finish-requires : goal.finish-requires
 finish-requires g c =
@@ -41,7 +42,7 @@ returns-in-Ended g c =
     let at = rw c.in-Ended.is at on.stopped in
     rw (← c.self.view_is)
     (worked_since p budgets c.args.run c.loop-stop.run (Finished c.in_ok-finish-in-Ended.field-0) on.same on.less
-    (ends_at p budgets None None c.loop-stop.run c.in_ok-finish-in-Ended.field-0 (c.in_ok-finish-in-Ended.ensures p budgets at.0 on.sampled at.1)))
+    (ends_at p budgets None None c.loop-stop.run c.in_ok-finish-in-Ended.field-0 (c.in_ok-finish-in-Ended.ensures.leaf p budgets at.0 on.sampled at.1)))
 
 pub know-requires : goal.know-requires
 know-requires g c =

@@ -10,4 +10,4 @@ returns c =
     IfOk-weaker c.cut_nodes.result _ _
     (λ part leaf. ends_at worker.program worker.budgets (Some Nodes) (Some c.args.nodes) c.args.run part
     (leaf worker.program worker.budgets c.requires.well.room c.requires.full c.requires.well.is_open))
-    c.cut_nodes.ensures
+    c.cut_nodes.ensures.leaf
