@@ -1,0 +1,9 @@
+use Rattle.cert_query.proofs.Lines.{whole_question}
+use Rattle.cert_query.proofs.Taken.{of_each}
+use Rattle.cert_query.proofs.question.take_question.Goals as goal
+
+pub returns-in-Ok-clause-taken : goal.returns-in-Ok-clause-taken
+returns-in-Ok-clause-taken c =
+    of_each _ _ _ _ c.take_body.result
+    (λ q inputs nodes body. whole_question c.args.lines.now c.in-Ok.rest.now q.rest.now c.in-Ok.inputs c.in-Ok.nodes q.query c.in-Ok.ensures.taken inputs nodes body)
+    c.take_body.ensures.inputs c.take_body.ensures.nodes c.take_body.ensures.taken
