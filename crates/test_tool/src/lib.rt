@@ -2,6 +2,10 @@
 #![tactic(auto)]
 
 #[cfg(test)]
+mod of_cert_audit;
+#[cfg(test)]
+mod of_cert_query;
+#[cfg(test)]
 mod of_cert_text;
 #[cfg(test)]
 mod of_replay_core;

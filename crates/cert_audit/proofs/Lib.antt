@@ -1,0 +1,14 @@
+pub mod Along
+pub mod Asking
+pub mod Leaving
+pub mod Meeting
+pub mod Naming
+pub mod NodeLeaves
+pub mod Parting
+pub mod Quiet
+pub mod Settling
+pub mod Showing
+pub mod Spending
+pub mod Stopping
+pub mod Valuing
+pub mod Went

@@ -1,0 +1,18 @@
+use Rattle.std.proofs.lemmas.Result.{IfOk-weaker}
+use Rattle.cert_audit.proofs.Stopping.{met_visited, still_open}
+use Rattle.cert_audit.proofs.visiting.visit_node.Goals as goal
+
+pub at_stop-requires : goal.at_stop-requires
+at_stop-requires c = record {
+  program = c.requires.program;
+  few_inputs = c.requires.few_inputs;
+  few_steps = c.requires.few_steps;
+  stopped = still_open c.args.budgets.now c.args.run.now c.in_ok-run.field-0.run c.in_ok-run.field-0.stop c.requires.program c.in_ok-run.ensures c.requires.is_todo;
+}
+
+pub returns : goal.returns
+returns c =
+    IfOk-weaker c.at_stop.result _ _
+    (λ visited is. IfOk-weaker visited _ _
+    (λ v met. met_visited c.args.budgets.now c.args.run.now c.in_ok-run.field-0.run c.in_ok-run.field-0.stop c.args.lines.now v c.in_ok-run.ensures met) is)
+    c.at_stop.ensures

@@ -1,0 +1,38 @@
+use Rattle.std.proofs.Common.{rules, ◌≡◌, ◌++◌, ◌∷◌, [], length, refl}
+use Rattle.cert_audit.specs.Steps.{IsVisited}
+use Rattle.cert_audit.proofs.Along.{next_is, none_left, walk_begins, walk_goes}
+use Rattle.cert_audit.proofs.walking.walk.Goals as goal
+
+pub loop-todo-init : goal.loop-todo-init
+loop-todo-init c =
+    rw (c.in_ok-push.ensures.items, c.new-stack.ensures.items) (record {
+      walked = walk_begins c.args.program.now c.args.budgets.now c.args.lines.now c.in_ok-first.field-0 _ c.in_ok-first.ensures.first c.in_ok-first.ensures.open refl refl;
+    })
+
+pub visit-requires : goal.visit-requires
+visit-requires c =
+    let popped : c.loop-todo.stack.items ≡ c.pop.new.self.items ++ c.in-Some.todo ∷ [] = search rules in
+    record {
+      program = c.args.program.now;
+      few_inputs = c.requires.few_inputs;
+      few_steps = c.requires.few_steps;
+      is_todo = next_is c.args.program.now c.args.budgets.now c.args.lines.now c.pop.new.self.items c.in-Some.todo c.loop-todo.rest.now c.loop-todo.tally
+          (rw popped at c.loop-todo.invariant.walked);
+    }
+
+pub loop-todo-preserved : goal.loop-todo-preserved
+loop-todo-preserved c =
+    let budgets = c.args.budgets.now in
+    let popped : c.loop-todo.stack.items ≡ c.pop.new.self.items ++ c.in-Some.todo ∷ [] = search rules in
+    let is : IsVisited budgets c.in-Some.todo c.loop-todo.rest.now c.in-Ok.visited = rw c.in-Ok.is at c.in_ok-visited.ensures in
+    let at = c.in_ok-rest-in-Ok.ensures in
+    rw (at.stack, at.rest, at.tally) (record {
+      walked = walk_goes c.args.program.now budgets c.args.lines.now c.pop.new.self.items c.in-Some.todo c.loop-todo.rest.now c.loop-todo.tally
+          (rw popped at c.loop-todo.invariant.walked) c.in-Ok.visited (length c.loop-todo.rest.now) is;
+    })
+
+pub returns : goal.returns
+returns c =
+    let popped : c.loop-todo.stack.items ≡ [] = search rules in
+    let left : length c.loop-todo.rest.now ≡ 0 = search rules in
+    rw (popped, none_left c.loop-todo.rest.now left) at c.loop-todo.invariant.walked

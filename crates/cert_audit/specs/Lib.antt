@@ -1,0 +1,9 @@
+pub mod Names
+pub mod Todos
+pub mod Steps
+pub mod Shown
+pub mod Kids
+pub mod Asking
+pub mod Valued
+pub mod Walks
+pub mod Audits

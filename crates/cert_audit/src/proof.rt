@@ -1,0 +1,101 @@
+//! Proofs that a run stands for no assignment.
+
+ghost use Rattle.std.specs.Prelude.{◌≡◌, ℕ, List, Contains, IfOk, IsTrue, false};
+ghost use Rattle.bv_dag.specs.Inputs.{asserted_inputs};
+ghost use Rattle.bv_dag.specs.Queries.{IsUnsatisfiable};
+ghost use Rattle.query_pick.specs.Occurring.{IsAlone};
+ghost use Rattle.sym_state.specs.Symbolic.{stands_for};
+ghost use Rattle.cert_audit.specs.Shown.{IsShownEmpty};
+
+use bv_dag::Query;
+use cert_form::CertLine;
+use cert_query::{Fault, Question, Reason, take_question, take_refutation};
+use query_pick::{Occurrence, asks_no_more, occurring, pick, try_byte};
+use query_slice::slice;
+use std::alloc::{AllocError as NoMemory, Global};
+use sym_state::{State, listed};
+
+// Whether no value of the one byte that a question rests on, or of any where it rests on none, meets it.
+fn has_no_value(alloc: Global, question: &Query, place: usize) -> Result<bool, NoMemory>
+    requires { IsAlone (asserted_inputs question.now) place }
+    ensures { IfOk result (λ yes. IsTrue yes → IsUnsatisfiable question.now) }
+{
+    match try_byte(alloc, question, place, 0)? {
+        Some(_) => Ok(false),
+        None => Ok(true),
+    }
+}
+
+// Whether a question rests on one byte at most, and no value of that meets it.
+fn is_excluded(alloc: Global, question: &Query) -> Result<bool, NoMemory>
+    ensures { IfOk result (λ yes. IsTrue yes → IsUnsatisfiable question.now) }
+{
+    match occurring(alloc, question.dag().nodes(), question.asserted())? {
+        Occurrence::NoInput => has_no_value(alloc, question, 0),
+        Occurrence::OneInput(place) => has_no_value(alloc, question, place),
+        Occurrence::MoreInputs => Ok(false),
+    }
+}
+
+// Whether the part of a run's condition that matters for this of its terms rests on one byte at most, and no value of that meets it.
+fn is_tried(alloc: Global, run: &State, new: usize) -> Result<bool, NoMemory>
+    requires { Contains run.now.condition new }
+    ensures { IfOk result (λ yes. IsTrue yes
+        → (input : List ℕ) → stands_for run.now input ≡ false) }
+{
+    let condition = listed(alloc, run.condition())?;
+    let part = slice(alloc, run.terms(), &condition, new)?;
+    is_excluded(alloc, &part)
+}
+
+// Whether a question asks no more than a run's condition does.
+fn is_of_run(alloc: Global, run: &State, question: &Query) -> Result<bool, NoMemory>
+    ensures { IfOk result (λ yes. IsTrue yes → IsUnsatisfiable question.now
+        → (input : List ℕ) → stands_for run.now input ≡ false) }
+{
+    let condition = listed(alloc, run.condition())?;
+    let asked = pick(alloc, run.terms(), &condition)?;
+    asks_no_more(alloc, question, &asked)
+}
+
+// Takes a question that asks no more than a run's condition, and clauses that refute it.
+fn take_refuted<'a>(
+    alloc: Global,
+    run: &State,
+    lines: &'a [CertLine],
+) -> Result<Result<&'a [CertLine], Fault>, NoMemory>
+    ensures { IfOk result (λ taken. IfOk taken (λ rest.
+        IsShownEmpty run.now lines.now rest.now)) }
+{
+    let Question { query, rest } = match take_question(alloc, lines)? {
+        Ok(question) => question,
+        Err(fault) => return Ok(Err(fault)),
+    };
+    if is_of_run(alloc, run, &query)? {
+        take_refutation(alloc, &query, rest)
+    } else {
+        Ok(Err(Fault::at(lines, Reason::Query)))
+    }
+}
+
+/// Takes lines that show that a run stands for no assignment: that the values of one byte were tried on the part of its condition that
+/// matters for the term asserted last, which is `new`; or a question and clauses that refute it.
+pub(crate) fn take_proof<'a>(
+    alloc: Global,
+    run: &State,
+    new: usize,
+    lines: &'a [CertLine],
+) -> Result<Result<&'a [CertLine], Fault>, NoMemory>
+    requires { Contains run.now.condition new }
+    ensures { IfOk result (λ taken. IfOk taken (λ rest.
+        IsShownEmpty run.now lines.now rest.now)) }
+{
+    let [CertLine::Tried, rest @ ..] = lines else {
+        return take_refuted(alloc, run, lines);
+    };
+    if is_tried(alloc, run, new)? {
+        Ok(Ok(rest))
+    } else {
+        Ok(Err(Fault::at(lines, Reason::Tried)))
+    }
+}
