@@ -5,6 +5,7 @@
 //! - `files`: what is read
 //! - `searching`: the formulas of questions, and what the search makes of them
 //! - `printing`: formulas and logs as text
+//! - `auditing`: certificates
 //! - `asking`: questions that are asked term by term
 //! - `exploring`: explorations, without their reports
 //! - `limits`: the words of an exploration
@@ -12,6 +13,7 @@
 #![tactic(auto)]
 
 mod asking;
+mod auditing;
 mod ends;
 mod exploring;
 mod files;
@@ -21,6 +23,7 @@ mod searching;
 mod words;
 
 use crate::asking::print_asked;
+use crate::auditing::print_audited;
 use crate::exploring::print_explored;
 use crate::searching::{print_answers, print_counts, print_formula, print_log};
 use crate::words::{Job, read_job};
@@ -30,7 +33,7 @@ use std::{env, io};
 
 const USAGE: &str =
     "clauses FILE.. | formula FILE | search BUDGET FILE.. | log BUDGET FILE | ask BUDGET ROUNDS FILE.. | \
-explore PROGRAM ADDRESS:COUNT STEPS TARGETS CONFLICTS WORKERS";
+explore PROGRAM ADDRESS:COUNT STEPS TARGETS CONFLICTS WORKERS | audit PROGRAM CERTIFICATE";
 
 // The words behind the name of the program.
 fn gather<R: Env + AllocGlobal>(rt: &R) -> io::Result<Vec<String>> {
@@ -50,6 +53,7 @@ fn main(rt: HostRuntime) -> Result<()> {
         Some(Job::Log(budget, file)) => print_log(&rt, budget, file),
         Some(Job::Ask(budget, rounds, files)) => print_asked(&rt, budget, rounds, files),
         Some(Job::Explore(words)) => print_explored(&rt, words),
+        Some(Job::Audit(program, certificate)) => print_audited(&rt, program, certificate),
         None => bail!("the words are one of: {USAGE}"),
     }
 }

@@ -15,6 +15,8 @@ pub enum Job<'a> {
     Ask(u32, u32, &'a [String]),
     /// What the exploration of these words comes to.
     Explore(&'a [String]),
+    /// What is said of a certificate of a program.
+    Audit(&'a str, &'a str),
 }
 
 fn number(word: &str) -> Option<u32> {
@@ -33,6 +35,7 @@ pub fn read_job(words: &[String]) -> Option<Job<'_>> {
             Some(Job::Ask(number(budget)?, number(rounds)?, files))
         }
         ("explore", words) => Some(Job::Explore(words)),
+        ("audit", [program, certificate]) => Some(Job::Audit(program, certificate)),
         _ => None,
     }
 }
