@@ -20,8 +20,8 @@ ghost use Rattle.run_leaves.specs.Places.{IsLeafAt, side_place};
 ghost use Rattle.run_leaves.specs.Values.{AreValues, IsWithout};
 
 use crate::leaf::{leaf_of, leaf_terms, sample_of};
-use fork_spec::LeafEnd;
-use leaf_part::{Evidence, Found, LeafPart, Learnt, Spent};
+use fork_spec::{Found, LeafEnd};
+use leaf_part::{Evidence, LeafPart, Learnt, Spent};
 use std::alloc::{AllocError as NoMemory, Global};
 use sym_state::State;
 use tree_core::{Cause, Choice};
