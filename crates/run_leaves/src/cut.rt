@@ -4,7 +4,7 @@
 ghost use Rattle.std.specs.Prelude.{◌≡◌, ◌<◌, ◌++◌, ◌∷◌, [], ℕ, List, Bool, IfOk, None, Some, length, map, not};
 ghost use Rattle.bv_dag.specs.Graphs.{number_of, width_of};
 ghost use Rattle.fork_spec.specs.Evidence.{is_among, values_of};
-ghost use Rattle.fork_spec.specs.Leaves.{IsSmallChoice};
+ghost use Rattle.tree_core.specs.Choices.{IsSmallChoice};
 ghost use Rattle.sym_state.specs.Programs.{Program};
 ghost use Rattle.sym_state.specs.Narrowed.{IsNarrowed};
 ghost use Rattle.sym_state.specs.Runs.{IsOpen, IsSampled};
