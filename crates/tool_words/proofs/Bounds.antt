@@ -7,7 +7,7 @@ use Rattle.clap.specs.Words.{Kinds, Row, all_of, fault_of, first_of, subcommand_
 use Rattle.elf_load.specs.declared.region.Region.{Region}
 use Rattle.tool_words.specs.Command.{rvklee_command}
 use Rattle.tool_words.specs.Job as spec
-use Rattle.tool_words.specs.Job.{Bench, Explore, IsWithinLimits, Replay, Upgrade, bench_job, bench_with, command_job, explore_job, explore_with, job_of, replay_job, replay_with, upgrade_job, upgrade_with, without_fault}
+use Rattle.tool_words.specs.Job.{Audit, Bench, Explore, IsWithinLimits, Replay, Upgrade, audit_job, audit_with, bench_job, bench_with, command_job, explore_job, explore_with, job_of, replay_job, replay_with, upgrade_job, upgrade_with, without_fault}
 use Rattle.tool_words.specs.Limits.{IsBudgets, IsWithin, budgets_found, budgets_with, conflicts_limit, is_within, nodes_limit, number_found, number_given, number_said, number_within, numbers_limit, plain_number, steps_limit, targets_limit, within, workers_found, workers_limit}
 use Rattle.tool_words.specs.Orders.{order_found}
 use Rattle.tool_words.specs.Region.{regions_said}
@@ -127,18 +127,30 @@ upgrade_bounds : (rows : List Row) (job : spec.Job) → upgrade_job rows ≡ Som
 unfolding upgrade_job
 upgrade_bounds rows job = upgrade_with_bounds (first_of (codes "TEST") rows) (first_of (codes "OUT") rows) job
 
+audit_with_bounds : (program certificate : Option (List ℕ)) (job : spec.Job) → audit_with program certificate ≡ Some job → IsWithinLimits job
+audit_with_bounds None certificate job is = cc
+audit_with_bounds (Some program) None job is = cc
+audit_with_bounds (Some program) (Some certificate) job is =
+    let same : Audit program certificate ≡ job = cc in
+    rw (← same) tt
+
+audit_bounds : (rows : List Row) (job : spec.Job) → audit_job rows ≡ Some job → IsWithinLimits job
+unfolding audit_job
+audit_bounds rows job = audit_with_bounds (first_of (codes "PROGRAM") rows) (first_of (codes "CERT") rows) job
+
 command_bounds : (found : Option (List ℕ × List Row)) (job : spec.Job) → command_job found ≡ Some job → IsWithinLimits job
 command_bounds None job is = cc
 command_bounds (Some (name, rows)) job is =
-    go (bytes_eq name (codes "explore")) (bytes_eq name (codes "replay")) (bytes_eq name (codes "bench")) (bytes_eq name (codes "upgrade")) is
+    go (bytes_eq name (codes "explore")) (bytes_eq name (codes "replay")) (bytes_eq name (codes "bench")) (bytes_eq name (codes "upgrade")) (bytes_eq name (codes "audit")) is
   where
-    go : (e r b u : Bool) → (if e then explore_job rows else if r then replay_job rows else if b then bench_job rows else if u then upgrade_job rows else None) ≡ Some job
+    go : (e r b u a : Bool) → (if e then explore_job rows else if r then replay_job rows else if b then bench_job rows else if u then upgrade_job rows else if a then audit_job rows else None) ≡ Some job
         → IsWithinLimits job
-    go true r b u is = explore_bounds rows job is
-    go false true b u is = replay_bounds rows job is
-    go false false true u is = bench_bounds rows job is
-    go false false false true is = upgrade_bounds rows job is
-    go false false false false is = cc
+    go true r b u a is = explore_bounds rows job is
+    go false true b u a is = replay_bounds rows job is
+    go false false true u a is = bench_bounds rows job is
+    go false false false true a is = upgrade_bounds rows job is
+    go false false false false true is = audit_bounds rows job is
+    go false false false false false is = cc
 
 pub job_bounds : (words : List (List ℕ)) (job : spec.Job) → job_of words ≡ Some job → IsWithinLimits job
 unfolding job_of

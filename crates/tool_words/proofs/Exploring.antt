@@ -5,7 +5,7 @@ use Rattle.clap.specs.Words.{first_value, matched_of, raw_values, rows_of}
 use Rattle.clap.specs.declared.parser.matches.Found.{Found}
 use Rattle.clap.proofs.WalkLemmas.{first_value-rows, raw_values-rows}
 use Rattle.elf_load.specs.declared.region.Region.{Region}
-use Rattle.tool_words.specs.Job.{bench_job, bench_with, explore_job, explore_with, replay_job, replay_with, upgrade_job, upgrade_with}
+use Rattle.tool_words.specs.Job.{audit_job, audit_with, bench_job, bench_with, explore_job, explore_with, replay_job, replay_with, upgrade_job, upgrade_with}
 use Rattle.tool_words.specs.Limits.{budgets_found, number_said, numbers_limit, workers_found, workers_limit}
 use Rattle.tool_words.specs.Region.{regions_said}
 use Rattle.tree_core.specs.declared.budgets.Budgets.{Budgets}
@@ -35,6 +35,11 @@ pub upgrade_job_is : (found : Found) (test out : Option (List ℕ)) → test ≡
     → upgrade_job (rows_of found) ≡ upgrade_with test out
 unfolding upgrade_job
 upgrade_job_is found test out is_test is_out = rw (is_test, is_out, first_value-rows found (codes "TEST"), first_value-rows found (codes "OUT")) refl
+
+pub audit_job_is : (found : Found) (program certificate : Option (List ℕ)) → program ≡ first_value found (codes "PROGRAM") → certificate ≡ first_value found (codes "CERT")
+    → audit_job (rows_of found) ≡ audit_with program certificate
+unfolding audit_job
+audit_job_is found program certificate is_program is_certificate = rw (is_program, is_certificate, first_value-rows found (codes "PROGRAM"), first_value-rows found (codes "CERT")) refl
 
 -- without one of the numbers there is no job
 pub no_budgets : (program out : List ℕ) (regions : Option (List Region)) (workers : Option ℕ) → explore_with (Some program) (Some out) regions None workers ≡ None

@@ -10,5 +10,7 @@ pub mod Jobs
 pub mod Bounds
 pub mod PlainWords
 pub mod OtherWords
+pub mod PlainPair
 pub mod PlainReplay
 pub mod PlainUpgrade
+pub mod PlainAudit

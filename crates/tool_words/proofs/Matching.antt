@@ -4,14 +4,14 @@ use Rattle.std.specs.Prelude.{IfErr, IfOk}
 use Rattle.clap.specs.Words.{App, FailsBy, Kinds, fault_of, is_simple, is_simple_and_free, kind_of}
 use Rattle.clap.specs.declared.error.Error.{Error}
 use Rattle.clap.specs.declared.error.kind.ErrorKind.TheVariants.{OutOfMemory}
-use Rattle.tool_words.specs.Command.{bench_command, explore_command, replay_command, rvklee_command, upgrade_command}
+use Rattle.tool_words.specs.Command.{audit_command, bench_command, explore_command, replay_command, rvklee_command, upgrade_command}
 
 pub rvklee_is_simple : is_simple rvklee_command ≡ true
-unfolding rvklee_command explore_command replay_command bench_command upgrade_command
+unfolding rvklee_command explore_command replay_command bench_command upgrade_command audit_command
 rvklee_is_simple = refl
 
 pub rvklee_is_free : is_simple_and_free rvklee_command ≡ true
-unfolding rvklee_command explore_command replay_command bench_command upgrade_command
+unfolding rvklee_command explore_command replay_command bench_command upgrade_command audit_command
 rvklee_is_free = refl
 
 taken : {T : Type 0} → (kinds : Kinds) (r : Result T Error) → FailsBy kinds r → IfOk r (λ _. kinds ≡ [])

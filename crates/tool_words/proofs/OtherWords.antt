@@ -9,7 +9,7 @@ use Rattle.clap.specs.Kinds.{or_else}
 use Rattle.clap.specs.declared.error.kind.ErrorKind.{ErrorKind}
 use Rattle.clap.specs.declared.error.kind.ErrorKind.TheVariants.{DisplayHelp, InvalidSubcommand, UnknownArgument}
 use Rattle.clap.proofs.OnLiterals.{clap_on_literals}
-use Rattle.tool_words.specs.Command.{bench_command, explore_command, replay_command, rvklee_command, upgrade_command}
+use Rattle.tool_words.specs.Command.{audit_command, bench_command, explore_command, replay_command, rvklee_command, upgrade_command}
 use Rattle.tool_words.specs.Job.{command_job, job_of, without_fault}
 use Rattle.tool_words.specs.Plain.{has_no_hyphen}
 use Rattle.tool_words.proofs.PlainWords.{faults_above, faults_after, faults_below, leaf, names, no_dashes, no_long, no_short, top}
@@ -35,36 +35,37 @@ faulty_explore tool word rest kind kinds turn =
 -- ---- calls for help
 
 pub asks_long : (tool : List ℕ) (rest : List (List ℕ)) → job_of (tool ∷ codes "--help" ∷ rest) ≡ None
-unfolding rvklee_command explore_command replay_command bench_command upgrade_command clap_on_literals
+unfolding rvklee_command explore_command replay_command bench_command upgrade_command audit_command clap_on_literals
 asks_long tool rest = faulty tool (codes "--help") rest DisplayHelp [] refl
 
 pub asks_short : (tool : List ℕ) (rest : List (List ℕ)) → job_of (tool ∷ codes "-h" ∷ rest) ≡ None
-unfolding rvklee_command explore_command replay_command bench_command upgrade_command clap_on_literals
+unfolding rvklee_command explore_command replay_command bench_command upgrade_command audit_command clap_on_literals
 asks_short tool rest = faulty tool (codes "-h") rest DisplayHelp [] refl
 
 pub asks_version : (tool : List ℕ) (rest : List (List ℕ)) → job_of (tool ∷ codes "--version" ∷ rest) ≡ None
-unfolding rvklee_command explore_command replay_command bench_command upgrade_command clap_on_literals
+unfolding rvklee_command explore_command replay_command bench_command upgrade_command audit_command clap_on_literals
 asks_version tool rest = faulty tool (codes "--version") rest UnknownArgument [] refl
 
 pub asks_explore : (tool : List ℕ) (rest : List (List ℕ)) → job_of (tool ∷ codes "explore" ∷ codes "--help" ∷ rest) ≡ None
-unfolding rvklee_command explore_command replay_command bench_command upgrade_command clap_on_literals
+unfolding rvklee_command explore_command replay_command bench_command upgrade_command audit_command clap_on_literals
 asks_explore tool rest = faulty_explore tool (codes "--help") rest DisplayHelp [] refl
 
 -- ---- other commands
 
-other : (command : List ℕ) → has_no_hyphen command ≡ true → bytes_eq (codes "explore") command ≡ false → bytes_eq (codes "replay") command ≡ false → bytes_eq (codes "bench") command ≡ false → bytes_eq (codes "upgrade") command ≡ false → bytes_eq (codes "help") command ≡ false
+other : (command : List ℕ) → has_no_hyphen command ≡ true → bytes_eq (codes "explore") command ≡ false → bytes_eq (codes "replay") command ≡ false → bytes_eq (codes "bench") command ≡ false → bytes_eq (codes "upgrade") command ≡ false → bytes_eq (codes "audit") command ≡ false → bytes_eq (codes "help") command ≡ false
     → turn_fault top names (walk_from nothing_held) command ≡ UnknownArgument ∷ InvalidSubcommand ∷ []
-unfolding rvklee_command explore_command replay_command bench_command upgrade_command
-other command plain no_explore no_replay no_bench no_upgrade no_help = rw (no_explore, no_replay, no_bench, no_upgrade, no_help, no_dashes command plain, no_long command plain, no_short command plain) refl
+unfolding rvklee_command explore_command replay_command bench_command upgrade_command audit_command
+other command plain no_explore no_replay no_bench no_upgrade no_audit no_help = rw (no_explore, no_replay, no_bench, no_upgrade, no_audit, no_help, no_dashes command plain, no_long command plain, no_short command plain) refl
 
-help : (command : List ℕ) → bytes_eq (codes "explore") command ≡ false → bytes_eq (codes "replay") command ≡ false → bytes_eq (codes "bench") command ≡ false → bytes_eq (codes "upgrade") command ≡ false → bytes_eq (codes "help") command ≡ true
+help : (command : List ℕ) → bytes_eq (codes "explore") command ≡ false → bytes_eq (codes "replay") command ≡ false → bytes_eq (codes "bench") command ≡ false → bytes_eq (codes "upgrade") command ≡ false → bytes_eq (codes "audit") command ≡ false → bytes_eq (codes "help") command ≡ true
     → turn_fault top names (walk_from nothing_held) command ≡ DisplayHelp ∷ InvalidSubcommand ∷ []
-unfolding rvklee_command explore_command replay_command bench_command upgrade_command
-help command no_explore no_replay no_bench no_upgrade is_help = rw (no_explore, no_replay, no_bench, no_upgrade, is_help) refl
+unfolding rvklee_command explore_command replay_command bench_command upgrade_command audit_command
+help command no_explore no_replay no_bench no_upgrade no_audit is_help = rw (no_explore, no_replay, no_bench, no_upgrade, no_audit, is_help) refl
 
 pub other_command : (tool command : List ℕ) (rest : List (List ℕ)) → has_no_hyphen command ≡ true → command ≢ codes "explore" → command ≢ codes "replay" → command ≢ codes "bench" → command ≢ codes "upgrade"
+    → command ≢ codes "audit"
     → job_of (tool ∷ command ∷ rest) ≡ None
-other_command tool command rest plain no_explore no_replay no_bench no_upgrade = go (bytes_eq (codes "help") command) refl
+other_command tool command rest plain no_explore no_replay no_bench no_upgrade no_audit = go (bytes_eq (codes "help") command) refl
   where
     unlike : (name : List ℕ) → command ≢ name → bytes_eq name command ≡ false
     unlike name is_other = first (bytes_eq name command) refl
@@ -74,5 +75,5 @@ other_command tool command rest plain no_explore no_replay no_bench no_upgrade =
         first false same = same
 
     go : (b : Bool) → bytes_eq (codes "help") command ≡ b → job_of (tool ∷ command ∷ rest) ≡ None
-    go true is = faulty tool command rest _ _ (help command (unlike (codes "explore") no_explore) (unlike (codes "replay") no_replay) (unlike (codes "bench") no_bench) (unlike (codes "upgrade") no_upgrade) is)
-    go false is = faulty tool command rest _ _ (other command plain (unlike (codes "explore") no_explore) (unlike (codes "replay") no_replay) (unlike (codes "bench") no_bench) (unlike (codes "upgrade") no_upgrade) is)
+    go true is = faulty tool command rest _ _ (help command (unlike (codes "explore") no_explore) (unlike (codes "replay") no_replay) (unlike (codes "bench") no_bench) (unlike (codes "upgrade") no_upgrade) (unlike (codes "audit") no_audit) is)
+    go false is = faulty tool command rest _ _ (other command plain (unlike (codes "explore") no_explore) (unlike (codes "replay") no_replay) (unlike (codes "bench") no_bench) (unlike (codes "upgrade") no_upgrade) (unlike (codes "audit") no_audit) is)

@@ -8,7 +8,7 @@ use Rattle.clap.specs.Lexer.{long_of, short_of, usize_max}
 use Rattle.clap.specs.Faults.{check_fault, defaults_fault, entered_fault, level_fault, settle_fault, step_fault, turn_fault, walk_fault}
 use Rattle.clap.specs.Kinds.{or_else, range_kinds, values_kinds}
 use Rattle.clap.specs.Simple.{Shape, built, entered, names_of, new_shape}
-use Rattle.tool_words.specs.Command.{bench_command, explore_command, replay_command, rvklee_command, upgrade_command}
+use Rattle.tool_words.specs.Command.{audit_command, bench_command, explore_command, replay_command, rvklee_command, upgrade_command}
 use Rattle.clap.specs.Walk.{Held, Names, finished, rows_after, settled, Waiting, Walk, arg_by_index, idle, nothing_held, positional, to_positional, value, walk, walk_from, walked}
 use Rattle.clap.specs.Words.{Kinds, Row, Rule, fault_of, subcommand_of}
 use Rattle.clap.specs.declared.builder.value_parser.ValueParser.TheVariants as vp
@@ -107,36 +107,36 @@ module _ (program out : List ℕ) where
 
   module _ (plain_program : has_no_hyphen program ≡ true) (plain_out : has_no_hyphen out ≡ true) where
     takes_program : walked leaf.rules [] (walk_from nothing_held) program ≡ after_program
-    unfolding rvklee_command explore_command replay_command bench_command upgrade_command
+    unfolding rvklee_command explore_command replay_command bench_command upgrade_command audit_command
     takes_program = plain_step leaf.rules nothing_held false 1 program plain_program
 
     takes_out : walked leaf.rules [] after_program out ≡ after_out
-    unfolding rvklee_command explore_command replay_command bench_command upgrade_command
+    unfolding rvklee_command explore_command replay_command bench_command upgrade_command audit_command
     takes_out = plain_step leaf.rules after_program.held false 2 out plain_out
 
     program_passes : turn_fault leaf [] (walk_from nothing_held) program ≡ []
-    unfolding rvklee_command explore_command replay_command bench_command upgrade_command
+    unfolding rvklee_command explore_command replay_command bench_command upgrade_command audit_command
     program_passes = plain_turn leaf nothing_held false 1 program plain_program
 
     out_passes : turn_fault leaf [] after_program out ≡ []
-    unfolding rvklee_command explore_command replay_command bench_command upgrade_command
+    unfolding rvklee_command explore_command replay_command bench_command upgrade_command audit_command
     out_passes = plain_turn leaf after_program.held false 2 out plain_out
 
   takes_input : (input : List ℕ) → has_no_hyphen input ≡ true → walked leaf.rules [] after_out input ≡ after_inputs (input ∷ [])
-  unfolding rvklee_command explore_command replay_command bench_command upgrade_command
+  unfolding rvklee_command explore_command replay_command bench_command upgrade_command audit_command
   takes_input input plain = plain_step leaf.rules after_out.held false 3 input plain
 
   input_passes : (input : List ℕ) → has_no_hyphen input ≡ true → turn_fault leaf [] after_out input ≡ []
-  unfolding rvklee_command explore_command replay_command bench_command upgrade_command
+  unfolding rvklee_command explore_command replay_command bench_command upgrade_command audit_command
   input_passes input plain = plain_turn leaf after_out.held false 3 input plain
 
   takes_more : (seen : List (List ℕ)) (input : List ℕ) → has_no_hyphen input ≡ true
       → walked leaf.rules [] (after_inputs seen) input ≡ after_inputs (seen ++ input ∷ [])
-  unfolding rvklee_command explore_command replay_command bench_command upgrade_command
+  unfolding rvklee_command explore_command replay_command bench_command upgrade_command audit_command
   takes_more seen input plain = plain_step leaf.rules (after_inputs seen).held true 3 input plain
 
   more_passes : (seen : List (List ℕ)) (input : List ℕ) → has_no_hyphen input ≡ true → turn_fault leaf [] (after_inputs seen) input ≡ []
-  unfolding rvklee_command explore_command replay_command bench_command upgrade_command
+  unfolding rvklee_command explore_command replay_command bench_command upgrade_command audit_command
   more_passes seen input plain = plain_turn leaf (after_inputs seen).held true 3 input plain
 
   takes_all : (seen inputs : List (List ℕ)) → list_all has_no_hyphen inputs ≡ true
@@ -205,14 +205,14 @@ module _ (program out input : List ℕ) (inputs : List (List ℕ)) (plain : list
       (all_pass program out (input ∷ []) inputs plain_inputs)))
 
   settles : settle_fault leaf.rules leaf.args_override_self (after_inputs program out (input ∷ inputs)).held ≡ []
-  unfolding rvklee_command explore_command replay_command bench_command upgrade_command
+  unfolding rvklee_command explore_command replay_command bench_command upgrade_command audit_command
   settles = ap₂ or_else (in_range (length (input ∷ inputs)) (omega arith) (omega (arith, room))) (all_texts (input ∷ inputs))
 
   abbrev all_rows : List Row
   all_rows = row (codes "PROGRAM") (program ∷ []) ∷ row (codes "OUT") (out ∷ []) ∷ row (codes "INPUT") (input ∷ inputs) ∷ []
 
   finds : rows_after leaf.rules [] words ≡ all_rows
-  unfolding rvklee_command explore_command replay_command bench_command upgrade_command
+  unfolding rvklee_command explore_command replay_command bench_command upgrade_command audit_command
   finds = ap (λ w. finished leaf.rules w.held) walks
 
   abbrev end : Held
@@ -220,7 +220,7 @@ module _ (program out input : List ℕ) (inputs : List (List ℕ)) (plain : list
 
   -- `explore` has no fault to find in them
   level_passes : level_fault leaf [] nothing_held words false [] ≡ []
-  unfolding rvklee_command explore_command replay_command bench_command upgrade_command defaults_fault
+  unfolding rvklee_command explore_command replay_command bench_command upgrade_command audit_command defaults_fault
   level_passes = ap₂ faults_after walk_passes walks
       ∙ ap (λ kinds. or_else kinds (or_else (defaults_fault (settled leaf.rules end).rows leaf.rules) (check_fault leaf (finished leaf.rules end) false))) settles
 
@@ -233,14 +233,14 @@ abbrev pub names : Names
 names = names_of (built rvklee_command)
 
 enters : walked top.rules names (walk_from nothing_held) (codes "explore") ≡ record (walk_from nothing_held) { stopped = Some (codes "explore", []) }
-unfolding rvklee_command explore_command replay_command bench_command upgrade_command walked
+unfolding rvklee_command explore_command replay_command bench_command upgrade_command audit_command walked
 enters = refl
 
 stops : (rest : List (List ℕ)) → walk top.rules names nothing_held (codes "explore" ∷ rest) ≡ record (walk_from nothing_held) { stopped = Some (codes "explore", rest) }
 stops rest = ap (λ w. fold (walked top.rules names) w rest) enters ∙ sym (walk_stopped top.rules names (walk_from nothing_held) (codes "explore") [] rest)
 
 top_passes : (rest : List (List ℕ)) → walk_fault top names (walk_from nothing_held) (codes "explore" ∷ rest) ≡ []
-unfolding rvklee_command explore_command replay_command bench_command upgrade_command walk_fault
+unfolding rvklee_command explore_command replay_command bench_command upgrade_command audit_command walk_fault
 top_passes rest = ap (λ w. walk_fault top names w rest) enters ∙ stopped_fault top names (walk_from nothing_held) (codes "explore", []) rest
 
 abbrev pub faults_above : Kinds → Walk → Kinds
@@ -252,11 +252,11 @@ faults_above kinds w = or_else kinds (or_else (entered_fault (built rvklee_comma
 -- rvklee has the faults that `explore` has
 pub faults_below : (tool : List ℕ) (rest : List (List ℕ)) (faults : Kinds) → level_fault leaf [] nothing_held rest false [] ≡ faults
     → fault_of rvklee_command (tool ∷ codes "explore" ∷ rest) ≡ or_else faults []
-unfolding rvklee_command explore_command replay_command bench_command upgrade_command defaults_fault
+unfolding rvklee_command explore_command replay_command bench_command upgrade_command audit_command defaults_fault
 faults_below tool rest faults below = ap₂ faults_above (top_passes rest) (stops rest) ∙ ap (λ kinds. or_else kinds []) below
 
 found_below : (tool : List ℕ) (rest : List (List ℕ)) → subcommand_of rvklee_command (tool ∷ codes "explore" ∷ rest) ≡ Some (codes "explore", rows_after leaf.rules [] rest)
-unfolding rvklee_command explore_command replay_command bench_command upgrade_command
+unfolding rvklee_command explore_command replay_command bench_command upgrade_command audit_command
 found_below tool rest = ap (λ w. entered (built rvklee_command) w.stopped) (stops rest)
 
 -- ---- the job of these words

@@ -48,8 +48,13 @@ unfoldable pub upgrade_command : App
 upgrade_command = with_rule (with_rule (new_app (codes "upgrade"))
     (required_word (codes "TEST"))) (required_word (codes "OUT"))
 
+-- audit PROGRAM CERT
+unfoldable pub audit_command : App
+audit_command = with_rule (with_rule (new_app (codes "audit"))
+    (required_word (codes "PROGRAM"))) (required_word (codes "CERT"))
+
 -- rvklee COMMAND ..
 unfoldable pub rvklee_command : App
-rvklee_command = with_subcommand (with_subcommand (with_subcommand (with_subcommand
+rvklee_command = with_subcommand (with_subcommand (with_subcommand (with_subcommand (with_subcommand
     (on_top (λ top. record top { subcommand_required = true }) (new_app (codes "rvklee")))
-    explore_command.top) replay_command.top) bench_command.top) upgrade_command.top
+    explore_command.top) replay_command.top) bench_command.top) upgrade_command.top) audit_command.top

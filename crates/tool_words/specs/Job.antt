@@ -20,6 +20,8 @@ pub data Job : Type 0 where
   Bench : (number workers : ℕ) → (out : List ℕ) → Job
   -- a test's file of either format is written in format 2, as the file `out`
   Upgrade : (test out : List ℕ) → Job
+  -- a certificate's file is audited, on a program's file
+  Audit : (program certificate : List ℕ) → Job
 
 -- the job, where all is there
 abbrev pub explore_with : Option (List ℕ) → Option (List ℕ) → Option (List Region) → Option Budgets
@@ -59,6 +61,14 @@ upgrade_with _ _ = None
 unfoldable pub upgrade_job : List Row → Option Job
 upgrade_job rows = upgrade_with (first_of (codes "TEST") rows) (first_of (codes "OUT") rows)
 
+abbrev pub audit_with : Option (List ℕ) → Option (List ℕ) → Option Job
+audit_with (Some program) (Some certificate) = Some (Audit program certificate)
+audit_with _ _ = None
+
+-- the job of `audit`, likewise
+unfoldable pub audit_job : List Row → Option Job
+audit_job rows = audit_with (first_of (codes "PROGRAM") rows) (first_of (codes "CERT") rows)
+
 -- the job of the command that `clap` finds in the words
 abbrev pub command_job : Option (List ℕ × List Row) → Option Job
 command_job None = None
@@ -66,7 +76,8 @@ command_job (Some (name, rows)) =
     if bytes_eq name (codes "explore") then explore_job rows else
     if bytes_eq name (codes "replay") then replay_job rows else
     if bytes_eq name (codes "bench") then bench_job rows else
-    if bytes_eq name (codes "upgrade") then upgrade_job rows else None
+    if bytes_eq name (codes "upgrade") then upgrade_job rows else
+    if bytes_eq name (codes "audit") then audit_job rows else None
 
 -- no job where `clap` finds a fault, a call for help among them
 abbrev pub without_fault : Kinds → Option Job → Option Job
@@ -88,3 +99,4 @@ IsWithinLimits (Replay program test) = Unit {0}
 IsWithinLimits (Bench number workers out) =
     IsWithin numbers_limit number × IsWithin workers_limit workers
 IsWithinLimits (Upgrade test out) = Unit {0}
+IsWithinLimits (Audit program certificate) = Unit {0}

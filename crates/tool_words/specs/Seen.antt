@@ -5,7 +5,7 @@ use Rattle.clap.specs.declared.error.kind.ErrorKind.TheVariants.{OutOfMemory}
 use Rattle.tool_words.specs.Job as spec
 use Rattle.tool_words.specs.declared.job.Exploration.{Exploration}
 use Rattle.tool_words.specs.declared.job.Job.{Job}
-use Rattle.tool_words.specs.declared.job.Job.TheVariants.{Bench, Explore, Replay, Upgrade}
+use Rattle.tool_words.specs.declared.job.Job.TheVariants.{Audit, Bench, Explore, Replay, Upgrade}
 use Rattle.tool_words.specs.declared.job.WordsError.{WordsError}
 use Rattle.tool_words.specs.declared.job.WordsError.TheVariants.{Usage, NoMemory}
 
@@ -19,6 +19,7 @@ job_seen (Explore e) = exploration_seen e
 job_seen (Replay program test) = spec.Replay (string_bytes program) (string_bytes test)
 job_seen (Bench number workers out) = spec.Bench number workers (string_bytes out)
 job_seen (Upgrade test out) = spec.Upgrade (string_bytes test) (string_bytes out)
+job_seen (Audit program certificate) = spec.Audit (string_bytes program) (string_bytes certificate)
 
 -- what stands for an error of `clap`'s
 abbrev pub error_of : ErrorKind → WordsError

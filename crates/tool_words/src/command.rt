@@ -3,7 +3,7 @@
 ghost use Rattle.std.specs.Prelude.{◌≡◌, IfOk, false};
 ghost use Rattle.clap.specs.Words.{app_of, rule_of};
 ghost use Rattle.clap.specs.declared.builder.command.Command.TheViews.{out-Command as fields_of};
-ghost use Rattle.tool_words.specs.Command.{bench_command, explore_command, value_option, replay_command, required_word, required_words, rvklee_command, upgrade_command};
+ghost use Rattle.tool_words.specs.Command.{audit_command, bench_command, explore_command, value_option, replay_command, required_word, required_words, rvklee_command, upgrade_command};
 
 use clap::{Arg, Command};
 use std::alloc::{AllocError as NoMemory, Global};
@@ -17,7 +17,8 @@ pub(crate) fn rvklee<'a>(alloc: Global) -> Result<Command<'a>, NoMemory>
         .subcommand(explore(alloc)?)?
         .subcommand(replay(alloc)?)?
         .subcommand(bench(alloc)?)?
-        .subcommand(upgrade(alloc)?)
+        .subcommand(upgrade(alloc)?)?
+        .subcommand(audit(alloc)?)
 }
 
 /// `explore [--steps N] [--targets N] [--conflicts N] [--workers N] [--nodes N] [--order O] PROGRAM OUT INPUT..`.
@@ -66,6 +67,16 @@ fn upgrade<'a>(alloc: Global) -> Result<Command<'a>, NoMemory>
     Command::new(alloc, "upgrade")
         .arg(required_word(alloc, "TEST"))?
         .arg(required_word(alloc, "OUT"))
+}
+
+/// `audit PROGRAM CERT`.
+fn audit<'a>(alloc: Global) -> Result<Command<'a>, NoMemory>
+    ensures app { IfOk result (λ command. app_of command ≡ audit_command) }
+    ensures local { IfOk result (λ command. (fields_of command).has_globals ≡ false) }
+{
+    Command::new(alloc, "audit")
+        .arg(required_word(alloc, "PROGRAM"))?
+        .arg(required_word(alloc, "CERT"))
 }
 
 /// An option with a value, `--name VALUE`, that may be given once.

@@ -58,6 +58,11 @@ pub enum Job {
         test: String,
         out: String,
     },
+    /// The certificate in one file, of the leaves of the program in another, is to be audited.
+    Audit {
+        program: String,
+        certificate: String,
+    },
 }
 
 /// Why there is no job.

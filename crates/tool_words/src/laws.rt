@@ -3,7 +3,7 @@
 ghost use Rattle.std.specs.Prelude.{◌≡◌, ◌≢◌, ◌↔◌, ◌∷◌, [], None, Some, ◌<◌, ◌^◌, ℕ, List, codes, length, option_map, true};
 ghost use Rattle.std.specs.Fmt.{decimal};
 ghost use Rattle.std.specs.List.{list_all};
-ghost use Rattle.tool_words.specs.Job.{Explore, IsWithinLimits, Job, Replay, Upgrade, job_of};
+ghost use Rattle.tool_words.specs.Job.{Audit, Explore, IsWithinLimits, Job, Replay, Upgrade, job_of};
 ghost use Rattle.tool_words.specs.Limits.{default_budgets, plain_number, workers_limit};
 ghost use Rattle.tool_words.specs.Plain.{has_no_hyphen};
 ghost use Rattle.tool_words.specs.Region.{regions_said};
@@ -33,6 +33,14 @@ pub fn two_words_name_their_upgrade()
         → job_of (tool ∷ codes "upgrade" ∷ test ∷ out ∷ []) ≡ Some (Upgrade test out) }
 {}
 
+/// `audit` with a program and a certificate has the job that these words name, where none of them begins with
+/// a hyphen.
+pub fn two_words_name_their_audit()
+    ensures { (tool program certificate : List ℕ)
+        → list_all has_no_hyphen (program ∷ certificate ∷ []) ≡ true
+        → job_of (tool ∷ codes "audit" ∷ program ∷ certificate ∷ []) ≡ Some (Audit program certificate) }
+{}
+
 /// The numbers of a job are within their limits.
 pub fn jobs_are_within_their_limits()
     ensures { (words : List (List ℕ)) (job : Job) → job_of words ≡ Some job → IsWithinLimits job }
@@ -44,12 +52,12 @@ pub fn a_number_is_written_in_one_way()
         → (plain_number text ≡ Some n ↔ text ≡ decimal n) }
 {}
 
-/// Words whose second is neither `explore`, `replay`, `bench`, `upgrade` nor an option have no job: there is no other
+/// Words whose second is neither `explore`, `replay`, `bench`, `upgrade`, `audit` nor an option have no job: there is no other
 /// command, and `help` asks for help.
 pub fn other_commands_have_no_job()
     ensures { (tool command : List ℕ) (rest : List (List ℕ)) → has_no_hyphen command ≡ true
         → command ≢ codes "explore" → command ≢ codes "replay" → command ≢ codes "bench"
-        → command ≢ codes "upgrade" → job_of (tool ∷ command ∷ rest) ≡ None }
+        → command ≢ codes "upgrade" → command ≢ codes "audit" → job_of (tool ∷ command ∷ rest) ≡ None }
 {}
 
 /// Words that ask for help or for the version have no job.

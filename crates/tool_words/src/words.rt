@@ -4,7 +4,7 @@ ghost use Rattle.std.specs.Prelude.{◌≡◌, ◌≢◌, [], IfErr, IfOk, Some,
 ghost use Rattle.clap.specs.Words.{fault_of, found_of, kind_of, rows_of, subcommand_of, subcommand_rows_of};
 ghost use Rattle.clap.specs.declared.error.kind.ErrorKind.TheVariants.{OutOfMemory};
 ghost use Rattle.tool_words.specs.Command.{rvklee_command};
-ghost use Rattle.tool_words.specs.Job.{IsWithinLimits, bench_job, command_job, explore_job, job_of, replay_job, upgrade_job};
+ghost use Rattle.tool_words.specs.Job.{IsWithinLimits, audit_job, bench_job, command_job, explore_job, job_of, replay_job, upgrade_job};
 ghost use Rattle.tool_words.specs.Region.{regions_said};
 ghost use Rattle.tool_words.specs.Seen.{IsRead, job_seen};
 
@@ -40,6 +40,8 @@ fn read_command(alloc: Global, name: &str, found: &ArgMatches<'_>) -> Result<Job
         read_bench(alloc, found)
     } else if name == "upgrade" {
         read_upgrade(alloc, found)
+    } else if name == "audit" {
+        read_audit(alloc, found)
     } else {
         Err(WordsError::Usage)
     }
@@ -120,6 +122,20 @@ fn read_upgrade(alloc: Global, found: &ArgMatches<'_>) -> Result<Job, WordsError
     Ok(Job::Upgrade {
         test: String::from_str(alloc, test)?,
         out: String::from_str(alloc, file)?,
+    })
+}
+
+/// The job of `audit`.
+fn read_audit(alloc: Global, found: &ArgMatches<'_>) -> Result<Job, WordsError>
+    ensures { IsRead job_seen (audit_job (rows_of (found_of found.now))) result }
+{
+    let (Some(program), Some(certificate)) = (found.get_str("PROGRAM"), found.get_str("CERT"))
+    else {
+        return Err(WordsError::Usage);
+    };
+    Ok(Job::Audit {
+        program: String::from_str(alloc, program)?,
+        certificate: String::from_str(alloc, certificate)?,
     })
 }
 

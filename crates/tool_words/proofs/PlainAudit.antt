@@ -1,0 +1,39 @@
+-- What `clap` makes of `audit` with two words.
+use Rattle.std.proofs.Common.{ℕ, true, List, [], ◌∷◌, ◌≡◌, codes, refl, Some}
+use Rattle.std.specs.Prelude.{slice_get, unwrap_or}
+use Rattle.std.specs.List.{list_all}
+use Rattle.clap.specs.Faults.{defaults_fault}
+use Rattle.clap.specs.Simple.{Shape, new_shape}
+use Rattle.clap.specs.Walk.{walked}
+use Rattle.tool_words.specs.Command.{audit_command, bench_command, explore_command, replay_command, rvklee_command, upgrade_command}
+use Rattle.tool_words.specs.Job.{Audit, audit_job, job_of}
+use Rattle.tool_words.specs.Plain.{has_no_hyphen}
+use Rattle.tool_words.proofs.PlainPair.{TakesPair, plain_pair}
+use Rattle.tool_words.proofs.PlainWords.{commands}
+
+-- `audit`, as clap builds it
+abbrev audits : Shape
+audits = unwrap_or (slice_get commands 4) (new_shape [])
+
+takes : TakesPair audits (codes "audit") (codes "PROGRAM") (codes "CERT") Audit
+unfolding rvklee_command explore_command replay_command bench_command upgrade_command audit_command audit_job defaults_fault walked
+takes = record {
+  steps = λ a. refl;
+  passes = refl;
+  steps_on = λ a b. refl;
+  passes_on = λ a. refl;
+  finishes = λ a b. refl;
+  faults = λ a b. refl;
+  settles = λ a b. refl;
+  enters = refl;
+  stands = refl;
+  above = λ words. refl;
+  whole = λ tool words. refl;
+  found = λ tool words. refl;
+  enters_it = λ words. refl;
+  names_job = λ a b. refl;
+}
+
+pub plain_audit : (program certificate : List ℕ) → list_all has_no_hyphen (program ∷ certificate ∷ []) ≡ true
+    → (tool : List ℕ) → job_of (tool ∷ codes "audit" ∷ program ∷ certificate ∷ []) ≡ Some (Audit program certificate)
+plain_audit program certificate plain tool = plain_pair takes program certificate plain tool
