@@ -11,21 +11,21 @@ use Rattle.elf_load.specs.declared.refused.Refused.{Refused as WhyRefused}
 use Rattle.elf_load.specs.declared.region.Region.{Region}
 use Rattle.elf_load.specs.declared.unfit.Unfit.{Unfit as WhyUnfit}
 use Rattle.prog_gen.specs.Generated.{generated_file, generated_regions}
-use Rattle.tool_words.specs.Job.{Job, Bench, Explore, Replay, Upgrade}
+use Rattle.tool_words.specs.Job.{Job, Audit, Bench, Explore, Replay, Upgrade}
 use Rattle.tool_words.specs.Limits.{default_budgets}
-use Rattle.tool_top.specs.Lines.{no_memory, upgraded_line}
+use Rattle.tool_top.specs.Lines.{audit_yes, no_memory, upgraded_line}
 use Rattle.tool_top.specs.Reports.{IsReportOf}
 use Rattle.tool_top.specs.Plan.{Plan, names_of, IsPlan, IsPlanned, IsReadFault, IsReported, IsRefusal, IsMisfit, Means, OnlyReads, most_bytes}
 use Rattle.elf_load.specs.Images.{Image, Loads}
-use Rattle.elf_load.proofs.OneImage.{one_image}
 use Rattle.tree_core.specs.declared.budgets.Budgets.{Budgets}
 use Rattle.replay_core.specs.Replays.{IsAsSaid}
+use Rattle.tool_top.proofs.AuditEndings.{audit_done, audit_fault, audit_no_program, audit_other, audit_puts, not_audited}
 use Rattle.tool_top.proofs.BenchEndings.{benched, not_benched}
-use Rattle.tool_top.proofs.UpgradeEndings.{not_upgraded, upgrade_done, upgrade_fault, upgrade_kept, upgrade_no_test, upgrade_puts}
-use Rattle.tool_top.proofs.ReplayEndings.{given_held, replay_fault, replay_kept, replay_no_job, replay_misfit, replay_no_program, replay_no_test, replay_other, replay_puts, replay_same}
+use Rattle.tool_top.proofs.UpgradeEndings.{not_upgraded, upgrade_done, upgrade_fault, upgrade_no_test, upgrade_puts}
+use Rattle.tool_top.proofs.ReplayEndings.{replay_fault, replay_no_job, replay_misfit, replay_no_program, replay_no_test, replay_other, replay_puts, replay_same}
 use Rattle.report_text.specs.Claims.{IsReport, Report}
 use Rattle.report_text.specs.Files.{files_of, summary_of}
-use Rattle.tool_top.specs.Answer.{HasEnded, Asked, Ran, named, numbered, line_with, status_of, IsAnswered, IsFaulted, IsFile, IsWanting, IsCarriedOut, IsCutByFault, IsWritten, WritesFor, OnReplayed, UpgradesFor, HoldsProgram, HoldsNoProgram, HoldsMisfit, HoldsNoTest, HoldsOther, HoldsTest, HoldsUpgrade, verdict_status}
+use Rattle.tool_top.specs.Answer.{HasEnded, Asked, Ran, named, numbered, line_with, status_of, IsAnswered, IsFaulted, IsFile, IsWanting, IsCarriedOut, IsCutByFault, IsWritten, WritesFor, OnReplayed, AuditsFor, UpgradesFor, HoldsNoProgram, HoldsMisfit, HoldsNoTest, HoldsOther, verdict_status}
 use Rattle.tool_top.specs.ReadBack.{AreReadBack}
 use Rattle.tool_top.proofs.ReadingBack.{read_back}
 use Rattle.tool_top.specs.declared.verdict.Verdict.{Verdict}
@@ -48,6 +48,7 @@ means_names told (Some (Explore program out asked budgets workers)) plan (bytes,
 means_names told (Some (Replay program test)) plan (bytes, text, given, also, names, treated) = rw names (IsPrefix-whole _)
 means_names told (Some (Bench number workers out)) plan (names, benched) = rw names (IsPrefix-whole _)
 means_names told (Some (Upgrade test out)) plan (text, given, names, treated) = rw names (IsPrefix-whole _)
+means_names told (Some (Audit program certificate)) plan (bytes, text, given, also, names, treated) = rw names (IsPrefix-whole _)
 
 fault_names : (job : Option Job) (plan : Plan) → IsReadFault job plan → IsPrefix plan.names (names_of job)
 fault_names None plan none = absurd none
@@ -55,6 +56,7 @@ fault_names (Some (Explore program out asked budgets workers)) plan (begins, is)
 fault_names (Some (Replay program test)) plan (begins, is) = begins
 fault_names (Some (Bench number workers out)) plan none = absurd none
 fault_names (Some (Upgrade test out)) plan (begins, is) = begins
+fault_names (Some (Audit program certificate)) plan (begins, is) = begins
 
 fault_verdict : (job : Option Job) (plan : Plan) → IsReadFault job plan → plan.verdict ≡ ReadFault
 fault_verdict None plan none = absurd none
@@ -62,6 +64,7 @@ fault_verdict (Some (Explore program out asked budgets workers)) plan (begins, i
 fault_verdict (Some (Replay program test)) plan (begins, is) = ap (λ (p : Plan). p.verdict) is
 fault_verdict (Some (Bench number workers out)) plan none = absurd none
 fault_verdict (Some (Upgrade test out)) plan (begins, is) = ap (λ (p : Plan). p.verdict) is
+fault_verdict (Some (Audit program certificate)) plan (begins, is) = ap (λ (p : Plan). p.verdict) is
 
 pub plan_names : (old new : Seen) (job : Option Job) (plan : Plan) → IsPlan old new job plan → IsPrefix plan.names (names_of job)
 plan_names old new job plan (inl means) = means_names old.told job plan means
@@ -96,14 +99,14 @@ unfit_misfit old new program out asked budgets workers plan unfit (inl (bytes, g
 unfit_misfit old new program out asked budgets workers plan unfit (inl (bytes, given, names, inr (inr misfit))) = (bytes, misfit.image, misfit.why, given, misfit.loads, misfit.misfits)
 unfit_misfit old new program out asked budgets workers plan unfit (inr (rose, (begins, is))) = let other : plan.verdict ≡ ReadFault = ap (λ (p : Plan). p.verdict) is in cc
 
-fault_rose : (old new : Seen) (program out : List ℕ) (asked : List Region) (budgets : Budgets) (workers : ℕ) (plan : Plan) → plan.verdict ≡ ReadFault → IsPlan old new (Some (Explore program out asked budgets workers)) plan → Rose old.reads new.reads
+pub fault_rose : (old new : Seen) (program out : List ℕ) (asked : List Region) (budgets : Budgets) (workers : ℕ) (plan : Plan) → plan.verdict ≡ ReadFault → IsPlan old new (Some (Explore program out asked budgets workers)) plan → Rose old.reads new.reads
 fault_rose old new program out asked budgets workers plan fault (inl (bytes, given, names, inl report)) = let other = report.done in cc
 fault_rose old new program out asked budgets workers plan fault (inl (bytes, given, names, inr (inl none))) = let other = none.is in cc
 fault_rose old new program out asked budgets workers plan fault (inl (bytes, given, names, inr (inr misfit))) = let other = misfit.is in cc
 fault_rose old new program out asked budgets workers plan fault (inr (rose, read)) = rose
 
 -- a plan to explore has one of four verdicts
-explored_only : (old new : Seen) (program out : List ℕ) (asked : List Region) (budgets : Budgets) (workers : ℕ) (plan : Plan) → IsPlan old new (Some (Explore program out asked budgets workers)) plan
+pub explored_only : (old new : Seen) (program out : List ℕ) (asked : List Region) (budgets : Budgets) (workers : ℕ) (plan : Plan) → IsPlan old new (Some (Explore program out asked budgets workers)) plan
     → (plan.verdict ≡ Done) ⊎ (plan.verdict ≡ Refused) ⊎ (plan.verdict ≡ Unfit) ⊎ (plan.verdict ≡ ReadFault)
 explored_only old new program out asked budgets workers plan (inl (bytes, given, names, inl report)) = inl report.done
 explored_only old new program out asked budgets workers plan (inl (bytes, given, names, inr (inl none))) = inr (inl none.is)
@@ -141,6 +144,7 @@ some_puts_done old new (Some (Explore program out asked budgets workers)) plan s
 some_puts_done old new (Some (Replay program test)) plan some planned = absurd (some (replay_puts old new program test plan planned))
 some_puts_done old new (Some (Bench number workers out)) plan some planned = (benched old new number workers out plan planned).done
 some_puts_done old new (Some (Upgrade test out)) plan some planned = upgrade_puts old new test out plan some planned
+some_puts_done old new (Some (Audit program certificate)) plan some planned = absurd (some (audit_puts old new program certificate plan planned))
 
 pub answered : (old mid new : Seen) (job : Option Job) (verdict : Verdict) (puts : List Put) (text : List ℕ) → IsPlanned old mid job verdict puts text → mid.writes ≡ old.writes → new.reads ≡ mid.reads → IsCarriedOut mid new verdict puts text [] → IsAnswered old new job verdict
 answered old mid new job verdict puts text planned writes reads out = record {
@@ -188,7 +192,7 @@ wanting_later old mid late new job verdict puts text planned reads reads' (made,
 }
 
 -- memory was refused while the plan was made, and that was said
-pub wanting_early : (old mid new : Seen) (job : Option Job) → OnlyReads old mid job → (said : List ℕ) × IsPrefix said no_memory × (new.told ≡ after mid.told (says said)) → IsWanting old new job
+pub wanting_early : (old mid new : Seen) (job : Option Job) → OnlyReads old mid (names_of job) → (said : List ℕ) × IsPrefix said no_memory × (new.told ≡ after mid.told (says said)) → IsWanting old new job
 wanting_early old mid new job only (said, cut, spoke) = record {
   names = only.names;
   whole = [];
@@ -242,6 +246,7 @@ done_written old new (Some (Explore program out asked budgets workers)) Claim cl
     claims r.1 r.2.loads r.2.fits r.2.report refl h.out
 done_written old new (Some (Replay program test)) Claim claims h = tt
 done_written old new (Some (Upgrade test out)) Claim claims h = tt
+done_written old new (Some (Audit program certificate)) Claim claims h = tt
 done_written old new (Some (Bench number workers out)) Claim claims h =
     let is = benched old new number workers out h.plan h.planned in
     written (record { old = old; new = new; job = Some (Bench number workers out) })
@@ -254,6 +259,7 @@ done_same old new None h = none_other old new h.plan Done h.is (λ e. cc) h.plan
 done_same old new (Some (Explore program out asked budgets workers)) h = tt
 done_same old new (Some (Bench number workers out)) h = tt
 done_same old new (Some (Upgrade test out)) h = tt
+done_same old new (Some (Audit program certificate)) h = tt
 done_same old new (Some (Replay program test)) h = replay_same old new program test h.plan h.is h.planned
 
 -- what was upgraded
@@ -262,6 +268,7 @@ done_upgraded old new None h = none_other old new h.plan Done h.is (λ e. cc) h.
 done_upgraded old new (Some (Explore program out asked budgets workers)) h = tt
 done_upgraded old new (Some (Replay program test)) h = tt
 done_upgraded old new (Some (Bench number workers out)) h = tt
+done_upgraded old new (Some (Audit program certificate)) h = tt
 done_upgraded old new (Some (Upgrade test out)) h =
     let done = upgrade_done old new test out h.plan h.is h.planned in
     let deeds : Deeds = record { names = h.plan.names; puts = h.plan.puts; said = h.out.said } in
@@ -275,12 +282,41 @@ done_upgraded old new (Some (Upgrade test out)) h =
       line = said_since-after old.told new.told deeds (λ said. said ≡ upgraded_line) h.out.changes (said ∙ done.2.line);
     }
 
+-- what was audited
+pub done_audited : (old new : Seen) (job : Option Job) → IsAnswered old new job Done → AuditsFor (record { old = old; new = new; job = job }) job
+done_audited old new None h = none_other old new h.plan Done h.is (λ e. cc) h.planned
+done_audited old new (Some (Explore program out asked budgets workers)) h = tt
+done_audited old new (Some (Replay program test)) h = tt
+done_audited old new (Some (Bench number workers out)) h = tt
+done_audited old new (Some (Upgrade test out)) h = tt
+done_audited old new (Some (Audit program certificate)) h =
+    let (bytes, text, image, given, also, loads, shows) = audit_done old new program certificate h.plan h.is h.planned in
+    let deeds : Deeds = record { names = h.plan.names; puts = h.plan.puts; said = h.out.said } in
+    let said : h.out.said ≡ h.plan.text = elim h.out.whole [ inl all ↦ all | inr cut ↦ absurd (cut.1 refl) ] in
+    record {
+      bytes = bytes;
+      text = text;
+      image = image;
+      cert = shows.cert;
+      parts = shows.parts;
+      leaves = shows.leaves;
+      program_given = given;
+      certificate_given = also;
+      loads = loads;
+      reads = shows.reads;
+      shown = shows.shown;
+      counted = shows.counted;
+      no_files = puts_since-after old.told new.told deeds (λ puts. puts ≡ []) h.out.changes (audit_puts old new program certificate h.plan h.planned);
+      line = said_since-after old.told new.told deeds (λ said. said ≡ audit_yes shows.leaves) h.out.changes (said ∙ shows.line);
+    }
+
 pub differs_other : (old new : Seen) (job : Option Job) → IsAnswered old new job Differs → HoldsOther old.told job
 differs_other old new None h = none_other old new h.plan Differs h.is (λ e. cc) h.planned
 differs_other old new (Some (Explore program out asked budgets workers)) h = not_explored old new program out asked budgets workers h.plan Differs h.is (λ e. cc) (λ e. cc) (λ e. cc) (λ e. cc) h.planned
 differs_other old new (Some (Replay program test)) h = replay_other old new program test h.plan h.is h.planned
 differs_other old new (Some (Bench number workers out)) h = not_benched old new number workers out h.plan Differs h.is (λ e. cc) h.planned
 differs_other old new (Some (Upgrade test out)) h = not_upgraded old new test out h.plan Differs h.is (λ e. cc) (λ e. cc) (λ e. cc) h.planned
+differs_other old new (Some (Audit program certificate)) h = audit_other old new program certificate h.plan h.is h.planned
 
 -- what is refused is no test
 pub refused_no_test : (old new : Seen) (job : Option Job) → IsAnswered old new job TestRefused → HoldsNoTest old.told job
@@ -289,6 +325,7 @@ refused_no_test old new (Some (Explore program out asked budgets workers)) h = n
 refused_no_test old new (Some (Replay program test)) h = replay_no_test old new program test h.plan h.is h.planned
 refused_no_test old new (Some (Bench number workers out)) h = not_benched old new number workers out h.plan TestRefused h.is (λ e. cc) h.planned
 refused_no_test old new (Some (Upgrade test out)) h = upgrade_no_test old new test out h.plan h.is h.planned
+refused_no_test old new (Some (Audit program certificate)) h = not_audited old new program certificate h.plan TestRefused h.is (λ e. cc) (λ e. cc) (λ e. cc) (λ e. cc) h.planned
 
 -- what is refused is no program
 pub refused_no_program : (old new : Seen) (job : Option Job) → IsAnswered old new job Refused → HoldsNoProgram old.told job
@@ -297,6 +334,7 @@ refused_no_program old new (Some (Explore program out asked budgets workers)) h 
 refused_no_program old new (Some (Replay program test)) h = replay_no_program old new program test h.plan h.is h.planned
 refused_no_program old new (Some (Bench number workers out)) h = not_benched old new number workers out h.plan Refused h.is (λ e. cc) h.planned
 refused_no_program old new (Some (Upgrade test out)) h = not_upgraded old new test out h.plan Refused h.is (λ e. cc) (λ e. cc) (λ e. cc) h.planned
+refused_no_program old new (Some (Audit program certificate)) h = audit_no_program old new program certificate h.plan h.is h.planned
 
 -- what doesn't fit is a program for another input
 pub unfit_holds : (old new : Seen) (job : Option Job) → IsAnswered old new job Unfit → HoldsMisfit old.told job
@@ -305,6 +343,7 @@ unfit_holds old new (Some (Explore program out asked budgets workers)) h = unfit
 unfit_holds old new (Some (Replay program test)) h = replay_misfit old new program test h.plan h.is h.planned
 unfit_holds old new (Some (Bench number workers out)) h = not_benched old new number workers out h.plan Unfit h.is (λ e. cc) h.planned
 unfit_holds old new (Some (Upgrade test out)) h = not_upgraded old new test out h.plan Unfit h.is (λ e. cc) (λ e. cc) (λ e. cc) h.planned
+unfit_holds old new (Some (Audit program certificate)) h = not_audited old new program certificate h.plan Unfit h.is (λ e. cc) (λ e. cc) (λ e. cc) (λ e. cc) h.planned
 
 -- Each status is that of one ending.
 abbrev verdict_of : ℕ → Option Verdict
@@ -348,6 +387,7 @@ no_job_none old new (Some (Explore program out asked budgets workers)) h = absur
 no_job_none old new (Some (Replay program test)) h = absurd (replay_no_job old new program test h.plan h.is h.planned)
 no_job_none old new (Some (Bench number workers out)) h = absurd (not_benched old new number workers out h.plan NoJob h.is (λ e. cc) h.planned)
 no_job_none old new (Some (Upgrade test out)) h = absurd (not_upgraded old new test out h.plan NoJob h.is (λ e. cc) (λ e. cc) (λ e. cc) h.planned)
+no_job_none old new (Some (Audit program certificate)) h = absurd (not_audited old new program certificate h.plan NoJob h.is (λ e. cc) (λ e. cc) (λ e. cc) (λ e. cc) h.planned)
 
 -- a read fault was counted, where that is said
 none_fault : (old new : Seen) (plan : Plan) → plan.verdict ≡ ReadFault → IsPlan old new None plan → Rose old.reads new.reads
@@ -360,85 +400,9 @@ read_rose old new (Some (Explore program out asked budgets workers)) h = fault_r
 read_rose old new (Some (Replay program test)) h = replay_fault old new program test h.plan h.is h.planned
 read_rose old new (Some (Bench number workers out)) h = absurd (not_benched old new number workers out h.plan ReadFault h.is (λ e. cc) h.planned)
 read_rose old new (Some (Upgrade test out)) h = upgrade_fault old new test out h.plan h.is h.planned
+read_rose old new (Some (Audit program certificate)) h = audit_fault old new program certificate h.plan h.is h.planned
 
 -- a write fault is answered only where there is a job
 pub faulted_job : (old new : Seen) (job : Option Job) → IsFaulted old new job → job ≢ None
 faulted_job old new None h is = none_other old new h.plan Done h.only_done (λ e. cc) h.planned
 faulted_job old new (Some job) h is = cc
-
--- a file that loads is not refused
-held_not_refused : (told : Told) (job : Option Job) → HoldsProgram told job → HoldsNoProgram told job → ⊥
-held_not_refused told None holds none = holds
-held_not_refused told (Some (Explore program out asked budgets workers)) (bytes, image, held, loads, fits) (given, why, gives, refuses) =
-    let same : given ≡ bytes = given_held most_bytes program bytes given told.holds held gives in
-    let fine : refusal given ≡ None = ap refusal same ∙ loads.fine in
-    cc
-held_not_refused told (Some (Replay program test)) holds none = holds
-held_not_refused told (Some (Bench number workers out)) holds none = none
-held_not_refused told (Some (Upgrade test out)) holds none = holds
-
--- nor is an input that fits
-held_not_unfit : (told : Told) (job : Option Job) → HoldsProgram told job → HoldsMisfit told job → ⊥
-held_not_unfit told None holds misfit = holds
-held_not_unfit told (Some (Explore program out asked budgets workers)) (bytes, here, held, loads, fits) (given, image, why, gives, is, misfits) =
-    let same = given_held most_bytes program bytes given told.holds held gives in
-    let one : here ≡ image = one_image bytes here image loads (subst (λ (b : List ℕ). Loads b image) same is) in
-    let also : unfit image asked ≡ None = subst (λ (i : Image). unfit i asked ≡ None) one fits in
-    cc
-held_not_unfit told (Some (Replay program test)) holds misfit = holds
-held_not_unfit told (Some (Bench number workers out)) holds misfit = misfit
-held_not_unfit told (Some (Upgrade test out)) holds misfit = holds
-
--- where it is held, and no fault was counted, it is explored to the end
-explored_whole : (old new : Seen) (job : Option Job) (verdict : Verdict) (status : ℕ) → IsAnswered old new job verdict → status ≡ verdict_status verdict → HoldsProgram old.told job → ¬ Rose old.reads new.reads → status ≡ 0
-explored_whole old new None verdict status h is holds read = absurd holds
-explored_whole old new (Some (Replay program test)) verdict status h is holds read = absurd holds
-explored_whole old new (Some (Upgrade test out)) verdict status h is holds read = absurd holds
-explored_whole old new (Some (Bench number workers out)) verdict status h is holds read =
-    is ∙ ap verdict_status (sym h.is ∙ (benched old new number workers out h.plan h.planned).done)
-explored_whole old new (Some (Explore program out asked budgets workers)) verdict status h is holds read =
-    let job : Option Job = Some (Explore program out asked budgets workers) in
-    let said : (v : Verdict) → h.plan.verdict ≡ v → IsAnswered old new job v = λ v e. subst (IsAnswered old new job) (sym h.is ∙ e) h in
-    elim (explored_only old new program out asked budgets workers h.plan h.planned) [
-      | inl done ↦ is ∙ ap verdict_status (sym h.is ∙ done)
-      | inr (inl refused) ↦ absurd (held_not_refused old.told job holds (refused_no_program old new job (said Refused refused)))
-      | inr (inr (inl unfit)) ↦ absurd (held_not_unfit old.told job holds (unfit_holds old new job (said Unfit unfit)))
-      | inr (inr (inr fault)) ↦ absurd (read (fault_rose old new program out asked budgets workers h.plan fault h.planned))
-    ]
-
-pub complete : (old new : Seen) (job : Option Job) (ending : Ending) (status : ℕ) → HasEnded old new job ending → status ≡ status_of ending → HoldsProgram old.told job → ¬ Rose old.reads new.reads → ¬ Rose old.writes new.writes → (status ≡ 0) ⊎ (status ≡ 8)
-complete old new job (Planned verdict) status h is holds read wrote = inl (explored_whole old new job verdict status h is holds read)
-complete old new job WriteFault status h is holds read wrote = absurd (wrote h.rose)
-complete old new job NoMemory status h is holds read wrote = inr is
-
--- where a test is held, and no fault was counted, it is replayed
-replayed_whole : (old new : Seen) (job : Option Job) (verdict : Verdict) (status : ℕ) → IsAnswered old new job verdict → status ≡ verdict_status verdict → HoldsTest old.told job → ¬ Rose old.reads new.reads → (status ≡ 0) ⊎ (status ≡ 1)
-replayed_whole old new None verdict status h is holds read = absurd holds
-replayed_whole old new (Some (Explore program out asked budgets workers)) verdict status h is holds read = absurd holds
-replayed_whole old new (Some (Bench number workers out)) verdict status h is holds read = absurd holds
-replayed_whole old new (Some (Upgrade test out)) verdict status h is holds read = absurd holds
-replayed_whole old new (Some (Replay program test)) verdict status h is (bytes, text, image, test_read, held, held_text, replayable) read =
-    elim (replay_kept old new program test h.plan bytes text image test_read held held_text replayable read h.planned) [
-      | inl done ↦ inl (is ∙ ap verdict_status (sym h.is ∙ done))
-      | inr differs ↦ inr (is ∙ ap verdict_status (sym h.is ∙ differs))
-    ]
-
-pub complete_replay : (old new : Seen) (job : Option Job) (ending : Ending) (status : ℕ) → HasEnded old new job ending → status ≡ status_of ending → HoldsTest old.told job → ¬ Rose old.reads new.reads → ¬ Rose old.writes new.writes
-    → (status ≡ 0) ⊎ (status ≡ 1) ⊎ (status ≡ 8)
-complete_replay old new job (Planned verdict) status h is holds read wrote = elim (replayed_whole old new job verdict status h is holds read) [ inl zero ↦ inl zero | inr one ↦ inr (inl one) ]
-complete_replay old new job WriteFault status h is holds read wrote = absurd (wrote h.rose)
-complete_replay old new job NoMemory status h is holds read wrote = inr (inr is)
-
--- where a test that has a text in format 2 is held, and no fault was counted, it is upgraded
-upgraded_whole : (old new : Seen) (job : Option Job) (verdict : Verdict) (status : ℕ) → IsAnswered old new job verdict → status ≡ verdict_status verdict → HoldsUpgrade old.told job → ¬ Rose old.reads new.reads → status ≡ 0
-upgraded_whole old new None verdict status h is holds read = absurd holds
-upgraded_whole old new (Some (Explore program out asked budgets workers)) verdict status h is holds read = absurd holds
-upgraded_whole old new (Some (Replay program test)) verdict status h is holds read = absurd holds
-upgraded_whole old new (Some (Bench number workers out)) verdict status h is holds read = absurd holds
-upgraded_whole old new (Some (Upgrade test out)) verdict status h is (text, changed, held, gives) read =
-    is ∙ ap verdict_status (sym h.is ∙ upgrade_kept old new test out h.plan text changed held gives read h.planned)
-
-pub complete_upgrade : (old new : Seen) (job : Option Job) (ending : Ending) (status : ℕ) → HasEnded old new job ending → status ≡ status_of ending → HoldsUpgrade old.told job → ¬ Rose old.reads new.reads → ¬ Rose old.writes new.writes → (status ≡ 0) ⊎ (status ≡ 8)
-complete_upgrade old new job (Planned verdict) status h is holds read wrote = inl (upgraded_whole old new job verdict status h is holds read)
-complete_upgrade old new job WriteFault status h is holds read wrote = absurd (wrote h.rose)
-complete_upgrade old new job NoMemory status h is holds read wrote = inr is

@@ -1,8 +1,12 @@
 pub mod Plans
+pub mod TwoNames
 pub mod ReplayPlans
+pub mod AuditPlans
 pub mod ReplayEndings
 pub mod BenchEndings
 pub mod UpgradeEndings
+pub mod AuditEndings
 pub mod ReadingBack
 pub mod Endings
+pub mod Completing
 pub mod Explored

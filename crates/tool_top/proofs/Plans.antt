@@ -1,5 +1,5 @@
 -- Making a plan, from what its parts are.
-use Rattle.std.proofs.Common.{◌≡◌, ℕ, zero, suc, ◌+◌, ◌/◌, ◌^◌, ◌<◌, ◌≤◌, ◌∙◌, true, false, List, [], ◌∷◌, refl, sym, subst, ap, inl, inr, arith}
+use Rattle.std.proofs.Common.{◌≡◌, ℕ, zero, suc, ◌+◌, ◌/◌, ◌^◌, ◌<◌, true, false, List, [], ◌∷◌, refl, sym, subst, inl, inr, arith}
 use Rattle.std.specs.Prelude.{All, Bool, not, ◌&&◌, ◌==◌, if◌then◌else◌, nat_lt, sum_by, Option, None, Some, Result, Ok, Err, IfOk, OnErr}
 use Rattle.std.proofs.lemmas.Bool.Decides.{nat_tests}
 use Rattle.std.proofs.lemmas.Bool.{or_parts}
@@ -23,7 +23,7 @@ use Rattle.tree_core.specs.declared.budgets.Budgets.{Budgets}
 use Rattle.report_text.proofs.ClaimsLegible.{sum_count}
 use Rattle.tool_top.specs.Reports.{IsReportOf}
 use Rattle.tool_top.specs.Lines.{refused_line, unfit_line, usage}
-use Rattle.tool_top.specs.Plan.{IsBenched, IsPlan, IsPlanned, OnlyReads, Plan, Treats, names_of}
+use Rattle.tool_top.specs.Plan.{IsBenched, IsPlan, IsPlanned, OnlyReads, Plan, Treats}
 use Rattle.tool_top.specs.declared.plan.Plan.{Plan as Made}
 use Rattle.tool_top.specs.declared.verdict.Verdict.TheVariants.{Done, NoJob, Refused, Unfit}
 
@@ -50,9 +50,9 @@ planned_bench old job number workers out (Ok p) is benched =
     }
 
 -- some names were read, whatever came then
-pub only_reads : {T : Type 0} (old new : Seen) (job : Option Job) (names : List (List ℕ)) (made : Result T AllocError) → IsPrefix names (names_of job) → new.told ≡ after old.told (record { names = names; puts = []; said = [] }) → OnErr made (OnlyReads old new job)
-only_reads old new job names (Ok p) begins c = tt
-only_reads old new job names (Err e) begins c = record { names = names; begins = begins; changes = c }
+pub only_reads : {T : Type 0} (old new : Seen) (whole names : List (List ℕ)) (made : Result T AllocError) → IsPrefix names whole → new.told ≡ after old.told (record { names = names; puts = []; said = [] }) → OnErr made (OnlyReads old new whole)
+only_reads old new whole names (Ok p) begins c = tt
+only_reads old new whole names (Err e) begins c = record { names = names; begins = begins; changes = c }
 
 module _ (out bytes : List ℕ) (asked : List Region) (budgets : Budgets) (workers : ℕ) where
   -- the file is that of no program

@@ -1,11 +1,8 @@
 -- Making the plan of a replay, from what its parts are.
-use Rattle.std.proofs.Common.{◌≡◌, ℕ, List, [], ◌∷◌, ◌∙◌, refl, sym, inl, inr}
-use Rattle.std.specs.Prelude.{Some, Result, Ok, Err, IfOk, IsErrOf, OnErr}
+use Rattle.std.proofs.Common.{◌≡◌, ℕ, List, [], ◌∷◌, refl, inl, inr}
+use Rattle.std.specs.Prelude.{Some, Result, Ok, Err, IfOk}
 use Rattle.std.specs.declared.alloc.AllocError.{AllocError}
-use Rattle.tool_io.specs.Told.{Seen, after, reads, Gives}
-use Rattle.tool_io.specs.declared.files.Fault.{Fault}
-use Rattle.tool_io.specs.declared.files.Fault.TheVariants.{Failed, NoMemory}
-use Rattle.tool_io.proofs.Deeds.{after_two, after-nothing, IsPrefix-nothing, IsPrefix-whole}
+use Rattle.tool_io.specs.Told.{Seen, after, Gives}
 use Rattle.elf_load.specs.Fits.{unfit}
 use Rattle.elf_load.specs.Images.{Image, Loads}
 use Rattle.elf_load.specs.Refusals.{refusal}
@@ -18,36 +15,12 @@ use Rattle.test_files.specs.Tests.{Test}
 use Rattle.test_files.specs.declared.refused.TestRefused.{TestRefused as WhyNoTest}
 use Rattle.tool_words.specs.Job.{Replay}
 use Rattle.tool_top.specs.Lines.{refused_line, same, test_refused, unfit_line}
-use Rattle.tool_top.specs.Plan.{IsPlanned, OnlyReads, TreatsTest, most_bytes}
+use Rattle.tool_top.specs.Plan.{IsPlanned, TreatsTest, most_bytes}
 use Rattle.tool_top.specs.Replaying.{IsReplayable, most_test_bytes}
 use Rattle.tool_top.specs.declared.plan.Plan.{Plan as Made}
 use Rattle.tool_top.specs.declared.verdict.Verdict.TheVariants.{Done, Differs, Refused, TestRefused, Unfit}
 
--- What came of reading two names.
-abbrev failing : (T : Type 0) → Fault → Result T Fault
-failing T e = Err e
-
-fault_cases : {T P : Type 0} → (e : Fault) → (IsErrOf (failing T e) Failed → P) → (IsErrOf (failing T e) NoMemory → P) → P
-fault_cases Failed failed no_memory = failed refl
-fault_cases NoMemory failed no_memory = no_memory refl
-
-pub on_err : {T E P : Type 0} → (r : Result T E) → P → OnErr r P
-on_err (Ok x) p = tt
-on_err (Err e) p = p
-
 module _ (program test : List ℕ) where
-  pub first_failed : {T : Type 0} (old new : Seen) (e : Fault) → (IsErrOf (failing T e) Failed → new.told ≡ after old.told (reads program)) → (IsErrOf (failing T e) NoMemory → new.told ≡ old.told)
-      → OnlyReads old new (Some (Replay program test))
-  first_failed old new e failed no_memory = fault_cases e
-      (λ is. record { names = program ∷ []; begins = (test ∷ [], refl); changes = failed is })
-      (λ is. record { names = []; begins = IsPrefix-nothing _; changes = no_memory is ∙ sym (after-nothing _) })
-
-  pub second_failed : {T : Type 0} (old mid new : Seen) (e : Fault) → mid.told ≡ after old.told (reads program) → (IsErrOf (failing T e) Failed → new.told ≡ after mid.told (reads test)) → (IsErrOf (failing T e) NoMemory → new.told ≡ mid.told)
-      → OnlyReads old new (Some (Replay program test))
-  second_failed old mid new e read failed no_memory = fault_cases e
-      (λ is. record { names = program ∷ test ∷ []; begins = IsPrefix-whole _; changes = after_two old.told mid.told new.told (reads program) (reads test) read (failed is) })
-      (λ is. record { names = program ∷ []; begins = (test ∷ [], refl); changes = no_memory is ∙ read })
-
   pub planned_replay : (old new : Seen) (bytes text : List ℕ) (made : Result Made AllocError) → Gives old.told program most_bytes bytes → Gives old.told test most_test_bytes text
       → new.told ≡ after old.told (record { names = program ∷ test ∷ []; puts = []; said = [] }) → IfOk made (λ p. TreatsTest bytes text p.verdict p.files.items p.text)
       → IfOk made (λ p. IsPlanned old new (Some (Replay program test)) p.verdict p.files.items p.text)

@@ -4,7 +4,7 @@ use Rattle.std.specs.Prelude.{Some, Result, Ok, Err, IfOk}
 use Rattle.std.specs.Option.{option_map}
 use Rattle.std.specs.declared.alloc.AllocError.{AllocError}
 use Rattle.tool_io.specs.Causes.{Rose}
-use Rattle.tool_io.specs.Told.{Seen, Gives, Put, told_held}
+use Rattle.tool_io.specs.Told.{Seen, Gives, told_held}
 use Rattle.test_files.specs.Reading.{reading}
 use Rattle.test_files.specs.Upgrading.{upgraded}
 use Rattle.test_files.specs.declared.refused.TestRefused.{TestRefused as WhyNoTest}

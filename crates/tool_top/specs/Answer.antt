@@ -11,9 +11,17 @@ use Rattle.elf_load.specs.declared.refused.Refused.{Refused as WhyRefused}
 use Rattle.elf_load.specs.declared.region.Region.{Region}
 use Rattle.elf_load.specs.declared.unfit.Unfit.{Unfit as WhyUnfit}
 use Rattle.prog_gen.specs.Generated.{generated_file, generated_regions}
-use Rattle.tool_words.specs.Job.{Job, Bench, Explore, Replay, Upgrade, job_of}
+use Rattle.tool_words.specs.Job.{Job, Audit, Bench, Explore, Replay, Upgrade, job_of}
 use Rattle.tool_words.specs.Limits.{default_budgets}
-use Rattle.tool_top.specs.Lines.{bench_line, no_memory, upgraded_line}
+use Rattle.cert_audit.specs.Audits.{AreLeavesOf}
+use Rattle.cert_audit.specs.Walks.{AreCounted}
+use Rattle.cert_audit.specs.declared.auditing.Verdict.TheVariants.{No}
+use Rattle.cert_audit.specs.declared.walking.Leaves.{Leaves}
+use Rattle.cert_form.specs.Certificates.{Certificate}
+use Rattle.cert_query.specs.declared.fault.Reason.{Reason}
+use Rattle.fork_spec.specs.Parts.{Part}
+use Rattle.tool_top.specs.Auditing.{IsCertificate, IsSaidOf, most_certificate_bytes}
+use Rattle.tool_top.specs.Lines.{audit_yes, bench_line, no_memory, upgraded_line}
 use Rattle.tool_top.specs.Plan.{Plan, IsPlan, names_of, most_bytes}
 use Rattle.tree_core.specs.declared.budgets.Budgets.{Budgets}
 use Rattle.elf_load.specs.Images.{Image, Loads}
@@ -184,6 +192,7 @@ WritesFor r (Some (Explore program out asked budgets workers)) Claim =
     }) Claim
 WritesFor r (Some (Replay program test)) Claim = Unit {0}
 WritesFor r (Some (Upgrade test out)) Claim = Unit {0}
+WritesFor r (Some (Audit program certificate)) Claim = Unit {0}
 WritesFor r (Some (Bench number workers out)) Claim =
     IsWritten r (record {
       source = numbered number;
@@ -217,6 +226,7 @@ OnReplayed told (Some (Explore program out asked budgets workers)) Claim = Unit 
 OnReplayed told (Some (Replay program test)) Claim = IsRunTest told program test Claim
 OnReplayed told (Some (Bench number workers out)) Claim = Unit {0}
 OnReplayed told (Some (Upgrade test out)) Claim = Unit {0}
+OnReplayed told (Some (Audit program certificate)) Claim = Unit {0}
 
 -- The test's name gives a test, and its text in format 2 was put as the file `out`, and no other file, where the object tells its files;
 -- where it tells what was said, that was said.
@@ -235,17 +245,57 @@ UpgradesFor r (Some (Explore program out asked budgets workers)) = Unit {0}
 UpgradesFor r (Some (Replay program test)) = Unit {0}
 UpgradesFor r (Some (Bench number workers out)) = Unit {0}
 UpgradesFor r (Some (Upgrade test out)) = IsUpgradedTo r test out
+UpgradesFor r (Some (Audit program certificate)) = Unit {0}
 
 -- there is a job, and where it is to upgrade a test, that was done
 abbrev pub Upgrades : Ran → Type 0
 Upgrades r = UpgradesFor r r.job
 
--- there is a job to replay a test, and the claim holds of its program and its test
+-- The names of a program and of a certificate give the file of a program and a certificate's text, and the leaves that the certificate
+-- names are leaves of the program that share out all assignments; no file was put, where the object tells its files, and where it
+-- tells what was said, that was their numbers.
+pub record IsShownBy (r : Ran) (program certificate : List ℕ) : Type 0 where
+  pub bytes : List ℕ
+  pub text : List ℕ
+  pub image : Image
+  pub cert : Certificate
+  pub parts : List Part
+  pub leaves : Leaves
+  pub program_given : Gives r.old.told program most_bytes bytes
+  pub certificate_given : Gives r.old.told certificate most_certificate_bytes text
+  pub loads : Loads bytes image
+  pub reads : IsCertificate text cert
+  pub shown : AreLeavesOf image cert parts
+  pub counted : AreCounted parts leaves
+  pub no_files : IfSome (puts_since r.old.told r.new.told) (λ puts. puts ≡ [])
+  pub line : IfSome (said_since r.old.told r.new.told) (λ said. said ≡ audit_yes leaves)
+
+abbrev pub AuditsFor : Ran → Option Job → Type 0
+AuditsFor r None = ⊥
+AuditsFor r (Some (Explore program out asked budgets workers)) = Unit {0}
+AuditsFor r (Some (Replay program test)) = Unit {0}
+AuditsFor r (Some (Bench number workers out)) = Unit {0}
+AuditsFor r (Some (Upgrade test out)) = Unit {0}
+AuditsFor r (Some (Audit program certificate)) = IsShownBy r program certificate
+
+-- there is a job, and where it is to audit a certificate, its leaves are shown
+abbrev pub Audits : Ran → Type 0
+Audits r = AuditsFor r r.job
+
+-- the names of a program and of a certificate give the file of a program and a text of which an audit says no
+abbrev pub IsDoubted : Told → (program certificate : List ℕ) → Type 0
+IsDoubted told program certificate =
+    (bytes : List ℕ) × (text : List ℕ) × (image : Image) × (line : ℕ) × (reason : Reason)
+    × Gives told program most_bytes bytes × Gives told certificate most_certificate_bytes text
+    × Loads bytes image × IsSaidOf image text (No line reason)
+
+-- there is a job to replay a test, and the claim holds of its program and its test; or to audit a certificate, of which no is said
 abbrev pub HoldsOther : Told → Option Job → Type 0
 HoldsOther told None = ⊥
 HoldsOther told (Some (Explore program out asked budgets workers)) = ⊥
 HoldsOther told (Some (Bench number workers out)) = ⊥
 HoldsOther told (Some (Upgrade test out)) = ⊥
+HoldsOther told (Some (Audit program certificate)) = IsDoubted told program certificate
 HoldsOther told (Some (Replay program test)) =
     IsRunTest told program test (λ image read. ¬ IsAsSaid image read)
 
@@ -255,6 +305,7 @@ abbrev pub HoldsNoTest : Told → Option Job → Type 0
 HoldsNoTest told None = ⊥
 HoldsNoTest told (Some (Explore program out asked budgets workers)) = ⊥
 HoldsNoTest told (Some (Bench number workers out)) = ⊥
+HoldsNoTest told (Some (Audit program certificate)) = ⊥
 HoldsNoTest told (Some (Upgrade test out)) =
     (text : List ℕ) × (why : WhyNoTest) × Gives told test most_test_bytes text
     × (upgraded (reading text) ≡ Err why)
@@ -274,12 +325,16 @@ HoldsNoProgram told (Some (Explore program out asked budgets workers)) =
 HoldsNoProgram told (Some (Replay program test)) =
     (bytes : List ℕ) × (why : WhyRefused) × Gives told program most_bytes bytes
     × (refusal bytes ≡ Some why)
+HoldsNoProgram told (Some (Audit program certificate)) =
+    (bytes : List ℕ) × (why : WhyRefused) × Gives told program most_bytes bytes
+    × (refusal bytes ≡ Some why)
 
 -- there is a job, and the bytes that its program's name gives are the file of a program, but the input that is asked, or that the test has, doesn't fit it
 abbrev pub HoldsMisfit : Told → Option Job → Type 0
 HoldsMisfit told None = ⊥
 HoldsMisfit told (Some (Bench number workers out)) = ⊥
 HoldsMisfit told (Some (Upgrade test out)) = ⊥
+HoldsMisfit told (Some (Audit program certificate)) = ⊥
 HoldsMisfit told (Some (Explore program out asked budgets workers)) =
     (bytes : List ℕ) × (image : Image) × (why : WhyUnfit) × Gives told program most_bytes bytes
     × Loads bytes image × (unfit image asked ≡ Some why)
@@ -298,6 +353,7 @@ HoldsProgram told (Some (Explore program out asked budgets workers)) =
     × (unfit image asked ≡ None)
 HoldsProgram told (Some (Replay program test)) = ⊥
 HoldsProgram told (Some (Upgrade test out)) = ⊥
+HoldsProgram told (Some (Audit program certificate)) = ⊥
 HoldsProgram told (Some (Bench number workers out)) = Unit {0}
 
 -- there is a job to replay a test, and it is told that its names hold the files of a program and of a test whose regions fit it
@@ -306,6 +362,7 @@ HoldsTest told None = ⊥
 HoldsTest told (Some (Explore program out asked budgets workers)) = ⊥
 HoldsTest told (Some (Bench number workers out)) = ⊥
 HoldsTest told (Some (Upgrade test out)) = ⊥
+HoldsTest told (Some (Audit program certificate)) = ⊥
 HoldsTest told (Some (Replay program test)) =
     (bytes : List ℕ) × (text : List ℕ) × (image : Image) × (read : Test)
     × (option_map (take most_bytes) (told_held told program) ≡ Some bytes)
@@ -318,7 +375,21 @@ HoldsUpgrade told None = ⊥
 HoldsUpgrade told (Some (Explore program out asked budgets workers)) = ⊥
 HoldsUpgrade told (Some (Replay program test)) = ⊥
 HoldsUpgrade told (Some (Bench number workers out)) = ⊥
+HoldsUpgrade told (Some (Audit program certificate)) = ⊥
 HoldsUpgrade told (Some (Upgrade test out)) =
     (text : List ℕ) × (new : List ℕ)
     × (option_map (take most_test_bytes) (told_held told test) ≡ Some text)
     × (upgraded (reading text) ≡ Ok new)
+
+-- there is a job to audit a certificate, and it is told that its names hold the file of a program and any text
+abbrev pub HoldsText : Told → Option Job → Type 0
+HoldsText told None = ⊥
+HoldsText told (Some (Explore program out asked budgets workers)) = ⊥
+HoldsText told (Some (Replay program test)) = ⊥
+HoldsText told (Some (Bench number workers out)) = ⊥
+HoldsText told (Some (Upgrade test out)) = ⊥
+HoldsText told (Some (Audit program certificate)) =
+    (bytes : List ℕ) × (text : List ℕ) × (image : Image)
+    × (option_map (take most_bytes) (told_held told program) ≡ Some bytes)
+    × (option_map (take most_certificate_bytes) (told_held told certificate) ≡ Some text)
+    × Loads bytes image

@@ -1,6 +1,7 @@
 pub mod Reports
 pub mod Lines
 pub mod Replaying
+pub mod Auditing
 pub mod Upgrading
 pub mod Plan
 pub mod ReadBack

@@ -1,5 +1,10 @@
 -- What is said where nothing is done.
-use Rattle.std.specs.Prelude.{ℕ, List, ◌++◌, codes, decimal}
+use Rattle.std.specs.Prelude.{ℕ, ◌+◌, List, ◌++◌, codes, decimal}
+use Rattle.cert_audit.specs.declared.auditing.Verdict.{Verdict as Judgement}
+use Rattle.cert_audit.specs.declared.auditing.Verdict.TheVariants.{Yes, No}
+use Rattle.cert_audit.specs.declared.walking.Leaves.{Leaves}
+use Rattle.cert_query.specs.Faults.{number_of}
+use Rattle.cert_query.specs.declared.fault.Reason.{Reason}
 use Rattle.elf_load.specs.Names.{refused_number, refused_name, unfit_number, unfit_name}
 use Rattle.elf_load.specs.declared.refused.Refused.{Refused as WhyRefused}
 use Rattle.elf_load.specs.declared.unfit.Unfit.{Unfit as WhyUnfit}
@@ -12,6 +17,7 @@ usage =
     ++ codes "       rvklee replay PROGRAM TEST\n"
     ++ codes "       rvklee bench NUMBER WORKERS OUT\n"
     ++ codes "       rvklee upgrade TEST OUT\n"
+    ++ codes "       rvklee audit PROGRAM CERT\n"
 
 abbrev pub program_refused : ℕ → List ℕ → List ℕ
 program_refused number name =
@@ -45,6 +51,21 @@ same = codes "same\n"
 
 abbrev pub upgraded_line : List ℕ
 upgraded_line = codes "upgraded\n"
+
+-- of a certificate that shows its leaves: how many there are, and how many of them are finished and cut
+abbrev pub audit_yes : Leaves → List ℕ
+audit_yes leaves = codes "audit yes leaves " ++ decimal (leaves.finished + leaves.cut)
+    ++ codes " finished " ++ decimal leaves.finished ++ codes " cut " ++ decimal leaves.cut
+    ++ codes "\n"
+
+-- of one that doesn't: its first line at fault, and why
+abbrev pub audit_no : (line : ℕ) → Reason → List ℕ
+audit_no line reason =
+    codes "audit no " ++ decimal line ++ codes " " ++ decimal (number_of reason) ++ codes "\n"
+
+abbrev pub audit_line : Judgement → List ℕ
+audit_line (Yes leaves) = audit_yes leaves
+audit_line (No line reason) = audit_no line reason
 
 -- the line of `bench`: which program it explored, and the summary of its report
 abbrev pub bench_line : (number : ℕ) → (summary : List ℕ) → List ℕ

@@ -9,9 +9,10 @@ use Rattle.elf_load.specs.declared.refused.Refused.{Refused as WhyRefused}
 use Rattle.elf_load.specs.declared.region.Region.{Region}
 use Rattle.elf_load.specs.declared.unfit.Unfit.{Unfit as WhyUnfit}
 use Rattle.prog_gen.specs.Generated.{generated_file, generated_regions}
-use Rattle.tool_words.specs.Job.{Job, Bench, Explore, Replay, Upgrade}
+use Rattle.tool_words.specs.Job.{Job, Audit, Bench, Explore, Replay, Upgrade}
 use Rattle.tool_words.specs.Limits.{default_budgets}
 use Rattle.tree_core.specs.declared.budgets.Budgets.{Budgets}
+use Rattle.tool_top.specs.Auditing.{IsAuditSaid, most_certificate_bytes}
 use Rattle.tool_top.specs.Lines.{bench_line, read_fault, refused_line, unfit_line, usage}
 use Rattle.tool_top.specs.Replaying.{IsNoTest, IsReplayed, IsTestMisfit, most_test_bytes}
 use Rattle.tool_top.specs.Reports.{IsReportOf}
@@ -27,6 +28,7 @@ names_of (Some (Explore program out asked budgets workers)) = program ∷ []
 names_of (Some (Replay program test)) = program ∷ test ∷ []
 names_of (Some (Bench number workers out)) = []
 names_of (Some (Upgrade test out)) = test ∷ []
+names_of (Some (Audit program certificate)) = program ∷ certificate ∷ []
 
 -- the names that were read, and what is to be put and said
 pub record Plan : Type 0 where
@@ -97,6 +99,11 @@ TreatsTest bytes text verdict puts said =
     ⊎ (IsNoTest bytes text verdict puts said
     ⊎ (IsTestMisfit bytes text verdict puts said ⊎ IsReplayed bytes text verdict puts said))
 
+-- what is put and said for the bytes of a program's file and of a certificate's
+abbrev pub TreatsCertificate : (bytes text : List ℕ) → Verdict → List Put → List ℕ → Type 0
+TreatsCertificate bytes text verdict puts said =
+    IsRefusal bytes verdict puts said ⊎ IsAuditSaid bytes text verdict puts said
+
 -- what is meant, where all that the job reads was read
 abbrev pub Means : Told → Option Job → Plan → Type 0
 Means told None plan = plan ≡ says_only NoJob [] usage
@@ -113,6 +120,11 @@ Means told (Some (Bench number workers out)) plan = (plan.names ≡ [])
 Means told (Some (Upgrade test out)) plan =
     (text : List ℕ) × Gives told test most_test_bytes text × (plan.names ≡ test ∷ [])
     × TreatsUpgrade out text plan.verdict plan.puts plan.text
+Means told (Some (Audit program certificate)) plan =
+    (bytes : List ℕ) × (text : List ℕ) × Gives told program most_bytes bytes
+    × Gives told certificate most_certificate_bytes text
+    × (plan.names ≡ program ∷ certificate ∷ [])
+    × TreatsCertificate bytes text plan.verdict plan.puts plan.text
 
 -- of these names some were read, from the first on, the last of them in vain
 abbrev pub IsFaultAmong : (names : List (List ℕ)) → Plan → Type 0
@@ -127,16 +139,18 @@ IsReadFault (Some (Explore program out asked budgets workers)) plan =
 IsReadFault (Some (Replay program test)) plan = IsFaultAmong (program ∷ test ∷ []) plan
 IsReadFault (Some (Bench number workers out)) plan = ⊥
 IsReadFault (Some (Upgrade test out)) plan = IsFaultAmong (test ∷ []) plan
+IsReadFault (Some (Audit program certificate)) plan =
+    IsFaultAmong (program ∷ certificate ∷ []) plan
 
 -- the plan of a job, for the bytes that its names give
 abbrev pub IsPlan : Seen → Seen → Option Job → Plan → Type 0
 IsPlan old new job plan = Means old.told job plan
     ⊎ (Rose old.reads new.reads × IsReadFault job plan)
 
--- some names of the job were read, from the first on, and nothing else was done
-pub record OnlyReads (old new : Seen) (job : Option Job) : Type 0 where
+-- some of these names were read, from the first on, and nothing else was done
+pub record OnlyReads (old new : Seen) (whole : List (List ℕ)) : Type 0 where
   pub names : List (List ℕ)
-  pub begins : IsPrefix names (names_of job)
+  pub begins : IsPrefix names whole
   pub changes : new.told ≡ after old.told (record { names = names; puts = []; said = [] })
 
 -- a plan was made, and nothing was done but to read its names

@@ -1,6 +1,6 @@
 //! What an exploration is to put and say.
 
-ghost use Rattle.std.specs.Prelude.{◌≡◌, ◌≤◌, None, Some, IfOk, OnErr, string_bytes};
+ghost use Rattle.std.specs.Prelude.{◌≡◌, ◌≤◌, [], ◌∷◌, None, Some, IfOk, OnErr, string_bytes};
 ghost use Rattle.elf_load.specs.Fits.{unfit};
 ghost use Rattle.tool_words.specs.Limits.{IsBudgets};
 ghost use Rattle.tool_words.specs.Seen.{exploration_seen};
@@ -109,7 +109,7 @@ pub(crate) fn plan_explore<R: Threads + Wait + Sync, F: Files, G: Gate + Sync>(
     ensures ok { IfOk result (λ p. IsPlanned (F.seen files.old) (F.seen files.new)
         (Some (exploration_seen asked.now)) p.verdict p.files.items p.text) }
     ensures err { OnErr result (OnlyReads (F.seen files.old) (F.seen files.new)
-        (Some (exploration_seen asked.now))) }
+        (string_bytes asked.now.program ∷ [])) }
     ensures writes { (F.seen files.new).writes ≡ (F.seen files.old).writes }
 {
     match files.read(asked.program.as_str(), MOST_BYTES) {

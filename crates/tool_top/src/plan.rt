@@ -3,8 +3,9 @@
 ghost use Rattle.std.specs.Prelude.{◌≡◌, None, [], IfOk, OnErr, map, string_bytes};
 ghost use Rattle.tool_words.specs.Job.{job_of};
 ghost use Rattle.tool_top.specs.Lines.{refused_line, unfit_line};
-ghost use Rattle.tool_top.specs.Plan.{IsPlanned, OnlyReads};
+ghost use Rattle.tool_top.specs.Plan.{IsPlanned, OnlyReads, names_of};
 
+use crate::auditing::plan_audit;
 use crate::benching::plan_bench;
 use crate::exploring::plan_explore;
 use crate::refusals::{say_refused, say_unfit};
@@ -28,6 +29,7 @@ const USAGE: &[u8] =
        rvklee replay PROGRAM TEST
        rvklee bench NUMBER WORKERS OUT
        rvklee upgrade TEST OUT
+       rvklee audit PROGRAM CERT
 ";
 
 /// What is to be put and said, and what the run answers then.
@@ -89,7 +91,7 @@ pub(crate) fn make_plan<R: Threads + Wait + Sync, F: Files, G: Gate + Sync>(
     ensures ok { IfOk result (λ p. IsPlanned (F.seen files.old) (F.seen files.new)
         (job_of (map string_bytes words.now)) p.verdict p.files.items p.text) }
     ensures err { OnErr result (OnlyReads (F.seen files.old) (F.seen files.new)
-        (job_of (map string_bytes words.now))) }
+        (names_of (job_of (map string_bytes words.now)))) }
     ensures writes { (F.seen files.new).writes ≡ (F.seen files.old).writes }
 {
     match read_words(alloc, words) {
@@ -105,6 +107,12 @@ pub(crate) fn make_plan<R: Threads + Wait + Sync, F: Files, G: Gate + Sync>(
             },
         ) => plan_bench(rt, alloc, number, workers, out.as_str(), gate),
         Ok(Job::Upgrade { test, out }) => plan_upgrade(alloc, test.as_str(), out.as_str(), files),
+        Ok(
+            Job::Audit {
+                program,
+                certificate,
+            },
+        ) => plan_audit(alloc, program.as_str(), certificate.as_str(), files),
         Err(WordsError::Usage) => says_only(alloc, Verdict::NoJob, USAGE),
         Err(WordsError::NoMemory) => Err(NoMemory),
     }

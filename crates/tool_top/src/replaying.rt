@@ -1,18 +1,16 @@
 //! What a replay is to say.
 
-ghost use Rattle.std.specs.Prelude.{◌≡◌, true, false, Ok, Some, [], ◌∷◌, IfOk, OnOk, OnErr};
-ghost use Rattle.tool_io.specs.Causes.{HasCause};
-ghost use Rattle.tool_io.specs.Told.{Gives, after};
+ghost use Rattle.std.specs.Prelude.{◌≡◌, Ok, Some, [], ◌∷◌, IfOk, OnErr};
 ghost use Rattle.elf_load.specs.Images.{Loads};
 ghost use Rattle.test_files.specs.Reading.{reading};
 ghost use Rattle.tool_words.specs.Job.{Replay};
-ghost use Rattle.tool_top.specs.Plan.{IsPlanned, OnlyReads, TreatsTest, most_bytes};
-ghost use Rattle.tool_top.specs.Replaying.{IsReplayable, most_test_bytes};
+ghost use Rattle.tool_top.specs.Plan.{IsPlanned, OnlyReads, TreatsTest};
+ghost use Rattle.tool_top.specs.Replaying.{IsReplayable};
 
-use crate::plan::{MOST_BYTES, Plan, refuse, refuse_input, says_only};
+use crate::plan::{Plan, refuse, refuse_input, says_only};
+use crate::reading::read_both;
 use crate::refusals::say_test_refused;
 use crate::verdict::Verdict;
-use byte_list::Bytes;
 use elf_load::{Image, LoadError, fit, load};
 use replay_core::{Replayed, replay, write_difference};
 use std::alloc::{AllocError as NoMemory, Global};
@@ -86,25 +84,6 @@ fn plan_both(alloc: Global, bytes: &[u8], text: &[u8]) -> Result<Plan, NoMemory>
     }
 }
 
-// The bytes of the program's file, and then of the test's.
-fn read_both<F: Files>(program: &str, test: &str, files: &mut F) -> Result<(Bytes, Bytes), Fault>
-    ensures told { OnOk result ((F.seen files.new).told
-        ≡ after (F.seen files.old).told
-        (record { names = program.now ∷ test.now ∷ []; puts = []; said = [] })) }
-    ensures program { IfOk result (λ both. Gives
-        (F.seen files.old).told program.now most_bytes both.0) }
-    ensures test { IfOk result (λ both. Gives
-        (F.seen files.old).told test.now most_test_bytes both.1) }
-    ensures err { OnErr result (OnlyReads (F.seen files.old) (F.seen files.new)
-        (Some (Replay program.now test.now))) }
-    ensures cause { HasCause (F.seen files.old).reads (F.seen files.new).reads result }
-    ensures writes { (F.seen files.new).writes ≡ (F.seen files.old).writes }
-{
-    let bytes = files.read(program, MOST_BYTES)?;
-    let text = files.read(test, MOST_TEST_BYTES)?;
-    Ok((bytes, text))
-}
-
 /// Reads the program and then the test, and makes the plan of their replay.
 pub(crate) fn plan_replay<F: Files>(
     alloc: Global,
@@ -115,10 +94,10 @@ pub(crate) fn plan_replay<F: Files>(
     ensures ok { IfOk result (λ p. IsPlanned (F.seen files.old) (F.seen files.new)
         (Some (Replay program.now test.now)) p.verdict p.files.items p.text) }
     ensures err { OnErr result (OnlyReads (F.seen files.old) (F.seen files.new)
-        (Some (Replay program.now test.now))) }
+        (program.now ∷ test.now ∷ [])) }
     ensures writes { (F.seen files.new).writes ≡ (F.seen files.old).writes }
 {
-    match read_both(program, test, files) {
+    match read_both(program, test, MOST_TEST_BYTES, files) {
         Ok((bytes, text)) => plan_both(alloc, bytes.as_slice(), text.as_slice()),
         Err(Fault::Failed) => says_only(alloc, Verdict::ReadFault, b"read fault\n"),
         Err(Fault::NoMemory) => Err(NoMemory),

@@ -7,7 +7,7 @@ ghost use Rattle.tool_words.specs.Job.{job_of};
 ghost use Rattle.tool_top.specs.Plan.{names_of};
 ghost use Rattle.replay_core.specs.Replays.{IsAsSaid};
 ghost use Rattle.report_text.specs.Claims.{AreAlike, AreFaithful, AreFull, ArePartedAll, AreRuns, GiveUpOnce, HasHistory, HaveInputs, IsExactCover, IsReport, ShowBudgets, StandByRank};
-ghost use Rattle.tool_top.specs.Answer.{Before, Ends, OnReplayed, Upgrades, Writes, ran, HoldsProgram, HoldsNoProgram, HoldsNoTest, HoldsMisfit, HoldsOther, HoldsTest, HoldsUpgrade};
+ghost use Rattle.tool_top.specs.Answer.{Audits, Before, Ends, OnReplayed, Upgrades, Writes, ran, HoldsProgram, HoldsNoProgram, HoldsNoTest, HoldsMisfit, HoldsOther, HoldsTest, HoldsText, HoldsUpgrade};
 
 use crate::carry::{carry_out, say_no_memory};
 use crate::plan::make_plan;
@@ -129,6 +129,9 @@ pub fn run_tool<R: Threads + Wait + Sync, F: Files, G: Gate + Sync>(
         (λ told job. OnReplayed told job IsAsSaid) }
     // Where an upgrade is done, the test's text in format 2 is the one file that was put.
     ensures upgraded { result ≡ 0 → Upgrades (ran F.seen files.old files.new words.now) }
+    // Where an audit says yes, the leaves that the certificate names share out all assignments of its input bytes, and each of them is
+    // right.
+    ensures audited { result ≡ 0 → Audits (ran F.seen files.old files.new words.now) }
 
     // A program is explored to the end, for an input that fits it, unless memory is refused,
     ensures complete { Before (ran F.seen files.old files.new words.now) HoldsProgram
@@ -140,11 +143,16 @@ pub fn run_tool<R: Threads + Wait + Sync, F: Files, G: Gate + Sync>(
         → ¬ Rose (F.seen files.old).reads (F.seen files.new).reads
         → ¬ Rose (F.seen files.old).writes (F.seen files.new).writes
         → (result ≡ 0) ⊎ (result ≡ 1) ⊎ (result ≡ 8) }
-    // and a test that has a text in format 2 gets it.
+    // a test that has a text in format 2 gets it,
     ensures complete_upgrade { Before (ran F.seen files.old files.new words.now) HoldsUpgrade
         → ¬ Rose (F.seen files.old).reads (F.seen files.new).reads
         → ¬ Rose (F.seen files.old).writes (F.seen files.new).writes
         → (result ≡ 0) ⊎ (result ≡ 8) }
+    // and of a certificate of a program yes or no is said.
+    ensures complete_audit { Before (ran F.seen files.old files.new words.now) HoldsText
+        → ¬ Rose (F.seen files.old).reads (F.seen files.new).reads
+        → ¬ Rose (F.seen files.old).writes (F.seen files.new).writes
+        → (result ≡ 0) ⊎ (result ≡ 1) ⊎ (result ≡ 8) }
 {
     run_words(rt, alloc, words, files, gate).status()
 }

@@ -53,8 +53,7 @@ pub(crate) fn plan_upgrade<F: Files>(
 ) -> Result<Plan, NoMemory>
     ensures ok { IfOk result (λ p. IsPlanned (F.seen files.old) (F.seen files.new)
         (Some (Upgrade test.now out.now)) p.verdict p.files.items p.text) }
-    ensures err { OnErr result (OnlyReads (F.seen files.old) (F.seen files.new)
-        (Some (Upgrade test.now out.now))) }
+    ensures err { OnErr result (OnlyReads (F.seen files.old) (F.seen files.new) (test.now ∷ [])) }
     ensures writes { (F.seen files.new).writes ≡ (F.seen files.old).writes }
 {
     match files.read(test, MOST_TEST_BYTES) {

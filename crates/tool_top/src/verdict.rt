@@ -6,7 +6,7 @@ ghost use Rattle.std.specs.Prelude.{◌≡◌};
 #[derive(Clone, Copy, Debug, PartialEq, Eq)]
 pub enum Verdict {
     Done,
-    /// A run is not as its test says.
+    /// A run is not as its test says, or leaves aren't as their certificate says.
     Differs,
     /// The words ask for nothing that the tool does.
     NoJob,

@@ -6,7 +6,7 @@ use Rattle.tool_top.proofs.replaying.plan_replay.Goals as goal
 
 pub returns-in-Ok-clause-ok : goal.returns-in-Ok-clause-ok
 returns-in-Ok-clause-ok g c =
-    planned_replay c.args.program.now c.args.test.now _ _ c.in-Ok.bytes c.in-Ok.text c.plan_both.result c.in-Ok.ensures.program c.in-Ok.ensures.test c.in-Ok.ensures.told
+    planned_replay c.args.program.now c.args.test.now _ _ c.in-Ok.bytes c.in-Ok.text c.plan_both.result c.in-Ok.ensures.program c.in-Ok.ensures.other c.in-Ok.ensures.told
     (rw (c.as_slice.ensures, c.as_slice-in-Ok.ensures) at c.plan_both.ensures)
 
 pub returns-in-Ok-clause-err : goal.returns-in-Ok-clause-err

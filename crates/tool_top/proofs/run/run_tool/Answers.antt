@@ -1,6 +1,7 @@
 use Rattle.report_text.specs.Claims.{IsReport}
 use Rattle.tool_top.specs.declared.verdict.Verdict.TheVariants.{Done, Differs, NoJob, ReadFault, Refused, TestRefused, Unfit}
-use Rattle.tool_top.proofs.Endings.{answered_as, answered_faulted, answered_names, complete, complete_replay, complete_upgrade, differs_other, done_same, done_upgraded, done_written, faulted_job, no_job_none, read_rose, refused_no_program, refused_no_test, unfit_holds}
+use Rattle.tool_top.proofs.Endings.{answered_as, answered_faulted, answered_names, differs_other, done_audited, done_same, done_upgraded, done_written, faulted_job, no_job_none, read_rose, refused_no_program, refused_no_test, unfit_holds}
+use Rattle.tool_top.proofs.Completing.{complete, complete_audit, complete_replay, complete_upgrade}
 use Rattle.tool_top.proofs.run.run_tool.Goals as goal
 
 pub returns-clause-names : goal.returns-clause-names
@@ -114,3 +115,10 @@ returns-clause-upgraded g c = λ zero.
 
 pub returns-clause-complete_upgrade : goal.returns-clause-complete_upgrade
 returns-clause-complete_upgrade g c = complete_upgrade _ _ _ c.run_words.result _ c.run_words.ensures c.status.ensures
+
+pub returns-clause-audited : goal.returns-clause-audited
+returns-clause-audited g c = λ zero.
+    done_audited _ _ _ (answered_as _ _ _ c.run_words.result Done _ c.run_words.ensures c.status.ensures zero)
+
+pub returns-clause-complete_audit : goal.returns-clause-complete_audit
+returns-clause-complete_audit g c = complete_audit _ _ _ c.run_words.result _ c.run_words.ensures c.status.ensures
