@@ -2,6 +2,8 @@
 #![tactic(auto)]
 
 #[cfg(test)]
+mod certificates;
+#[cfg(test)]
 mod of_cert_audit;
 #[cfg(test)]
 mod of_cert_query;

@@ -2,6 +2,7 @@
 
 ghost use Rattle.std.specs.Prelude.{◌<◌, ◌^◌, length};
 
+use crate::certificates::THREE_LEAVES;
 use cert_audit::{Leaves, Verdict, audit};
 use cert_query::Reason;
 use cert_text::read_cert;
@@ -9,19 +10,6 @@ use elf_load::{Image, load};
 use row_files::{programs, row_file};
 use std::alloc::Global;
 use std::test::Fail;
-
-/// Of `COMPARED`: its byte is 10 or more, and then 21 or more, or less; or it is below 10, and then below 21.
-static THREE_LEAVES: &str = "rvklee cert 1
-regions 00011000:1
-budgets 10000 16 2000 1000000
-split N Y
-one Y
-tried
-end 00
-split N Y
-end 15
-end 0a
-";
 
 /// Of `CALLED`: four numbers of environment calls that there aren't, and the rest.
 static FOUR_VALUES: &str = "rvklee cert 1

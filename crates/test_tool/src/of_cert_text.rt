@@ -1,22 +1,10 @@
 //! Which texts are certificates, and at which line others are refused.
 
+use crate::certificates::THREE_LEAVES;
 use cert_form::{Cert, CertLine};
 use cert_text::{print_cert, read_cert};
 use std::alloc::{AllocError as NoMemory, Global};
 use std::test::Fail;
-
-/// A program whose runs differ by one byte: it is at most 162 or not, and then 21 or more, or less.
-static THREE_LEAVES: &str = "rvklee cert 1
-regions 00011000:1
-budgets 10000 16 2000 1000000
-split N Y
-one Y
-tried
-end 00
-split N Y
-end 15
-end 0a
-";
 
 /// Each kind of line.
 static EACH_KIND: &str = "rvklee cert 1

@@ -1,5 +1,6 @@
 //! Tests over whole runs of the tool.
 
+mod audits;
 mod inputs;
 mod instructions;
 mod nodes;

@@ -1,12 +1,11 @@
 //! Tests that are replayed: the status, the line said, and how many names are read.
 
-use crate::of_tool_top::runs::{FORKS, Held, answers, check, counts, files, files_of};
+use crate::of_tool_top::runs::{FORKS, Held, answers, check, counts, files, files_of, hold_blanks};
 use row_files::programs::{FORKED, STRAIGHT};
-use std::alloc::{AllocError as NoMemory, Global};
+use std::alloc::AllocError as NoMemory;
 use std::process::Abort;
 use std::sync::Wait;
 use std::thread::Threads;
-use tool_io::MemFiles;
 use work_gate::OpenGate;
 
 const REPLAY: &[&str] = &["rvklee", "replay", "p.elf", "t.json"];
@@ -133,17 +132,11 @@ fn tests_are_replayed(rt: HostRuntime) -> Result<(), NoMemory> {
     Ok(())
 }
 
-// Lets t.json be a text of one byte more than is read.
-fn hold_much(alloc: Global, files: &mut MemFiles) -> Result<(), NoMemory> {
-    let mut text = Vec::new(alloc);
-    text.resize(16_777_217, b' ')?;
-    files.hold("t.json", text.as_slice())
-}
-
 #[test]
 fn a_test_too_big_is_refused(rt: HostRuntime) -> Result<(), NoMemory> {
     let mut files = files(&rt, &FORKED, &[])?;
-    hold_much(rt.alloc(), &mut files)?;
+    // One byte more than is read.
+    hold_blanks(rt.alloc(), &mut files, "t.json", 16_777_217)?;
     answers(
         &rt,
         REPLAY,

@@ -15,8 +15,9 @@ use work_gate::{Gate, OpenGate};
 /// What is said of `FORKED`, explored with its one input byte.
 pub(crate) const SUMMARY: &str = "leaves 2 finished 2 cut 0 tests 2 steps 13\n";
 
-const USAGE: &str =
-    "usage: rvklee explore [--steps N] [--targets N] [--conflicts N] [--workers N] [--nodes N] [--order O] PROGRAM OUT INPUT..\n       rvklee replay PROGRAM TEST\n       rvklee bench NUMBER WORKERS OUT\n       rvklee upgrade TEST OUT\n";
+/// What is said of words that make no job.
+pub(crate) const USAGE: &str =
+    "usage: rvklee explore [--steps N] [--targets N] [--conflicts N] [--workers N] [--nodes N] [--order O] PROGRAM OUT INPUT..\n       rvklee replay PROGRAM TEST\n       rvklee bench NUMBER WORKERS OUT\n       rvklee upgrade TEST OUT\n       rvklee audit PROGRAM CERT\n";
 
 const UNFIT: &str = "inputs refused 4 Unmapped\n";
 
@@ -153,6 +154,18 @@ pub(crate) fn files_of<R: AllocGlobal + Abort>(
         Held::Empty => holding(rt.alloc(), b"", to_fail),
         Held::Program(words) => files(rt, words, to_fail),
     }
+}
+
+/// Lets a name hold so many blanks.
+pub(crate) fn hold_blanks(
+    alloc: Global,
+    files: &mut MemFiles,
+    name: &str,
+    count: u32,
+) -> Result<(), NoMemory> {
+    let mut text = Vec::new(alloc);
+    text.resize(count as usize, b' ')?;
+    files.hold(name, text.as_slice())
 }
 
 /// The status of the tool's run at this gate.

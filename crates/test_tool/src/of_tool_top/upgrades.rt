@@ -1,6 +1,6 @@
 //! Tests that are upgraded: the status, the line said, and the file put.
 
-use crate::of_tool_top::runs::{answers, check, counts};
+use crate::of_tool_top::runs::{USAGE, answers, check, counts};
 use std::alloc::AllocError as NoMemory;
 use std::process::Abort;
 use std::sync::Wait;
@@ -15,9 +15,6 @@ const IN_PLACE: &[&str] = &["rvklee", "upgrade", "t.json", "t.json"];
 const NOT_THERE: &[&str] = &["rvklee", "upgrade", "other.json", "new.json"];
 
 const WITHOUT_OUT: &[&str] = &["rvklee", "upgrade", "t.json"];
-
-const USAGE: &str =
-    "usage: rvklee explore [--steps N] [--targets N] [--conflicts N] [--workers N] [--nodes N] [--order O] PROGRAM OUT INPUT..\n       rvklee replay PROGRAM TEST\n       rvklee bench NUMBER WORKERS OUT\n       rvklee upgrade TEST OUT\n";
 
 const JOINED: &str =
     "{\"end\":\"exit 7\",\"format\":1,\"input\":\"00\",\"leaf\":0,\"output\":\"\",\"path\":\"\",\"regions\":[\"00011000:1\"],\"steps\":3}\n";
