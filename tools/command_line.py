@@ -10,7 +10,7 @@ from own_options import NAMES
 
 Limit = collections.namedtuple("Limit", "most default")
 COMMANDS = {"explore": ("PROGRAM", "OUT", "INPUT"), "replay": ("PROGRAM", "TEST"), "bench": ("NUMBER", "WORKERS", "OUT"),
-            "upgrade": ("TEST", "OUT")}
+            "upgrade": ("TEST", "OUT"), "audit": ("PROGRAM", "CERT")}
 # Of the options of `explore` that take a number.
 LIMITS = {"--steps": Limit(1_000_000, 10_000), "--targets": Limit(64, 16), "--conflicts": Limit(100_000, 2_000),
           "--workers": Limit(64, 4), "--nodes": Limit(1_000_000, 1_000_000)}
@@ -23,6 +23,7 @@ USAGE = """usage: rvklee explore [--steps N] [--targets N] [--conflicts N] [--wo
        rvklee replay PROGRAM TEST
        rvklee bench NUMBER WORKERS OUT
        rvklee upgrade TEST OUT
+       rvklee audit PROGRAM CERT
 """
 REGION = re.compile(r"([0-9a-fA-F]{8}):([0-9]{1,4})")
 
@@ -103,8 +104,8 @@ class Reading:
             self.command = self.words[1] if self.words[1:] and self.words[1] in COMMANDS else None
             return self.help()
         if first.startswith("-") and first != "-":
-            return self.refuse(f"{first}: the first word is explore, replay, bench or upgrade")
-        return self.refuse(f"{first}: no such command{near(first, COMMANDS) or '; there are explore, replay, bench and upgrade'}")
+            return self.refuse(f"{first}: the first word is explore, replay, bench, upgrade or audit")
+        return self.refuse(f"{first}: no such command{near(first, COMMANDS) or '; there are explore, replay, bench, upgrade and audit'}")
 
     def takes_words(self):
         """Sorts the words behind the command: options with their values, and the places of all others."""

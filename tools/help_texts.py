@@ -8,6 +8,7 @@ rvklee finds the paths of RV32IM firmware: for each a condition on the input byt
   replay    runs a test again, and says whether the run is as the test says
   bench     explores a program that it generates, with 2^NUMBER paths
   upgrade   writes a test of format 1 in format 2
+  audit     checks a certificate of a program's leaves, and trusts nothing of how they were found
 
 `rvklee COMMAND --help` says more of each; docs/GUIDE.md goes from a C routine to its tests, docs/FORMATS.md has all texts.
 """
@@ -46,6 +47,13 @@ OUT. It prints `upgraded`. OUT may be TEST.
 
 example: ./rvklee upgrade old/test-000018.json out/test-000018.json
 """
+AUDIT = """
+rvklee audit walks the fork tree of PROGRAM along the lines of the certificate in the file CERT (docs/FORMATS.md, Certificates). It
+prints `audit yes leaves L finished F cut C` where the leaves that the certificate names share out all inputs and each is right, and
+else `audit no LINE REASON` (status 1), with the first line at fault. tools/certificate makes one of what explore put.
+
+example: ./rvklee audit examples/ltv.elf out/ltv/cert.txt
+"""
 LAUNCHER = """
 The launcher's own options, anywhere before a word `--`:
   --make-out   makes the folder OUT where it isn't there
@@ -55,11 +63,11 @@ The launcher's own options, anywhere before a word `--`:
   --build      proves all crates and builds the program, once
 """
 STATUSES = """
-Statuses: 0 done, 1 the replay differs, 2 the words make no job (as calls for help), 3 the program is refused, 4 the inputs are
-refused, 5 a file couldn't be read, 6 a file couldn't be written, 7 the test is refused, 8 out of memory; 70 no Rattle kit,
+Statuses: 0 done, 1 the replay differs or the audit says no, 2 the words make no job (as calls for help), 3 the program is refused,
+4 the inputs are refused, 5 a file couldn't be read, 6 a file couldn't be written, 7 the test is refused, 8 out of memory; 70 no Rattle kit,
 124 ended by --seconds, 130 ended by Ctrl-C.
 """
-TEXTS = {"explore": EXPLORE, "replay": REPLAY, "bench": BENCH, "upgrade": UPGRADE}
+TEXTS = {"explore": EXPLORE, "replay": REPLAY, "bench": BENCH, "upgrade": UPGRADE, "audit": AUDIT}
 
 
 def text(command):

@@ -45,14 +45,37 @@ TEST = {
     5: "{length}",
     6: "it has more than 16,777,216 bytes: is it a test?",
 }
+# By the numbers of "Certificates".
+CERTIFICATE = {
+    1: "it isn't of the form that docs/FORMATS.md gives",
+    2: "another line must stand here, or none",
+    3: "the question isn't the one that is asked here",
+    4: "the clauses don't show what they must",
+    5: "these bytes don't lead here",
+    6: "a budget isn't spent, or a region or a budget isn't within its limits",
+    7: "a value of the byte isn't excluded, or there are more bytes than one",
+}
+
+
+def doubt(file, said):
+    """The sentence for the line with which an audit says no."""
+    found = re.match(r"audit no (\d+) (\d)$", said)
+    if not found:
+        return None
+    line, reason = int(found[1]), int(found[2])
+    if line == 0:
+        return f"{file}: it has more than 67,108,864 bytes: is it a certificate?"
+    return f"{file}, line {line}: {CERTIFICATE[reason]}"
 
 
 def sentences(run):
     """The sentence for a run's status and the line that was printed with it, where there is one."""
     reading, status = run.reading, run.status
-    path, test = reading.word("PROGRAM"), reading.word("TEST")
+    path, test, certificate = (reading.word(name) for name in ("PROGRAM", "TEST", "CERT"))
     found = re.match(r"\w+ refused (\d+) ", run.line()) if status in (3, 4, 7) else None
     number = int(found[1]) if found else None
+    if status == 1 and reading.command == "audit" and (said := doubt(certificate, run.line())):
+        yield said
     if status == 3 and number in PROGRAM:
         yield f"{path}: " + PROGRAM[number].format_map(program_facts(ProgramFile(path)))
     if status == 4 and number in INPUTS:
@@ -61,12 +84,19 @@ def sentences(run):
     if status == 7 and number in TEST:
         yield f"{test}: " + TEST[number].format_map(test_facts(read_test(test), reading.command == "upgrade"))
     if status == 5:
-        yield unreadable([file for file in (path, test) if file is not None])
+        yield unreadable([file for file in (path, test, certificate) if file is not None])
     if status == 6:
-        lacks = "isn't whole" if reading.command == "upgrade" else "hasn't all of the report"
-        yield f"{reading.word('OUT')} {lacks}, or the line wasn't printed: is the disk full, or may you not write?"
+        yield f"{unwritten(reading)}the line wasn't printed: is the disk full, or may you not write?"
     if status == 8:
         yield "memory ran out: give smaller budgets, fewer input bytes or fewer workers"
+
+
+def unwritten(reading):
+    """What else may not be written where a line may not be printed, if anything is."""
+    out = reading.word("OUT")
+    if out is None:
+        return ""
+    return f"{out} isn't whole, or " if reading.command == "upgrade" else f"{out} hasn't all of the report, or "
 
 
 def unreadable(files):

@@ -66,7 +66,7 @@ class ToolRun:
         """What the tool printed. Where that went to the caller alone it is asked again, which is quick of a refusal; not where a
         file is a pipe, which can't be read again."""
         if self.said is None:
-            files = [self.reading.word(name) for name in ("PROGRAM", "TEST") if self.reading.word(name) is not None]
+            files = [self.reading.word(name) for name in ("PROGRAM", "TEST", "CERT") if self.reading.word(name) is not None]
             if not all(map(os.path.isfile, files)):
                 return ""
             self.said = subprocess.run([self.program, *self.reading.words], stdout=subprocess.PIPE).stdout
