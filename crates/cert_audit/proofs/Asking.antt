@@ -1,5 +1,5 @@
 -- Sides that are cut by conflicts.
-use Rattle.std.proofs.Common.{◌≡◌, ℕ, ◌+◌, ◌-◌, ◌<◌, Bool, List, [], ◌∷◌, ◌++◌, get_or, length, map, take, refl, sym, ap, subst, ◌∙◌, arith}
+use Rattle.std.proofs.Common.{◌≡◌, ℕ, ◌+◌, ◌-◌, ◌<◌, Bool, false, List, [], ◌∷◌, ◌++◌, get_or, length, map, take, refl, sym, ap, subst, ◌∙◌, arith}
 use Rattle.std.specs.Prelude.{None, Some, Contains, IfOk, Result, Ok, Err}
 use Rattle.std.specs.List.{slice_get}
 use Rattle.std.proofs.lemmas.Grind.{take_at_read}
@@ -28,8 +28,9 @@ use Rattle.term_trees.specs.TreeSlices.{IsPartFor}
 use Rattle.tree_core.specs.declared.budgets.Budgets.{Budgets}
 use Rattle.tree_core.specs.declared.cause.Cause.TheVariants.{Conflicts as ByConflicts}
 use Rattle.tree_core.specs.declared.choice.Choice.{Choice}
-use Rattle.cert_audit.specs.Asking.{AskTheSame, IsLastPart, IsLearntIn}
+use Rattle.cert_audit.specs.Asking.{AskTheSame, IsLast, IsLastPart, IsLearntIn}
 use Rattle.cert_audit.specs.Names.{named_from}
+use Rattle.cert_audit.specs.ProofFaults.{IsNotExcluded, IsNotTried}
 use Rattle.cert_audit.specs.Steps.{IsTaken}
 use Rattle.cert_audit.specs.declared.conflicts.LearntLines.{LearntLines}
 use Rattle.cert_audit.specs.declared.todo.Asked.{Asked}
@@ -50,19 +51,29 @@ last_apart (y ∷ ys) x is =
       sym (take_all (at + 1) xs (omega (arith, whole))) ∙ (take_at_read xs at x within).1 ∙ ap (λ v. take at xs ++ v ∷ []) (sym same),
     )
 
--- the slice of a run's condition for its last assertion
-pub last_is : (s : Symbolic) (g : Graph) (ids same : List ℕ) (x : ℕ) (part : Condition) → g ≡ s.terms → ids ≡ s.condition → same ≡ s.condition
-    → Some x ≡ slice_get same (length same - 1) → IsCut (record { graph = g; asserted = ids }) x part → IsLastPart (condition_of s) part
-last_is s g ids same x part terms condition again last cut =
-    let apart = last_apart s.condition x (subst (λ xs. Some x ≡ slice_get xs (length xs - 1)) again last) in
-    let whole = subst (λ h. IsCut (record { graph = h; asserted = s.condition }) x part) terms
-    (subst (λ xs. IsCut (record { graph = g; asserted = xs }) x part) condition cut) in
+-- a slice of a run's condition for its last assertion
+pub last_part_is : (s : Symbolic) (x : ℕ) (part : Condition) → IsLast s.condition x → IsCut (condition_of s) x part → IsLastPart (condition_of s) part
+last_part_is s x part apart whole =
     let there : Contains s.condition x = subst (λ xs. Contains xs x) (sym apart.1) (Contains-append_right apart.0 (x ∷ []) x (Contains-here x [] x refl)) in record {
       front = apart.0;
       last = x;
       asserted = apart.1;
       matters = record { inputs = whole.slice.inputs; slice = slice_of_trees (condition_of s) x part there whole.slice };
     }
+
+pub last_is : (s : Symbolic) (g : Graph) (ids same : List ℕ) (x : ℕ) (part : Condition) → g ≡ s.terms → ids ≡ s.condition → same ≡ s.condition
+    → Some x ≡ slice_get same (length same - 1) → IsCut (record { graph = g; asserted = ids }) x part → IsLastPart (condition_of s) part
+last_is s g ids same x part terms condition again last cut =
+    let apart = last_apart s.condition x (subst (λ xs. Some x ≡ slice_get xs (length xs - 1)) again last) in
+    let whole = subst (λ h. IsCut (record { graph = h; asserted = s.condition }) x part) terms
+    (subst (λ xs. IsCut (record { graph = g; asserted = xs }) x part) condition cut) in
+    last_part_is s x part apart whole
+
+-- values of its one byte that were tried in vain, or two bytes
+pub not_tried_ok : {E : Type 0} (r : Result Bool E) (s : Symbolic) (x : ℕ) (part : Condition) → IsCut (condition_of s) x part
+    → IfOk r (λ b. b ≡ false → IsNotExcluded part) → IfOk r (λ b. b ≡ false → IsLast s.condition x → IsNotTried (condition_of s))
+not_tried_ok (Err e) s x part cut is = tt
+not_tried_ok (Ok excluded) s x part cut is = λ open_still last. record { part = part; is_part = last_part_is s x part last cut; not_excluded = is open_still }
 
 -- a question that asks the same is the same part of the condition
 pub same_part : (q part other : Condition) (new : ℕ) → AskTheSame part other → IsPartFor q new part → IsPartFor q new other

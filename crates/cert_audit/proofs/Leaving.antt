@@ -1,9 +1,9 @@
 -- The sides of values as a line says them, and a run without the values.
-use Rattle.std.proofs.Common.{◌≡◌, ℕ, suc, ◌+◌, ◌-◌, ◌<◌, ◌≤◌, inl, inr, Bool, ◌||◌, true, false, List, [], ◌∷◌, ◌++◌, get_or, length, map, refl, sym, ap, subst, ◌∙◌, arith, append_assoc, length-append}
+use Rattle.std.proofs.Common.{◌≡◌, ℕ, zero, suc, ◌+◌, ◌-◌, ◌<◌, ◌≤◌, inl, inr, Bool, ◌||◌, true, false, List, [], ◌∷◌, ◌++◌, get_or, length, map, refl, sym, ap, subst, ◌∙◌, arith, append_assoc, length-append}
 use Rattle.std.specs.Prelude.{All, ◌==◌}
 use Rattle.std.proofs.lemmas.Bool.{cases_eq, cases_lt}
 use Rattle.std.proofs.lemmas.List.{map-append}
-use Rattle.std.proofs.lemmas.List.Elements.{All-nil, All-cons}
+use Rattle.std.proofs.lemmas.List.Elements.{All-nil, All-cons, All-head}
 use Rattle.std.proofs.lemmas.List.Folds.{list_any-append}
 use Rattle.bv_dag.specs.Graphs.{width_of}
 use Rattle.fork_spec.specs.Evidence.{AreIncreasing, is_among}
@@ -38,6 +38,18 @@ increases_more vs at is some next k less = elim (cases_eq (suc k) at) [
   where
     below_of_other : (a b : ℕ) → a ≤ b → (a ≡ b → ⊥) → a < b
     below_of_other a b le ne = elim (cases_lt a b) [ inl below ↦ below | inr past ↦ absurd (ne (omega (arith, le, past))) ]
+
+pub each_increases : (vs : List ℕ) → AreIncreasing vs → IncreasesUpTo (length vs) vs
+each_increases [] is k less = absurd (omega (arith, less))
+each_increases (v ∷ []) is k less = absurd (omega (arith, less))
+each_increases (v ∷ w ∷ vs) is zero less = All-head (λ x. v < x) w vs is.0
+each_increases (v ∷ w ∷ vs) is (suc k) less = each_increases (w ∷ vs) is.1 k (omega (arith, less))
+
+pub not_increasing_at : (vs : List ℕ) (at : ℕ) → 1 ≤ at → at < length vs → get_or vs at 0 ≤ get_or vs (at - 1) 0 → AreIncreasing vs → ⊥
+not_increasing_at vs at some within fewer is =
+    let same : suc (at - 1) ≡ at = omega (arith, some) in
+    let less : get_or vs (at - 1) 0 < get_or vs at 0 = subst (λ j. get_or vs (at - 1) 0 < get_or vs j 0) same (each_increases vs is (at - 1) (omega (arith, some, within))) in
+    absurd (omega (arith, less, fewer))
 
 -- ---- The sides of values.
 pub one_side_more : (all rest more : List Side) (vs : List ℕ) (side : Side) (v : ℕ) → all ≡ map value_side vs ++ rest → rest ≡ side ∷ more

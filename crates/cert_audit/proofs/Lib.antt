@@ -6,8 +6,10 @@ pub mod Naming
 pub mod NodeLeaves
 pub mod Parting
 pub mod Quiet
+pub mod Refusing
 pub mod Settling
 pub mod Showing
+pub mod SidesRead
 pub mod Spending
 pub mod Stopping
 pub mod Valuing

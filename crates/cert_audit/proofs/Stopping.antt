@@ -1,6 +1,6 @@
 -- What lines make of runs that have stopped, and of what the walk comes to.
 use Rattle.std.proofs.Common.{◌≡◌, ℕ, ◌≤◌, Bool, List, length, refl, ap, subst, sym, ◌∙◌, arith}
-use Rattle.std.specs.Prelude.{IfOk, None, Result, Ok, Err}
+use Rattle.std.specs.Prelude.{IfErr, IfOk, None, Result, Ok, Err}
 use Rattle.cert_form.specs.declared.line.CertLine.{CertLine}
 use Rattle.cow_pages.specs.declared.byte.Byte.{Byte}
 use Rattle.fork_spec.specs.Leaves.{IsSmall}
@@ -60,6 +60,15 @@ pub fork_ok : (r : Result Went Fault) (P : Went → Type 0) (Q : Visited → Typ
     → IfOk (as_fork r) Q
 fork_ok (Ok went) P Q gives is = gives went is
 fork_ok (Err fault) P Q gives is = tt
+
+-- ---- where one is
+pub leaf_err : (r : Result Taken Fault) (P Q : Fault → Type 0) → ((f : Fault) → P f → Q f) → IfErr r P → IfErr (as_leaf r) Q
+leaf_err (Ok taken) P Q gives is = tt
+leaf_err (Err fault) P Q gives is = gives fault is
+
+pub fork_err : (r : Result Went Fault) (P Q : Fault → Type 0) → ((f : Fault) → P f → Q f) → IfErr r P → IfErr (as_fork r) Q
+fork_err (Ok went) P Q gives is = tt
+fork_err (Err fault) P Q gives is = gives fault is
 
 -- ---- a run that has stopped at a fork
 module _ (budgets : Budgets) (run : Symbolic) (lines rest : List CertLine) (stop : Stop)

@@ -16,6 +16,10 @@ pub record IsLastPart (q part : Condition) : Type 0 where
   pub asserted : q.asserted ≡ front ++ last ∷ []
   pub matters : IsPartFor q last part
 
+-- it is asserted last
+abbrev pub IsLast : List ℕ → ℕ → Type 0
+IsLast asserted last = (front : List ℕ) × (asserted ≡ front ++ last ∷ [])
+
 -- each asks no more than the other
 pub record AskTheSame (one other : Condition) : Type 0 where
   pub one_less : AsksNoMore one other

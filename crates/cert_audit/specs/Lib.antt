@@ -4,6 +4,10 @@ pub mod Steps
 pub mod Shown
 pub mod Kids
 pub mod Asking
+pub mod ProofFaults
+pub mod LeafFaults
+pub mod ForkFaults
+pub mod VisitFaults
 pub mod Valued
 pub mod Walks
 pub mod Audits

@@ -1,11 +1,11 @@
 //! What lines make of a run at a branch: it goes on along one side where the other has no assignment, and else parts into two.
 
-ghost use Rattle.std.specs.Prelude.{◌≡◌, ◌∷◌, [], IfOk, IfSome, map};
+ghost use Rattle.std.specs.Prelude.{◌≡◌, ◌≢◌, Bool, false, IfOk, IfErr, MatchOption, map};
 ghost use Rattle.bv_dag.specs.Graphs.{number_of};
 ghost use Rattle.sym_state.specs.Undecided.{IsBranch};
 ghost use Rattle.tree_core.specs.declared.budgets.Budgets.{Budgets};
-ghost use Rattle.tree_core.specs.declared.choice.Choice.TheVariants as choice;
 ghost use Rattle.run_sides.specs.Sides.{branch_choice, is_side};
+ghost use Rattle.cert_audit.specs.ForkFaults.{AreBranchSides, AreNoBranchSides, IsBranchFault, IsOneSideFault, begins_with_cut_nodes};
 ghost use Rattle.cert_audit.specs.Kids.{AreKids, IsKid, IsPut, cut_if, own_ahead};
 ghost use Rattle.cert_audit.specs.Names.{side_ahead};
 ghost use Rattle.cert_audit.specs.Steps.{IsWent};
@@ -23,7 +23,8 @@ use tree_core::{Cause, Choice};
 
 // The side that a choice leads to at a branch, if it is one there.
 fn side_of(choice: Choice) -> Option<bool>
-    ensures { IfSome result (λ side. choice ≡ branch_choice side) }
+    ensures { MatchOption result ((side : Bool) → choice ≢ branch_choice side)
+        (λ side. choice ≡ branch_choice side) }
 {
     match choice {
         Choice::No => Some(false),
@@ -35,9 +36,8 @@ fn side_of(choice: Choice) -> Option<bool>
 // Whether the side that isn't taken and the one that is are cut by conflicts, if these are the sides of a branch, of which one is cut
 // at most.
 fn cuts_of(sides: &[Side]) -> Option<(bool, bool)>
-    ensures { IfSome result (λ cuts. sides.now
-        ≡ record { choice = choice.No; cut = cut_if cuts.0 }
-        ∷ record { choice = choice.Yes; cut = cut_if cuts.1 } ∷ []) }
+    ensures { MatchOption result (AreNoBranchSides sides.now)
+        (λ cuts. AreBranchSides sides.now cuts.0 cuts.1) }
 {
     let [no, yes] = sides else {
         return None;
@@ -75,8 +75,8 @@ fn two_sides(
     sides: &[Side],
 ) -> Result<Option<Vec<Todo>>, NoMemory>
     requires { IsBranch run.now term }
-    ensures { IfOk result (λ found. IfSome found (λ kids.
-        AreKids run.now (map (side_ahead run.now.choices) sides.now) kids.items)) }
+    ensures { IfOk result (λ found. MatchOption found (AreNoBranchSides sides.now)
+        (λ kids. AreKids run.now (map (side_ahead run.now.choices) sides.now) kids.items)) }
 {
     let Some((is_no_cut, is_yes_cut)) = cuts_of(sides) else {
         return Ok(None);
@@ -96,8 +96,10 @@ fn one_side<'a>(
     lines: &'a [CertLine],
 ) -> Result<Result<Went<'a>, Fault>, NoMemory>
     requires { IsBranch run.now term }
-    ensures { IfOk result (λ went. IfOk went (λ w.
+    ensures put { IfOk result (λ went. IfOk went (λ w.
         IsPut run.now (own_ahead run.now) lines.now w.kids.items w.rest.now)) }
+    ensures cause { IfOk result (λ went. IfErr went
+        (IsOneSideFault run.now term side lines.now)) }
 {
     let mut other = with_test(run, term, !side)?;
     other.run.assert(other.test)?;
@@ -115,21 +117,22 @@ pub(crate) fn at_branch<'a>(
     lines: &'a [CertLine],
 ) -> Result<Result<Went<'a>, Fault>, NoMemory>
     requires { IsBranch run.now term }
-    ensures { IfOk result (λ went. IfOk went (λ w. (budgets : Budgets)
+    ensures went { IfOk result (λ went. IfOk went (λ w. (budgets : Budgets)
         → IsWent budgets run.now lines.now w.kids.items w.rest.now)) }
+    ensures cause { IfOk result (λ went. IfErr went (λ fault.
+        begins_with_cut_nodes lines.now ≡ false → IsBranchFault run.now term lines.now fault)) }
 {
     match lines {
-        [CertLine::One(choice), rest @ ..] => {
-            if let Some(side) = side_of(*choice) {
-                return one_side(alloc, run, term, side, rest);
-            }
-        }
+        [CertLine::One(choice), rest @ ..] => match side_of(*choice) {
+            Some(side) => one_side(alloc, run, term, side, rest),
+            None => Ok(Err(Fault::at(lines, Reason::Place))),
+        },
         [CertLine::Split(sides), rest @ ..] => {
-            if let Some(kids) = two_sides(alloc, run, term, sides.as_slice())? {
-                return Ok(Ok(Went { kids, rest }));
+            match two_sides(alloc, run, term, sides.as_slice())? {
+                Some(kids) => Ok(Ok(Went { kids, rest })),
+                None => Ok(Err(Fault::at(lines, Reason::Place))),
             }
         }
-        _ => {}
+        _ => Ok(Err(Fault::at(lines, Reason::Place))),
     }
-    Ok(Err(Fault::at(lines, Reason::Place)))
 }

@@ -1,17 +1,18 @@
 //! The leaf of a side of a fork that is cut by conflicts.
 
-ghost use Rattle.std.specs.Prelude.{◌≡◌, ℕ, IfOk, IfSome, IsTrue};
-ghost use Rattle.bv_dag.specs.Graphs.{IsDag};
-ghost use Rattle.bv_dag.specs.Queries.{AreBits};
+ghost use Rattle.std.specs.Prelude.{◌≡◌, ◌↔◌, [], ℕ, IfOk, IfErr, IsTrue, MatchOption};
+ghost use Rattle.cert_query.specs.ClauseFaults.{IsSpendingFault};
 ghost use Rattle.cert_query.specs.Spending.{IsSpentBy};
 ghost use Rattle.tree_core.specs.Choices.{IsSmallChoice};
 ghost use Rattle.run_leaves.specs.Leaving.{HasTextRoom};
 ghost use Rattle.sym_state.specs.Symbolic.{condition_of};
 ghost use Rattle.tree_core.specs.declared.budgets.Budgets.{Budgets};
 ghost use Rattle.cert_audit.specs.Asking.{AskTheSame, IsLastPart, IsLearntIn};
+ghost use Rattle.cert_audit.specs.LeafFaults.{IsConflictsFault};
 ghost use Rattle.cert_audit.specs.Steps.{IsTaken};
 ghost use Rattle.cert_audit.specs.declared.todo.Todo.TheVariants.{Conflicts};
 
+use crate::proof::is_formed;
 use crate::taken::Taken;
 use crate::todo::Asked;
 use bv_dag::Query;
@@ -33,7 +34,8 @@ struct LearntLines<'a> {
 
 // The part of a run's condition that matters for its last assertion, if it has one.
 fn last_part(alloc: Global, run: &State) -> Result<Option<Query>, NoMemory>
-    ensures { IfOk result (λ part. IfSome part (IsLastPart (condition_of run.now))) }
+    ensures { IfOk result (λ part. MatchOption part (run.now.condition ≡ [])
+        (IsLastPart (condition_of run.now))) }
 {
     let condition = listed(alloc, run.condition())?;
     match condition.last() {
@@ -44,18 +46,9 @@ fn last_part(alloc: Global, run: &State) -> Result<Option<Query>, NoMemory>
 
 // Whether two questions assert the same trees.
 fn ask_the_same(alloc: Global, one: &Query, other: &Query) -> Result<bool, NoMemory>
-    ensures { IfOk result (λ yes. IsTrue yes → AskTheSame one.now other.now) }
+    ensures { IfOk result (λ yes. IsTrue yes ↔ AskTheSame one.now other.now) }
 {
     Ok(asks_no_more(alloc, one, other)? && asks_no_more(alloc, other, one)?)
-}
-
-// The terms of a question fit, and its assertions are bits.
-fn is_formed(query: &Query)
-    ensures dag { IsDag query.now.graph }
-    ensures bits { AreBits query.now.graph query.now.asserted }
-{
-    let _ = query.dag().nodes();
-    let _ = query.asserted();
 }
 
 // The clauses that lines show to be learnt for a question.
@@ -68,6 +61,8 @@ fn take_log<'a>(
     ensures question { IfOk result (λ taken. IfOk taken (λ l. l.learnt.question ≡ query)) }
     ensures spent { IfOk result (λ taken. IfOk taken
         (λ l. IsSpentBy query conflicts lines.now l.learnt.log l.rest.now)) }
+    ensures cause { IfOk result (λ taken. IfErr taken
+        (IsSpendingFault query conflicts lines.now)) }
 {
     match take_spent_log(alloc, &query, conflicts, lines)? {
         Ok(SpentLog { log, rest }) => Ok(Ok(LearntLines {
@@ -88,8 +83,10 @@ fn take_learnt<'a>(
     conflicts: u32,
     lines: &'a [CertLine],
 ) -> Result<Result<LearntLines<'a>, Fault>, NoMemory>
-    ensures { IfOk result (λ taken. IfOk taken
+    ensures learnt { IfOk result (λ taken. IfOk taken
         (λ l. IsLearntIn (condition_of run.now) conflicts lines.now l.learnt l.rest.now)) }
+    ensures cause { IfOk result (λ taken. IfErr taken
+        (IsConflictsFault (condition_of run.now) conflicts lines.now)) }
 {
     let Some(part) = last_part(alloc, run)? else {
         return Ok(Err(Fault::at(lines, Reason::Place)));
@@ -98,10 +95,10 @@ fn take_learnt<'a>(
         Ok(question) => question,
         Err(fault) => return Ok(Err(fault)),
     };
+    is_formed(&query);
     if !ask_the_same(alloc, &part, &query)? {
         return Ok(Err(Fault::at(lines, Reason::Query)));
     }
-    is_formed(&query);
     take_log(alloc, query, conflicts, rest)
 }
 
@@ -115,9 +112,11 @@ pub(crate) fn take_conflicts<'a>(
 ) -> Result<Result<Taken<'a>, Fault>, NoMemory>
     requires writable { HasTextRoom asked.old.run }
     requires small { IsSmallChoice asked.old.choice }
-    ensures { IfOk result (λ taken. IfOk taken (λ t. (budgets : Budgets)
+    ensures leaf { IfOk result (λ taken. IfOk taken (λ t. (budgets : Budgets)
         → budgets.conflicts ≡ conflicts
         → IsTaken budgets (Conflicts asked.old) lines.now t.leaf t.rest.now)) }
+    ensures cause { IfOk result (λ taken. IfErr taken
+        (IsConflictsFault (condition_of asked.old.run) conflicts lines.now)) }
 {
     let LearntLines { learnt, rest } = match take_learnt(alloc, &asked.run, conflicts, lines)? {
         Ok(taken) => taken,

@@ -1,10 +1,12 @@
 //! The leaves that are nodes: of runs that have ended, that have spent their steps, or that may not part.
 
-ghost use Rattle.std.specs.Prelude.{◌≡◌, ◌∷◌, IfOk, IfSome};
+ghost use Rattle.std.specs.Prelude.{◌≡◌, ◌∷◌, false, IfOk, IfErr, MatchOption};
 ghost use Rattle.cert_form.specs.declared.line.CertLine.TheVariants.{CutNodes};
 ghost use Rattle.run_leaves.specs.Leaving.{HasTextRoom};
 ghost use Rattle.sym_machine.specs.declared.stepping.Stop.TheVariants.{Ended as EndedBy, Steps as StepsSpent};
 ghost use Rattle.tree_core.specs.declared.budgets.Budgets.{Budgets};
+ghost use Rattle.cert_audit.specs.ForkFaults.{begins_with_cut_nodes};
+ghost use Rattle.cert_audit.specs.LeafFaults.{IsEndFault, IsStepsFault};
 ghost use Rattle.cert_audit.specs.Steps.{IsNodeLeaf, IsUnparted};
 
 use crate::sampling::take_sample;
@@ -23,10 +25,11 @@ pub(crate) fn take_end<'a>(
     lines: &'a [CertLine],
 ) -> Result<Result<Taken<'a>, Fault>, NoMemory>
     requires { HasTextRoom run.old }
-    ensures { IfOk result (λ taken. IfOk taken (λ t. (budgets : Budgets)
+    ensures leaf { IfOk result (λ taken. IfOk taken (λ t. (budgets : Budgets)
         → IsNodeLeaf budgets run.old (EndedBy end) lines.now t.leaf t.rest.now)) }
+    ensures cause { IfOk result (λ taken. IfErr taken (IsEndFault run.old lines.now)) }
 {
-    let Some((CertLine::End(input), rest)) = lines.split_first() else {
+    let [CertLine::End(input), rest @ ..] = lines else {
         return Ok(Err(Fault::at(lines, Reason::Place)));
     };
     if !take_sample(alloc, run, input)? {
@@ -43,10 +46,11 @@ pub(crate) fn take_cut_steps<'a>(
     lines: &'a [CertLine],
 ) -> Result<Result<Taken<'a>, Fault>, NoMemory>
     requires { HasTextRoom run.old }
-    ensures { IfOk result (λ taken. IfOk taken (λ t. (budgets : Budgets)
+    ensures leaf { IfOk result (λ taken. IfOk taken (λ t. (budgets : Budgets)
         → IsNodeLeaf budgets run.old StepsSpent lines.now t.leaf t.rest.now)) }
+    ensures cause { IfOk result (λ taken. IfErr taken (IsStepsFault run.old lines.now)) }
 {
-    let Some((CertLine::CutSteps(input), rest)) = lines.split_first() else {
+    let [CertLine::CutSteps(input), rest @ ..] = lines else {
         return Ok(Err(Fault::at(lines, Reason::Place)));
     };
     if !take_sample(alloc, run, input)? {
@@ -58,10 +62,11 @@ pub(crate) fn take_cut_steps<'a>(
 
 /// The lines behind the first, if that says that a run may not part.
 pub(crate) fn behind_cut_nodes(lines: &[CertLine]) -> Option<&[CertLine]>
-    ensures { IfSome result (λ rest. lines.now ≡ CutNodes ∷ rest.now) }
+    ensures { MatchOption result (begins_with_cut_nodes lines.now ≡ false)
+        (λ rest. lines.now ≡ CutNodes ∷ rest.now) }
 {
-    match lines.split_first() {
-        Some((CertLine::CutNodes, rest)) => Some(rest),
+    match lines {
+        [CertLine::CutNodes, rest @ ..] => Some(rest),
         _ => None,
     }
 }

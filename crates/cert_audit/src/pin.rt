@@ -1,7 +1,7 @@
 //! What lines make of a run where a term has to be a number: it goes on with one value where there is no other, and else parts by its
 //! values.
 
-ghost use Rattle.std.specs.Prelude.{◌∷◌, [], ◌≤◌, ◌++◌, Contains, IfOk, OnOk, Some, length, map};
+ghost use Rattle.std.specs.Prelude.{◌≡◌, ◌∷◌, [], ◌≤◌, ◌++◌, Contains, IfOk, IfErr, OnOk, None, Some, false, length, map};
 ghost use Rattle.fork_spec.specs.Evidence.{AreIncreasing};
 ghost use Rattle.fork_spec.specs.Walks.{rest_side, value_side as side_of_value};
 ghost use Rattle.run_leaves.specs.Values.{IsWithout};
@@ -9,6 +9,8 @@ ghost use Rattle.sym_state.specs.Symbolic.{IsFormed};
 ghost use Rattle.sym_state.specs.Undecided.{IsPin};
 ghost use Rattle.sym_state.specs.Values.{IsUnknown};
 ghost use Rattle.tree_core.specs.declared.budgets.Budgets.{Budgets};
+ghost use Rattle.cert_audit.specs.Asking.{IsLast};
+ghost use Rattle.cert_audit.specs.ForkFaults.{IsPinFault, IsWithoutFault, begins_with_cut_nodes};
 ghost use Rattle.cert_audit.specs.Kids.{AreKids, AreValueKids, IsKid, IsPut, has_none, has_value, own_ahead, rest_cause, sides_behind};
 ghost use Rattle.cert_audit.specs.Names.{side_ahead};
 ghost use Rattle.cert_audit.specs.Steps.{IsWent};
@@ -31,6 +33,7 @@ fn leave_out(run: &mut State, term: usize, value: u32) -> Result<usize, NoMemory
     requires { IsUnknown run.old.terms 32 term }
     ensures without { OnOk result (IsWithout run.old term (value ∷ []) run.new) }
     ensures asserted { IfOk result (λ differs. Contains run.new.condition differs) }
+    ensures last { IfOk result (IsLast run.new.condition) }
 {
     let differs = run.tested(Test::Bne, Value::Term(term), Value::Number(value))?;
     run.assert(differs)?;
@@ -42,8 +45,10 @@ fn without_values(run: &State, term: usize, values: &[u32]) -> Result<(State, us
     requires { IsUnknown run.now.terms 32 term }
     ensures formed { IfOk result (λ _. IsFormed run.now) }
     ensures without { IfOk result (λ rest. IsWithout run.now term values.now rest.0) }
-    ensures last { IfOk result (λ rest. 1 ≤ length values.now
+    ensures asserted { IfOk result (λ rest. 1 ≤ length values.now
         → Contains rest.0.condition rest.1) }
+    ensures last { IfOk result (λ rest. 1 ≤ length values.now
+        → IsLast rest.0.condition rest.1) }
 {
     let mut rest = run.share()?;
     let mut last = 0;
@@ -114,9 +119,11 @@ fn part_by_all<'a>(
     requires at { IsPin run.now pin.now.place pin.now.term }
     requires increasing { AreIncreasing values.now }
     requires some { 1 ≤ length values.now }
-    ensures { IfOk result (λ went. IfOk went (λ w. IsPut run.now
+    ensures put { IfOk result (λ went. IfOk went (λ w. IsPut run.now
         (map (side_ahead run.now.choices) (map side_of_value values.now))
         lines.now w.kids.items w.rest.now)) }
+    ensures cause { IfOk result (λ went. IfErr went
+        (IsWithoutFault run.now pin.now.term values.now lines.now)) }
 {
     let kids = value_todos(alloc, run, pin, values)?;
     let (rest, last) = without_values(run, pin.term, values)?;
@@ -157,10 +164,12 @@ fn part<'a>(
     requires at { IsPin run.now pin.now.place pin.now.term }
     requires increasing { AreIncreasing sides.values.items }
     requires some { 1 ≤ length sides.values.items }
-    ensures { IfOk result (λ went. IfOk went (λ w. IsPut run.now
+    ensures put { IfOk result (λ went. IfOk went (λ w. IsPut run.now
         (map (side_ahead run.now.choices)
         (map side_of_value sides.values.items ++ sides_behind sides.rest))
         lines.now w.kids.items w.rest.now)) }
+    ensures cause { IfOk result (λ went. IfErr went (λ fault. (sides.rest ≡ None)
+        × IsWithoutFault run.now pin.now.term sides.values.items lines.now fault)) }
 {
     let (values, rest) = sides.into_parts();
     let Some(cut) = rest else {
@@ -179,8 +188,10 @@ fn one_value<'a>(
     lines: &'a [CertLine],
 ) -> Result<Result<Went<'a>, Fault>, NoMemory>
     requires { IsPin run.now pin.now.place pin.now.term }
-    ensures { IfOk result (λ went. IfOk went (λ w.
+    ensures put { IfOk result (λ went. IfOk went (λ w.
         IsPut run.now (own_ahead run.now) lines.now w.kids.items w.rest.now)) }
+    ensures cause { IfOk result (λ went. IfErr went
+        (IsWithoutFault run.now pin.now.term (value ∷ []) lines.now)) }
 {
     let mut other = run.share()?;
     let new = leave_out(&mut other, pin.term, value)?;
@@ -203,8 +214,11 @@ pub(crate) fn at_pin<'a>(
     lines: &'a [CertLine],
 ) -> Result<Result<Went<'a>, Fault>, NoMemory>
     requires { IsPin run.now pin.now.place pin.now.term }
-    ensures { IfOk result (λ went. IfOk went (λ w. (budgets : Budgets)
+    ensures went { IfOk result (λ went. IfOk went (λ w. (budgets : Budgets)
         → IsWent budgets run.now lines.now w.kids.items w.rest.now)) }
+    ensures cause { IfOk result (λ went. IfErr went (λ fault.
+        begins_with_cut_nodes lines.now ≡ false
+        → IsPinFault run.now pin.now.term targets lines.now fault)) }
 {
     match lines {
         [CertLine::One(Choice::Value(value)), rest @ ..] => {

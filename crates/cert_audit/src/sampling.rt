@@ -26,7 +26,8 @@ pub(crate) fn is_met(alloc: Global, run: &State, input: &[u8]) -> Result<bool, N
 
 /// Takes an assignment as a run's sample, if the run stands for it.
 pub(crate) fn take_sample(alloc: Global, run: &mut State, input: &Bytes) -> Result<bool, NoMemory>
-    ensures { IfOk result (λ yes. yes ≡ true → IsSampledBy run.old input.now run.new) }
+    ensures sampled { IfOk result (λ yes. yes ≡ true → IsSampledBy run.old input.now run.new) }
+    ensures answer { IfOk result (λ yes. yes ≡ stands_for run.old input.now) }
 {
     if !is_met(alloc, run, input.as_slice())? {
         return Ok(false);

@@ -1,6 +1,6 @@
 //! The leaf of the side of a fork that has all values of a term but some.
 
-ghost use Rattle.std.specs.Prelude.{◌≡◌, ◌∷◌, ◌<◌, true, IfOk, length};
+ghost use Rattle.std.specs.Prelude.{◌≡◌, ◌∷◌, ◌<◌, true, IfOk, IfErr, length};
 ghost use Rattle.bv_dag.specs.Graphs.{width_of};
 ghost use Rattle.cert_form.specs.declared.line.CertLine.TheVariants as line;
 ghost use Rattle.run_leaves.specs.Leaving.{HasTextRoom};
@@ -8,6 +8,7 @@ ghost use Rattle.run_leaves.specs.Values.{IsWithout};
 ghost use Rattle.sym_state.specs.Symbolic.{stands_for};
 ghost use Rattle.sym_state.specs.Values.{IsUnknown};
 ghost use Rattle.tree_core.specs.declared.budgets.Budgets.{Budgets};
+ghost use Rattle.cert_audit.specs.LeafFaults.{IsTargetsFault, IsWitnessFault};
 ghost use Rattle.cert_audit.specs.Steps.{IsTaken};
 ghost use Rattle.cert_audit.specs.Valued.{AreSamples};
 ghost use Rattle.cert_audit.specs.declared.todo.Todo.TheVariants.{Targets};
@@ -42,6 +43,7 @@ fn take_witness<'a>(
     ensures taken { IfOk result (λ taken. IfOk taken
         (λ one. lines.now ≡ line.Witness one.0 ∷ one.1.now)) }
     ensures stands { IfOk result (λ taken. IfOk taken (λ one. stands_for run.now one.0 ≡ true)) }
+    ensures cause { IfOk result (λ taken. IfErr taken (IsWitnessFault run.now lines.now)) }
 {
     let [CertLine::Witness(input), rest @ ..] = lines else {
         return Ok(Err(Fault::at(lines, Reason::Place)));
@@ -60,8 +62,10 @@ fn take_samples<'a>(
     lines: &'a [CertLine],
 ) -> Result<Result<Samples<'a>, Fault>, NoMemory>
     requires { width_of others.now.fork.terms others.now.term ≡ 32 }
-    ensures { IfOk result (λ taken. IfOk taken (λ s. AreSamples
+    ensures samples { IfOk result (λ taken. IfOk taken (λ s. AreSamples
         others.now targets lines.now s.found.items s.witness s.rest.now)) }
+    ensures cause { IfOk result (λ taken. IfErr taken
+        (IsTargetsFault others.now targets lines.now)) }
 {
     if others.values.len() != targets as usize {
         return Ok(Err(Fault::at(lines, Reason::Budget)));
@@ -93,9 +97,11 @@ pub(crate) fn take_targets<'a>(
     requires unknown { IsUnknown others.old.fork.terms 32 others.old.term }
     requires without { IsWithout
         others.old.fork others.old.term others.old.values.items others.old.rest }
-    ensures { IfOk result (λ taken. IfOk taken (λ t. (budgets : Budgets)
+    ensures leaf { IfOk result (λ taken. IfOk taken (λ t. (budgets : Budgets)
         → budgets.targets ≡ targets
         → IsTaken budgets (Targets others.old) lines.now t.leaf t.rest.now)) }
+    ensures cause { IfOk result (λ taken. IfErr taken
+        (IsTargetsFault others.old targets lines.now)) }
 {
     let Samples {
         found,

@@ -1,8 +1,10 @@
 //! Lines of the values of a term, each with an assignment on which the term has it.
 
-ghost use Rattle.std.specs.Prelude.{◌≡◌, ◌∷◌, ◌<◌, IfOk, length};
+ghost use Rattle.std.specs.Prelude.{◌≡◌, ◌∷◌, ◌<◌, ℕ, IfOk, IfErr, length};
 ghost use Rattle.cert_form.specs.declared.line.CertLine.TheVariants as line;
-ghost use Rattle.cert_audit.specs.Valued.{AreValueLines, IsValueOf};
+ghost use Rattle.sym_state.specs.Symbolic.{Symbolic};
+ghost use Rattle.cert_audit.specs.LeafFaults.{IsValueFault, IsValuesFault};
+ghost use Rattle.cert_audit.specs.Valued.{AreValueLines, IsValued, IsValueOf};
 
 use crate::valued::Valued;
 use byte_list::Bytes;
@@ -33,6 +35,8 @@ fn take_value<'a>(
         (λ one. lines.now ≡ line.Value one.0 ∷ one.1.now)) }
     ensures value { IfOk result (λ taken. IfOk taken (λ one. one.0.value ≡ value)) }
     ensures has { IfOk result (λ taken. IfOk taken (λ one. IsValueOf valued.now one.0)) }
+    ensures cause { IfOk result (λ taken. IfErr taken (λ fault. (s : Symbolic) (term : ℕ)
+        → IsValued s term valued.now → IsValueFault s term value lines.now fault)) }
 {
     let [CertLine::Value(found), rest @ ..] = lines else {
         return Ok(Err(Fault::at(lines, Reason::Place)));
@@ -51,8 +55,10 @@ pub(crate) fn take_values<'a>(
     lines: &'a [CertLine],
 ) -> Result<Result<(Vec<Found>, &'a [CertLine]), Fault>, NoMemory>
     requires { valued.now.term < length valued.now.condition.graph.nodes }
-    ensures { IfOk result (λ taken. IfOk taken
+    ensures taken { IfOk result (λ taken. IfOk taken
         (λ found. AreValueLines valued.now values.now lines.now found.0.items found.1.now)) }
+    ensures cause { IfOk result (λ taken. IfErr taken (λ fault. (s : Symbolic) (term : ℕ)
+        → IsValued s term valued.now → IsValuesFault s term values.now lines.now fault)) }
 {
     let mut found = Vec::with_capacity(alloc, values.len())?;
     let mut rest = lines;

@@ -1,6 +1,6 @@
 //! A run's condition and one of its terms, picked once for many assignments.
 
-ghost use Rattle.std.specs.Prelude.{◌≡◌, ◌<◌, IfOk, IsTrue, length};
+ghost use Rattle.std.specs.Prelude.{◌≡◌, ◌<◌, ◌↔◌, IfOk, IsTrue, length};
 ghost use Rattle.cert_audit.specs.Valued.{IsValued, IsValueOf};
 
 use crate::sampling::are_bytes;
@@ -43,7 +43,7 @@ impl Valued {
     /// Whether the run stands for the assignment, and the term has the value there.
     pub(crate) fn has(&self, alloc: Global, found: &Found) -> Result<bool, NoMemory>
         requires { self.now.term < length self.now.condition.graph.nodes }
-        ensures { IfOk result (λ yes. IsTrue yes → IsValueOf self.now found.now) }
+        ensures { IfOk result (λ yes. IsTrue yes ↔ IsValueOf self.now found.now) }
     {
         let input = found.input.as_slice();
         are_bytes(input);

@@ -1,8 +1,9 @@
 //! The sides of a split where a term has to be a number, as a line says them.
 
-ghost use Rattle.std.specs.Prelude.{◌≡◌, ◌++◌, ◌≤◌, IfOk, IfSome, IsTrue, length, map};
+ghost use Rattle.std.specs.Prelude.{◌≡◌, ◌↔◌, ◌++◌, IfOk, IfErr, IsTrue, MatchOption, length, map};
 ghost use Rattle.fork_spec.specs.Evidence.{AreIncreasing};
 ghost use Rattle.fork_spec.specs.Walks.{value_side};
+ghost use Rattle.cert_audit.specs.ForkFaults.{AreValueSides, BeginsWithNoValue, IsNoRest, IsNoValue, IsSidesFault, MayBeSides};
 ghost use Rattle.cert_audit.specs.Kids.{sides_behind};
 
 use cert_form::Side;
@@ -47,7 +48,7 @@ impl ValueSides {
 
 // Whether each is below the next.
 fn are_increasing(values: &[u32]) -> bool
-    ensures { IsTrue result → AreIncreasing values.now }
+    ensures { IsTrue result ↔ AreIncreasing values.now }
 {
     for at in 1..values.len() {
         if values[at] <= values[at - 1] {
@@ -59,7 +60,7 @@ fn are_increasing(values: &[u32]) -> bool
 
 // Why the side of all other values is cut, if it stands alone behind those of values; and nothing may stand there.
 fn rest_of(sides: &[Side]) -> Option<Option<RestCut>>
-    ensures { IfSome result (λ rest. sides.now ≡ sides_behind rest) }
+    ensures { MatchOption result (IsNoRest sides.now) (λ rest. sides.now ≡ sides_behind rest) }
 {
     match sides {
         [] => Some(None),
@@ -74,7 +75,7 @@ fn rest_of(sides: &[Side]) -> Option<Option<RestCut>>
 
 // The value of a side that isn't cut.
 fn open_value(side: Side) -> Option<u32>
-    ensures { IfSome result (λ value. side ≡ value_side value) }
+    ensures { MatchOption result (IsNoValue side) (λ value. side ≡ value_side value) }
 {
     match (side.choice, side.cut) {
         (Choice::Value(value), None) => Some(value),
@@ -84,7 +85,9 @@ fn open_value(side: Side) -> Option<u32>
 
 // The values of the first sides, which aren't cut, and the sides behind them.
 fn take_values(alloc: Global, sides: &[Side]) -> Result<(Vec<u32>, &[Side]), NoMemory>
-    ensures { IfOk result (λ taken. sides.now ≡ map value_side taken.0.items ++ taken.1.now) }
+    ensures split { IfOk result (λ taken.
+        sides.now ≡ map value_side taken.0.items ++ taken.1.now) }
+    ensures all { IfOk result (λ taken. BeginsWithNoValue taken.1.now) }
 {
     let mut values = Vec::with_capacity(alloc, sides.len())?;
     let mut rest = sides;
@@ -99,7 +102,9 @@ fn take_values(alloc: Global, sides: &[Side]) -> Result<(Vec<u32>, &[Side]), NoM
 }
 
 // Whether so many values may be sides of their own.
-fn may_be_sides(count: usize, rest: Option<RestCut>, targets: u32) -> bool {
+fn may_be_sides(count: usize, rest: Option<RestCut>, targets: u32) -> bool
+    ensures { IsTrue result ↔ MayBeSides count rest targets }
+{
     match rest {
         Some(RestCut::Targets) => count == targets as usize,
         Some(RestCut::Conflicts) | None => count <= targets as usize,
@@ -113,9 +118,10 @@ pub(crate) fn value_sides(
     targets: u32,
 ) -> Result<Result<ValueSides, Reason>, NoMemory>
     ensures sides { IfOk result (λ taken. IfOk taken (λ v.
-        sides.now ≡ map value_side v.values.items ++ sides_behind v.rest)) }
-    ensures increasing { IfOk result (λ taken. IfOk taken (λ v. AreIncreasing v.values.items)) }
-    ensures some { IfOk result (λ taken. IfOk taken (λ v. 1 ≤ length v.values.items)) }
+        AreValueSides sides.now v.values.items v.rest)) }
+    ensures count { IfOk result (λ taken. IfOk taken (λ v.
+        MayBeSides (length v.values.items) v.rest targets)) }
+    ensures cause { IfOk result (λ taken. IfErr taken (IsSidesFault targets sides.now)) }
 {
     let (values, others) = take_values(alloc, sides)?;
     let Some(rest) = rest_of(others) else {

@@ -1,8 +1,9 @@
 //! What lines make of each part of a fork tree that the walk comes to.
 
-ghost use Rattle.std.specs.Prelude.{◌≡◌, IfOk};
+ghost use Rattle.std.specs.Prelude.{◌≡◌, IfOk, IfErr};
 ghost use Rattle.cert_audit.specs.Steps.{IsStopMet, IsVisited, as_fork, as_leaf};
 ghost use Rattle.cert_audit.specs.Todos.{HasStopped, IsOfTree};
+ghost use Rattle.cert_audit.specs.VisitFaults.{IsNodeFault, IsStopFault, IsVisitFault};
 ghost use Rattle.cert_audit.specs.declared.todo.Todo.TheVariants.{Node};
 
 use crate::branch::at_branch;
@@ -49,8 +50,10 @@ fn at_stop<'a>(
     lines: &'a [CertLine],
 ) -> Result<Result<Visited<'a>, Fault>, NoMemory>
     requires { HasStopped budgets.now run.old stop }
-    ensures { IfOk result (λ visited. IfOk visited
+    ensures met { IfOk result (λ visited. IfOk visited
         (IsStopMet budgets.now run.old stop lines.now)) }
+    ensures cause { IfOk result (λ visited. IfErr visited
+        (IsStopFault budgets.now run.old stop lines.now)) }
 {
     match stop {
         Stop::Ended(end) => Ok(as_leaf(take_end(alloc, run, end, lines)?)),
@@ -81,8 +84,10 @@ fn visit_node<'a>(
     lines: &'a [CertLine],
 ) -> Result<Result<Visited<'a>, Fault>, NoMemory>
     requires { IsOfTree budgets.now (Node run.now) }
-    ensures { IfOk result (λ visited. IfOk visited
+    ensures visited { IfOk result (λ visited. IfOk visited
         (IsVisited budgets.now (Node run.now) lines.now)) }
+    ensures cause { IfOk result (λ visited. IfErr visited
+        (IsNodeFault budgets.now run.now lines.now)) }
 {
     let Advanced { mut run, stop } = advance(run, budgets.steps)?;
     at_stop(alloc, budgets, &mut run, stop, lines)
@@ -96,7 +101,10 @@ fn visit_part<'a>(
     lines: &'a [CertLine],
 ) -> Result<Result<Visited<'a>, Fault>, NoMemory>
     requires { IsOfTree budgets.now todo.old }
-    ensures { IfOk result (λ visited. IfOk visited (IsVisited budgets.now todo.old lines.now)) }
+    ensures visited { IfOk result (λ visited. IfOk visited
+        (IsVisited budgets.now todo.old lines.now)) }
+    ensures cause { IfOk result (λ visited. IfErr visited
+        (IsVisitFault budgets.now todo.old lines.now)) }
 {
     match todo {
         Todo::Node(run) => visit_node(alloc, budgets, run, lines),
@@ -119,8 +127,10 @@ pub(crate) fn visit<'a>(
     lines: &'a [CertLine],
 ) -> Result<Result<Visited<'a>, Fault>, NoMemory>
     requires { IsOfTree budgets.now todo }
-    ensures { IfOk result (λ visited. IfOk visited
+    ensures visited { IfOk result (λ visited. IfOk visited
         (IsVisited budgets.now todo lines.now)) }
+    ensures cause { IfOk result (λ visited. IfErr visited
+        (IsVisitFault budgets.now todo lines.now)) }
 {
     visit_part(alloc, budgets, &mut todo, lines)
 }

@@ -1,10 +1,13 @@
 -- The lines of clauses that come next.
-use Rattle.std.proofs.Common.{◌≡◌, false, List, [], ◌∷◌, ◌++◌, map, refl, ap}
-use Rattle.cnf_form.specs.Refutations.{Step}
+use Rattle.std.proofs.Common.{◌≡◌, false, List, [], ◌∷◌, ◌++◌, map, refl, ap, sym, append_assoc, ◌∙◌}
+use Rattle.std.proofs.lemmas.List.{map-append}
+use Rattle.cnf_form.specs.Literals.{Literal}
+use Rattle.cnf_form.specs.Refutations.{Step, clauses_of}
 use Rattle.cert_form.specs.declared.line.CertLine.{CertLine}
 use Rattle.cert_form.specs.declared.line.CertLine.TheVariants.{One, Split, Tried, Inputs, Nodes, Logic, Input, Base, Node, Assert, Check, Exit, Clause, Value, Witness, End, CutSteps, CutNodes}
 use Rattle.cert_query.specs.ClauseLines.{begins_with_clause, behind_clauses, clauses_at}
 use Rattle.cert_query.specs.Refuting.{AreClauseLines}
+use Rattle.cert_query.proofs.Passing.{one_more}
 
 in_two : (lines : List CertLine) → lines ≡ map Clause (clauses_at lines) ++ behind_clauses lines
 in_two [] = refl
@@ -30,6 +33,26 @@ in_two (CutNodes ∷ lines) = refl
 -- the clauses of lines, and what is behind them
 pub are_clause_lines : (lines : List CertLine) (log : List Step) (rest : List CertLine) → log ≡ clauses_at lines → rest ≡ behind_clauses lines → AreClauseLines lines log rest
 are_clause_lines lines log rest all others = rw (all, others) record { split = in_two lines; all = refl; others = refl }
+
+-- behind lines of clauses
+pub clauses_behind : (log : List Step) (rest : List CertLine) → clauses_at (map Clause log ++ rest) ≡ log ++ clauses_at rest
+clauses_behind [] rest = refl
+clauses_behind (s ∷ ss) rest = ap (λ (ts : List Step). s ∷ ts) (clauses_behind ss rest)
+
+pub others_behind : (log : List Step) (rest : List CertLine) → behind_clauses (map Clause log ++ rest) ≡ behind_clauses rest
+others_behind [] rest = refl
+others_behind (s ∷ ss) rest = others_behind ss rest
+
+-- lines of clauses that came so far, and one more
+pub one_more_clause : (lines rest more : List CertLine) (log : List Step) (s : Step) → lines ≡ map Clause log ++ rest → rest ≡ Clause s ∷ more → lines ≡ map Clause (log ++ s ∷ []) ++ more
+one_more_clause lines rest more log s passed next =
+    one_more lines (map Clause log) rest (Clause s) more passed next
+    ∙ ap (λ (ls : List CertLine). ls ++ more) (sym (map-append Clause log (s ∷ [])))
+
+pub one_more_noted : (before old new : List (List Literal)) (log : List Step) (s : Step) → old ≡ before ++ clauses_of log → new ≡ old ++ s.clause ∷ [] → new ≡ before ++ clauses_of (log ++ s ∷ [])
+one_more_noted before old new log s noted next =
+    next ∙ ap (λ (cs : List (List Literal)). cs ++ s.clause ∷ []) noted ∙ append_assoc before (clauses_of log) (s.clause ∷ [])
+    ∙ ap (λ (cs : List (List Literal)). before ++ cs) (sym (map-append (λ (t : Step). t.clause) log (s ∷ [])))
 
 -- lines that begin with no clause
 pub record BeginsWithNone (lines : List CertLine) : Type 0 where

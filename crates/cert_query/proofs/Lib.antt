@@ -1,4 +1,5 @@
 pub mod Clauses
+pub mod Faulted
 pub mod Lines
 pub mod Noting
 pub mod Passing

@@ -1,5 +1,7 @@
+pub mod ClauseFaults
 pub mod ClauseLines
 pub mod Faults
+pub mod QuestionFaults
 pub mod QuestionLines
 pub mod Refuting
 pub mod Spending

@@ -1,7 +1,7 @@
 //! Why a line of a certificate may not stand where it does.
 
-ghost use Rattle.std.specs.Prelude.{◌≡◌, length};
-ghost use Rattle.cert_query.specs.Faults.{number_of};
+ghost use Rattle.std.specs.Prelude.{◌≡◌};
+ghost use Rattle.cert_query.specs.Faults.{fault_at, number_of};
 
 use cert_form::CertLine;
 
@@ -52,7 +52,7 @@ pub struct Fault {
 impl Fault {
     /// The fault that the first of these lines is, or that there is none.
     pub fn at(lines: &[CertLine], reason: Reason) -> Fault
-        ensures { result ≡ record { left = length lines.now; reason = reason } }
+        ensures { result ≡ fault_at lines.now reason }
     {
         Fault {
             left: lines.len(),

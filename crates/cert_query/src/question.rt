@@ -1,6 +1,8 @@
 //! Taking the question that lines give.
 
 ghost use Rattle.std.specs.Prelude.{◌≡◌, ◌++◌, ◌≤◌, IfOk, IfErr, length};
+ghost use Rattle.bv_dag.specs.Graphs.{IsDag};
+ghost use Rattle.cert_query.specs.QuestionFaults.{IsAssertedFault, IsBodyFault, IsQuestionFault};
 ghost use Rattle.cert_query.specs.QuestionLines.{assertion_lines, body_lines, question_lines};
 
 use crate::assertions::{take_asserted, take_end};
@@ -28,6 +30,7 @@ fn ask<'a>(
     ensures taken { IfOk result (λ taken. IfOk taken
         (λ q. lines.now ≡ assertion_lines q.query.asserted ++ q.rest.now)) }
     ensures refused { IfOk result (λ taken. IfErr taken (λ fault. fault.left ≤ length lines.now)) }
+    ensures cause { IfOk result (λ taken. IfErr taken (IsAssertedFault dag lines.now)) }
 {
     let (asserted, rest) = match take_asserted(alloc, &dag, lines)? {
         Ok(taken) => taken,
@@ -54,6 +57,7 @@ fn take_body<'a>(
     ensures taken { IfOk result (λ taken. IfOk taken
         (λ q. lines.now ≡ body_lines q.query ++ q.rest.now)) }
     ensures refused { IfOk result (λ taken. IfErr taken (λ fault. fault.left ≤ length lines.now)) }
+    ensures cause { IfOk result (λ taken. IfErr taken (IsBodyFault inputs nodes lines.now)) }
 {
     match take_terms(alloc, inputs, nodes, lines)? {
         Ok((dag, rest)) => ask(alloc, dag, rest),
@@ -69,6 +73,7 @@ pub fn take_question<'a>(
     ensures taken { IfOk result (λ taken. IfOk taken
         (λ q. lines.now ≡ question_lines q.query ++ q.rest.now)) }
     ensures refused { IfOk result (λ taken. IfErr taken (λ fault. fault.left ≤ length lines.now)) }
+    ensures cause { IfOk result (λ taken. IfErr taken (IsQuestionFault lines.now)) }
 {
     match take_heading(lines) {
         Ok((inputs, nodes, rest)) => take_body(alloc, inputs, nodes, rest),

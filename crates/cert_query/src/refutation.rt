@@ -3,6 +3,7 @@
 ghost use Rattle.std.specs.Prelude.{◌≡◌, ◌≤◌, false, IfOk, IfErr, length};
 ghost use Rattle.cnf_form.specs.Refutations.{refutes};
 ghost use Rattle.circuit_spec.specs.Circuits.{clauses};
+ghost use Rattle.cert_query.specs.ClauseFaults.{IsRefutingFault};
 ghost use Rattle.cert_query.specs.ClauseLines.{clauses_at};
 ghost use Rattle.cert_query.specs.Refuting.{IsNoted, IsRefutation, IsRefutedBy};
 
@@ -36,6 +37,7 @@ fn take_following<'a>(
     ensures refused { IfOk result (λ taken. IfErr taken
         (λ _. refutes checker.old (clauses_at lines.now) ≡ false)) }
     ensures left { IfOk result (λ taken. IfErr taken (λ fault. fault.left ≤ length lines.now)) }
+    ensures cause { IfOk result (λ taken. IfErr taken (IsRefutingFault checker.old lines.now)) }
 {
     let mut rest = lines;
     let mut is_closed = false;
@@ -65,6 +67,8 @@ pub fn take_refutation<'a>(
     ensures refused { IfOk result (λ taken. IfErr taken
         (λ _. refutes (clauses query.now) (clauses_at lines.now) ≡ false)) }
     ensures left { IfOk result (λ taken. IfErr taken (λ fault. fault.left ≤ length lines.now)) }
+    ensures cause { IfOk result (λ taken. IfErr taken
+        (IsRefutingFault (clauses query.now) lines.now)) }
 {
     // That its terms fit, and those that are asserted are bits, is known where they are read.
     let _ = query.dag().nodes();

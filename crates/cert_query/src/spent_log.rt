@@ -3,6 +3,7 @@
 ghost use Rattle.std.specs.Prelude.{◌≡◌, ◌≤◌, [], false, IfOk, IfErr, length};
 ghost use Rattle.circuit_spec.specs.Budgets.{IsSpent};
 ghost use Rattle.cnf_form.specs.Variables.{is_over};
+ghost use Rattle.cert_query.specs.ClauseFaults.{IsLearntFault, IsSpendingFault};
 ghost use Rattle.cert_query.specs.ClauseLines.{clauses_at};
 ghost use Rattle.cert_query.specs.Spending.{IsLearnt, IsSpentBy, HasLearntAll, are_learnt, is_learnt};
 ghost use Rattle.cert_query.specs.Variables.{are_noted};
@@ -70,6 +71,8 @@ fn take_log<'a>(
         (λ _. length (clauses_at lines.now) ≡ budget
         → are_learnt (are_noted seen.now) checker.old (clauses_at lines.now) ≡ false)) }
     ensures left { IfOk result (λ taken. IfErr taken (λ fault. fault.left ≤ length lines.now)) }
+    ensures cause { IfOk result (λ taken. IfErr taken
+        (IsLearntFault (are_noted seen.now) checker.old budget lines.now)) }
 {
     let mut rest = lines;
     for _ in 0..budget {
@@ -101,6 +104,8 @@ fn take_learnt<'a>(
         (λ _. length (clauses_at lines.now) ≡ budget
         → are_learnt (is_over formula.now) formula.now (clauses_at lines.now) ≡ false)) }
     ensures left { IfOk result (λ taken. IfErr taken (λ fault. fault.left ≤ length lines.now)) }
+    ensures cause { IfOk result (λ taken. IfErr taken
+        (IsLearntFault (is_over formula.now) formula.now budget lines.now)) }
 {
     let seen = variables_of(alloc, formula)?;
     let mut checker = Checker::new(alloc, formula)?;
@@ -124,6 +129,8 @@ pub fn take_spent_log<'a>(
     ensures refused { IfOk result (λ taken. IfErr taken
         (λ _. IsSpent query.now budget (clauses_at lines.now) → ⊥)) }
     ensures left { IfOk result (λ taken. IfErr taken (λ fault. fault.left ≤ length lines.now)) }
+    ensures cause { IfOk result (λ taken. IfErr taken
+        (IsSpendingFault query.now budget lines.now)) }
 {
     match occurring(alloc, query.dag().nodes(), query.asserted())? {
         Occurrence::MoreInputs => {

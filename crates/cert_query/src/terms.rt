@@ -1,6 +1,8 @@
 //! Taking the lines of a question's nodes.
 
-ghost use Rattle.std.specs.Prelude.{◌≡◌, ◌++◌, ◌≤◌, [], IfOk, IfErr, IsTrue, length};
+ghost use Rattle.std.specs.Prelude.{◌≡◌, ◌++◌, ◌≤◌, [], IfOk, IfErr, IsTrue, false, length};
+ghost use Rattle.bv_dag.specs.Graphs.{IsDag};
+ghost use Rattle.cert_query.specs.QuestionFaults.{IsNext, IsNodeFault, IsNodesFault, reason_for_no_node};
 ghost use Rattle.cert_query.specs.QuestionLines.{node_lines};
 ghost use Rattle.cert_query.specs.Terms.{IsPushed, IsTakenNode};
 
@@ -11,7 +13,8 @@ use std::alloc::{AllocError as NoMemory, Global};
 
 // Puts the node behind the others, if it is the next and fits, and answers whether it is that wide.
 fn push_node(dag: &mut Dag, defined: DefinedNode) -> Result<bool, NoMemory>
-    ensures { IfOk result (λ yes. IsTrue yes → IsPushed dag.old dag.new defined) }
+    ensures pushed { IfOk result (λ yes. IsTrue yes → IsPushed dag.old dag.new defined) }
+    ensures refused { IfOk result (λ yes. yes ≡ false → IsNext dag.old defined → ⊥) }
 {
     let id = dag.len();
     if defined.id as usize != id || !dag.fits(&defined.node) {
@@ -22,7 +25,9 @@ fn push_node(dag: &mut Dag, defined: DefinedNode) -> Result<bool, NoMemory>
 }
 
 // Why no node may stand where this line is to be one.
-fn reason_for(lines: &[CertLine]) -> Reason {
+fn reason_for(lines: &[CertLine]) -> Reason
+    ensures { result ≡ reason_for_no_node lines.now }
+{
     match lines {
         [CertLine::Assert(_) | CertLine::Check, ..] => Reason::Text,
         _ => Reason::Place,
@@ -37,6 +42,7 @@ fn take_node<'a>(
     ensures taken { IfOk result (λ taken. IfOk taken
         (λ rest. IsTakenNode dag.old dag.new lines.now rest.now)) }
     ensures refused { IfOk result (λ taken. IfErr taken (λ fault. fault.left ≤ length lines.now)) }
+    ensures cause { IfOk result (λ taken. IfErr taken (IsNodeFault dag.old lines.now)) }
 {
     let [CertLine::Node(node), rest @ ..] = lines else {
         return Ok(Err(Fault::at(lines, reason_for(lines))));
@@ -56,10 +62,12 @@ fn take_nodes<'a>(
 ) -> Result<Result<&'a [CertLine], Fault>, NoMemory>
     requires { dag.old.nodes ≡ [] }
     ensures inputs { IfOk result (λ taken. IfOk taken (λ _. dag.new.inputs ≡ dag.old.inputs)) }
+    ensures dag { IfOk result (λ taken. IfOk taken (λ _. IsDag dag.new)) }
     ensures count { IfOk result (λ taken. IfOk taken (λ _. length dag.new.nodes ≡ count)) }
     ensures taken { IfOk result (λ taken. IfOk taken
         (λ rest. lines.now ≡ node_lines dag.new ++ rest.now)) }
     ensures refused { IfOk result (λ taken. IfErr taken (λ fault. fault.left ≤ length lines.now)) }
+    ensures cause { IfOk result (λ taken. IfErr taken (IsNodesFault dag.old.inputs count lines.now)) }
 {
     let mut rest = lines;
     for _ in 0..count {
@@ -79,10 +87,12 @@ pub(crate) fn take_terms(
     lines: &[CertLine],
 ) -> Result<Result<(Dag, &[CertLine]), Fault>, NoMemory>
     ensures inputs { IfOk result (λ taken. IfOk taken (λ terms. terms.0.inputs ≡ inputs)) }
+    ensures dag { IfOk result (λ taken. IfOk taken (λ terms. IsDag terms.0)) }
     ensures count { IfOk result (λ taken. IfOk taken (λ terms. length terms.0.nodes ≡ count)) }
     ensures taken { IfOk result (λ taken. IfOk taken
         (λ terms. lines.now ≡ node_lines terms.0 ++ terms.1.now)) }
     ensures refused { IfOk result (λ taken. IfErr taken (λ fault. fault.left ≤ length lines.now)) }
+    ensures cause { IfOk result (λ taken. IfErr taken (IsNodesFault inputs count lines.now)) }
 {
     let mut dag = Dag::new(alloc, inputs as usize);
     match take_nodes(&mut dag, count, lines)? {

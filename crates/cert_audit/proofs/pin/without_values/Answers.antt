@@ -11,6 +11,7 @@ pub loop-value-init : goal.loop-value-init
 loop-value-init c = record {
   without = subst (λ (r : Symbolic). IsWithout c.args.run.now c.args.term [] r) (sym c.in_ok-rest.ensures.same) (without_none c.args.run.now c.args.term);
   asserted = λ some. absurd (omega (arith, some));
+  last = λ some. absurd (omega (arith, some));
 }
 
 pub leave_out-requires : goal.leave_out-requires
@@ -26,4 +27,5 @@ loop-value-preserved c =
           (without_next c.args.run.now c.loop-value.rest c.leave_out.new.run c.args.term (take at values) (get_or values at 0) c.requires.width
           c.loop-value.invariant.without c.in_ok-last.ensures.without);
       asserted = λ some. c.in_ok-last.ensures.asserted;
+      last = λ some. c.in_ok-last.ensures.last;
     }

@@ -24,7 +24,7 @@ pub loop-todo-preserved : goal.loop-todo-preserved
 loop-todo-preserved c =
     let budgets = c.args.budgets.now in
     let popped : c.loop-todo.stack.items ≡ c.pop.new.self.items ++ c.in-Some.todo ∷ [] = search rules in
-    let is : IsVisited budgets c.in-Some.todo c.loop-todo.rest.now c.in-Ok.visited = rw c.in-Ok.is at c.in_ok-visited.ensures in
+    let is : IsVisited budgets c.in-Some.todo c.loop-todo.rest.now c.in-Ok.visited = rw c.in-Ok.is at c.in_ok-visited.ensures.visited in
     let at = c.in_ok-rest-in-Ok.ensures in
     rw (at.stack, at.rest, at.tally) (record {
       walked = walk_goes c.args.program.now budgets c.args.lines.now c.pop.new.self.items c.in-Some.todo c.loop-todo.rest.now c.loop-todo.tally

@@ -3,7 +3,7 @@ use Rattle.cnf_form.specs.Literals.{Literal}
 use Rattle.cnf_form.specs.Refutations.{is_empty_clause}
 use Rattle.cert_query.specs.Refuting.{IsNoted}
 use Rattle.cert_query.proofs.Clauses.{begins_with_none}
-use Rattle.cert_query.proofs.Refuting.{are_not_refuting, are_refuting, empty_by_length, none_so_far, one_does_not_follow, one_more_follows}
+use Rattle.cert_query.proofs.Refuting.{are_not_refuting, are_refuting, empty_by_length, fault_at_clause, fault_at_end, none_so_far, one_does_not_follow, one_more_follows}
 use Rattle.cert_query.proofs.refutation.take_following.Goals as goal
 
 pub lines-init : goal.lines-init
@@ -32,3 +32,14 @@ pub returns-else-is_closed-clause-refused : goal.returns-else-is_closed-clause-r
 returns-else-is_closed-clause-refused c =
     are_not_refuting c.args.checker.now c.lines.checker c.args.lines.now c.lines.rest.now c.lines.is_closed c.lines.invariant
     (begins_with_none c.lines.rest.now c.in_default.ensures) c.if-is_closed.false
+
+pub returns-then-not-branch-clause-cause : goal.returns-then-not-branch-clause-cause
+returns-then-not-branch-clause-cause c =
+    let noted : IsNoted c.lines.checker c.note_following.new.checker c.in-Some.step.now false = rw c.if-not-branch.true at c.in_ok-note_following.ensures in
+    fault_at_clause c.args.checker.now c.lines.checker c.note_following.new.checker c.args.lines.now c.lines.rest.now c.in-Some.more.now c.lines.is_closed c.in-Some.step.now c.at.result
+    c.lines.invariant c.in-Some.ensures noted c.at.ensures
+
+pub returns-else-is_closed-clause-cause : goal.returns-else-is_closed-clause-cause
+returns-else-is_closed-clause-cause c =
+    fault_at_end c.args.checker.now c.lines.checker c.args.lines.now c.lines.rest.now c.lines.is_closed c.at-else-is_closed.result c.lines.invariant
+    c.in_default.ensures c.if-is_closed.false c.at-else-is_closed.ensures

@@ -1,8 +1,9 @@
 use Rattle.std.proofs.Common.{◌≡◌, false, length}
+use Rattle.cert_query.specs.ClauseFaults.{IsLearntFault}
 use Rattle.cert_query.specs.ClauseLines.{clauses_at}
 use Rattle.cert_query.specs.Spending.{HasLearntAll, are_learnt}
 use Rattle.cert_query.specs.Variables.{are_noted}
-use Rattle.cert_query.proofs.Spending.{learnt_by_noting, refused_by_noting}
+use Rattle.cert_query.proofs.Spending.{fault_by_noting, learnt_by_noting, refused_by_noting}
 use Rattle.cert_query.proofs.spent_log.take_learnt.Goals as goal
 
 pub returns-in-Ok-clause-taken : goal.returns-in-Ok-clause-taken
@@ -18,3 +19,9 @@ returns-clause-refused c =
     = rw c.in-Err.is at c.in_ok-rest.ensures.refused in
     λ whole. refused_by_noting c.args.formula.now c.in_ok-checker.checker c.deref.result.now c.in_ok-seen.seen.items log
     c.deref.ensures.value c.in_ok-seen.ensures c.in_ok-checker.ensures (refused whole)
+
+pub returns-clause-cause : goal.returns-clause-cause
+returns-clause-cause c =
+    let refused : IsLearntFault (are_noted c.deref.result.now) c.in_ok-checker.checker c.args.budget c.args.lines.now c.in-Err.fault = rw c.in-Err.is at c.in_ok-rest.ensures.cause in
+    fault_by_noting c.args.formula.now c.in_ok-checker.checker c.deref.result.now c.in_ok-seen.seen.items c.args.budget c.args.lines.now c.in-Err.fault
+    c.deref.ensures.value c.in_ok-seen.ensures c.in_ok-checker.ensures refused
