@@ -17,6 +17,8 @@ pub enum Job<'a> {
     Explore(&'a [String]),
     /// What is said of a certificate of a program.
     Audit(&'a str, &'a str),
+    /// The lines that a certificate of a program lacks.
+    Complete(&'a str, &'a str),
 }
 
 fn number(word: &str) -> Option<u32> {
@@ -36,6 +38,7 @@ pub fn read_job(words: &[String]) -> Option<Job<'_>> {
         }
         ("explore", words) => Some(Job::Explore(words)),
         ("audit", [program, certificate]) => Some(Job::Audit(program, certificate)),
+        ("complete", [program, certificate]) => Some(Job::Complete(program, certificate)),
         _ => None,
     }
 }

@@ -12,16 +12,29 @@
 //! - `conflicts`: leaves of sides that are cut by conflicts
 //! - `targets`, `value_lines`, `valued`: those of sides that are cut by targets
 //! - `sampling`: whether an assignment is one of a run's
+//!
+//! Lines that a certificate lacks are found by a walk along those that it has:
+//!
+//! - `completing`: the walk
+//! - `gaps`: what lacks at a fork
+//! - `ahead`: what a fork's term is worth on an assignment of its run
+//! - `proving`: the lines of a proof
+//! - `solving`: what answers questions
 #![tactic(auto)]
 
+mod ahead;
 mod auditing;
 mod branch;
+mod completing;
 mod conflicts;
+mod gaps;
 mod going;
 mod nodes;
 mod pin;
 mod proof;
+mod proving;
 mod sampling;
+mod solving;
 mod taken;
 mod targets;
 mod todo;
@@ -31,5 +44,7 @@ mod values;
 mod visiting;
 mod walking;
 
-pub use auditing::{Verdict, audit};
+pub use auditing::{Verdict, audit, line_at};
+pub use completing::{Completed, Put, Unrefuted, complete};
+pub use solving::{Solved, Solver};
 pub use walking::Leaves;

@@ -26,8 +26,8 @@ fn has_no_value(alloc: Global, question: &Query, place: usize) -> Result<bool, N
     }
 }
 
-// Whether a question rests on one byte at most, and no value of that meets it.
-fn is_excluded(alloc: Global, question: &Query) -> Result<bool, NoMemory>
+/// Whether a question rests on one byte at most, and no value of that meets it.
+pub(crate) fn is_excluded(alloc: Global, question: &Query) -> Result<bool, NoMemory>
     ensures { IfOk result (λ yes. IsTrue yes → IsUnsatisfiable question.now) }
 {
     match occurring(alloc, question.dag().nodes(), question.asserted())? {
@@ -37,14 +37,23 @@ fn is_excluded(alloc: Global, question: &Query) -> Result<bool, NoMemory>
     }
 }
 
+/// The part of a run's condition that matters for this of its terms. Where nothing meets it, the run stands for no assignment.
+pub(crate) fn part_of(alloc: Global, run: &State, new: usize) -> Result<Query, NoMemory>
+    requires { Contains run.now.condition new }
+    ensures { IfOk result (λ part. IsUnsatisfiable part
+        → (input : List ℕ) → stands_for run.now input ≡ false) }
+{
+    let condition = listed(alloc, run.condition())?;
+    slice(alloc, run.terms(), &condition, new)
+}
+
 // Whether the part of a run's condition that matters for this of its terms rests on one byte at most, and no value of that meets it.
 fn is_tried(alloc: Global, run: &State, new: usize) -> Result<bool, NoMemory>
     requires { Contains run.now.condition new }
     ensures { IfOk result (λ yes. IsTrue yes
         → (input : List ℕ) → stands_for run.now input ≡ false) }
 {
-    let condition = listed(alloc, run.condition())?;
-    let part = slice(alloc, run.terms(), &condition, new)?;
+    let part = part_of(alloc, run, new)?;
     is_excluded(alloc, &part)
 }
 

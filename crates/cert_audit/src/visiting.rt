@@ -40,8 +40,8 @@ fn as_fork(went: Result<Went<'_>, Fault>) -> Result<Visited<'_>, Fault>
     }
 }
 
-// What lines make of a run that stopped so.
-fn at_stop<'a>(
+/// What lines make of a run that stopped so.
+pub(crate) fn at_stop<'a>(
     alloc: Global,
     budgets: &Budgets,
     run: &mut State,

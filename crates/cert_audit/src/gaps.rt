@@ -1,0 +1,248 @@
+//! What lines lack at a fork: that it has one way only, or a proof that its way or its values are all.
+
+ghost use Rattle.cert_audit.specs.Todos.{HasStopped};
+ghost use Rattle.run_leaves.specs.Values.{IsWithout};
+ghost use Rattle.std.specs.Prelude.{◌∷◌, [], ◌≤◌, Contains, IfOk, IfSome, length};
+ghost use Rattle.sym_state.specs.Undecided.{IsBranch};
+ghost use Rattle.sym_state.specs.Values.{IsUnknown};
+ghost use Rattle.tree_core.specs.declared.budgets.Budgets.{Budgets};
+
+use crate::ahead::number_ahead;
+use crate::pin::without_values;
+use crate::proving::{Proof, prove, refuted_lines};
+use crate::solving::Solver;
+use crate::values::take_values;
+use bv_dag::Query;
+use cert_form::{CertLine, Side, Sides};
+use run_sides::{choice_of, with_test};
+use std::alloc::{AllocError as NoMemory, Global};
+use sym_machine::Stop;
+use sym_state::State;
+use tree_core::Choice;
+
+/// The runs that a fork's line leaves out, and the term that is asserted last there.
+struct LeftOut {
+    run: State,
+    last: usize,
+}
+
+impl Drop for LeftOut {
+    fn drop(self) {
+        let Self {
+            run: _run,
+            last: _last,
+        } = self;
+    }
+}
+
+/// Lines that are to stand at a fork, in the place of so many.
+#[derive(Drop)]
+pub(crate) struct Filling {
+    pub lines: Vec<CertLine>,
+    pub taken: usize,
+}
+
+/// A fork's line, which is to stand in the place of so many, and the question that has to be refuted for it.
+#[derive(Drop)]
+pub(crate) struct Unproved {
+    pub line: CertLine,
+    pub taken: usize,
+    pub question: Query,
+}
+
+/// What lines lack at a fork.
+#[derive(Drop)]
+pub(crate) enum Gap {
+    Nothing,
+    Lines(Filling),
+    Proof(Unproved),
+}
+
+// Whether a proof begins with the first line.
+fn begins_proof(lines: &[CertLine]) -> bool {
+    matches!(lines, [CertLine::Tried | CertLine::Inputs(_), ..])
+}
+
+fn begins_split(lines: &[CertLine]) -> bool {
+    matches!(lines, [CertLine::Split(_), ..])
+}
+
+// The term that a run parts by, if it has stopped at a fork.
+fn term_of(stop: Stop) -> Option<usize> {
+    match stop {
+        Stop::Branch { term } | Stop::Pin { term, .. } => Some(term),
+        Stop::Ended(_) | Stop::Steps => None,
+    }
+}
+
+// The way on at a fork where its term is this number.
+fn choice_by(stop: Stop, number: u64) -> Option<Choice> {
+    match stop {
+        Stop::Branch { .. } => Some(choice_of(number == 1)),
+        Stop::Pin { .. } => Some(Choice::Value(u32::try_from(number).ok()?)),
+        Stop::Ended(_) | Stop::Steps => None,
+    }
+}
+
+// The other side of a branch.
+fn other_side(run: &State, term: usize, side: bool) -> Result<LeftOut, NoMemory>
+    requires { IsBranch run.now term }
+    ensures { IfOk result (λ left. Contains left.run.condition left.last) }
+{
+    let (mut run, last) = with_test(run, term, !side)?.into_parts();
+    run.assert(last)?;
+    Ok(LeftOut { run, last })
+}
+
+// Where a term has none of these values.
+fn other_values(run: &State, term: usize, values: &[u32]) -> Result<LeftOut, NoMemory>
+    requires unknown { IsUnknown run.now.terms 32 term }
+    requires some { 1 ≤ length values.now }
+    ensures { IfOk result (λ left. Contains left.run.condition left.last) }
+{
+    let (run, last) = without_values(run, term, values)?;
+    Ok(LeftOut { run, last })
+}
+
+// What is left out where a run goes on one way, if that is one at its fork.
+fn left_out(run: &State, stop: Stop, choice: Choice) -> Result<Option<LeftOut>, NoMemory>
+    requires { (budgets : Budgets) × HasStopped budgets run.now stop }
+    ensures { IfOk result (λ found. IfSome found (λ left. Contains left.run.condition left.last)) }
+{
+    match (stop, choice) {
+        (Stop::Branch { term }, Choice::No) => Ok(Some(other_side(run, term, false)?)),
+        (Stop::Branch { term }, Choice::Yes) => Ok(Some(other_side(run, term, true)?)),
+        (Stop::Pin { term, .. }, Choice::Value(value)) => {
+            Ok(Some(other_values(run, term, &[value])?))
+        }
+        _ => Ok(None),
+    }
+}
+
+// A fork's line and a proof behind it, as far as one is found.
+fn with_proof<S: Solver>(
+    alloc: Global,
+    solver: &S,
+    left: &LeftOut,
+    line: CertLine,
+    taken: usize,
+) -> Result<Gap, NoMemory>
+    requires { Contains left.now.run.condition left.now.last }
+{
+    let lines = match prove(alloc, solver, &left.run, left.last)? {
+        Proof::Met => return Ok(Gap::Nothing),
+        Proof::Tried => vec![in alloc; line, CertLine::Tried]?,
+        Proof::Refuted(question, log) => refuted_lines(alloc, line, &question, &log)?,
+        Proof::Open(question) => {
+            return Ok(Gap::Proof(Unproved {
+                line,
+                taken,
+                question,
+            }));
+        }
+    };
+    Ok(Gap::Lines(Filling { lines, taken }))
+}
+
+// What lacks where a run is to go on one way, by a line in the place of so many.
+fn gap_of_way<S: Solver>(
+    alloc: Global,
+    solver: &S,
+    run: &State,
+    stop: Stop,
+    choice: Choice,
+    taken: usize,
+) -> Result<Gap, NoMemory>
+    requires { (budgets : Budgets) × HasStopped budgets run.now stop }
+{
+    match left_out(run, stop, choice)? {
+        Some(left) => with_proof(alloc, solver, &left, CertLine::One(choice), taken),
+        None => Ok(Gap::Nothing),
+    }
+}
+
+// What lacks where a fork is to have one way only, without a line that says so.
+fn gap_unsaid<S: Solver>(
+    alloc: Global,
+    solver: &S,
+    run: &State,
+    stop: Stop,
+    term: usize,
+    lines: &[CertLine],
+) -> Result<Gap, NoMemory>
+    requires stopped { (budgets : Budgets) × HasStopped budgets run.now stop }
+    requires there { term < length run.now.terms.nodes }
+{
+    let Some(number) = number_ahead(alloc, solver, run, term, lines)? else {
+        return Ok(Gap::Nothing);
+    };
+    match choice_by(stop, number) {
+        Some(choice) => gap_of_way(alloc, solver, run, stop, choice, 0),
+        None => Ok(Gap::Nothing),
+    }
+}
+
+// What lacks where a run parts by these sides, without a proof that they are all.
+fn gap_of_values<S: Solver>(
+    alloc: Global,
+    solver: &S,
+    run: &State,
+    term: usize,
+    sides: &[Side],
+) -> Result<Gap, NoMemory>
+    requires unknown { IsUnknown run.now.terms 32 term }
+{
+    let (values, others) = take_values(alloc, sides)?;
+    if values.is_empty() || !others.is_empty() {
+        return Ok(Gap::Nothing);
+    }
+    let left = other_values(run, term, &values)?;
+    let line = CertLine::Split(Sides::from_vec(Vec::from_slice(alloc, sides)?));
+    with_proof(alloc, solver, &left, line, 1)
+}
+
+// What lacks behind the line of a split.
+fn gap_behind_split<S: Solver>(
+    alloc: Global,
+    solver: &S,
+    run: &State,
+    stop: Stop,
+    lines: &[CertLine],
+) -> Result<Gap, NoMemory>
+    requires { (budgets : Budgets) × HasStopped budgets run.now stop }
+{
+    match (stop, lines) {
+        (Stop::Pin { term, .. }, [CertLine::Split(sides), rest @ ..]) if !begins_proof(rest) => {
+            gap_of_values(alloc, solver, run, term, sides.as_slice())
+        }
+        _ => Ok(Gap::Nothing),
+    }
+}
+
+/// What lines lack at the fork at which a run has stopped. A line of a split may be a later fork's.
+pub(crate) fn gap_at<S: Solver>(
+    alloc: Global,
+    solver: &S,
+    run: &State,
+    stop: Stop,
+    lines: &[CertLine],
+) -> Result<Gap, NoMemory>
+    requires { (budgets : Budgets) × HasStopped budgets run.now stop }
+{
+    let Some(term) = term_of(stop) else {
+        return Ok(Gap::Nothing);
+    };
+    match lines {
+        [] | [CertLine::CutNodes, ..] => return Ok(Gap::Nothing),
+        [CertLine::One(_), rest @ ..] if begins_proof(rest) => return Ok(Gap::Nothing),
+        [CertLine::One(choice), ..] => {
+            return gap_of_way(alloc, solver, run, stop, *choice, 1);
+        }
+        _ => {}
+    }
+    match gap_unsaid(alloc, solver, run, stop, term, lines)? {
+        Gap::Nothing => gap_behind_split(alloc, solver, run, stop, lines),
+        Gap::Proof(_) if begins_split(lines) => gap_behind_split(alloc, solver, run, stop, lines),
+        gap => Ok(gap),
+    }
+}
