@@ -6,7 +6,7 @@ use Rattle.std.proofs.lemmas.List.Elements.{All-nil, All-cons, All-push}
 use Rattle.std.proofs.lemmas.List.Sums.{sum_by-append, sum_by-cons}
 use Rattle.bv_dag.specs.Graphs.{number_of}
 use Rattle.fork_spec.specs.Evidence.{AreIncreasing, is_among}
-use Rattle.fork_spec.specs.Leaves.{IsSmallChoice}
+use Rattle.tree_core.specs.Choices.{IsSmallChoice}
 use Rattle.fork_spec.specs.Walks.{rest_side, value_side}
 use Rattle.run_leaves.specs.Values.{IsWithout}
 use Rattle.run_leaves.proofs.Cutting.{without_narrowed}

@@ -1,7 +1,8 @@
 -- What a walk through a fork tree has still to come to.
 use Rattle.std.specs.Prelude.{ℕ, ◌≤◌, Bool, List, [], ◌∷◌, ◌++◌, None, Some}
 use Rattle.fork_spec.specs.Evidence.{AreIncreasing}
-use Rattle.fork_spec.specs.Leaves.{IsSmall, IsSmallChoice}
+use Rattle.fork_spec.specs.Leaves.{IsSmall}
+use Rattle.tree_core.specs.Choices.{IsSmallChoice}
 use Rattle.fork_spec.specs.Partings.{Place}
 use Rattle.rv_spec.specs.Memory.{count_of}
 use Rattle.sym_machine.specs.Advancing.{IsUnderway, StoppedBy}

@@ -4,7 +4,7 @@ ghost use Rattle.std.specs.Prelude.{◌≡◌, ℕ, IfOk, IfSome, IsTrue};
 ghost use Rattle.bv_dag.specs.Graphs.{IsDag};
 ghost use Rattle.bv_dag.specs.Queries.{AreBits};
 ghost use Rattle.cert_query.specs.Spending.{IsSpentBy};
-ghost use Rattle.fork_spec.specs.Leaves.{IsSmallChoice};
+ghost use Rattle.tree_core.specs.Choices.{IsSmallChoice};
 ghost use Rattle.run_leaves.specs.Leaving.{HasTextRoom};
 ghost use Rattle.sym_state.specs.Symbolic.{condition_of};
 ghost use Rattle.tree_core.specs.declared.budgets.Budgets.{Budgets};

@@ -20,7 +20,7 @@ use crate::valued::Valued;
 use byte_list::Bytes;
 use cert_form::CertLine;
 use cert_query::{Fault, Reason};
-use leaf_part::Found;
+use fork_spec::Found;
 use run_leaves::cut_targets;
 use std::alloc::{AllocError as NoMemory, Global};
 use sym_state::State;

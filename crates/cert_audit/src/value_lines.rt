@@ -8,7 +8,7 @@ use crate::valued::Valued;
 use byte_list::Bytes;
 use cert_form::CertLine;
 use cert_query::{Fault, Reason};
-use leaf_part::Found;
+use fork_spec::Found;
 use std::alloc::{AllocError as NoMemory, Global};
 
 // The same value, with the same assignment.

@@ -5,7 +5,7 @@ ghost use Rattle.cert_audit.specs.Valued.{IsValued, IsValueOf};
 
 use crate::sampling::are_bytes;
 use bv_dag::Query;
-use leaf_part::Found;
+use fork_spec::Found;
 use query_pick::{Picked, pick_terms};
 use std::alloc::{AllocError as NoMemory, Global};
 use sym_state::{State, listed};

@@ -4,7 +4,7 @@ use crate::learnt_clause::LearntClause;
 use crate::node_line::NodeLine;
 use crate::sides::Sides;
 use byte_list::Bytes;
-use leaf_part::Found;
+use fork_spec::Found;
 use tree_core::Choice;
 
 /// A line of the walk.

@@ -9,7 +9,8 @@ use Rattle.std.proofs.lemmas.Fmt.{first_decimal}
 use Rattle.std.proofs.lemmas.Option.{same_Some}
 use Rattle.cnf_form.specs.Literals.{Literal}
 use Rattle.elf_load.specs.declared.region.Region.{Region}
-use Rattle.fork_spec.specs.Leaves.{IsSmall, IsSmallChoice}
+use Rattle.fork_spec.specs.Leaves.{IsSmall}
+use Rattle.tree_core.specs.Choices.{IsSmallChoice}
 use Rattle.fork_spec.specs.Walks.{Side}
 use Rattle.leaf_reader.proofs.ItemsFrom.{from_choice, from_eight}
 use Rattle.leaf_reader.proofs.LinesFrom.{made_from, word_from}

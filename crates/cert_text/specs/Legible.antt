@@ -6,7 +6,8 @@ use Rattle.cert_form.specs.declared.line.CertLine.{CertLine}
 use Rattle.cert_form.specs.declared.line.CertLine.TheVariants.{One, Split, Inputs, Nodes, Input, Node, Assert, Clause, Value, Witness, End, CutSteps}
 use Rattle.cnf_form.specs.Clauses.{IsClause}
 use Rattle.elf_load.specs.declared.region.Region.{Region}
-use Rattle.fork_spec.specs.Leaves.{IsCount, IsSmall, IsSmallChoice}
+use Rattle.fork_spec.specs.Leaves.{IsCount, IsSmall}
+use Rattle.tree_core.specs.Choices.{IsSmallChoice}
 use Rattle.fork_spec.specs.Walks.{Side}
 use Rattle.smt_text.specs.NodeText.{IsSmallNode}
 use Rattle.spent_text.specs.Legible.{HasSmallNumbers, IsLegibleFound}

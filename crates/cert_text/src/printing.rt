@@ -12,7 +12,7 @@ ghost use Rattle.cert_text.specs.Lines.{input_text, line_defining, line_text};
 use byte_list::Bytes;
 use cert_form::{Cert, CertLine, DefinedNode, Limits, Side};
 use elf_load::Region;
-use leaf_part::Found;
+use fork_spec::Found;
 use smt_text::{write_assert_line, write_input_line, write_node_line};
 use spent_text::{found_line, write_learnt_line, write_side};
 use std::alloc::{AllocError as NoMemory, Global};

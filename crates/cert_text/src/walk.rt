@@ -9,7 +9,7 @@ use crate::lists::take_all;
 use byte_list::Bytes;
 use cert_form::{CertLine, DefinedNode, LearntClause, NodeLine, Sides};
 use cnf_form::{Clause, Lit, LogStep};
-use leaf_part::Found;
+use fork_spec::Found;
 use leaf_reader::{assertion_said, behind, eight, named, node_said, one, take_choice, take_count};
 use std::alloc::{AllocError as NoMemory, Global};
 

@@ -5,8 +5,8 @@ use Rattle.bv_dag.specs.Graphs.{Graph, IsDag, number_of, width_of}
 use Rattle.bv_dag.specs.Queries.{Condition, AreBits, holds}
 use Rattle.rv_decode.specs.declared.ends.PathStep.{PathStep}
 use Rattle.rv_decode.specs.declared.ends.PathStep.TheVariants.{Taken, NotTaken, Target}
+use Rattle.tree_core.specs.Choices.{IsSmallChoice}
 use Rattle.tree_core.specs.declared.choice.Choice.{Choice}
-use Rattle.tree_core.specs.declared.choice.Choice.TheVariants.{No, Yes, Value, Rest}
 use Rattle.fork_spec.specs.declared.end.LeafEnd.{LeafEnd}
 use Rattle.fork_spec.specs.declared.end.LeafEnd.TheVariants.{Exits, Traps, Cut}
 
@@ -42,12 +42,6 @@ IsSmall n = n < 2 ^ 32
 -- a count of terms that texts may have
 abbrev pub IsCount : ℕ → Type 0
 IsCount n = n < 2 ^ 64
-
-abbrev pub IsSmallChoice : Choice → Type 0
-IsSmallChoice No = Unit {0}
-IsSmallChoice Yes = Unit {0}
-IsSmallChoice (Value v) = IsSmall v
-IsSmallChoice Rest = Unit {0}
 
 abbrev pub IsSmallStep : PathStep → Type 0
 IsSmallStep Taken = Unit {0}

@@ -1,34 +1,9 @@
 //! What shows the budget that was spent on a leaf.
 
 use bv_dag::Query;
-use byte_list::Bytes;
 use cnf_form::Log;
+use fork_spec::Found;
 use std::marker::Model;
-
-/// A value, and an assignment on which a term has it.
-#[derive(Debug)]
-pub struct Found {
-    pub value: u32,
-    /// One byte for each input.
-    pub input: Bytes,
-}
-
-impl Drop for Found {
-    fn drop(self) {
-        let Self {
-            value: _value,
-            input: _input,
-        } = self;
-    }
-}
-
-impl Model for Found {
-    ghost use Rattle.fork_spec.specs.Evidence as spec;
-
-    ghost Value = { spec.Found };
-
-    ghost view = { λ f. record { value = f.value; input = f.input } };
-}
 
 /// The values on which the budget of targets was spent, by increasing value.
 #[derive(Debug)]

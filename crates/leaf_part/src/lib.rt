@@ -4,5 +4,5 @@
 mod evidence;
 mod leaf_part;
 
-pub use evidence::{Evidence, Found, Learnt, Spent};
+pub use evidence::{Evidence, Learnt, Spent};
 pub use leaf_part::LeafPart;

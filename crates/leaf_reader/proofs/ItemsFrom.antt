@@ -16,7 +16,8 @@ use Rattle.rv_decode.specs.declared.ends.PathStep.{PathStep}
 use Rattle.rv_decode.specs.declared.ends.PathStep.TheVariants.{Target}
 use Rattle.tree_core.specs.declared.choice.Choice.{Choice}
 use Rattle.tree_core.specs.declared.choice.Choice.TheVariants.{Value}
-use Rattle.fork_spec.specs.Leaves.{IsSmallChoice, IsSmallStep}
+use Rattle.fork_spec.specs.Leaves.{IsSmallStep}
+use Rattle.tree_core.specs.Choices.{IsSmallChoice}
 use Rattle.text_parts.specs.Items.{branches, choice, plain_choices, step}
 use Rattle.text_parts.specs.Names.{choice_text, eight_digits, step_text}
 use Rattle.text_parts.specs.Digits.{has_upper_case, hex_number, number_of_bytes}

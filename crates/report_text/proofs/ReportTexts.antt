@@ -5,7 +5,8 @@ use Rattle.serde_json.specs.View.{items_of}
 use Rattle.serde_json.specs.Written.{compact_text, items_text, has_float, items_have_float}
 use Rattle.serde_json.proofs.OnLiterals.{serde_json_on_literals}
 use Rattle.elf_load.specs.declared.region.Region.{Region}
-use Rattle.text_parts.specs.Names.{choices_text, end_name, kind_name}
+use Rattle.smt_text.specs.Ends.{end_name, kind_name}
+use Rattle.text_parts.specs.Names.{choices_text}
 use Rattle.test_files.specs.Tests.{quoted_all, region_text}
 use Rattle.tree_core.specs.declared.budgets.Budgets.{Budgets}
 use Rattle.report_text.specs.declared.summary.Summary.{Summary}

@@ -5,7 +5,7 @@ use Rattle.std.proofs.lemmas.Bool.{and_parts, eqb-true}
 use Rattle.std.proofs.lemmas.List.{length-set}
 use Rattle.std.proofs.lemmas.List.Elements.{All-cons, All-nil}
 use Rattle.std.proofs.lemmas.Option.{same_Some, slice_get_within}
-use Rattle.tree_core.specs.Choices.{is_same}
+use Rattle.tree_core.specs.Choices.{IsSmallChoice, is_same}
 use Rattle.tree_core.specs.Replays.{may_do}
 use Rattle.tree_core.specs.declared.cause.Cause.{Cause}
 use Rattle.tree_core.specs.declared.choice.Choice.{Choice}
@@ -13,7 +13,7 @@ use Rattle.tree_core.specs.declared.choice.Choice.TheVariants.{No, Yes, Value, R
 use Rattle.tree_core.specs.declared.event.Deed.{Deed}
 use Rattle.tree_core.specs.declared.event.Deed.TheVariants.{Claim, Split, Finish, Cut, Release}
 use Rattle.tree_core.specs.Stories.{left_by}
-use Rattle.fork_spec.specs.Leaves.{IsSmall, IsSmallChoice}
+use Rattle.fork_spec.specs.Leaves.{IsSmall}
 use Rattle.fork_spec.specs.Walks.{Bounds, Line, Side, Sides, Standing, are_branch_sides, are_sides, are_small, are_values, candidate, side_births, cut_by, done_on, is_in_form, is_in_turn, is_by_nodes, is_increasing, is_one_cut_at_most, is_rest, is_rest_cut, may_come, open_value, walk_step, value_before, values_first, walk_from}
 use Rattle.text_parts.proofs.Options.{then_from}
 use Rattle.text_parts.proofs.Tests.{lt_from}

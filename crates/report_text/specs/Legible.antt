@@ -6,7 +6,8 @@ use Rattle.tree_core.specs.declared.cause.Cause.{Cause}
 use Rattle.tree_core.specs.declared.event.Deed.{Deed}
 use Rattle.tree_core.specs.declared.event.Deed.TheVariants.{Claim, Split, Finish, Cut, Release}
 use Rattle.fork_spec.specs.Evidence.{IsQuestion, Learnt, Spent}
-use Rattle.fork_spec.specs.Leaves.{IsCount, IsSmall, IsSmallChoice}
+use Rattle.fork_spec.specs.Leaves.{IsCount, IsSmall}
+use Rattle.tree_core.specs.Choices.{IsSmallChoice}
 use Rattle.fork_spec.specs.Parts.{Evidence, OnConflicts, OnNodes, OnTargets}
 use Rattle.fork_spec.specs.Walks.{Line, Side, Sides, Standing, walk}
 use Rattle.spent_text.specs.Legible.{HasSmallNumbers, IsLegibleFound}

@@ -3,7 +3,8 @@ use Rattle.std.specs.Prelude.{ℕ, List, codes, map}
 use Rattle.serde_json.specs.Data.{Data, number, unsigned, string, array, object, member, no_members}
 use Rattle.serde_json.specs.View.{items_of}
 use Rattle.elf_load.specs.declared.region.Region.{Region}
-use Rattle.text_parts.specs.Names.{choices_text, end_name, kind_name}
+use Rattle.smt_text.specs.Ends.{end_name, kind_name}
+use Rattle.text_parts.specs.Names.{choices_text}
 use Rattle.test_files.specs.TestData.{regions_data}
 use Rattle.tree_core.specs.declared.budgets.Budgets.{Budgets}
 use Rattle.fork_spec.specs.Histories.{LeafNode}

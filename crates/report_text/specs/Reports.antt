@@ -4,7 +4,8 @@ use Rattle.json.specs.Print.{quoted}
 use Rattle.elf_load.specs.declared.region.Region.{Region}
 use Rattle.fork_spec.specs.Histories.{LeafNode}
 use Rattle.fork_spec.specs.Leaves.{Leaf}
-use Rattle.text_parts.specs.Names.{choices_text, end_name, kind_name}
+use Rattle.smt_text.specs.Ends.{end_name, kind_name}
+use Rattle.text_parts.specs.Names.{choices_text}
 use Rattle.test_files.specs.Tests.{quoted_all, region_text}
 use Rattle.tree_core.specs.declared.budgets.Budgets.{Budgets}
 use Rattle.tree_core.specs.declared.order.Order.{Order}

@@ -11,9 +11,10 @@ use crate::summary::{Summary, summarize};
 use byte_list::Bytes;
 use elf_load::Regions;
 use serde_json::{Value, json};
+use smt_text::{end_name, kind_name};
 use std::alloc::{AllocError as NoMemory, Global};
 use test_files::region_list;
-use text_parts::{end_name, kind_name, write_choices};
+use text_parts::write_choices;
 use tree_core::{Budgets, Choice, Order};
 
 /// The choices, with nothing between.

@@ -6,8 +6,9 @@ ghost use Rattle.report_text.specs.Spent.{nodes_text, targets_text};
 ghost use Rattle.spent_text.specs.FoundLine.{found_text};
 
 use byte_list::Bytes;
+use fork_spec::Found;
 use itoa::Buffer;
-use leaf_part::{Found, Spent};
+use leaf_part::Spent;
 use spent_text::found_line;
 use std::alloc::{AllocError as NoMemory, Global};
 

@@ -4,7 +4,7 @@
 ghost use Rattle.std.specs.Prelude.{◌≡◌, ◌<◌, ◌++◌, ◌∷◌, [], ℕ, List, Bool, IfOk, None, Some, length, map, not};
 ghost use Rattle.bv_dag.specs.Graphs.{number_of, width_of};
 ghost use Rattle.fork_spec.specs.Evidence.{is_among, values_of};
-ghost use Rattle.fork_spec.specs.Leaves.{IsSmallChoice};
+ghost use Rattle.tree_core.specs.Choices.{IsSmallChoice};
 ghost use Rattle.sym_state.specs.Programs.{Program};
 ghost use Rattle.sym_state.specs.Narrowed.{IsNarrowed};
 ghost use Rattle.sym_state.specs.Runs.{IsOpen, IsSampled};
@@ -20,8 +20,8 @@ ghost use Rattle.run_leaves.specs.Places.{IsLeafAt, side_place};
 ghost use Rattle.run_leaves.specs.Values.{AreValues, IsWithout};
 
 use crate::leaf::{leaf_of, leaf_terms, sample_of};
-use fork_spec::LeafEnd;
-use leaf_part::{Evidence, Found, LeafPart, Learnt, Spent};
+use fork_spec::{Found, LeafEnd};
+use leaf_part::{Evidence, LeafPart, Learnt, Spent};
 use std::alloc::{AllocError as NoMemory, Global};
 use sym_state::State;
 use tree_core::{Cause, Choice};

@@ -3,7 +3,7 @@ use Rattle.std.proofs.Common.{◌≡◌, ℕ, ◌+◌, ◌<◌, Bool, true, fals
 use Rattle.std.specs.Prelude.{All, Some, ◌==◌, not}
 use Rattle.bv_dag.specs.Graphs.{Graph, number_of, width_of}
 use Rattle.fork_spec.specs.Decisions.{Side as OnSide}
-use Rattle.fork_spec.specs.Leaves.{IsSmallChoice}
+use Rattle.tree_core.specs.Choices.{IsSmallChoice}
 use Rattle.rv_spec.specs.Arithmetic.{one_where}
 use Rattle.sym_state.specs.Moves.{MakesTerm}
 use Rattle.sym_state.specs.Narrowed.{IsNarrowed}

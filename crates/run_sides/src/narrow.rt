@@ -2,7 +2,7 @@
 
 ghost use Rattle.std.specs.Prelude.{◌≡◌, OnOk};
 ghost use Rattle.bv_dag.specs.Graphs.{width_of};
-ghost use Rattle.fork_spec.specs.Leaves.{IsSmallChoice};
+ghost use Rattle.tree_core.specs.Choices.{IsSmallChoice};
 ghost use Rattle.sym_state.specs.Moves.{narrowed};
 
 use std::alloc::AllocError as NoMemory;

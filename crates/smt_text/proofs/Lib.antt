@@ -4,6 +4,7 @@ pub mod Fitting
 pub mod Reading
 pub mod TermsBack
 pub mod Phases
+pub mod PathsBack
 pub mod LinesBack
 pub mod OneReading
 pub mod LinesSaid

@@ -20,7 +20,8 @@ use Rattle.smt_text.specs.NodeText.{IsSmallNode, node_text}
 use Rattle.text_parts.specs.Pieces.{before, behind, list_end, made, named, one}
 use Rattle.smt_text.specs.declared.spot.Spot.{Spot}
 use Rattle.smt_text.specs.declared.spot.Spot.TheVariants.{AtFormat, AtKind, AtChoices, AtPath, AtSteps, AtEnd, AtInputs, AtNodes, AtOutputs, AtLogic, AmongInputs, AtBase, AmongNodes, AtStatus, AmongOutputs, AmongAssertions, AtExit}
-use Rattle.text_parts.proofs.ItemsBack.{choices_back, steps_back}
+use Rattle.smt_text.proofs.PathsBack.{steps_back}
+use Rattle.text_parts.proofs.ItemsBack.{choices_back}
 use Rattle.smt_text.specs.Phases.{Counted, IsInBounds}
 use Rattle.smt_text.proofs.Phases.{fits_from, small_choices, small_path}
 use Rattle.text_parts.proofs.Tests.{lt_from}

@@ -10,7 +10,8 @@ use Rattle.bv_dag.specs.Graphs.{width_of}
 use Rattle.bv_dag.specs.Queries.{Condition}
 use Rattle.tree_core.specs.declared.cause.Cause.TheVariants.{Steps}
 use Rattle.fork_spec.specs.Evidence.{IsQuestion}
-use Rattle.fork_spec.specs.Leaves.{IsFull, IsSmallChoice, IsSmallStep, Leaf}
+use Rattle.fork_spec.specs.Leaves.{IsFull, IsSmallStep, Leaf}
+use Rattle.tree_core.specs.Choices.{IsSmallChoice}
 use Rattle.fork_spec.specs.declared.end.LeafEnd.TheVariants.{Cut}
 use Rattle.smt_text.specs.Grammar.{Reading, leaf_of, next_state, read_lines, stands, start, with_line}
 use Rattle.smt_text.specs.LeafLines.{assertions, counts_heading, leaf_lines, leaf_text, query_lines, query_text, runs_heading, term_lines}

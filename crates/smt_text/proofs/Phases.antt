@@ -15,7 +15,8 @@ use Rattle.rv_decode.specs.declared.ends.PathStep.{PathStep}
 use Rattle.rv_decode.specs.declared.ends.PathStep.TheVariants.{Taken, NotTaken, Target}
 use Rattle.tree_core.specs.declared.choice.Choice.{Choice}
 use Rattle.tree_core.specs.declared.choice.Choice.TheVariants.{No, Yes, Value, Rest}
-use Rattle.fork_spec.specs.Leaves.{IsByteStatus, IsSmallChoice, IsSmallStep}
+use Rattle.fork_spec.specs.Leaves.{IsByteStatus, IsSmallStep}
+use Rattle.tree_core.specs.Choices.{IsSmallChoice}
 use Rattle.fork_spec.specs.declared.end.LeafEnd.{LeafEnd}
 use Rattle.fork_spec.specs.declared.end.LeafEnd.TheVariants.{Exits, Traps, Cut}
 use Rattle.smt_text.specs.Grammar.{Reading, behind_inputs, behind_nodes, behind_outputs, exits, graph_of, is_small_choice, is_small_step, is_wide, stands, start, with_line}

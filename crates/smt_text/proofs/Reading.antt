@@ -17,9 +17,10 @@ use Rattle.bv_dag.specs.declared.nodes.Node.{Node}
 use Rattle.smt_text.specs.declared.spot.Spot.TheVariants.{AmongAssertions, AtExit, AtLogic, Closed}
 use Rattle.smt_text.specs.Grammar.{Reading, IsTextOf, agree, end_by, graph_of, is_small_choice, is_small_step, next_state, past_input, past_node, past_output, read_lines, stands, start, with_line}
 use Rattle.smt_text.specs.LeafLines.{heading, assertions, input_lines, node_lines, output_lines, status_lines, leaf_text, leaf_lines}
-use Rattle.fork_spec.specs.Leaves.{IsByteStatus, IsFull, IsSmallChoice, IsSmallStep, Leaf}
+use Rattle.fork_spec.specs.Leaves.{IsByteStatus, IsFull, IsSmallStep, Leaf}
+use Rattle.tree_core.specs.Choices.{IsSmallChoice}
 use Rattle.smt_text.specs.Lines.{LeafLine, LogicLine, InputLine, BaseLine, NodeLine, StatusLine, OutputLine, AssertLine, CheckLine, ExitLine}
-use Rattle.text_parts.specs.Names.{kind_of, end_word}
+use Rattle.smt_text.specs.Ends.{kind_of, end_word}
 use Rattle.fork_spec.specs.declared.end.LeafEnd.{LeafEnd}
 use Rattle.fork_spec.specs.declared.end.LeafEnd.TheVariants.{Exits, Traps, Cut}
 use Rattle.smt_text.proofs.Fitting.{fits_here, width_here}

@@ -6,7 +6,8 @@ use Rattle.tree_core.specs.declared.choice.Choice.{Choice}
 use Rattle.fork_spec.specs.declared.end.LeafEnd.{LeafEnd}
 use Rattle.smt_text.specs.LeafLines.{counts_heading, runs_heading}
 use Rattle.smt_text.specs.Lines.{LeafLine, BaseLine, CheckLine, ExitLine, LogicLine, line_text, lines_text}
-use Rattle.text_parts.specs.Names.{choices_text, end_name, kind_name, path_text}
+use Rattle.smt_text.specs.Ends.{end_name, kind_name}
+use Rattle.text_parts.specs.Names.{choices_text, path_text}
 
 lines_append : (lines others : List LeafLine) → lines_text (lines ++ others)
     ≡ lines_text lines ++ lines_text others

@@ -7,7 +7,7 @@ use Rattle.fork_spec.specs.Leaves.{Leaf}
 use Rattle.smt_text.specs.Lines.{LeafLine, FormatLine, KindLine, ChoicesLine, PathLine, StepsLine, EndLine, InputsLine, NodesLine, OutputsLine, LogicLine, InputLine, BaseLine, NodeLine, StatusLine, OutputLine, AssertLine, CheckLine, ExitLine, lines_text}
 use Rattle.rv_decode.specs.declared.ends.PathStep.{PathStep}
 use Rattle.tree_core.specs.declared.choice.Choice.{Choice}
-use Rattle.text_parts.specs.Names.{kind_of, end_word}
+use Rattle.smt_text.specs.Ends.{kind_of, end_word}
 use Rattle.fork_spec.specs.declared.end.LeafEnd.{LeafEnd}
 use Rattle.fork_spec.specs.declared.end.LeafEnd.TheVariants.{Exits, Traps, Cut}
 

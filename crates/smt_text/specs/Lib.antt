@@ -1,3 +1,4 @@
+pub mod Ends
 pub mod NodeText
 pub mod Lines
 pub mod LeafLines

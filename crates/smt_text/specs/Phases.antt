@@ -2,7 +2,8 @@
 use Rattle.std.specs.Prelude.{◌≡◌, ℕ, ◌^◌, ◌<◌, All, List, [], length}
 use Rattle.bv_dag.specs.Graphs.{AllFit, Graph}
 use Rattle.bv_dag.specs.Queries.{AreBits}
-use Rattle.fork_spec.specs.Leaves.{AreBytes, IsByteStatus, IsSmallChoice, IsSmallStep}
+use Rattle.fork_spec.specs.Leaves.{AreBytes, IsByteStatus, IsSmallStep}
+use Rattle.tree_core.specs.Choices.{IsSmallChoice}
 use Rattle.fork_spec.specs.declared.end.LeafEnd.{LeafEnd}
 use Rattle.smt_text.specs.Grammar.{Reading, graph_of}
 use Rattle.smt_text.specs.declared.spot.Spot.{Spot}

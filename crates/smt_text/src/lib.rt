@@ -2,6 +2,7 @@
 #![tactic(auto)]
 
 mod ending;
+mod ends;
 mod head;
 pub mod laws;
 mod leaf;
@@ -11,6 +12,7 @@ mod printing;
 mod spot;
 
 pub use ending::Ending;
+pub use ends::{end_name, kind_name};
 pub use head::Head;
 pub use leaf::LeafText;
 pub use lines::{write_assert_line, write_input_line, write_node_line};

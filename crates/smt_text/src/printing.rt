@@ -4,6 +4,7 @@ ghost use Rattle.std.specs.Prelude.{◌≡◌, ◌++◌, IfOk, OnOk, string_byte
 ghost use Rattle.smt_text.specs.LeafLines as spec;
 ghost use Rattle.smt_text.specs.Lines.{lines_text};
 
+use crate::ends::{end_name, kind_name};
 use crate::leaf::LeafText;
 use crate::lines::{
     write_assert_lines, write_input_lines, write_node_lines, write_output_lines, write_status_lines,
@@ -13,7 +14,7 @@ use byte_list::Bytes;
 use fork_spec::LeafEnd;
 use rv_decode::PathStep;
 use std::alloc::{AllocError as NoMemory, Global};
-use text_parts::{end_name, kind_name, push_numbered, write_choices, write_path};
+use text_parts::{push_numbered, write_choices, write_path};
 use tree_core::Choice;
 
 /// Appends what runs a leaf is about: its kind, choices, path, steps and end.

@@ -4,7 +4,7 @@ use Rattle.std.specs.Prelude.{All}
 use Rattle.std.proofs.lemmas.List.{append_cancel_left}
 use Rattle.tree_core.specs.declared.cause.Cause.{Cause}
 use Rattle.tree_core.specs.declared.cause.Cause.TheVariants.{Steps, Targets, Conflicts, Nodes}
-use Rattle.fork_spec.specs.Leaves.{IsSmallChoice}
+use Rattle.tree_core.specs.Choices.{IsSmallChoice}
 use Rattle.fork_spec.specs.Walks.{Side}
 use Rattle.text_parts.specs.Names.{choice_text}
 use Rattle.text_parts.specs.Pieces.{behind, named}

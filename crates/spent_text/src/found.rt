@@ -3,7 +3,7 @@
 ghost use Rattle.std.specs.Prelude.{◌≡◌, IfOk, string_bytes};
 ghost use Rattle.spent_text.specs.FoundLine.{found_text};
 
-use leaf_part::Found;
+use fork_spec::Found;
 use std::alloc::{AllocError as NoMemory, Global};
 
 /// The line of a value and its assignment.

@@ -15,7 +15,8 @@ use Rattle.elf_load.specs.Fits.{unfit, unfit_empty, unfit_overlap, unfit_too_lon
 use Rattle.elf_load.specs.Images.{Image}
 use Rattle.elf_load.specs.declared.region.Region.{Region}
 use Rattle.elf_load.specs.declared.unfit.Unfit.TheVariants.{TooMany, Empty, TooLong, Unmapped, Overlap}
-use Rattle.fork_spec.specs.Leaves.{IsSmallChoice, IsSmallStep, are_bytes}
+use Rattle.fork_spec.specs.Leaves.{IsSmallStep, are_bytes}
+use Rattle.tree_core.specs.Choices.{IsSmallChoice}
 use Rattle.fork_spec.proofs.ByteLists.{are_bytes-each, are_bytes-of}
 use Rattle.rv_machine.proofs.Placing.{fitting_mapped}
 use Rattle.rv_machine.specs.Pages.{AreMapped}

@@ -8,7 +8,8 @@ use Rattle.rv_decode.specs.declared.ends.PathStep.{PathStep}
 use Rattle.fork_spec.specs.Decisions.{Decision, Side, Number as Needs, step_decisions}
 use Rattle.rv_spec.specs.Machine.{State}
 use Rattle.tree_core.specs.declared.choice.Choice.{Choice}
-use Rattle.fork_spec.specs.Leaves.{IsSmallChoice, IsSmallStep, are_bytes}
+use Rattle.fork_spec.specs.Leaves.{IsSmallStep, are_bytes}
+use Rattle.tree_core.specs.Choices.{IsSmallChoice}
 use Rattle.sym_state.specs.KeptUpdates.{AreUpdates, KeptUpdates}
 use Rattle.sym_state.specs.Values.{IsByte, IsWide, byte_worth, worth_of}
 use Rattle.sym_state.specs.declared.decided.Decided.{Decided}

@@ -3,7 +3,8 @@
 ghost use Rattle.std.specs.Prelude.{◌≡◌, ◌==◌, ◌<◌, ◌/◌, ◌∷◌, ◌++◌, ℕ, [], All, IsSome, OnErr, OnOk, length, if◌then◌else◌};
 ghost use Rattle.bv_dag.specs.Graphs.{width_of};
 ghost use Rattle.cow_pages.specs.SymbolicMemory.{memory_byte, memory_flags};
-ghost use Rattle.fork_spec.specs.Leaves.{IsSmallChoice, IsSmallStep};
+ghost use Rattle.fork_spec.specs.Leaves.{IsSmallStep};
+ghost use Rattle.tree_core.specs.Choices.{IsSmallChoice};
 ghost use Rattle.sym_state.specs.Moves.{counted, informed, stored_at};
 ghost use Rattle.sym_state.specs.Symbolic.{IsFormed, most_decisions, most_steps, set_value};
 ghost use Rattle.sym_state.specs.Values.{IsByte, IsWide};

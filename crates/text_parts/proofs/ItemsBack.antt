@@ -9,8 +9,8 @@ use Rattle.rv_decode.specs.declared.ends.PathStep.{PathStep}
 use Rattle.rv_decode.specs.declared.ends.PathStep.TheVariants.{Taken, NotTaken, Target}
 use Rattle.tree_core.specs.declared.choice.Choice.{Choice}
 use Rattle.tree_core.specs.declared.choice.Choice.TheVariants.{No, Yes, Value, Rest}
-use Rattle.fork_spec.specs.Leaves.{IsSmallChoice, IsSmallStep}
-use Rattle.text_parts.specs.Items.{choice, step}
+use Rattle.tree_core.specs.Choices.{IsSmallChoice}
+use Rattle.text_parts.specs.Items.{choice}
 use Rattle.text_parts.specs.Names.{choice_text, eight_digits, step_text}
 use Rattle.text_parts.specs.Pieces.{Reader, behind, eight, items, list_end, named}
 use Rattle.text_parts.proofs.DigitsBack.{hex_back, length_eight}
@@ -32,24 +32,12 @@ choice_back Yes rest small = refl
 choice_back (Value v) rest small = rw (eight_back v rest small) refl
 choice_back Rest rest small = refl
 
-pub step_back : (s : PathStep) (rest : List ℕ) → IsSmallStep s → step (step_text s ++ rest) ≡ Some (s, rest)
-unfolding step named behind
-step_back Taken rest small = refl
-step_back NotTaken rest small = refl
-step_back (Target address) rest small = rw (eight_back address rest small) refl
-
 no_end_choice : (c : Choice) (rest : List ℕ) → behind list_end (choice_text c ++ rest) ≡ None
 unfolding behind
 no_end_choice No rest = refl
 no_end_choice Yes rest = refl
 no_end_choice (Value v) rest = refl
 no_end_choice Rest rest = refl
-
-no_end_step : (s : PathStep) (rest : List ℕ) → behind list_end (step_text s ++ rest) ≡ None
-unfolding behind
-no_end_step Taken rest = refl
-no_end_step NotTaken rest = refl
-no_end_step (Target address) rest = refl
 
 pub some_choice : (c : Choice) → 0 < length (choice_text c)
 some_choice No = omega arith
@@ -68,7 +56,7 @@ module _ {X : Type 0} (read : Reader X) (print : X → List ℕ) (IsSmall : X �
     (back : (x : X) (rest : List ℕ) → IsSmall x → read (print x ++ rest) ≡ Some (x, rest))
     (no_end : (x : X) (rest : List ℕ) → behind list_end (print x ++ rest) ≡ None)
     (some : (x : X) → 0 < length (print x)) where
-  items_back : (xs : List X) (rest : List ℕ) (most : ℕ) → All IsSmall xs → length (flat_map print xs) < most →
+  pub items_back : (xs : List X) (rest : List ℕ) (most : ℕ) → All IsSmall xs → length (flat_map print xs) < most →
       items read most (flat_map print xs ++ (list_end ++ rest)) ≡ Some (xs, rest)
   unfolding items
   items_back xs rest zero small enough = absurd (omega (arith, enough))
@@ -82,8 +70,3 @@ pub choices_back : (cs : List Choice) (rest : List ℕ) (most : ℕ) → All IsS
     length (flat_map choice_text cs) < most →
     items choice most (flat_map choice_text cs ++ (list_end ++ rest)) ≡ Some (cs, rest)
 choices_back = items_back choice choice_text IsSmallChoice choice_back no_end_choice some_choice
-
-pub steps_back : (steps : List PathStep) (rest : List ℕ) (most : ℕ) → All IsSmallStep steps →
-    length (flat_map step_text steps) < most →
-    items step most (flat_map step_text steps ++ (list_end ++ rest)) ≡ Some (steps, rest)
-steps_back = items_back step step_text IsSmallStep step_back no_end_step some_step

@@ -1,4 +1,4 @@
--- The short texts that stand in more than one file: kinds and ends of leaves, paths, choices.
+-- The short texts that stand in more than one file: words for kinds and ends of leaves, paths, choices.
 use Rattle.std.specs.Prelude.{ℕ, List, ◌++◌, codes}
 use Rattle.std.specs.Int.{to_be_bytes, w32}
 use Rattle.std.specs.List.{flat_map}
@@ -11,8 +11,6 @@ use Rattle.tree_core.specs.declared.cause.Cause.{Cause}
 use Rattle.tree_core.specs.declared.cause.Cause.TheVariants.{Steps, Targets, Conflicts, Nodes}
 use Rattle.tree_core.specs.declared.choice.Choice.{Choice}
 use Rattle.tree_core.specs.declared.choice.Choice.TheVariants.{No, Yes, Value, Rest}
-use Rattle.fork_spec.specs.declared.end.LeafEnd.{LeafEnd}
-use Rattle.fork_spec.specs.declared.end.LeafEnd.TheVariants.{Exits, Traps, Cut}
 
 -- a number below 2 ^ 32 in eight hexadecimal digits
 abbrev pub eight_digits : ℕ → List ℕ
@@ -66,20 +64,3 @@ abbrev pub word_text : EndWord → List ℕ
 word_text exit = codes "exit"
 word_text (trap t) = trap_name t
 word_text running = codes "running"
-
-abbrev pub kind_of : LeafEnd → Kind
-kind_of (Exits status) = finished
-kind_of (Traps t) = finished
-kind_of (Cut cause) = cut cause
-
-abbrev pub end_word : LeafEnd → EndWord
-end_word (Exits status) = exit
-end_word (Traps t) = trap t
-end_word (Cut cause) = running
-
--- the kind and the end of a leaf, as texts name them
-abbrev pub kind_name : LeafEnd → List ℕ
-kind_name end = kind_text (kind_of end)
-
-abbrev pub end_name : LeafEnd → List ℕ
-end_name end = word_text (end_word end)

@@ -1,4 +1,5 @@
-//! What several texts share: the digits of numbers, kinds and ends of leaves, choices and paths, and the readers of such pieces.
+//! What several texts share: the digits of numbers, budgets, choices and paths, the words for kinds and ends of leaves, and the readers
+//! of such pieces.
 #![tactic(auto)]
 
 mod digits;
@@ -6,5 +7,5 @@ mod names;
 mod numbered;
 
 pub use digits::{has_leading_zero, hex_number};
-pub use names::{cause_name, end_name, kind_name, write_choice, write_choices, write_path};
+pub use names::{cause_name, write_choice, write_choices, write_path};
 pub use numbered::{push_closed, push_numbered};

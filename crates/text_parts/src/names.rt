@@ -1,9 +1,8 @@
-//! Kinds and ends of leaves, paths and choices, as texts have them.
+//! Budgets, paths and choices, as texts have them.
 
 ghost use Rattle.std.specs.Prelude.{◌≡◌, ◌++◌, OnErr, OnOk, string_bytes};
 ghost use Rattle.text_parts.specs.Names as spec;
 
-use fork_spec::LeafEnd;
 use rv_decode::PathStep;
 use std::alloc::{AllocError as NoMemory, Global};
 use tree_core::{Cause, Choice};
@@ -17,27 +16,6 @@ pub fn cause_name(cause: Cause) -> &'static str
         Cause::Targets => "targets",
         Cause::Conflicts => "conflicts",
         Cause::Nodes => "nodes",
-    }
-}
-
-/// The kind of a leaf: `finished`, or the budget that was spent.
-pub fn kind_name(end: LeafEnd) -> &'static str
-    ensures { result.now ≡ spec.kind_name end }
-{
-    match end {
-        LeafEnd::Exits { .. } | LeafEnd::Traps(_) => "finished",
-        LeafEnd::Cut(cause) => cause_name(cause),
-    }
-}
-
-/// How the runs of a leaf end: `exit`, a trap's name, or `running`.
-pub fn end_name(end: LeafEnd) -> &'static str
-    ensures { result.now ≡ spec.end_name end }
-{
-    match end {
-        LeafEnd::Exits { .. } => "exit",
-        LeafEnd::Traps(trap) => trap.name(),
-        LeafEnd::Cut(_) => "running",
     }
 }
 

@@ -1,5 +1,5 @@
--- The order of choices, and of lists of choices.
-use Rattle.std.specs.Prelude.{Bool, true, false, List, [], ◌∷◌, ◌&&◌, ◌||◌, nat_eq, nat_lt}
+-- Choices: their order, that of lists of choices, and the numbers in them.
+use Rattle.std.specs.Prelude.{◌^◌, ◌<◌, Bool, true, false, List, [], ◌∷◌, ◌&&◌, ◌||◌, nat_eq, nat_lt}
 use Rattle.tree_core.specs.declared.choice.Choice.{Choice}
 use Rattle.tree_core.specs.declared.choice.Choice.TheVariants.{No, Yes, Value, Rest}
 
@@ -29,3 +29,10 @@ precedes [] [] = false
 precedes [] (d ∷ ds) = true
 precedes (c ∷ cs) [] = false
 precedes (c ∷ cs) (d ∷ ds) = is_before c d || (is_same c d && precedes cs ds)
+
+-- a value has 32 bits
+abbrev pub IsSmallChoice : Choice → Type 0
+IsSmallChoice No = Unit {0}
+IsSmallChoice Yes = Unit {0}
+IsSmallChoice (Value v) = v < 2 ^ 32
+IsSmallChoice Rest = Unit {0}

@@ -1,7 +1,8 @@
 //! What was spent, byte for byte, and the names of a leaf's files.
 
 use byte_list::Bytes;
-use leaf_part::{Found, Spent};
+use fork_spec::Found;
+use leaf_part::Spent;
 use report_text::{leaf_name, spent_name, test_name, write_nodes, write_targets};
 use std::alloc::{AllocError as NoMemory, Global};
 use std::test::Fail;
