@@ -54,7 +54,11 @@ fn move_until(
 
 // Moves the lines of a put, in the place of those that stood there.
 fn put_on(lines: &mut Vec<CertLine>, old: &mut Vec<CertLine>, put: Put) -> Result<(), NoMemory> {
-    let Put { left, taken, lines: new } = put;
+    let Put {
+        left,
+        taken,
+        lines: new,
+    } = put;
     move_until(lines, old, left)?;
     old.truncate(old.len().saturating_sub(taken));
     for line in new {

@@ -1,29 +1,32 @@
-//! What a term is worth on an assignment of a run: one that lines ahead give, or one that is found.
+//! Assignments that lines ahead give for the leaves below a node. Nothing rests on them: of lines that are out of place some may be
+//! another node's.
 
-ghost use Rattle.std.specs.Prelude.{◌<◌, length};
-
-use crate::solving::{Solved, Solver};
 use byte_list::Bytes;
-use cert_form::CertLine;
-use query_pick::{Picked, pick, pick_terms};
-use std::alloc::{AllocError as NoMemory, Global};
-use sym_state::{State, listed};
+use cert_form::{CertLine, Side};
 
-// The first assignment that lines give for a leaf below the node that they begin with.
-fn input_ahead(lines: &[CertLine]) -> Option<&Bytes> {
-    let mut nodes = 1_usize;
+fn open_sides(sides: &[Side]) -> usize {
+    sides.iter().filter(|side| side.cut.is_none()).count()
+}
+
+// How many nodes are ahead behind a line, where so many were before it.
+fn nodes_behind(nodes: usize, line: &CertLine) -> usize {
+    match line {
+        CertLine::Split(sides) => nodes
+            .saturating_add(open_sides(sides.as_slice()))
+            .saturating_sub(1),
+        CertLine::End(_) | CertLine::CutSteps(_) | CertLine::CutNodes => nodes.saturating_sub(1),
+        _ => nodes,
+    }
+}
+
+/// The first assignment of a leaf below the node that lines begin with.
+pub(crate) fn input_ahead(lines: &[CertLine]) -> Option<&Bytes> {
+    let mut nodes = 1;
     for line in lines {
-        match line {
-            CertLine::Split(sides) => {
-                nodes = nodes.saturating_add(sides.as_slice().len()).saturating_sub(1);
-            }
-            CertLine::End(input) | CertLine::CutSteps(input) | CertLine::Witness(input) => {
-                return Some(input);
-            }
-            CertLine::Value(found) => return Some(&found.input),
-            CertLine::CutNodes => nodes = nodes.saturating_sub(1),
-            _ => {}
+        if let CertLine::End(input) | CertLine::CutSteps(input) = line {
+            return Some(input);
         }
+        nodes = nodes_behind(nodes, line);
         if nodes == 0 {
             return None;
         }
@@ -31,51 +34,53 @@ fn input_ahead(lines: &[CertLine]) -> Option<&Bytes> {
     None
 }
 
-// What a term is worth on an assignment, which has to have a byte for each input.
-fn number_on(
-    alloc: Global,
-    run: &State,
-    term: usize,
-    input: &[u8],
-) -> Result<Option<u64>, NoMemory>
-    requires { term < length run.now.terms.nodes }
-{
-    let Picked { graph, ids } = pick_terms(alloc, run.terms(), &[term])?;
-    if input.len() != graph.inputs() {
-        return Ok(None);
-    }
-    Ok(Some(graph.eval(alloc, ids[0], input)?))
+fn is_of_node(line: &CertLine) -> bool {
+    matches!(
+        line,
+        CertLine::One(_)
+            | CertLine::Split(_)
+            | CertLine::End(_)
+            | CertLine::CutSteps(_)
+            | CertLine::CutNodes
+    )
 }
 
-/// An assignment that a run stands for, if one is found.
-pub(crate) fn find_input<S: Solver>(
-    alloc: Global,
-    solver: &S,
-    run: &State,
-) -> Result<Option<Bytes>, NoMemory> {
-    let condition = listed(alloc, run.condition())?;
-    let question = pick(alloc, run.terms(), &condition)?;
-    match solver.solve(alloc, &question)? {
-        Solved::Found(input) => Ok(Some(input)),
-        Solved::Refuted(_) | Solved::Open => Ok(None),
+// The lines from a node's first on.
+fn from_node(lines: &[CertLine]) -> &[CertLine] {
+    let mut rest = lines;
+    'lines: while let [line, more @ ..] = rest {
+        if is_of_node(line) {
+            return rest;
+        }
+        rest = more;
     }
+    rest
 }
 
-/// What a term of a run is worth on an assignment that the run stands for, if one is known.
-pub(crate) fn number_ahead<S: Solver>(
-    alloc: Global,
-    solver: &S,
-    run: &State,
-    term: usize,
-    lines: &[CertLine],
-) -> Result<Option<u64>, NoMemory>
-    requires { term < length run.now.terms.nodes }
-{
-    if let Some(input) = input_ahead(lines) {
-        return number_on(alloc, run, term, input.as_slice());
+// The lines behind the leaves below the node that lines begin with, from the next node's on.
+fn behind_node(lines: &[CertLine]) -> &[CertLine] {
+    let mut nodes = 1;
+    let mut rest = lines;
+    'lines: while let [line, more @ ..] = rest {
+        rest = more;
+        nodes = nodes_behind(nodes, line);
+        if nodes == 0 {
+            return from_node(rest);
+        }
     }
-    match find_input(alloc, solver, run)? {
-        Some(input) => number_on(alloc, run, term, input.as_slice()),
-        None => Ok(None),
+    rest
+}
+
+/// The first assignment of a leaf below the second side of the split that lines begin with, if neither side before it is cut.
+pub(crate) fn second_input(lines: &[CertLine]) -> Option<&Bytes> {
+    let [CertLine::Split(sides), rest @ ..] = lines else {
+        return None;
+    };
+    let [first, second, ..] = sides.as_slice() else {
+        return None;
+    };
+    if first.cut.is_some() || second.cut.is_some() {
+        return None;
     }
+    input_ahead(behind_node(rest))
 }

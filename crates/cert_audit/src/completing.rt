@@ -7,7 +7,6 @@ ghost use Rattle.fork_spec.specs.Leaves.{IsSmall};
 ghost use Rattle.rv_spec.specs.Memory.{count_of};
 ghost use Rattle.sym_state.specs.Symbolic.{most_steps};
 
-use crate::ahead::find_input;
 use crate::auditing::{are_within, budgets_of};
 use crate::gaps::{Filling, Gap, Unproved, gap_at};
 use crate::solving::Solver;
@@ -15,6 +14,7 @@ use crate::taken::Visited;
 use crate::todo::{Others, Todo};
 use crate::visiting::{at_stop, visit};
 use crate::walking::put_ahead;
+use crate::worth::find_input;
 use bv_dag::Query;
 use cert_form::{Cert, CertLine};
 use cert_query::{Fault, Reason};
@@ -97,7 +97,10 @@ fn behind_filling<'a>(
     filling: Filling,
     lines: &'a [CertLine],
 ) -> Result<Step<'a>, NoMemory> {
-    let Filling { lines: filled, taken } = filling;
+    let Filling {
+        lines: filled,
+        taken,
+    } = filling;
     let Some(rest) = lines.get(taken..) else {
         return Ok(Step::Fault(Fault::at(lines, Reason::Place)));
     };
@@ -125,10 +128,7 @@ fn behind_node<'a, S: Solver>(
 {
     let Advanced { mut run, stop } = advance(node, budgets.steps)?;
     match gap_at(alloc, solver, &run, stop, lines)? {
-        Gap::Nothing => Ok(behind(
-            alloc,
-            at_stop(alloc, budgets, &mut run, stop, lines)?,
-        )),
+        Gap::Nothing => Ok(behind(alloc, at_stop(alloc, budgets, &mut run, stop, lines)?)),
         Gap::Lines(filling) => behind_filling(alloc, budgets, &mut run, stop, filling, lines),
         Gap::Proof(unproved) => Ok(Step::Unrefuted(unproved_at(unproved, lines.len()))),
     }

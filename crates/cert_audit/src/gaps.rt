@@ -7,11 +7,11 @@ ghost use Rattle.sym_state.specs.Undecided.{IsBranch};
 ghost use Rattle.sym_state.specs.Values.{IsUnknown};
 ghost use Rattle.tree_core.specs.declared.budgets.Budgets.{Budgets};
 
-use crate::ahead::number_ahead;
 use crate::pin::without_values;
 use crate::proving::{Proof, prove, refuted_lines};
 use crate::solving::Solver;
 use crate::values::take_values;
+use crate::worth::{Worth, worth_at};
 use bv_dag::Query;
 use cert_form::{CertLine, Side, Sides};
 use run_sides::{choice_of, with_test};
@@ -161,27 +161,6 @@ fn gap_of_way<S: Solver>(
     }
 }
 
-// What lacks where a fork is to have one way only, without a line that says so.
-fn gap_unsaid<S: Solver>(
-    alloc: Global,
-    solver: &S,
-    run: &State,
-    stop: Stop,
-    term: usize,
-    lines: &[CertLine],
-) -> Result<Gap, NoMemory>
-    requires stopped { (budgets : Budgets) × HasStopped budgets run.now stop }
-    requires there { term < length run.now.terms.nodes }
-{
-    let Some(number) = number_ahead(alloc, solver, run, term, lines)? else {
-        return Ok(Gap::Nothing);
-    };
-    match choice_by(stop, number) {
-        Some(choice) => gap_of_way(alloc, solver, run, stop, choice, 0),
-        None => Ok(Gap::Nothing),
-    }
-}
-
 // What lacks where a run parts by these sides, without a proof that they are all.
 fn gap_of_values<S: Solver>(
     alloc: Global,
@@ -219,6 +198,32 @@ fn gap_behind_split<S: Solver>(
     }
 }
 
+// What lacks at a fork whose term is worth so much. Where it has two numbers the run parts; where a split stands next, and it isn't
+// known to have one, the split may be this fork's.
+fn gap_by_worth<S: Solver>(
+    alloc: Global,
+    solver: &S,
+    run: &State,
+    stop: Stop,
+    worth: Worth,
+    lines: &[CertLine],
+) -> Result<Gap, NoMemory>
+    requires { (budgets : Budgets) × HasStopped budgets run.now stop }
+{
+    let choice = match (choice_by(stop, worth.first), worth.second) {
+        (Some(choice), None) => choice,
+        (Some(choice), Some(second)) if second == worth.first => choice,
+        _ => return gap_behind_split(alloc, solver, run, stop, lines),
+    };
+    match gap_of_way(alloc, solver, run, stop, choice, 0)? {
+        Gap::Proof(_) if begins_split(lines) && worth.second.is_none() => {
+            gap_behind_split(alloc, solver, run, stop, lines)
+        }
+        Gap::Nothing => gap_behind_split(alloc, solver, run, stop, lines),
+        gap => Ok(gap),
+    }
+}
+
 /// What lines lack at the fork at which a run has stopped. A line of a split may be a later fork's.
 pub(crate) fn gap_at<S: Solver>(
     alloc: Global,
@@ -240,9 +245,8 @@ pub(crate) fn gap_at<S: Solver>(
         }
         _ => {}
     }
-    match gap_unsaid(alloc, solver, run, stop, term, lines)? {
-        Gap::Nothing => gap_behind_split(alloc, solver, run, stop, lines),
-        Gap::Proof(_) if begins_split(lines) => gap_behind_split(alloc, solver, run, stop, lines),
-        gap => Ok(gap),
+    match worth_at(alloc, solver, run, term, lines)? {
+        Some(worth) => gap_by_worth(alloc, solver, run, stop, worth, lines),
+        None => gap_behind_split(alloc, solver, run, stop, lines),
     }
 }

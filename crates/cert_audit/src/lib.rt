@@ -17,7 +17,8 @@
 //!
 //! - `completing`: the walk
 //! - `gaps`: what lacks at a fork
-//! - `ahead`: what a fork's term is worth on an assignment of its run
+//! - `ahead`: the assignments that lines ahead give
+//! - `worth`: what a fork's term is worth on assignments of its run
 //! - `proving`: the lines of a proof
 //! - `solving`: what answers questions
 #![tactic(auto)]
@@ -43,6 +44,7 @@ mod valued;
 mod values;
 mod visiting;
 mod walking;
+mod worth;
 
 pub use auditing::{Verdict, audit, line_at};
 pub use completing::{Completed, Put, Unrefuted, complete};
