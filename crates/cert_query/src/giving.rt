@@ -1,12 +1,9 @@
 //! The lines that give a question.
 
-ghost use Rattle.std.specs.Prelude.{◌≡◌, ◌++◌, IfOk, OnOk, length, map};
-ghost use Rattle.std.specs.List.{enumerate_from};
-ghost use Rattle.fork_spec.specs.Leaves.{IsSmall};
-ghost use Rattle.cert_form.specs.declared.line.CertLine.TheVariants as line;
-ghost use Rattle.cert_query.specs.QuestionLines.{assertion_lines, heading_lines, input_lines, node_lines, question_lines};
+ghost use Rattle.std.specs.Prelude.{◌≡◌, ◌++◌, ◌<◌, ◌^◌, IfOk, OnOk, length};
+ghost use Rattle.cert_query.specs.QuestionLines.{assertion_lines, heading_lines, input_lines, node_line, node_lines, question_lines};
 
-use bv_dag::{Dag, Query};
+use bv_dag::{Dag, Node, Query};
 use cert_form::{CertLine, DefinedNode, NodeLine};
 use std::alloc::{AllocError as NoMemory, Global};
 
@@ -33,13 +30,14 @@ fn push_heading(lines: &mut Vec<CertLine>, inputs: u32, nodes: usize) -> Result<
 }
 
 // The line of the node at a place.
-fn node_line(alloc: Global, dag: &Dag, id: usize) -> Result<CertLine, NoMemory>
+fn node_line(alloc: Global, dag: &Dag, id: usize, node: Node) -> Result<CertLine, NoMemory>
     requires { id < length dag.now.nodes }
+    ensures { IfOk result (λ line. line ≡ node_line dag.now (id, node)) }
 {
     let defined = DefinedNode {
         id: id as u64,
         width: u64::from(dag.width_of(id)),
-        node: dag.nodes()[id],
+        node,
     };
     Ok(CertLine::Node(NodeLine::new(alloc, defined)?))
 }
@@ -48,8 +46,9 @@ fn node_line(alloc: Global, dag: &Dag, id: usize) -> Result<CertLine, NoMemory>
 fn push_nodes(alloc: Global, lines: &mut Vec<CertLine>, dag: &Dag) -> Result<(), NoMemory>
     ensures { OnOk result (lines.new.items ≡ lines.old.items ++ node_lines dag.now) }
 {
-    for id in 0..dag.len() {
-        lines.push(node_line(alloc, dag, id)?)?;
+    let nodes = dag.nodes();
+    for id in 0..nodes.len() {
+        lines.push(node_line(alloc, dag, id, nodes[id])?)?;
     }
     Ok(())
 }
@@ -72,7 +71,7 @@ pub fn push_question(
     lines: &mut Vec<CertLine>,
     query: &Query,
 ) -> Result<(), NoMemory>
-    requires few_inputs { IsSmall query.now.graph.inputs }
+    requires few_inputs { query.now.graph.inputs < 2 ^ 32 }
     ensures { OnOk result (lines.new.items ≡ lines.old.items ++ question_lines query.now) }
 {
     let dag = query.dag();
