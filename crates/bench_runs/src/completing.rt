@@ -7,7 +7,8 @@ use anyhow::{Result, bail};
 use bit_blast::encode;
 use bv_dag::Query;
 use cdcl_core::{Answer, search};
-use cert_audit::{Completed, Put, Solved, Solver, Unrefuted, complete, line_at};
+use cert_audit::line_at;
+use cert_complete::{Completed, Put, Solved, Solver, Unrefuted, complete};
 use cert_form::{Cert, CertLine};
 use cert_query::{Reason, push_question};
 use cert_text::{print_cert, print_lines, read_cert};
@@ -52,17 +53,23 @@ fn move_until(
     Ok(())
 }
 
-// Moves the lines of a put, in the place of those that stood there.
+// Moves lines on up to where lines lack, and puts these.
 fn put_on(lines: &mut Vec<CertLine>, old: &mut Vec<CertLine>, put: Put) -> Result<(), NoMemory> {
-    let Put {
-        left,
-        taken,
-        lines: new,
-    } = put;
-    move_until(lines, old, left)?;
-    old.truncate(old.len().saturating_sub(taken));
-    for line in new {
-        lines.push(line)?;
+    match put {
+        Put::Fork {
+            left,
+            taken,
+            lines: mut new,
+        } => {
+            move_until(lines, old, left)?;
+            old.truncate(old.len().saturating_sub(taken));
+            new.reverse();
+            move_until(lines, &mut new, 0)?;
+        }
+        Put::Witness { left, input } => {
+            move_until(lines, old, left)?;
+            lines.push(CertLine::Witness(input))?;
+        }
     }
     Ok(())
 }
@@ -116,11 +123,11 @@ fn print_result<R: Print + AllocGlobal>(rt: &R, image: Image, mut cert: Cert) ->
     };
     let count = cert.lines.len();
     match complete(alloc, image, &cert, &search)? {
-        Completed::Lines(puts) => {
+        Completed::Puts(puts) => {
             put_all(alloc, &mut cert, puts)?;
             put_text(rt, print_cert(alloc, &cert)?.as_slice())
         }
-        Completed::Unrefuted(open) => print_unrefuted(rt, count, open),
+        Completed::Open(open) => print_unrefuted(rt, count, open),
         Completed::Fault(fault) => print_no(rt, line_at(count, fault.left), fault.reason),
         Completed::Heading => bail!("the regions or the budgets may not stand"),
     }

@@ -36,7 +36,7 @@ const MOST: Limits = Limits {
 };
 
 /// Whether each budget is from 1 to its most.
-pub(crate) fn are_within(limits: &Limits) -> bool
+pub fn are_within(limits: &Limits) -> bool
     ensures { IsTrue result ↔ AreWithin limits.now }
 {
     limits.steps >= 1
@@ -50,7 +50,7 @@ pub(crate) fn are_within(limits: &Limits) -> bool
 }
 
 /// The budgets of a walk. The order of claims is of no matter to it.
-pub(crate) fn budgets_of(limits: &Limits) -> Budgets
+pub fn budgets_of(limits: &Limits) -> Budgets
     ensures { result ≡ budgets_of limits.now }
 {
     Budgets {
@@ -75,7 +75,7 @@ fn has_nodes(lines: &[CertLine], nodes: u32) -> bool
     missing == 0
 }
 
-/// The number of the line of a certificate, with so many lines in its walk, at which so many are left.
+/// The number of a certificate's line, with so many in its walk, at which so many are left.
 pub fn line_at(lines: usize, left: usize) -> usize {
     lines.saturating_sub(left).saturating_add(BUDGETS + 1)
 }

@@ -12,30 +12,16 @@
 //! - `conflicts`: leaves of sides that are cut by conflicts
 //! - `targets`, `value_lines`, `valued`: those of sides that are cut by targets
 //! - `sampling`: whether an assignment is one of a run's
-//!
-//! Lines that a certificate lacks are found by a walk along those that it has:
-//!
-//! - `completing`: the walk
-//! - `gaps`: what lacks at a fork
-//! - `ahead`: the assignments that lines ahead give
-//! - `worth`: what a fork's term is worth on assignments of its run
-//! - `proving`: the lines of a proof
-//! - `solving`: what answers questions
 #![tactic(auto)]
 
-mod ahead;
 mod auditing;
 mod branch;
-mod completing;
 mod conflicts;
-mod gaps;
 mod going;
 mod nodes;
 mod pin;
 mod proof;
-mod proving;
 mod sampling;
-mod solving;
 mod taken;
 mod targets;
 mod todo;
@@ -44,9 +30,13 @@ mod valued;
 mod values;
 mod visiting;
 mod walking;
-mod worth;
 
-pub use auditing::{Verdict, audit, line_at};
-pub use completing::{Completed, Put, Unrefuted, complete};
-pub use solving::{Solved, Solver};
-pub use walking::Leaves;
+pub use auditing::{Verdict, are_within, audit, budgets_of, line_at};
+pub use pin::without_values;
+pub use proof::{is_excluded, part_of};
+pub use sampling::is_met;
+pub use taken::Visited;
+pub use todo::{Others, Todo};
+pub use values::take_values;
+pub use visiting::visit;
+pub use walking::{Leaves, put_ahead};

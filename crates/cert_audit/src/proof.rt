@@ -27,7 +27,7 @@ fn has_no_value(alloc: Global, question: &Query, place: usize) -> Result<bool, N
 }
 
 /// Whether a question rests on one byte at most, and no value of that meets it.
-pub(crate) fn is_excluded(alloc: Global, question: &Query) -> Result<bool, NoMemory>
+pub fn is_excluded(alloc: Global, question: &Query) -> Result<bool, NoMemory>
     ensures { IfOk result (λ yes. IsTrue yes → IsUnsatisfiable question.now) }
 {
     match occurring(alloc, question.dag().nodes(), question.asserted())? {
@@ -38,7 +38,7 @@ pub(crate) fn is_excluded(alloc: Global, question: &Query) -> Result<bool, NoMem
 }
 
 /// The part of a run's condition that matters for this of its terms. Where nothing meets it, the run stands for no assignment.
-pub(crate) fn part_of(alloc: Global, run: &State, new: usize) -> Result<Query, NoMemory>
+pub fn part_of(alloc: Global, run: &State, new: usize) -> Result<Query, NoMemory>
     requires { Contains run.now.condition new }
     ensures { IfOk result (λ part. IsUnsatisfiable part
         → (input : List ℕ) → stands_for run.now input ≡ false) }

@@ -83,7 +83,7 @@ fn open_value(side: Side) -> Option<u32>
 }
 
 /// The values of the first sides, which aren't cut, and the sides behind them.
-pub(crate) fn take_values(alloc: Global, sides: &[Side]) -> Result<(Vec<u32>, &[Side]), NoMemory>
+pub fn take_values(alloc: Global, sides: &[Side]) -> Result<(Vec<u32>, &[Side]), NoMemory>
     ensures { IfOk result (λ taken. sides.now ≡ map value_side taken.0.items ++ taken.1.now) }
 {
     let mut values = Vec::with_capacity(alloc, sides.len())?;

@@ -40,8 +40,8 @@ fn as_fork(went: Result<Went<'_>, Fault>) -> Result<Visited<'_>, Fault>
     }
 }
 
-/// What lines make of a run that stopped so.
-pub(crate) fn at_stop<'a>(
+// What lines make of a run that stopped so.
+fn at_stop<'a>(
     alloc: Global,
     budgets: &Budgets,
     run: &mut State,
@@ -112,7 +112,7 @@ fn visit_part<'a>(
 }
 
 /// What lines make of what the walk comes to.
-pub(crate) fn visit<'a>(
+pub fn visit<'a>(
     alloc: Global,
     budgets: &Budgets,
     mut todo: Todo,

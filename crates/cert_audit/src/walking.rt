@@ -51,7 +51,7 @@ fn count(tally: &mut Tally, leaf: &LeafPart, left: usize)
 }
 
 /// Puts what comes next on the stack, the first on top.
-pub(crate) fn put_ahead(stack: &mut Vec<Todo>, mut kids: Vec<Todo>) -> Result<(), NoMemory>
+pub fn put_ahead(stack: &mut Vec<Todo>, mut kids: Vec<Todo>) -> Result<(), NoMemory>
     ensures { OnOk result (stack.new.items ≡ stack.old.items ++ reverse kids.items) }
 {
     while let Some(kid) = kids.pop() {

@@ -1,63 +1,27 @@
-//! The lines that a certificate lacks: a walk along its lines that finds them where they lack, and goes on with them.
+//! The walk that finds the lines that a certificate lacks, and goes on with them.
 
-ghost use Rattle.std.specs.Prelude.{◌++◌, ◌≤◌, All, IfOk, IfSome, reverse};
-ghost use Rattle.cert_audit.specs.Todos.{IsOfTree};
-ghost use Rattle.cert_audit.specs.declared.todo.Todo.TheVariants.{Node, Targets as ByTargets};
+ghost use Rattle.std.specs.Prelude.{◌≡◌, ◌≤◌, All, IfOk, IfSome, true};
+ghost use Rattle.cert_audit.specs.Todos.{IsTodo};
+ghost use Rattle.cert_audit.specs.declared.todo.Todo.TheVariants.{Targets};
+ghost use Rattle.cert_complete.specs.Puts.{IsPut};
 ghost use Rattle.fork_spec.specs.Leaves.{IsSmall};
 ghost use Rattle.rv_spec.specs.Memory.{count_of};
-ghost use Rattle.sym_state.specs.Symbolic.{most_steps};
+ghost use Rattle.sym_state.specs.Symbolic.{most_steps, stands_for};
 
-use crate::auditing::{are_within, budgets_of};
 use crate::gaps::{Filling, Gap, Unproved, gap_at};
+use crate::puts::{Completed, Put, Unrefuted};
 use crate::solving::Solver;
-use crate::taken::Visited;
-use crate::todo::{Others, Todo};
-use crate::visiting::{at_stop, visit};
-use crate::walking::put_ahead;
 use crate::worth::find_input;
-use bv_dag::Query;
+use byte_list::Bytes;
+use cert_audit::{Others, Todo, Visited, are_within, budgets_of, is_met, put_ahead, visit};
 use cert_form::{Cert, CertLine};
 use cert_query::{Fault, Reason};
 use elf_load::{Image, fit};
 use fork_spec::Placed;
 use std::alloc::{AllocError as NoMemory, Global};
-use sym_machine::{Advanced, Stop, advance};
+use sym_machine::{Advanced, advance};
 use sym_state::{Program, State};
 use tree_core::Budgets;
-
-/// Lines that are to stand in the place of some of a certificate's.
-#[derive(Debug, Drop)]
-pub struct Put {
-    /// How many of the certificate's lines are left where these are to stand.
-    pub left: usize,
-    /// In the place of how many of them.
-    pub taken: usize,
-    pub lines: Vec<CertLine>,
-}
-
-/// A fork's line for which no proof was found.
-#[derive(Debug, Drop)]
-pub struct Unrefuted {
-    /// How many of the certificate's lines are left where it is to stand.
-    pub left: usize,
-    /// In the place of how many of them.
-    pub taken: usize,
-    pub line: CertLine,
-    /// What has to be refuted. Clauses that do that may stand behind the line and the question.
-    pub question: Query,
-}
-
-/// What came of completing a certificate.
-#[derive(Debug, Drop)]
-pub enum Completed {
-    /// It lacked these lines, in the order in which they are to stand.
-    Lines(Vec<Put>),
-    Unrefuted(Unrefuted),
-    /// A line may not stand whatever lines are put before it.
-    Fault(Fault),
-    /// Its regions or its budgets may not stand.
-    Heading,
-}
 
 // How the walk goes on behind what it came to.
 #[derive(Drop)]
@@ -67,7 +31,7 @@ enum Step<'a> {
         put: Option<Put>,
         rest: &'a [CertLine],
     },
-    Unrefuted(Unrefuted),
+    Open(Unrefuted),
     Fault(Fault),
 }
 
@@ -88,12 +52,11 @@ fn behind<'a>(alloc: Global, visited: Result<Visited<'a>, Fault>) -> Step<'a> {
     }
 }
 
-// Behind lines that were put at a fork.
+// Behind lines that are put at a fork, where the audit goes on behind them.
 fn behind_filling<'a>(
     alloc: Global,
     budgets: &Budgets,
-    run: &mut State,
-    stop: Stop,
+    todo: Todo,
     filling: Filling,
     lines: &'a [CertLine],
 ) -> Result<Step<'a>, NoMemory> {
@@ -104,11 +67,11 @@ fn behind_filling<'a>(
     let Some(rest) = lines.get(taken..) else {
         return Ok(Step::Fault(Fault::at(lines, Reason::Place)));
     };
-    let kids = match at_stop(alloc, budgets, run, stop, &filled)? {
+    let kids = match visit(alloc, budgets, todo, &filled)? {
         Ok(Visited::Fork(went)) => went.kids,
         Ok(Visited::Leaf(_)) | Err(_) => return Ok(Step::Fault(Fault::at(lines, Reason::Log))),
     };
-    let put = Some(Put {
+    let put = Some(Put::Fork {
         left: lines.len(),
         taken,
         lines: filled,
@@ -116,26 +79,45 @@ fn behind_filling<'a>(
     Ok(Step::On { kids, put, rest })
 }
 
-// Behind a node: its run goes on until it ends, has spent its steps, or comes to a fork.
-fn behind_node<'a, S: Solver>(
+// An assignment of a side that is cut by targets, if one is found.
+fn find_witness<S: Solver>(
     alloc: Global,
     solver: &S,
-    budgets: &Budgets,
-    node: &State,
-    lines: &'a [CertLine],
-) -> Result<Step<'a>, NoMemory>
-    requires { IsOfTree budgets.now (Node node.now) }
+    others: &Others,
+) -> Result<Option<Bytes>, NoMemory>
+    ensures { IfOk result (λ found. IfSome found
+        (λ input. stands_for others.now.rest input ≡ true)) }
 {
-    let Advanced { mut run, stop } = advance(node, budgets.steps)?;
-    match gap_at(alloc, solver, &run, stop, lines)? {
-        Gap::Nothing => Ok(behind(alloc, at_stop(alloc, budgets, &mut run, stop, lines)?)),
-        Gap::Lines(filling) => behind_filling(alloc, budgets, &mut run, stop, filling, lines),
-        Gap::Proof(unproved) => Ok(Step::Unrefuted(unproved_at(unproved, lines.len()))),
+    let Some(input) = find_input(alloc, solver, &others.rest)? else {
+        return Ok(None);
+    };
+    if is_met(alloc, &others.rest, input.as_slice())? {
+        Ok(Some(input))
+    } else {
+        Ok(None)
     }
 }
 
-// A fork's line before so many lines.
-fn unproved_at(unproved: Unproved, left: usize) -> Unrefuted {
+// Behind an assignment that is put before lines, if one is found.
+fn behind_witness<'a, S: Solver>(
+    alloc: Global,
+    solver: &S,
+    others: &Others,
+    rest: &'a [CertLine],
+) -> Result<Step<'a>, NoMemory> {
+    let Some(input) = find_witness(alloc, solver, others)? else {
+        return Ok(Step::Fault(Fault::at(rest, Reason::Sample)));
+    };
+    let put = Some(Put::Witness {
+        left: rest.len(),
+        input,
+    });
+    let kids = Vec::new(alloc);
+    Ok(Step::On { kids, put, rest })
+}
+
+// A fork's line that is to stand before so many lines.
+fn open_at(unproved: Unproved, left: usize) -> Unrefuted {
     let Unproved {
         line,
         taken,
@@ -149,6 +131,18 @@ fn unproved_at(unproved: Unproved, left: usize) -> Unrefuted {
     }
 }
 
+// What lines lack at a node: its run goes on until it ends, has spent its steps, or comes to a fork.
+fn gap_at_node<S: Solver>(
+    alloc: Global,
+    solver: &S,
+    budgets: &Budgets,
+    node: &State,
+    lines: &[CertLine],
+) -> Result<Gap, NoMemory> {
+    let Advanced { run, stop } = advance(node, budgets.steps)?;
+    gap_at(alloc, solver, &run, stop, lines)
+}
+
 // The lines behind those of the values of other sides, if no assignment of the rest stands there.
 fn lacks_witness<'a>(others: &Others, lines: &'a [CertLine]) -> Option<&'a [CertLine]> {
     let rest = lines.get(others.values.len()..)?;
@@ -158,25 +152,6 @@ fn lacks_witness<'a>(others: &Others, lines: &'a [CertLine]) -> Option<&'a [Cert
     }
 }
 
-// Behind an assignment of a side, which is put before lines if one is found.
-fn behind_witness<'a, S: Solver>(
-    alloc: Global,
-    solver: &S,
-    side: &State,
-    rest: &'a [CertLine],
-) -> Result<Step<'a>, NoMemory> {
-    let Some(input) = find_input(alloc, solver, side)? else {
-        return Ok(Step::Fault(Fault::at(rest, Reason::Sample)));
-    };
-    let put = Some(Put {
-        left: rest.len(),
-        taken: 0,
-        lines: vec![in alloc; CertLine::Witness(input)]?,
-    });
-    let kids = Vec::new(alloc);
-    Ok(Step::On { kids, put, rest })
-}
-
 // Behind what the walk comes to.
 fn behind_todo<'a, S: Solver>(
     alloc: Global,
@@ -184,25 +159,28 @@ fn behind_todo<'a, S: Solver>(
     budgets: &Budgets,
     todo: Todo,
     lines: &'a [CertLine],
-) -> Result<Step<'a>, NoMemory>
-    requires { IsOfTree budgets.now todo }
-{
-    match &todo {
-        Todo::Node(run) => return behind_node(alloc, solver, budgets, run, lines),
+) -> Result<Step<'a>, NoMemory> {
+    let gap = match &todo {
+        Todo::Node(node) => gap_at_node(alloc, solver, budgets, node, lines)?,
         Todo::Targets(others) => {
             if let Some(rest) = lacks_witness(others, lines) {
-                return behind_witness(alloc, solver, &others.rest, rest);
+                return behind_witness(alloc, solver, others, rest);
             }
+            Gap::Nothing
         }
-        Todo::Conflicts(_) => {}
+        Todo::Conflicts(_) => Gap::Nothing,
+    };
+    match gap {
+        Gap::Nothing => Ok(behind(alloc, visit(alloc, budgets, todo, lines)?)),
+        Gap::Lines(filling) => behind_filling(alloc, budgets, todo, filling, lines),
+        Gap::Proof(unproved) => Ok(Step::Open(open_at(unproved, lines.len()))),
     }
-    Ok(behind(alloc, visit(alloc, budgets, todo, lines)?))
 }
 
 // What the walk has come to at its end.
 fn at_end(puts: Vec<Put>, rest: &[CertLine]) -> Completed {
     if rest.is_empty() {
-        Completed::Lines(puts)
+        Completed::Puts(puts)
     } else {
         Completed::Fault(Fault::at(rest, Reason::Place))
     }
@@ -239,7 +217,7 @@ fn walk_on<S: Solver>(
                 }
                 rest = more;
             }
-            Step::Unrefuted(unrefuted) => return Ok(Completed::Unrefuted(unrefuted)),
+            Step::Open(open) => return Ok(Completed::Open(open)),
             Step::Fault(fault) => return Ok(Completed::Fault(fault)),
         }
     }

@@ -1,39 +1,20 @@
 //! What lines lack at a fork: that it has one way only, or a proof that its way or its values are all.
 
-ghost use Rattle.cert_audit.specs.Todos.{HasStopped};
-ghost use Rattle.run_leaves.specs.Values.{IsWithout};
-ghost use Rattle.std.specs.Prelude.{◌∷◌, [], ◌≤◌, Contains, IfOk, IfSome, length};
-ghost use Rattle.sym_state.specs.Undecided.{IsBranch};
+ghost use Rattle.std.specs.Prelude.{Contains};
+ghost use Rattle.cert_complete.specs.Stopping.{IsStoppedAt};
 ghost use Rattle.sym_state.specs.Values.{IsUnknown};
-ghost use Rattle.tree_core.specs.declared.budgets.Budgets.{Budgets};
 
-use crate::pin::without_values;
+use crate::left_out::{LeftOut, choice_by, left_out, other_values, term_of};
 use crate::proving::{Proof, prove, refuted_lines};
 use crate::solving::Solver;
-use crate::values::take_values;
 use crate::worth::{Worth, worth_at};
 use bv_dag::Query;
+use cert_audit::take_values;
 use cert_form::{CertLine, Side, Sides};
-use run_sides::{choice_of, with_test};
 use std::alloc::{AllocError as NoMemory, Global};
 use sym_machine::Stop;
 use sym_state::State;
 use tree_core::Choice;
-
-/// The runs that a fork's line leaves out, and the term that is asserted last there.
-struct LeftOut {
-    run: State,
-    last: usize,
-}
-
-impl Drop for LeftOut {
-    fn drop(self) {
-        let Self {
-            run: _run,
-            last: _last,
-        } = self;
-    }
-}
 
 /// Lines that are to stand at a fork, in the place of so many.
 #[derive(Drop)]
@@ -65,58 +46,6 @@ fn begins_proof(lines: &[CertLine]) -> bool {
 
 fn begins_split(lines: &[CertLine]) -> bool {
     matches!(lines, [CertLine::Split(_), ..])
-}
-
-// The term that a run parts by, if it has stopped at a fork.
-fn term_of(stop: Stop) -> Option<usize> {
-    match stop {
-        Stop::Branch { term } | Stop::Pin { term, .. } => Some(term),
-        Stop::Ended(_) | Stop::Steps => None,
-    }
-}
-
-// The way on at a fork where its term is this number.
-fn choice_by(stop: Stop, number: u64) -> Option<Choice> {
-    match stop {
-        Stop::Branch { .. } => Some(choice_of(number == 1)),
-        Stop::Pin { .. } => Some(Choice::Value(u32::try_from(number).ok()?)),
-        Stop::Ended(_) | Stop::Steps => None,
-    }
-}
-
-// The other side of a branch.
-fn other_side(run: &State, term: usize, side: bool) -> Result<LeftOut, NoMemory>
-    requires { IsBranch run.now term }
-    ensures { IfOk result (λ left. Contains left.run.condition left.last) }
-{
-    let (mut run, last) = with_test(run, term, !side)?.into_parts();
-    run.assert(last)?;
-    Ok(LeftOut { run, last })
-}
-
-// Where a term has none of these values.
-fn other_values(run: &State, term: usize, values: &[u32]) -> Result<LeftOut, NoMemory>
-    requires unknown { IsUnknown run.now.terms 32 term }
-    requires some { 1 ≤ length values.now }
-    ensures { IfOk result (λ left. Contains left.run.condition left.last) }
-{
-    let (run, last) = without_values(run, term, values)?;
-    Ok(LeftOut { run, last })
-}
-
-// What is left out where a run goes on one way, if that is one at its fork.
-fn left_out(run: &State, stop: Stop, choice: Choice) -> Result<Option<LeftOut>, NoMemory>
-    requires { (budgets : Budgets) × HasStopped budgets run.now stop }
-    ensures { IfOk result (λ found. IfSome found (λ left. Contains left.run.condition left.last)) }
-{
-    match (stop, choice) {
-        (Stop::Branch { term }, Choice::No) => Ok(Some(other_side(run, term, false)?)),
-        (Stop::Branch { term }, Choice::Yes) => Ok(Some(other_side(run, term, true)?)),
-        (Stop::Pin { term, .. }, Choice::Value(value)) => {
-            Ok(Some(other_values(run, term, &[value])?))
-        }
-        _ => Ok(None),
-    }
 }
 
 // A fork's line and a proof behind it, as far as one is found.
@@ -153,7 +82,7 @@ fn gap_of_way<S: Solver>(
     choice: Choice,
     taken: usize,
 ) -> Result<Gap, NoMemory>
-    requires { (budgets : Budgets) × HasStopped budgets run.now stop }
+    requires { IsStoppedAt run.now stop }
 {
     match left_out(run, stop, choice)? {
         Some(left) => with_proof(alloc, solver, &left, CertLine::One(choice), taken),
@@ -188,7 +117,7 @@ fn gap_behind_split<S: Solver>(
     stop: Stop,
     lines: &[CertLine],
 ) -> Result<Gap, NoMemory>
-    requires { (budgets : Budgets) × HasStopped budgets run.now stop }
+    requires { IsStoppedAt run.now stop }
 {
     match (stop, lines) {
         (Stop::Pin { term, .. }, [CertLine::Split(sides), rest @ ..]) if !begins_proof(rest) => {
@@ -208,7 +137,7 @@ fn gap_by_worth<S: Solver>(
     worth: Worth,
     lines: &[CertLine],
 ) -> Result<Gap, NoMemory>
-    requires { (budgets : Budgets) × HasStopped budgets run.now stop }
+    requires { IsStoppedAt run.now stop }
 {
     let choice = match (choice_by(stop, worth.first), worth.second) {
         (Some(choice), None) => choice,
@@ -232,7 +161,7 @@ pub(crate) fn gap_at<S: Solver>(
     stop: Stop,
     lines: &[CertLine],
 ) -> Result<Gap, NoMemory>
-    requires { (budgets : Budgets) × HasStopped budgets run.now stop }
+    requires { IsStoppedAt run.now stop }
 {
     let Some(term) = term_of(stop) else {
         return Ok(Gap::Nothing);

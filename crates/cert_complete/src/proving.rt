@@ -1,11 +1,10 @@
 //! Proofs that a run stands for no assignment, as far as a solver finds them, and their lines.
 
-ghost use Rattle.std.specs.Prelude.{ℕ, List, ◌≡◌, Contains, IfOk, false};
-ghost use Rattle.sym_state.specs.Symbolic.{stands_for};
+ghost use Rattle.std.specs.Prelude.{Contains};
 
-use crate::proof::{is_excluded, part_of};
 use crate::solving::{Solved, Solver};
 use bv_dag::Query;
+use cert_audit::{is_excluded, part_of};
 use cert_form::{CertLine, LearntClause};
 use cert_query::push_question;
 use cnf_form::Log;
