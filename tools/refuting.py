@@ -1,5 +1,6 @@
 """Clauses that refute a question, as a certificate has both. Cadical finds a proof of what `bench_runs formula` makes of the
-question."""
+question. A question that comes again is answered as before."""
+import functools
 import shutil
 import subprocess
 
@@ -12,7 +13,7 @@ REFUTED = 20
 
 def leaf_lines(question):
     """The text of a leaf whose condition a question is."""
-    return LEAF + question[:2] + ["; outputs 0"] + question[2:]
+    return [*LEAF, *question[:2], "; outputs 0", *question[2:]]
 
 
 def proof_of(formula, folder):
@@ -23,6 +24,7 @@ def proof_of(formula, folder):
     return drat.read_clauses(proof.read_text()) if done.returncode == REFUTED else None
 
 
+@functools.cache
 def clause_lines(bench_runs, question):
     """The lines of clauses that refute a question, or None where there is no cadical, or it finds none."""
     if shutil.which("cadical") is None:

@@ -116,11 +116,13 @@ fn print_unrefuted<R: Print + AllocGlobal>(rt: &R, count: usize, open: Unrefuted
 }
 
 // Prints what came of completing a certificate.
-fn print_result<R: Print + AllocGlobal>(rt: &R, image: Image, mut cert: Cert) -> Result<()> {
+fn print_result<R: Print + AllocGlobal>(
+    rt: &R,
+    image: Image,
+    mut cert: Cert,
+    search: Search,
+) -> Result<()> {
     let alloc = rt.alloc();
-    let search = Search {
-        budget: cert.budgets.conflicts,
-    };
     let count = cert.lines.len();
     match complete(alloc, image, &cert, &search)? {
         Completed::Puts(puts) => {
@@ -136,13 +138,14 @@ fn print_result<R: Print + AllocGlobal>(rt: &R, image: Image, mut cert: Cert) ->
 /// Prints the certificate in a file whole, with the lines that it lacks; or the line and the question for which no clauses were found.
 pub fn print_completed<R: rt::Files + Print + AllocGlobal>(
     rt: &R,
+    budget: u32,
     program: &str,
     certificate: &str,
 ) -> Result<()> {
     let image = image_in(rt, program)?;
     let text = read_file(rt, certificate)?;
     match read_cert(rt.alloc(), text.as_slice())? {
-        Ok(cert) => print_result(rt, image, cert),
+        Ok(cert) => print_result(rt, image, cert, Search { budget }),
         Err(refused) => print_no(rt, refused.line, Reason::Text),
     }
 }

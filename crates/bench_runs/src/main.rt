@@ -38,7 +38,7 @@ use std::{env, io};
 
 const USAGE: &str =
     "clauses FILE.. | formula FILE | search BUDGET FILE.. | log BUDGET FILE | ask BUDGET ROUNDS FILE.. | \
-explore PROGRAM ADDRESS:COUNT STEPS TARGETS CONFLICTS WORKERS | audit PROGRAM CERTIFICATE | complete PROGRAM CERTIFICATE";
+explore PROGRAM ADDRESS:COUNT STEPS TARGETS CONFLICTS WORKERS | audit PROGRAM CERTIFICATE | complete BUDGET PROGRAM CERTIFICATE";
 
 // The words behind the name of the program.
 fn gather<R: Env + AllocGlobal>(rt: &R) -> io::Result<Vec<String>> {
@@ -59,7 +59,9 @@ fn main(rt: HostRuntime) -> Result<()> {
         Some(Job::Ask(budget, rounds, files)) => print_asked(&rt, budget, rounds, files),
         Some(Job::Explore(words)) => print_explored(&rt, words),
         Some(Job::Audit(program, certificate)) => print_audited(&rt, program, certificate),
-        Some(Job::Complete(program, certificate)) => print_completed(&rt, program, certificate),
+        Some(Job::Complete(budget, program, certificate)) => {
+            print_completed(&rt, budget, program, certificate)
+        }
         None => bail!("the words are one of: {USAGE}"),
     }
 }
