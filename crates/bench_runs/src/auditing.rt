@@ -10,8 +10,8 @@ use std::alloc::Global;
 use std::rt;
 use std::time::{Clock, Instant};
 
-// The image of the program in a file.
-fn image_in<R: rt::Files + Print + AllocGlobal>(rt: &R, program: &str) -> Result<Image> {
+/// The image of the program in a file.
+pub fn image_in<R: rt::Files + Print + AllocGlobal>(rt: &R, program: &str) -> Result<Image> {
     let bytes = read_file(rt, program)?;
     Ok(load(rt.alloc(), bytes.as_slice())?)
 }
@@ -35,8 +35,14 @@ fn print_verdict(rt: &impl Print, verdict: Verdict) -> Result<()> {
             leaves.finished,
             leaves.cut
         )?,
-        Verdict::No { line, reason } => println!(rt; "audit no {line} {}", reason.number())?,
+        Verdict::No { line, reason } => print_no(rt, line, reason)?,
     }
+    Ok(())
+}
+
+/// Prints which line of a certificate may not stand, and why.
+pub fn print_no(rt: &impl Print, line: usize, reason: Reason) -> Result<()> {
+    println!(rt; "audit no {line} {}", reason.number())?;
     Ok(())
 }
 

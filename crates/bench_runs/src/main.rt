@@ -6,6 +6,8 @@
 //! - `searching`: the formulas of questions, and what the search makes of them
 //! - `printing`: formulas and logs as text
 //! - `auditing`: certificates
+//! - `completing`: certificates that lack lines
+//! - `trimming`: logs without the clauses that aren't needed
 //! - `asking`: questions that are asked term by term
 //! - `exploring`: explorations, without their reports
 //! - `limits`: the words of an exploration
@@ -14,16 +16,19 @@
 
 mod asking;
 mod auditing;
+mod completing;
 mod ends;
 mod exploring;
 mod files;
 mod limits;
 mod printing;
 mod searching;
+mod trimming;
 mod words;
 
 use crate::asking::print_asked;
 use crate::auditing::print_audited;
+use crate::completing::print_completed;
 use crate::exploring::print_explored;
 use crate::searching::{print_answers, print_counts, print_formula, print_log};
 use crate::words::{Job, read_job};
@@ -33,7 +38,7 @@ use std::{env, io};
 
 const USAGE: &str =
     "clauses FILE.. | formula FILE | search BUDGET FILE.. | log BUDGET FILE | ask BUDGET ROUNDS FILE.. | \
-explore PROGRAM ADDRESS:COUNT STEPS TARGETS CONFLICTS WORKERS | audit PROGRAM CERTIFICATE";
+explore PROGRAM ADDRESS:COUNT STEPS TARGETS CONFLICTS WORKERS | audit PROGRAM CERTIFICATE | complete BUDGET PROGRAM CERTIFICATE";
 
 // The words behind the name of the program.
 fn gather<R: Env + AllocGlobal>(rt: &R) -> io::Result<Vec<String>> {
@@ -54,6 +59,9 @@ fn main(rt: HostRuntime) -> Result<()> {
         Some(Job::Ask(budget, rounds, files)) => print_asked(&rt, budget, rounds, files),
         Some(Job::Explore(words)) => print_explored(&rt, words),
         Some(Job::Audit(program, certificate)) => print_audited(&rt, program, certificate),
+        Some(Job::Complete(budget, program, certificate)) => {
+            print_completed(&rt, budget, program, certificate)
+        }
         None => bail!("the words are one of: {USAGE}"),
     }
 }

@@ -17,6 +17,8 @@ pub enum Job<'a> {
     Explore(&'a [String]),
     /// What is said of a certificate of a program.
     Audit(&'a str, &'a str),
+    /// A certificate of a program with the lines that it lacks, by searches with this budget.
+    Complete(u32, &'a str, &'a str),
 }
 
 fn number(word: &str) -> Option<u32> {
@@ -36,6 +38,9 @@ pub fn read_job(words: &[String]) -> Option<Job<'_>> {
         }
         ("explore", words) => Some(Job::Explore(words)),
         ("audit", [program, certificate]) => Some(Job::Audit(program, certificate)),
+        ("complete", [budget, program, certificate]) => {
+            Some(Job::Complete(number(budget)?, program, certificate))
+        }
         _ => None,
     }
 }

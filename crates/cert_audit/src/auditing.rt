@@ -35,8 +35,8 @@ const MOST: Limits = Limits {
     nodes: 1_000_000,
 };
 
-// Whether each budget is from 1 to its most.
-fn are_within(limits: &Limits) -> bool
+/// Whether each budget is from 1 to its most.
+pub fn are_within(limits: &Limits) -> bool
     ensures { IsTrue result ↔ AreWithin limits.now }
 {
     limits.steps >= 1
@@ -49,8 +49,8 @@ fn are_within(limits: &Limits) -> bool
         && limits.nodes <= MOST.nodes
 }
 
-// The budgets of a walk. The order of claims is of no matter to it.
-fn budgets_of(limits: &Limits) -> Budgets
+/// The budgets of a walk. The order of claims is of no matter to it.
+pub fn budgets_of(limits: &Limits) -> Budgets
     ensures { result ≡ budgets_of limits.now }
 {
     Budgets {
@@ -75,8 +75,8 @@ fn has_nodes(lines: &[CertLine], nodes: u32) -> bool
     missing == 0
 }
 
-// The number of the line of a walk of so many at which so many are left.
-fn line_at(lines: usize, left: usize) -> usize {
+/// The number of a certificate's line, with so many in its walk, at which so many are left.
+pub fn line_at(lines: usize, left: usize) -> usize {
     lines.saturating_sub(left).saturating_add(BUDGETS + 1)
 }
 

@@ -31,5 +31,12 @@ mod values;
 mod visiting;
 mod walking;
 
-pub use auditing::{Verdict, audit};
-pub use walking::Leaves;
+pub use auditing::{Verdict, are_within, audit, budgets_of, line_at};
+pub use pin::without_values;
+pub use proof::{is_excluded, part_of};
+pub use sampling::is_met;
+pub use taken::Visited;
+pub use todo::{Others, Todo};
+pub use values::take_values;
+pub use visiting::visit;
+pub use walking::{Leaves, put_ahead};

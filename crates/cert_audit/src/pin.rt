@@ -40,8 +40,8 @@ fn leave_out(run: &mut State, term: usize, value: u32) -> Result<usize, NoMemory
     Ok(differs)
 }
 
-// The run where a term has none of these values, and the term that is asserted last there.
-fn without_values(run: &State, term: usize, values: &[u32]) -> Result<(State, usize), NoMemory>
+/// The run where a term has none of these values, and the term that is asserted last there.
+pub fn without_values(run: &State, term: usize, values: &[u32]) -> Result<(State, usize), NoMemory>
     requires { IsUnknown run.now.terms 32 term }
     ensures formed { IfOk result (λ _. IsFormed run.now) }
     ensures without { IfOk result (λ rest. IsWithout run.now term values.now rest.0) }

@@ -4,6 +4,7 @@ ghost use Rattle.std.specs.Prelude.{◌≡◌, ◌↔◌, ℕ, List, Contains, I
 ghost use Rattle.bv_dag.specs.Inputs.{asserted_inputs};
 ghost use Rattle.bv_dag.specs.Queries.{IsUnsatisfiable};
 ghost use Rattle.query_pick.specs.Occurring.{IsAlone};
+ghost use Rattle.query_slice.specs.Slices.{IsCut};
 ghost use Rattle.sym_state.specs.Symbolic.{condition_of, stands_for};
 ghost use Rattle.term_trees.specs.Subsets.{AsksNoMore};
 ghost use Rattle.cert_audit.specs.Asking.{IsLast};
@@ -42,8 +43,8 @@ fn has_no_value(alloc: Global, question: &Query, place: usize) -> Result<bool, N
     }
 }
 
-// Whether a question rests on one byte at most, and no value of that meets it.
-fn is_excluded(alloc: Global, question: &Query) -> Result<bool, NoMemory>
+/// Whether a question rests on one byte at most, and no value of that meets it.
+pub fn is_excluded(alloc: Global, question: &Query) -> Result<bool, NoMemory>
     ensures excluded { IfOk result (λ yes. IsTrue yes → IsUnsatisfiable question.now) }
     ensures not_excluded { IfOk result (λ yes. yes ≡ false → IsNotExcluded question.now) }
 {
@@ -54,6 +55,17 @@ fn is_excluded(alloc: Global, question: &Query) -> Result<bool, NoMemory>
     }
 }
 
+/// The part of a run's condition that matters for this of its terms. Where nothing meets it, the run stands for no assignment.
+pub fn part_of(alloc: Global, run: &State, new: usize) -> Result<Query, NoMemory>
+    requires { Contains run.now.condition new }
+    ensures cut { IfOk result (IsCut (condition_of run.now) new) }
+    ensures none { IfOk result (λ part. IsUnsatisfiable part
+        → (input : List ℕ) → stands_for run.now input ≡ false) }
+{
+    let condition = listed(alloc, run.condition())?;
+    slice(alloc, run.terms(), &condition, new)
+}
+
 // Whether the part of a run's condition that matters for this of its terms rests on one byte at most, and no value of that meets it.
 fn is_tried(alloc: Global, run: &State, new: usize) -> Result<bool, NoMemory>
     requires { Contains run.now.condition new }
@@ -62,8 +74,7 @@ fn is_tried(alloc: Global, run: &State, new: usize) -> Result<bool, NoMemory>
     ensures not_tried { IfOk result (λ yes. yes ≡ false → IsLast run.now.condition new
         → IsNotTried (condition_of run.now)) }
 {
-    let condition = listed(alloc, run.condition())?;
-    let part = slice(alloc, run.terms(), &condition, new)?;
+    let part = part_of(alloc, run, new)?;
     is_excluded(alloc, &part)
 }
 

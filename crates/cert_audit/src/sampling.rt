@@ -15,7 +15,7 @@ pub(crate) fn are_bytes(bytes: &[u8])
 {}
 
 /// Whether an assignment meets a run's condition. One that hasn't a byte for each input doesn't.
-pub(crate) fn is_met(alloc: Global, run: &State, input: &[u8]) -> Result<bool, NoMemory>
+pub fn is_met(alloc: Global, run: &State, input: &[u8]) -> Result<bool, NoMemory>
     ensures { IfOk result (λ yes. yes ≡ stands_for run.now input.now) }
 {
     let condition = listed(alloc, run.condition())?;

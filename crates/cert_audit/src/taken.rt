@@ -6,21 +6,21 @@ use leaf_part::LeafPart;
 
 /// A leaf.
 #[derive(Drop)]
-pub(crate) struct Taken<'a> {
+pub struct Taken<'a> {
     pub leaf: LeafPart,
     pub rest: &'a [CertLine],
 }
 
 /// What has come in the place of a run at a fork.
 #[derive(Drop)]
-pub(crate) struct Went<'a> {
+pub struct Went<'a> {
     pub kids: Vec<Todo>,
     pub rest: &'a [CertLine],
 }
 
 /// A leaf, or what has come in the place of a node.
 #[derive(Drop)]
-pub(crate) enum Visited<'a> {
+pub enum Visited<'a> {
     Leaf(Taken<'a>),
     Fork(Went<'a>),
 }

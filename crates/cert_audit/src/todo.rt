@@ -4,7 +4,7 @@ use sym_state::State;
 use tree_core::Choice;
 
 /// A side of a fork of which the budget of conflicts leaves open whether it has an assignment.
-pub(crate) struct Asked {
+pub struct Asked {
     /// The run with the side's term asserted last.
     pub run: State,
     /// The side.
@@ -21,7 +21,7 @@ impl Drop for Asked {
 }
 
 /// The side of a fork that has all values of a term but some.
-pub(crate) struct Others {
+pub struct Others {
     /// The run that parts.
     pub fork: State,
     pub term: usize,
@@ -44,7 +44,7 @@ impl Drop for Others {
 
 /// What the walk comes to: a node of the tree, or a side of a fork that is cut.
 #[derive(Drop)]
-pub(crate) enum Todo {
+pub enum Todo {
     Node(State),
     Conflicts(Asked),
     Targets(Others),

@@ -83,8 +83,8 @@ fn open_value(side: Side) -> Option<u32>
     }
 }
 
-// The values of the first sides, which aren't cut, and the sides behind them.
-fn take_values(alloc: Global, sides: &[Side]) -> Result<(Vec<u32>, &[Side]), NoMemory>
+/// The values of the first sides, which aren't cut, and the sides behind them.
+pub fn take_values(alloc: Global, sides: &[Side]) -> Result<(Vec<u32>, &[Side]), NoMemory>
     ensures split { IfOk result (λ taken.
         sides.now ≡ map value_side taken.0.items ++ taken.1.now) }
     ensures all { IfOk result (λ taken. BeginsWithNoValue taken.1.now) }

@@ -120,7 +120,7 @@ fn visit_part<'a>(
 }
 
 /// What lines make of what the walk comes to.
-pub(crate) fn visit<'a>(
+pub fn visit<'a>(
     alloc: Global,
     budgets: &Budgets,
     mut todo: Todo,

@@ -50,8 +50,8 @@ fn count(tally: &mut Tally, leaf: &LeafPart, left: usize)
     }
 }
 
-// Puts what comes next on the stack, the first on top.
-fn put_ahead(stack: &mut Vec<Todo>, mut kids: Vec<Todo>) -> Result<(), NoMemory>
+/// Puts what comes next on the stack, the first on top.
+pub fn put_ahead(stack: &mut Vec<Todo>, mut kids: Vec<Todo>) -> Result<(), NoMemory>
     ensures { OnOk result (stack.new.items ≡ stack.old.items ++ reverse kids.items) }
 {
     while let Some(kid) = kids.pop() {

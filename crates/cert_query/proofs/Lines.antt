@@ -1,7 +1,8 @@
 -- The lines of a question, one more at a time.
-use Rattle.std.proofs.Common.{◌≡◌, ◌∙◌, ℕ, zero, suc, ◌+◌, ◌≤◌, List, [], ◌∷◌, ◌++◌, length, map, refl, sym, ap, arith, add-zero, add-one, append_assoc, length-append}
+use Rattle.std.proofs.Common.{◌≡◌, ◌∙◌, ℕ, zero, suc, ◌+◌, ◌≤◌, List, [], ◌∷◌, ◌++◌, length, map, take, get_or, ◌<◌, refl, sym, ap, arith, add-zero, add-one, append_assoc, length-append}
 use Rattle.std.specs.List.{enumerate_from}
-use Rattle.std.proofs.lemmas.List.{map-append}
+use Rattle.std.proofs.lemmas.List.{map-append, length-take-le}
+use Rattle.std.proofs.lemmas.Grind.{take_at_read}
 use Rattle.bv_dag.specs.Graphs.{Graph, width_of, with_node}
 use Rattle.bv_dag.specs.Queries.{Condition}
 use Rattle.bv_dag.specs.declared.nodes.Node as dag
@@ -9,9 +10,15 @@ use Rattle.bv_dag.proofs.TermLaws.{width_of-with_node}
 use Rattle.cert_form.specs.declared.line.CertLine.{CertLine}
 use Rattle.cert_form.specs.declared.line.CertLine.TheVariants.{Input, Node}
 use Rattle.cert_form.specs.declared.node_line.DefinedNode.{DefinedNode}
-use Rattle.cert_query.specs.QuestionLines.{body_lines, heading_lines, input_lines, node_line, node_lines, question_lines}
+use Rattle.cert_query.specs.QuestionLines.{assertion_lines, body_lines, heading_lines, input_lines, node_line, node_lines, question_lines}
 use Rattle.cert_query.specs.Terms.{IsPushed, IsTakenNode}
 use Rattle.cert_query.proofs.Passing.{one_more}
+
+-- one more line behind some
+pub one_pushed : (old done more before after : List CertLine) (line : CertLine) → before ≡ old ++ done → after ≡ before ++ line ∷ []
+    → more ≡ done ++ line ∷ [] → after ≡ old ++ more
+one_pushed old done more before after line so_far push next =
+    push ∙ ap (λ (ls : List CertLine). ls ++ line ∷ []) so_far ∙ append_assoc old done (line ∷ []) ∙ ap (λ (ls : List CertLine). old ++ ls) (sym next)
 
 -- ---- inputs
 
@@ -21,11 +28,14 @@ inputs_suc k (suc n) =
     let place : k + 1 + n ≡ k + suc n = omega arith in
     ap (λ (ls : List CertLine). Input k ∷ ls) (inputs_suc (k + 1) n ∙ ap (λ i. input_lines (k + 1) n ++ Input i ∷ []) place)
 
+pub input_push : (i : ℕ) → input_lines 0 (i + 1) ≡ input_lines 0 i ++ Input i ∷ []
+input_push i =
+    let whole : 0 + i ≡ i = omega arith in
+    ap (input_lines 0) (add-one i) ∙ inputs_suc 0 i ∙ ap (λ k. input_lines 0 i ++ Input k ∷ []) whole
+
 pub input_more : (lines rest more : List CertLine) (i : ℕ) → lines ≡ input_lines 0 i ++ rest → rest ≡ Input i ∷ more → lines ≡ input_lines 0 (i + 1) ++ more
 input_more lines rest more i passed next =
-    let whole : 0 + i ≡ i = omega arith in
-    one_more lines (input_lines 0 i) rest (Input i) more passed next
-    ∙ ap (λ (ls : List CertLine). ls ++ more) (sym (ap (input_lines 0) (add-one i) ∙ inputs_suc 0 i ∙ ap (λ k. input_lines 0 i ++ Input k ∷ []) whole))
+    one_more lines (input_lines 0 i) rest (Input i) more passed next ∙ ap (λ (ls : List CertLine). ls ++ more) (sym (input_push i))
 
 -- ---- nodes
 
@@ -35,6 +45,19 @@ numbered_push k [] x = rw add-zero refl
 numbered_push {X} k (y ∷ xs) x =
     let place : k + 1 + length xs ≡ k + suc (length xs) = omega arith in
     ap (λ (ps : List (ℕ × X)). (k, y) ∷ ps) (numbered_push (k + 1) xs x ∙ ap (λ (i : ℕ). let p : ℕ × X = (i, x) in enumerate_from (k + 1) xs ++ p ∷ []) place)
+
+-- one more of the first nodes of a graph
+pub node_push : (graph : Graph) (nodes : List dag.Node) (i : ℕ) (d : dag.Node) → i < length nodes
+    → map (node_line graph) (enumerate_from 0 (take (i + 1) nodes))
+    ≡ map (node_line graph) (enumerate_from 0 (take i nodes)) ++ node_line graph (i, get_or nodes i d) ∷ []
+node_push graph nodes i d there =
+    let node = get_or nodes i d in
+    let first = take i nodes in
+    let place : 0 + length first ≡ i = omega (arith, length-take-le i nodes (omega (arith, there))) in
+    ap (λ ns. map (node_line graph) (enumerate_from 0 ns)) (take_at_read nodes i d there).1
+    ∙ ap (map (node_line graph)) (numbered_push 0 first node)
+    ∙ map-append (node_line graph) (enumerate_from 0 first) ((0 + length first, node) ∷ [])
+    ∙ ap (λ (k : ℕ). map (node_line graph) (enumerate_from 0 first) ++ node_line graph (k, node) ∷ []) place
 
 -- a push keeps the lines of what is there
 lines_kept : (graph : Graph) (n : dag.Node) (k : ℕ) (xs : List dag.Node) → k + length xs ≤ length graph.nodes →
@@ -83,3 +106,14 @@ whole_question lines rest more inputs nodes q heading same_inputs same_nodes bod
     heading ∙ ap (λ (n : ℕ). heading_lines n nodes ++ rest) (sym same_inputs) ∙ ap (λ (n : ℕ). heading_lines q.graph.inputs n ++ rest) (sym same_nodes)
     ∙ ap (λ (ls : List CertLine). heading_lines q.graph.inputs (length q.graph.nodes) ++ ls) body
     ∙ sym (append_assoc (heading_lines q.graph.inputs (length q.graph.nodes)) (body_lines q) more)
+
+-- they are pushed part by part
+pub question_pushed : (q : Condition) (old heading nodes after : List CertLine)
+    → heading ≡ old ++ heading_lines q.graph.inputs (length q.graph.nodes) → nodes ≡ heading ++ node_lines q.graph
+    → after ≡ nodes ++ assertion_lines q.asserted → after ≡ old ++ question_lines q
+unfolding question_lines
+question_pushed q old heading nodes after first second third =
+    let top = heading_lines q.graph.inputs (length q.graph.nodes) in
+    let end = assertion_lines q.asserted in
+    third ∙ ap (λ (ls : List CertLine). ls ++ end) (second ∙ ap (λ (ls : List CertLine). ls ++ node_lines q.graph) first)
+    ∙ append_assoc (old ++ top) (node_lines q.graph) end ∙ append_assoc old top (body_lines q)

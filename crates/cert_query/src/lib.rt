@@ -6,6 +6,7 @@
 //! - `terms`: its nodes
 //! - `assertions`: the nodes that are to be 1, and its end
 //! - `question`: the whole of it
+//! - `giving`: the lines of a question
 //! - `clause_lines`: lines of clauses
 //! - `refutation`: the clauses that refute a question
 //! - `variables`: the variables that occur in a formula
@@ -15,6 +16,7 @@
 mod assertions;
 mod clause_lines;
 mod fault;
+mod giving;
 mod heading;
 mod question;
 mod refutation;
@@ -23,6 +25,7 @@ mod terms;
 mod variables;
 
 pub use fault::{Fault, Reason};
+pub use giving::push_question;
 pub use question::{Question, take_question};
 pub use refutation::take_refutation;
 pub use spent_log::{SpentLog, take_spent_log};

@@ -10,5 +10,5 @@ mod printing;
 mod reading;
 mod walk;
 
-pub use printing::print_cert;
+pub use printing::{print_cert, print_lines};
 pub use reading::{CertRefused, read_cert};

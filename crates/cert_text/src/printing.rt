@@ -194,6 +194,15 @@ fn write_heading(
     write_budgets(text, budgets)
 }
 
+/// The text of lines of the walk.
+pub fn print_lines(alloc: Global, lines: &[CertLine]) -> Result<Bytes, NoMemory>
+    ensures { IfOk result (λ text. text ≡ flat_map line_text lines.now) }
+{
+    let mut text = String::new(alloc);
+    write_lines(alloc, &mut text, lines)?;
+    Ok(Bytes::from_vec(text.into_bytes()))
+}
+
 /// The text of a certificate.
 pub fn print_cert(alloc: Global, cert: &Cert) -> Result<Bytes, NoMemory>
     ensures { IfOk result (λ text. text ≡ cert_text cert.now) }
