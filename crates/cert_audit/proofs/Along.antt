@@ -20,6 +20,7 @@ use Rattle.tree_core.specs.declared.cause.Cause.{Cause}
 use Rattle.tree_core.specs.declared.cause.Cause.TheVariants.{Conflicts, Nodes, Steps, Targets}
 use Rattle.tree_core.specs.declared.choice.Choice.{Choice}
 use Rattle.cert_audit.specs.Names.{Ahead, named_from}
+use Rattle.cert_audit.specs.Passing.{EndsWith}
 use Rattle.cert_audit.specs.Steps.{IsParted, IsRightAt, IsTaken, IsVisited, ahead_at, named_as}
 use Rattle.cert_audit.specs.Todos.{IsTodo, todo_ahead, todo_place}
 use Rattle.cert_audit.specs.Walks.{AreCounted, IsWalked, counted, cut_of, first_of, rest_behind, stack_behind, tally_behind}
@@ -48,6 +49,11 @@ stands_for_all p s first input (long, small) =
     let count : (length input == s.terms.inputs) ≡ true = grind (arith, nat_tests, each) in
     rw first.condition (ap (λ t. t && ((length input == s.terms.inputs) && true)) bytes ∙ ap (λ t. t && true) count)
 
+-- ---- What is passed in two.
+ends_behind : (lines rest behind : List CertLine) → EndsWith lines rest → EndsWith rest behind → EndsWith lines behind
+ends_behind lines rest behind first second =
+    (first.0 ++ second.0, first.1 ∙ ap (λ (ls : List CertLine). first.0 ++ ls) second.1 ∙ sym (append_assoc first.0 second.0 behind))
+
 module _ (p : Program) (budgets : Budgets) (lines : List CertLine) where
   -- before the first line
   pub walk_begins : (s : Symbolic) (tally : Tally) → IsFirst p s → IsOpen p s → tally.leaves.finished ≡ 0 → tally.leaves.cut ≡ 0
@@ -59,6 +65,7 @@ module _ (p : Program) (budgets : Budgets) (lines : List CertLine) where
     named = ap (λ (cs : List Choice). named_from (record { choices = cs; cut = None } ∷ []) lines) first.choices;
     once = λ input is. let one : one_if (stands_for s input) ≡ one_if true = ap one_if (stands_for_all p s first input is) in omega (arith, one);
     few = omega arith;
+    ends = ([], refl);
     counted = record { finished = no_finished; cut = no_cut };
     by_nodes = λ none. All-nil (λ part. cut_of part ≢ Some Nodes);
   }
@@ -110,6 +117,7 @@ module _ (p : Program) (budgets : Budgets) (lines : List CertLine) where
           let turns = count_reversed (λ todo. (todo_place todo).covers input) kids in
           omega (arith, both, turns, is.shared input, next_counted input, was.once input within);
       few = omega (arith, is.shorter, was.few);
+      ends = ends_behind lines rest behind was.ends is.ends;
       counted = was.counted;
       by_nodes = was.by_nodes;
     }
@@ -206,6 +214,7 @@ module _ (p : Program) (budgets : Budgets) (lines : List CertLine) where
             let last = count_one (λ part. covers part.leaf input) leaf in
             omega (arith, both, last, one, next_counted input, was.once input within);
         few = omega (arith, is.shorter, was.few, length-append was.parts (leaf ∷ []));
+        ends = ends_behind lines rest behind was.ends is.ends;
         counted = counted_more;
         by_nodes = not_by_nodes;
       }

@@ -1,5 +1,5 @@
 -- Sides that are cut by conflicts.
-use Rattle.std.proofs.Common.{◌≡◌, ℕ, ◌+◌, ◌-◌, ◌<◌, Bool, false, List, [], ◌∷◌, ◌++◌, get_or, length, map, take, refl, sym, ap, subst, ◌∙◌, arith}
+use Rattle.std.proofs.Common.{◌≡◌, ℕ, ◌+◌, ◌-◌, ◌<◌, Bool, false, List, [], ◌∷◌, ◌++◌, get_or, length, map, take, refl, sym, ap, subst, ◌∙◌, arith, append_assoc}
 use Rattle.std.specs.Prelude.{None, Some, Contains, IfOk, Result, Ok, Err}
 use Rattle.std.specs.List.{slice_get}
 use Rattle.std.proofs.lemmas.Grind.{take_at_read}
@@ -141,4 +141,5 @@ taken_conflicts budgets conflicts asked lines rest learnt part enough is sample 
           ∙ ap (λ name. name ∷ named_from ahead rest)
           (sym (named_is part choices (Some ByConflicts) None (at.choices ∙ ap (λ cs. cs ++ asked.choice ∷ []) (sym same)) at.cut sample));
       shorter = shorter_asked learnt.question learnt.log rest lines is.split;
+      ends = (question_lines learnt.question ++ map Clause learnt.log, is.split ∙ sym (append_assoc (question_lines learnt.question) (map Clause learnt.log) rest));
     }

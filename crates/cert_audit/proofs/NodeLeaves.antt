@@ -109,6 +109,7 @@ module _ (budgets : Budgets) (run sampled : Symbolic) (input : List ℕ) (lines 
             (leaf_name run.choices None (Some input) part ((at p stopped).choices ∙ same_choices) (at p stopped).cut sample_named)
             refl ahead;
         shorter = one_less (End input) lines rest is;
+        ends = (End input ∷ [], is);
       }
 
   -- the leaf of a run that has spent its steps
@@ -125,6 +126,7 @@ module _ (budgets : Budgets) (run sampled : Symbolic) (input : List ℕ) (lines 
             (leaf_name run.choices (Some Steps) (Some input) part ((at p stopped).choices ∙ same_choices) (at p stopped).cut sample_named)
             refl ahead;
         shorter = one_less (CutSteps input) lines rest is;
+        ends = (CutSteps input ∷ [], is);
       }
 
 -- the leaf of a run that may not part
@@ -142,4 +144,5 @@ nodes_leaf budgets run nodes rest part no_sample leaf same =
           (leaf_name run.choices (Some Nodes) None part (at p way).choices (at p way).cut no_sample)
           refl ahead;
       shorter = omega arith;
+      ends = (CutNodes ∷ [], refl);
     }

@@ -1,7 +1,8 @@
 -- Sides that are cut by targets.
-use Rattle.std.proofs.Common.{◌≡◌, ℕ, ◌<◌, List, [], ◌∷◌, ◌++◌, length, map, sym, ap, subst, ◌∙◌, arith}
+use Rattle.std.proofs.Common.{◌≡◌, ℕ, ◌<◌, List, [], ◌∷◌, ◌++◌, length, map, sym, ap, subst, ◌∙◌, append_assoc, arith}
 use Rattle.std.specs.Prelude.{None, Some}
 use Rattle.cert_form.specs.declared.line.CertLine.{CertLine}
+use Rattle.cert_form.specs.declared.line.CertLine.TheVariants.{Value as OfFound, Witness}
 use Rattle.fork_spec.specs.Evidence.{AreIncreasing, Found, values_of}
 use Rattle.fork_spec.specs.Parts.{Part}
 use Rattle.run_leaves.proofs.Cutting.{has_none, without_narrowed}
@@ -86,4 +87,5 @@ module _ (budgets : Budgets) (targets : ℕ) (others : Others) (lines rest : Lis
         ∙ named_valued choices found witness rest ahead
         ∙ ap (λ name. name ∷ named_from ahead rest) (sym (named_is part choices (Some ByTargets) (Some witness) at.choices at.cut sample));
     shorter = shorter_valued found witness rest lines is.split;
+    ends = (map OfFound found ++ Witness witness ∷ [], is.split ∙ sym (append_assoc (map OfFound found) (Witness witness ∷ []) rest));
   }

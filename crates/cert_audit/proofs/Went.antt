@@ -17,7 +17,7 @@ use Rattle.cert_audit.proofs.Quiet.{quiet_line}
 
 -- nothing need be shown
 pub passed_none : (next : List Ahead) (lines : List CertLine) → ArePassed next lines lines
-passed_none next lines = record { quiet = λ ahead. refl; no_longer = omega arith }
+passed_none next lines = record { quiet = λ ahead. refl; no_longer = omega arith; ends = ([], refl) }
 
 -- it is shown that some run stands for no assignment, where what comes next isn't cut
 pub passed_shown : (s : Symbolic) (a : Ahead) (next : List Ahead) (lines rest : List CertLine) → a.cut ≡ None → IsShownEmpty s lines rest
@@ -25,6 +25,7 @@ pub passed_shown : (s : Symbolic) (a : Ahead) (next : List Ahead) (lines rest : 
 passed_shown s a next lines rest is shown = record {
   quiet = λ ahead. shown.quiet a (next ++ ahead) is;
   no_longer = omega (arith, shown.shorter);
+  ends = shown.ends;
 }
 
 pub values_passed : (s r : Symbolic) (vs : List ℕ) (lines rest : List CertLine) → 1 ≤ length vs → IsShownEmpty r lines rest
@@ -47,6 +48,7 @@ went_one budgets s choice lines rest kids put = record {
       quiet_line (own_ahead s ++ ahead) (One choice) lines (record { names = λ a. refl; keeps = λ a. refl })
       ∙ named_behind budgets s (own_ahead s) lines rest kids put ahead;
   shorter = omega (arith, put.passed.no_longer);
+  ends = (One choice ∷ put.passed.ends.0, ap (λ (ls : List CertLine). One choice ∷ ls) put.passed.ends.1);
 }
 
 -- it parts
@@ -58,4 +60,5 @@ went_split budgets s sides lines rest kids put = record {
   shared = put.are_kids.shared;
   named = λ ahead. named_behind budgets s (map (side_ahead s.choices) sides) lines rest kids put ahead;
   shorter = omega (arith, put.passed.no_longer);
+  ends = (Split sides ∷ put.passed.ends.0, ap (λ (ls : List CertLine). Split sides ∷ ls) put.passed.ends.1);
 }
