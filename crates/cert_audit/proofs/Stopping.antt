@@ -38,7 +38,7 @@ leaf_since P Q budgets covers new next lines part rest since same is = record {
       record { is_right = leaf.is_right; covers_all = λ input. leaf.covers_all input ∙ same input };
   named = λ p q. is.named p (since p q);
   shorter = is.shorter;
-  ends = is.ends;
+  ends = λ p q. is.ends p (since p q);
 }
 
 pub fork_since : (P Q : Program → Type 0) (budgets : Budgets) (covers new : List ℕ → Bool) (next : Ahead) (lines : List CertLine)

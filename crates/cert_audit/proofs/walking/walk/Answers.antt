@@ -7,7 +7,7 @@ use Rattle.cert_audit.proofs.walking.walk.Goals as goal
 pub loop-todo-init : goal.loop-todo-init
 loop-todo-init c =
     rw (c.in_ok-push.ensures.items, c.new-stack.ensures.items) (record {
-      walked = walk_begins c.args.program.now c.args.budgets.now c.args.lines.now c.in_ok-first.field-0 _ c.in_ok-first.ensures.first c.in_ok-first.ensures.open refl refl;
+      walked = walk_begins c.args.program.now c.args.budgets.now c.args.lines.now c.in_ok-first.field-0 _ c.in_ok-first.ensures.first c.in_ok-first.ensures.open refl refl refl;
     })
 
 pub visit-requires : goal.visit-requires
@@ -29,7 +29,7 @@ loop-todo-preserved c =
     let at = c.in_ok-rest-in-Ok.ensures in
     rw (at.stack, at.rest, at.tally) (record {
       walked = walk_goes c.args.program.now budgets c.args.lines.now c.pop.new.self.items c.in-Some.todo c.loop-todo.rest.now c.loop-todo.tally
-          (rw popped at c.loop-todo.invariant.walked) c.in-Ok.visited (length c.loop-todo.rest.now) is;
+          (rw popped at c.loop-todo.invariant.walked) c.in-Ok.visited (length c.loop-todo.rest.now) refl is;
     })
 
 pub returns-clause-walked : goal.returns-clause-walked
