@@ -103,14 +103,18 @@ fn unrefuted_lines(alloc: Global, line: CertLine, question: &Query) -> Result<Ve
 }
 
 // Prints where lines are to stand, in the place of how many, and the lines.
-fn print_unrefuted<R: Print + AllocGlobal>(rt: &R, count: usize, open: Unrefuted) -> Result<()> {
+fn print_unrefuted<R: Print + AllocGlobal>(
+    rt: &R,
+    walk: &[CertLine],
+    open: Unrefuted,
+) -> Result<()> {
     let Unrefuted {
         left,
         taken,
         line,
         question,
     } = open;
-    println!(rt; "lacking {} {taken}", line_at(count, left))?;
+    println!(rt; "lacking {} {taken}", line_at(walk, left))?;
     let lines = unrefuted_lines(rt.alloc(), line, &question)?;
     put_text(rt, print_lines(rt.alloc(), &lines)?.as_slice())
 }
@@ -123,14 +127,13 @@ fn print_result<R: Print + AllocGlobal>(
     search: Search,
 ) -> Result<()> {
     let alloc = rt.alloc();
-    let count = cert.lines.len();
     match complete(alloc, image, &cert, &search)? {
         Completed::Puts(puts) => {
             put_all(alloc, &mut cert, puts)?;
             put_text(rt, print_cert(alloc, &cert)?.as_slice())
         }
-        Completed::Open(open) => print_unrefuted(rt, count, open),
-        Completed::Fault(fault) => print_no(rt, line_at(count, fault.left), fault.reason),
+        Completed::Open(open) => print_unrefuted(rt, &cert.lines, open),
+        Completed::Fault(fault) => print_no(rt, line_at(&cert.lines, fault.left), fault.reason),
         Completed::Heading => bail!("the regions or the budgets may not stand"),
     }
 }

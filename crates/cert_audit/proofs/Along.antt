@@ -1,5 +1,5 @@
 -- A walk along lines: what has been come to and what is ahead share out all assignments, line by line.
-use Rattle.std.proofs.Common.{◌≡◌, ℕ, ◌+◌, ◌<◌, Bool, true, cond, List, [], ◌∷◌, ◌++◌, All, length, map, reverse, refl, ap, sym, ◌∙◌, append_assoc, arith}
+use Rattle.std.proofs.Common.{◌≡◌, ℕ, ◌+◌, ◌<◌, Bool, true, cond, List, [], ◌∷◌, ◌++◌, All, length, map, reverse, refl, ap, sym, subst, ◌∙◌, append_assoc, arith}
 use Rattle.std.proofs.lemmas.Bool.Decides.{nat_tests}
 use Rattle.std.proofs.lemmas.List.{length-append, map-append, reverse-append, reverse-reverse}
 use Rattle.std.proofs.lemmas.List.Elements.{All-append, All-cons, All-head, All-nil, All-tail}
@@ -20,6 +20,7 @@ use Rattle.tree_core.specs.declared.cause.Cause.{Cause}
 use Rattle.tree_core.specs.declared.cause.Cause.TheVariants.{Conflicts, Nodes, Steps, Targets}
 use Rattle.tree_core.specs.declared.choice.Choice.{Choice}
 use Rattle.cert_audit.specs.Names.{Ahead, named_from}
+use Rattle.cert_audit.specs.Passing.{IsUncut, PassesFirst, PassesLeaf, PassesUncut}
 use Rattle.cert_audit.specs.Steps.{IsParted, IsRightAt, IsTaken, IsVisited, ahead_at, named_as}
 use Rattle.cert_audit.specs.Todos.{IsTodo, todo_ahead, todo_place}
 use Rattle.cert_audit.specs.Walks.{AreCounted, IsWalked, counted, cut_of, first_of, rest_behind, stack_behind, tally_behind}
@@ -28,6 +29,7 @@ use Rattle.cert_audit.specs.declared.taken.Visited.TheVariants.{Fork, Leaf}
 use Rattle.cert_audit.specs.declared.todo.Todo.{Todo}
 use Rattle.cert_audit.specs.declared.todo.Todo.TheVariants.{Node}
 use Rattle.cert_audit.specs.declared.walking.Tally.{Tally}
+use Rattle.cert_audit.proofs.Passed.{ends_behind, first_found, first_kept, leaf_ends}
 
 -- ---- Counts along lists.
 module _ {X : Type 0} (p : X → Bool) where
@@ -51,14 +53,18 @@ stands_for_all p s first input (long, small) =
 module _ (p : Program) (budgets : Budgets) (lines : List CertLine) where
   -- before the first line
   pub walk_begins : (s : Symbolic) (tally : Tally) → IsFirst p s → IsOpen p s → tally.leaves.finished ≡ 0 → tally.leaves.cut ≡ 0
+      → tally.first_by_nodes ≡ None
       → IsWalked p budgets lines (Node s ∷ []) lines tally
-  walk_begins s tally first is_open no_finished no_cut = record {
+  walk_begins s tally first is_open no_finished no_cut no_nodes = record {
     parts = [];
     right = All-nil (IsRightAt p budgets);
     each = All-cons (IsTodo p budgets) (Node s) [] (is_open, omega (arith, first.steps)) (All-nil (IsTodo p budgets));
     named = ap (λ (cs : List Choice). named_from (record { choices = cs; cut = None } ∷ []) lines) first.choices;
     once = λ input is. let one : one_if (stands_for s input) ≡ one_if true = ap one_if (stands_for_all p s first input is) in omega (arith, one);
     few = omega arith;
+    ends = ([], refl);
+    first = subst (λ (first : Option ℕ). PassesFirst first lines lines) (sym no_nodes)
+        (let none : PassesUncut lines lines = record { passed = []; split = refl; uncut = All-nil IsUncut } in none);
     counted = record { finished = no_finished; cut = no_cut };
     by_nodes = λ none. All-nil (λ part. cut_of part ≢ Some Nodes);
   }
@@ -110,6 +116,8 @@ module _ (p : Program) (budgets : Budgets) (lines : List CertLine) where
           let turns = count_reversed (λ todo. (todo_place todo).covers input) kids in
           omega (arith, both, turns, is.shared input, next_counted input, was.once input within);
       few = omega (arith, is.shorter, was.few);
+      ends = ends_behind lines rest behind was.ends (is.ends.passed, is.ends.split);
+      first = first_kept tally.first_by_nodes lines rest behind was.first is.ends;
       counted = was.counted;
       by_nodes = was.by_nodes;
     }
@@ -120,7 +128,7 @@ module _ (p : Program) (budgets : Budgets) (lines : List CertLine) where
             ∙ map-append todo_ahead kids (reverse front)
 
     -- the next is a leaf
-    module _ (leaf : Part) (behind : List CertLine) (left : ℕ) (is : IsTaken budgets todo rest leaf behind) where
+    module _ (leaf : Part) (behind : List CertLine) (left : ℕ) (at_left : left ≡ length rest) (is : IsTaken budgets todo rest leaf behind) where
       -- it covers what was to come there
       covers_same : (input : List ℕ) → IsAssignment p.regions input → covers leaf.leaf input ≡ (todo_place todo).covers input
       covers_same input within =
@@ -190,6 +198,14 @@ module _ (p : Program) (budgets : Budgets) (lines : List CertLine) where
           none_by (Some Conflicts) at none = with_leaf none (λ by. cc (at, by))
           none_by (Some Nodes) at none = none_first tally.first_by_nodes none
 
+      first_taken : (cut : Option Cause) → PassesLeaf cut rest behind → PassesFirst (counted tally cut left).first_by_nodes lines behind
+      first_taken None ends = first_kept tally.first_by_nodes lines rest behind was.first ends
+      first_taken (Some Steps) ends = first_kept tally.first_by_nodes lines rest behind was.first ends
+      first_taken (Some Targets) ends = first_kept tally.first_by_nodes lines rest behind was.first ends
+      first_taken (Some Conflicts) ends = first_kept tally.first_by_nodes lines rest behind was.first ends
+      first_taken (Some Nodes) ends =
+          subst (λ (n : ℕ). PassesFirst (first_of tally.first_by_nodes n) lines behind) (sym at_left) (first_found tally.first_by_nodes lines rest behind was.first ends)
+
       pub walk_takes : IsWalked p budgets lines front behind (counted tally (cut_of leaf) left)
       walk_takes = record {
         parts = was.parts ++ leaf ∷ [];
@@ -206,15 +222,17 @@ module _ (p : Program) (budgets : Budgets) (lines : List CertLine) where
             let last = count_one (λ part. covers part.leaf input) leaf in
             omega (arith, both, last, one, next_counted input, was.once input within);
         few = omega (arith, is.shorter, was.few, length-append was.parts (leaf ∷ []));
+        ends = ends_behind lines rest behind was.ends (leaf_ends (cut_of leaf) rest behind (is.ends p next_is));
+        first = first_taken (cut_of leaf) (is.ends p next_is);
         counted = counted_more;
         by_nodes = not_by_nodes;
       }
 
     -- whatever it is
-    pub walk_goes : (visited : Visited) (left : ℕ) → IsVisited budgets todo rest visited
+    pub walk_goes : (visited : Visited) (left : ℕ) → left ≡ length rest → IsVisited budgets todo rest visited
         → IsWalked p budgets lines (stack_behind front visited) (rest_behind visited) (tally_behind tally visited left)
-    walk_goes (Leaf taken) left is = walk_takes taken.leaf taken.rest.now left is
-    walk_goes (Fork went) left is = walk_parts went.kids.items went.rest.now is
+    walk_goes (Leaf taken) left at is = walk_takes taken.leaf taken.rest.now left at is
+    walk_goes (Fork went) left at is = walk_parts went.kids.items went.rest.now is
 
     -- there are fewer leaves than lines
     pub few_finished : (0 < length rest) → tally.leaves.finished < length lines

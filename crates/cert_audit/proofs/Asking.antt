@@ -1,6 +1,6 @@
 -- Sides that are cut by conflicts.
 use Rattle.std.proofs.Common.{◌≡◌, ℕ, ◌+◌, ◌-◌, ◌<◌, Bool, false, List, [], ◌∷◌, ◌++◌, get_or, length, map, take, refl, sym, ap, subst, ◌∙◌, arith}
-use Rattle.std.specs.Prelude.{None, Some, Contains, IfOk, Result, Ok, Err}
+use Rattle.std.specs.Prelude.{Option, None, Some, Contains, IfOk, Result, Ok, Err}
 use Rattle.std.specs.List.{slice_get}
 use Rattle.std.proofs.lemmas.Grind.{take_at_read}
 use Rattle.std.proofs.lemmas.List.{take_all}
@@ -26,6 +26,7 @@ use Rattle.sym_state.specs.Runs.{IsOpen}
 use Rattle.sym_state.specs.Symbolic.{Symbolic, IsFormed, condition_of}
 use Rattle.term_trees.specs.TreeSlices.{IsPartFor}
 use Rattle.tree_core.specs.declared.budgets.Budgets.{Budgets}
+use Rattle.tree_core.specs.declared.cause.Cause.{Cause}
 use Rattle.tree_core.specs.declared.cause.Cause.TheVariants.{Conflicts as ByConflicts}
 use Rattle.tree_core.specs.declared.choice.Choice.{Choice}
 use Rattle.cert_audit.specs.Asking.{AskTheSame, IsLast, IsLastPart, IsLearntIn}
@@ -35,6 +36,8 @@ use Rattle.cert_audit.specs.Steps.{IsTaken}
 use Rattle.cert_audit.specs.declared.conflicts.LearntLines.{LearntLines}
 use Rattle.cert_audit.specs.declared.todo.Asked.{Asked}
 use Rattle.cert_audit.specs.declared.todo.Todo.TheVariants.{Conflicts}
+use Rattle.cert_audit.specs.Passing.{PassesLeaf}
+use Rattle.cert_audit.proofs.Passed.{asked_uncut}
 use Rattle.cert_audit.proofs.Naming.{named_asked, named_is, shorter_asked}
 
 -- the last of some numbers, and those before it
@@ -141,4 +144,7 @@ taken_conflicts budgets conflicts asked lines rest learnt part enough is sample 
           ∙ ap (λ name. name ∷ named_from ahead rest)
           (sym (named_is part choices (Some ByConflicts) None (at.choices ∙ ap (λ cs. cs ++ asked.choice ∷ []) (sym same)) at.cut sample));
       shorter = shorter_asked learnt.question learnt.log rest lines is.split;
+      ends = λ p todo.
+          let at = cut p budgets [] todo.fork todo.test todo.underway.is_open todo.underway.room todo.formed todo.narrowed learning in
+          subst (λ (c : Option Cause). PassesLeaf c lines rest) (sym at.cut) (asked_uncut learnt.question learnt.log lines rest is.split);
     }

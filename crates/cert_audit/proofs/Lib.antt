@@ -5,6 +5,7 @@ pub mod Meeting
 pub mod Naming
 pub mod NodeLeaves
 pub mod Parting
+pub mod Passed
 pub mod Quiet
 pub mod Refusing
 pub mod Settling

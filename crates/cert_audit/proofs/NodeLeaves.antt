@@ -17,8 +17,10 @@ use Rattle.tree_core.specs.declared.cause.Cause.{Cause}
 use Rattle.tree_core.specs.declared.cause.Cause.TheVariants.{Nodes, Steps}
 use Rattle.tree_core.specs.declared.choice.Choice.{Choice}
 use Rattle.cert_audit.specs.Names.{Ahead, Named, ahead_behind, named_by, named_from}
+use Rattle.cert_audit.specs.Passing.{PassesLeaf, PassesUncut}
 use Rattle.cert_audit.specs.Steps.{IsLeafOn, IsNodeLeaf, IsSampledBy, IsUnparted, named_as, node_ahead}
 use Rattle.cert_audit.specs.Walks.{cut_of}
+use Rattle.cert_audit.proofs.Passed.{one_uncut}
 
 -- a leaf at a place is right there
 pub leaf_on : (p : Program) (budgets : Budgets) (sides : List Choice) (nodes : Option ℕ) (place : Place) (covers : List ℕ → Bool) (part : Part)
@@ -109,6 +111,8 @@ module _ (budgets : Budgets) (run sampled : Symbolic) (input : List ℕ) (lines 
             (leaf_name run.choices None (Some input) part ((at p stopped).choices ∙ same_choices) (at p stopped).cut sample_named)
             refl ahead;
         shorter = one_less (End input) lines rest is;
+        ends = λ p stopped. subst (λ (cut : Option Cause). PassesLeaf cut lines rest) (sym (at p stopped).cut)
+            (let uncut : PassesUncut lines rest = record { passed = End input ∷ []; split = is; uncut = one_uncut (End input) (λ same. cc) } in uncut);
       }
 
   -- the leaf of a run that has spent its steps
@@ -125,6 +129,8 @@ module _ (budgets : Budgets) (run sampled : Symbolic) (input : List ℕ) (lines 
             (leaf_name run.choices (Some Steps) (Some input) part ((at p stopped).choices ∙ same_choices) (at p stopped).cut sample_named)
             refl ahead;
         shorter = one_less (CutSteps input) lines rest is;
+        ends = λ p stopped. subst (λ (cut : Option Cause). PassesLeaf cut lines rest) (sym (at p stopped).cut)
+            (let uncut : PassesUncut lines rest = record { passed = CutSteps input ∷ []; split = is; uncut = one_uncut (CutSteps input) (λ same. cc) } in uncut);
       }
 
 -- the leaf of a run that may not part
@@ -142,4 +148,5 @@ nodes_leaf budgets run nodes rest part no_sample leaf same =
           (leaf_name run.choices (Some Nodes) None part (at p way).choices (at p way).cut no_sample)
           refl ahead;
       shorter = omega arith;
+      ends = λ p way. subst (λ (cut : Option Cause). PassesLeaf cut (CutNodes ∷ rest) rest) (sym (at p way).cut) refl;
     }

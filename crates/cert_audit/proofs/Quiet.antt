@@ -69,7 +69,7 @@ body_quiet q =
 abbrev pub behind_inputs : Condition → List CertLine
 behind_inputs q = Nodes (length q.graph.nodes) ∷ Logic ∷ (input_lines 0 q.graph.inputs ++ (Base ∷ [])) ++ body_lines q
 
-behind_quiet : (q : Condition) → All IsQuiet (behind_inputs q)
+pub behind_quiet : (q : Condition) → All IsQuiet (behind_inputs q)
 behind_quiet q =
     let inputs = input_lines 0 q.graph.inputs ++ (Base ∷ []) in
     All-cons IsQuiet (Nodes (length q.graph.nodes)) (Logic ∷ inputs ++ body_lines q) (record { names = λ a. refl; keeps = λ a. refl })

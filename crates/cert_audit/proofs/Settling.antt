@@ -1,15 +1,20 @@
 -- What a walk that came to its end shows.
-use Rattle.std.proofs.Common.{◌≡◌, ℕ, ◌-◌, ◌≤◌, List, [], length, map, inl, inr, get_or, subst, sym, ◌∙◌, arith}
+use Rattle.std.proofs.Common.{◌≡◌, ℕ, ◌-◌, ◌≤◌, List, [], length, map, inl, inr, get_or, refl, subst, sym, ◌∙◌, arith}
 use Rattle.std.proofs.lemmas.List.{append-nil}
 use Rattle.std.specs.Prelude.{◌≢◌, ◌⊎◌, sum_by, None, Some}
 use Rattle.cert_form.specs.Certificates.{Certificate}
 use Rattle.cert_form.specs.declared.line.CertLine.{CertLine}
+use Rattle.cert_query.specs.declared.fault.Fault.{Fault}
+use Rattle.elf_load.specs.Fits.{unfit}
 use Rattle.elf_load.specs.Images.{Image}
 use Rattle.fork_spec.specs.Parts.{Part}
 use Rattle.tree_core.specs.declared.cause.Cause.TheVariants.{Nodes}
-use Rattle.cert_audit.specs.Audits.{AreLeavesOf, IsAudited, IsRightIn, IsSettled, budgets_of}
+use Rattle.cert_audit.specs.Audits.{AreLeavesOf, IsAudited, IsRightIn, IsSettled}
+use Rattle.cert_audit.specs.Causes.{HasCause, IsCause, has_too_few_nodes, is_not_walked, line_at}
+use Rattle.cert_audit.specs.Limits.{AreWithin, budgets_of}
 use Rattle.cert_audit.specs.Names.{named_from, nodes_in, sides_in}
 use Rattle.cert_audit.specs.Steps.{IsRightAt, named_as}
+use Rattle.cert_audit.specs.WalkFaults.{IsWalkFault}
 use Rattle.cert_audit.specs.Walks.{AreCounted, IsWalked, cut_of}
 use Rattle.cert_audit.specs.declared.auditing.Verdict.{Verdict}
 use Rattle.cert_audit.specs.declared.auditing.Verdict.TheVariants.{Yes, No}
@@ -20,6 +25,12 @@ pub enough_nodes : (nodes missing : ℕ) (lines : List CertLine) → missing ≡
     → nodes ≤ nodes_in lines
 unfolding nodes_in
 enough_nodes nodes missing lines is none = omega (arith, is, none)
+
+-- nothing is missing where there are enough
+pub none_missing : (nodes missing : ℕ) (lines : List CertLine) → missing ≡ nodes - 1 - sum_by (λ line. length (sides_in line)) lines → nodes ≤ nodes_in lines
+    → missing ≡ 0
+unfolding nodes_in
+none_missing nodes missing lines is enough = omega (arith, is, enough)
 
 -- a leaf that was cut for want of nodes shows no more than there are
 right_in : (image : Image) (cert : Certificate) (tally : Tally) (part : Part)
@@ -55,3 +66,14 @@ module _ (image : Image) (cert : Certificate) (tally : Tally)
     subst (AreCounted walked.parts) (sym is.0) walked.counted,
   )
   audited_by (No line reason) is = tt
+
+  -- a no has its cause
+  pub caused_by : unfit image cert.regions ≡ None → AreWithin cert.budgets → (said : Verdict) → IsSettled tally cert.lines cert.budgets.nodes said → HasCause image cert said
+  caused_by fits within (Yes leaves) is = tt
+  caused_by fits within (No line reason) is =
+      has_too_few_nodes (record { fits = fits; within = within }) is.0 (record { tally = tally; walked = walked; first = is.1; few = is.2 }) is.3 is.4
+
+pub not_walked : (image : Image) (cert : Certificate) (fault : Fault) → unfit image cert.regions ≡ None → AreWithin cert.budgets
+    → IsWalkFault (record { image = image; regions = cert.regions }) (budgets_of cert.budgets) cert.lines fault
+    → (line : ℕ) → line ≡ line_at cert.lines fault.left → IsCause image cert line fault.reason
+not_walked image cert fault fits within refused line is = is_not_walked (record { fits = fits; within = within }) fault refused is refl

@@ -1,5 +1,5 @@
 -- That a run stands for no assignment.
-use Rattle.std.proofs.Common.{◌≡◌, ℕ, Bool, true, false, ◌&&◌, List, ◌∷◌, ◌++◌, length, map, refl, sym, ap, subst, ◌∙◌, arith, length-append}
+use Rattle.std.proofs.Common.{◌≡◌, ℕ, Bool, true, false, ◌&&◌, List, [], ◌∷◌, ◌++◌, length, map, refl, sym, ap, subst, ◌∙◌, arith, length-append}
 use Rattle.std.specs.Prelude.{Contains, IfErr, IfOk, IsTrue, Result, Ok, Err, ◌↔◌}
 use Rattle.bv_dag.specs.Graphs.{Graph}
 use Rattle.bv_dag.specs.Queries.{Condition, IsUnsatisfiable, holds}
@@ -18,6 +18,7 @@ use Rattle.term_trees.specs.Trees.{Tree, tree_of}
 use Rattle.term_trees.proofs.SubsetLaws.{unsatisfiable-more}
 use Rattle.cert_audit.specs.Names.{named_from}
 use Rattle.cert_audit.specs.Shown.{IsShownEmpty}
+use Rattle.cert_audit.proofs.Passed.{asked_uncut, one_uncut}
 use Rattle.cert_audit.proofs.Quiet.{clauses_passed, question_long, question_passed, quiet_line}
 
 none_both : (a b : Bool) → (a ≡ true → b ≡ false) → (a && b) ≡ false
@@ -69,6 +70,7 @@ tried_shown s rest none = record {
   none = none;
   quiet = λ a ahead is. quiet_line (a ∷ ahead) Tried rest (record { names = λ b. refl; keeps = λ b. refl });
   shorter = omega arith;
+  ends = record { passed = Tried ∷ []; split = refl; uncut = one_uncut Tried (λ same. cc) };
 }
 
 -- by a question and clauses that refute it
@@ -82,6 +84,7 @@ refuted_shown s q lines middle rest asked refuted none =
           ap (named_from (a ∷ ahead)) asked ∙ question_passed a ahead q middle is
           ∙ ap (named_from (a ∷ ahead)) clauses ∙ clauses_passed (a ∷ ahead) log rest;
       shorter = omega (arith, ap length asked, question_long q middle, ap length clauses, length-append (map Clause log) rest);
+      ends = asked_uncut q log lines rest (asked ∙ ap (λ (ls : List CertLine). question_lines q ++ ls) clauses);
     }
 
 -- what follows from what a test shows is shown by it too

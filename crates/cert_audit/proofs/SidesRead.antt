@@ -1,5 +1,5 @@
 -- The sides of a split as those of values, and what may stand behind them.
-use Rattle.std.proofs.Common.{◌≡◌, ℕ, ◌+◌, ◌≤◌, List, [], ◌∷◌, ◌++◌, length, map, refl, sym, ap, subst, ◌∙◌, arith}
+use Rattle.std.proofs.Common.{◌≡◌, ℕ, List, [], ◌∷◌, ◌++◌, length, map, refl, sym, ap, subst, ◌∙◌, arith}
 use Rattle.std.specs.Prelude.{Option, None, Some}
 use Rattle.fork_spec.specs.Evidence.{AreIncreasing}
 use Rattle.fork_spec.specs.Walks.{Side, rest_side, value_side}

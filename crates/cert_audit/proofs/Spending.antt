@@ -1,7 +1,9 @@
 -- Sides that are cut by targets.
-use Rattle.std.proofs.Common.{◌≡◌, ℕ, ◌<◌, List, [], ◌∷◌, ◌++◌, length, map, sym, ap, subst, ◌∙◌, arith}
-use Rattle.std.specs.Prelude.{None, Some}
+use Rattle.std.proofs.Common.{◌≡◌, ℕ, ◌<◌, List, [], ◌∷◌, ◌++◌, length, map, refl, sym, ap, subst, ◌∙◌, append_assoc, arith}
+use Rattle.std.specs.Prelude.{Option, None, Some}
+use Rattle.std.proofs.lemmas.List.Elements.{All-append}
 use Rattle.cert_form.specs.declared.line.CertLine.{CertLine}
+use Rattle.cert_form.specs.declared.line.CertLine.TheVariants.{Value as OfFound, Witness}
 use Rattle.fork_spec.specs.Evidence.{AreIncreasing, Found, values_of}
 use Rattle.fork_spec.specs.Parts.{Part}
 use Rattle.run_leaves.proofs.Cutting.{has_none, without_narrowed}
@@ -12,6 +14,7 @@ use Rattle.sym_state.specs.Runs.{IsOpen, IsSampled}
 use Rattle.sym_state.specs.Symbolic.{Symbolic, IsFormed}
 use Rattle.sym_state.specs.Values.{IsUnknown}
 use Rattle.tree_core.specs.declared.budgets.Budgets.{Budgets}
+use Rattle.tree_core.specs.declared.cause.Cause.{Cause}
 use Rattle.tree_core.specs.declared.cause.Cause.TheVariants.{Targets as ByTargets}
 use Rattle.tree_core.specs.declared.choice.Choice.TheVariants.{Rest, Value as OfValue}
 use Rattle.cert_audit.specs.Names.{named_from}
@@ -20,6 +23,9 @@ use Rattle.cert_audit.specs.Todos.{IsOthersOf}
 use Rattle.cert_audit.specs.Valued.{AreSamples}
 use Rattle.cert_audit.specs.declared.todo.Others.{Others}
 use Rattle.cert_audit.specs.declared.todo.Todo.TheVariants.{Targets}
+use Rattle.cert_audit.specs.Passing.{IsUncut, PassesLeaf, PassesUncut}
+use Rattle.cert_audit.proofs.Passed.{all_uncut, one_uncut}
+use Rattle.cert_audit.proofs.Quiet.{mapped_quiet}
 use Rattle.cert_audit.proofs.Naming.{named_is, named_valued, shorter_valued}
 
 -- the run with another sample
@@ -86,4 +92,12 @@ module _ (budgets : Budgets) (targets : ℕ) (others : Others) (lines rest : Lis
         ∙ named_valued choices found witness rest ahead
         ∙ ap (λ name. name ∷ named_from ahead rest) (sym (named_is part choices (Some ByTargets) (Some witness) at.choices at.cut sample));
     shorter = shorter_valued found witness rest lines is.split;
+    ends = λ p todo. subst (λ (cut : Option Cause). PassesLeaf cut lines rest) (sym (at_rest p todo).cut)
+        (let uncut : PassesUncut lines rest = record {
+          passed = map OfFound found ++ Witness witness ∷ [];
+          split = is.split ∙ sym (append_assoc (map OfFound found) (Witness witness ∷ []) rest);
+          uncut = All-append IsUncut (map OfFound found) (Witness witness ∷ [])
+              (all_uncut (map OfFound found) (mapped_quiet OfFound found (λ f. record { names = λ a. refl; keeps = λ a. refl })))
+              (one_uncut (Witness witness) (λ same. cc));
+        } in uncut);
   }

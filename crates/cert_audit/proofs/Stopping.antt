@@ -38,6 +38,7 @@ leaf_since P Q budgets covers new next lines part rest since same is = record {
       record { is_right = leaf.is_right; covers_all = λ input. leaf.covers_all input ∙ same input };
   named = λ p q. is.named p (since p q);
   shorter = is.shorter;
+  ends = λ p q. is.ends p (since p q);
 }
 
 pub fork_since : (P Q : Program → Type 0) (budgets : Budgets) (covers new : List ℕ → Bool) (next : Ahead) (lines : List CertLine)
@@ -48,6 +49,7 @@ fork_since P Q budgets covers new next lines kids rest since same is = record {
   shared = λ input. is.shared input ∙ ap one_if (same input);
   named = is.named;
   shorter = is.shorter;
+  ends = is.ends;
 }
 
 -- ---- where no line is at fault

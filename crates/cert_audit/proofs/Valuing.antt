@@ -9,7 +9,6 @@ use Rattle.bv_dag.specs.Queries.{AreBits, holds}
 use Rattle.bv_dag.proofs.TermLaws.{there}
 use Rattle.cert_form.specs.declared.line.CertLine.{CertLine}
 use Rattle.cert_form.specs.declared.line.CertLine.TheVariants.{Value, Witness}
-use Rattle.cert_query.specs.Faults.{IsFaultBehind}
 use Rattle.cert_query.specs.declared.fault.Fault.{Fault}
 use Rattle.fork_spec.specs.Evidence.{Found}
 use Rattle.fork_spec.specs.Leaves.{are_bytes}

@@ -1,6 +1,7 @@
 -- What a line at a fork and the lines behind it put in the place of a run.
 use Rattle.std.proofs.Common.{◌≡◌, ℕ, ◌≤◌, List, [], ◌∷◌, ◌++◌, length, map, refl, sym, ap, ◌∙◌, arith}
 use Rattle.std.specs.Prelude.{None}
+use Rattle.std.proofs.lemmas.List.Elements.{All-nil}
 use Rattle.cert_form.specs.declared.line.CertLine.{CertLine}
 use Rattle.cert_form.specs.declared.line.CertLine.TheVariants.{One, Split}
 use Rattle.fork_spec.specs.Walks.{Side, value_side}
@@ -13,11 +14,13 @@ use Rattle.cert_audit.specs.Shown.{ArePassed, IsShownEmpty}
 use Rattle.cert_audit.specs.Steps.{IsWent}
 use Rattle.cert_audit.specs.Todos.{todo_ahead}
 use Rattle.cert_audit.specs.declared.todo.Todo.{Todo}
+use Rattle.cert_audit.specs.Passing.{IsUncut}
+use Rattle.cert_audit.proofs.Passed.{one_line_more}
 use Rattle.cert_audit.proofs.Quiet.{quiet_line}
 
 -- nothing need be shown
 pub passed_none : (next : List Ahead) (lines : List CertLine) → ArePassed next lines lines
-passed_none next lines = record { quiet = λ ahead. refl; no_longer = omega arith }
+passed_none next lines = record { quiet = λ ahead. refl; no_longer = omega arith; ends = record { passed = []; split = refl; uncut = All-nil IsUncut } }
 
 -- it is shown that some run stands for no assignment, where what comes next isn't cut
 pub passed_shown : (s : Symbolic) (a : Ahead) (next : List Ahead) (lines rest : List CertLine) → a.cut ≡ None → IsShownEmpty s lines rest
@@ -25,6 +28,7 @@ pub passed_shown : (s : Symbolic) (a : Ahead) (next : List Ahead) (lines rest : 
 passed_shown s a next lines rest is shown = record {
   quiet = λ ahead. shown.quiet a (next ++ ahead) is;
   no_longer = omega (arith, shown.shorter);
+  ends = shown.ends;
 }
 
 pub values_passed : (s r : Symbolic) (vs : List ℕ) (lines rest : List CertLine) → 1 ≤ length vs → IsShownEmpty r lines rest
@@ -47,6 +51,7 @@ went_one budgets s choice lines rest kids put = record {
       quiet_line (own_ahead s ++ ahead) (One choice) lines (record { names = λ a. refl; keeps = λ a. refl })
       ∙ named_behind budgets s (own_ahead s) lines rest kids put ahead;
   shorter = omega (arith, put.passed.no_longer);
+  ends = one_line_more (One choice) lines rest (λ same. cc) put.passed.ends;
 }
 
 -- it parts
@@ -58,4 +63,5 @@ went_split budgets s sides lines rest kids put = record {
   shared = put.are_kids.shared;
   named = λ ahead. named_behind budgets s (map (side_ahead s.choices) sides) lines rest kids put ahead;
   shorter = omega (arith, put.passed.no_longer);
+  ends = one_line_more (Split sides) lines rest (λ same. cc) put.passed.ends;
 }

@@ -1,42 +1,21 @@
 -- What an audit shows of a certificate: its leaves share out all assignments, and each of them is right.
-use Rattle.std.specs.Prelude.{◌≡◌, ◌⊎◌, ℕ, ◌≤◌, List, [], ◌∷◌, All, count_by, map, Option, None, Some}
+use Rattle.std.specs.Prelude.{◌≡◌, ◌⊎◌, ℕ, ◌<◌, ◌≤◌, List, [], ◌∷◌, All, count_by, map, Option, None, Some}
 use Rattle.cert_form.specs.Certificates.{Certificate}
-use Rattle.cert_form.specs.declared.cert.Limits.{Limits}
+use Rattle.cert_query.specs.declared.fault.Reason.TheVariants.{Budget}
 use Rattle.cert_form.specs.declared.line.CertLine.{CertLine}
 use Rattle.elf_load.specs.Images.{Image}
 use Rattle.fork_spec.specs.Leaves.{covers}
 use Rattle.fork_spec.specs.Parts.{IsRight, Part}
 use Rattle.rv_spec.specs.Memory.{IsAssignment}
-use Rattle.tree_core.specs.declared.budgets.Budgets.{Budgets}
 use Rattle.tree_core.specs.declared.choice.Choice.{Choice}
-use Rattle.tree_core.specs.declared.order.Order.TheVariants.{Deepest}
+use Rattle.cert_audit.specs.Causes.{line_at}
+use Rattle.cert_audit.specs.Limits.{budgets_of}
 use Rattle.cert_audit.specs.Names.{named_from, nodes_in, root_ahead}
 use Rattle.cert_audit.specs.Steps.{named_as}
 use Rattle.cert_audit.specs.Walks.{AreCounted}
 use Rattle.cert_audit.specs.declared.auditing.Verdict.{Verdict}
 use Rattle.cert_audit.specs.declared.auditing.Verdict.TheVariants.{Yes, No}
 use Rattle.cert_audit.specs.declared.walking.Tally.{Tally}
-
--- the budgets of a certificate; the order of claims is of no matter here
-abbrev pub budgets_of : Limits → Budgets
-budgets_of limits = record {
-  steps = limits.steps;
-  targets = limits.targets;
-  conflicts = limits.conflicts;
-  nodes = limits.nodes;
-  order = Deepest;
-}
-
--- each budget is from 1 to its most
-pub record AreWithin (limits : Limits) : Type 0 where
-  pub some_steps : 1 ≤ limits.steps
-  pub few_steps : limits.steps ≤ 1000000
-  pub some_targets : 1 ≤ limits.targets
-  pub few_targets : limits.targets ≤ 64
-  pub some_conflicts : 1 ≤ limits.conflicts
-  pub few_conflicts : limits.conflicts ≤ 100000
-  pub some_nodes : 1 ≤ limits.nodes
-  pub few_nodes : limits.nodes ≤ 1000000
 
 -- a leaf is right for a program, as some side of a fork; where it was cut for want of nodes, its tree has as many as it shows
 pub record IsRightIn (image : Image) (cert : Certificate) (part : Part) : Type 0 where
@@ -59,8 +38,9 @@ IsAudited image cert (Yes leaves) = (parts : List Part) × AreLeavesOf image cer
     × AreCounted parts leaves
 IsAudited image cert (No line reason) = Unit {0}
 
--- what is said of a walk that came to its end: yes only where no leaf was cut for want of nodes, or there are as many as there may be
+-- what is said of a walk that came to its end: no just where a leaf was cut for want of nodes, and there are fewer than there may be
 abbrev pub IsSettled : Tally → List CertLine → (nodes : ℕ) → Verdict → Type 0
 IsSettled tally lines nodes (Yes leaves) = (leaves ≡ tally.leaves)
     × ((tally.first_by_nodes ≡ None) ⊎ (nodes ≤ nodes_in lines))
-IsSettled tally lines nodes (No line reason) = Unit {0}
+IsSettled tally lines nodes (No line reason) = (left : ℕ) × (tally.first_by_nodes ≡ Some left)
+    × (nodes_in lines < nodes) × (line ≡ line_at lines left) × (reason ≡ Budget)

@@ -1,4 +1,5 @@
 pub mod Names
+pub mod Passing
 pub mod Todos
 pub mod Steps
 pub mod Shown
@@ -10,4 +11,7 @@ pub mod ForkFaults
 pub mod VisitFaults
 pub mod Valued
 pub mod Walks
+pub mod WalkFaults
+pub mod Limits
+pub mod Causes
 pub mod Audits

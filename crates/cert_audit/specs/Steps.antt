@@ -14,6 +14,7 @@ use Rattle.tree_core.specs.declared.budgets.Budgets.{Budgets}
 use Rattle.tree_core.specs.declared.cause.Cause.TheVariants.{Nodes}
 use Rattle.tree_core.specs.declared.choice.Choice.{Choice}
 use Rattle.cert_audit.specs.Names.{Ahead, Named, named_from}
+use Rattle.cert_audit.specs.Passing.{PassesLeaf, PassesUncut}
 use Rattle.cert_audit.specs.Todos.{IsTodo, todo_ahead, todo_place}
 use Rattle.cert_audit.specs.declared.taken.Went.{Went}
 use Rattle.cert_audit.specs.declared.todo.Todo.{Todo}
@@ -53,6 +54,7 @@ pub record IsLeafFrom (IsPartOf : Program → Type 0) (budgets : Budgets)
   pub named : (p : Program) → IsPartOf p → (ahead : List Ahead)
       → named_from (next ∷ ahead) lines ≡ named_as part ∷ named_from ahead rest
   pub shorter : length rest < length lines
+  pub ends : (p : Program) → IsPartOf p → PassesLeaf (cause_of part.leaf.end) lines rest
 
 -- how many of these an assignment is one of
 abbrev pub ahead_at : List Todo → List ℕ → ℕ
@@ -67,6 +69,7 @@ pub record IsForkFrom (IsPartOf : Program → Type 0) (budgets : Budgets)
   pub named : (ahead : List Ahead)
       → named_from (next ∷ ahead) lines ≡ named_from (map todo_ahead kids ++ ahead) rest
   pub shorter : length rest < length lines
+  pub ends : PassesUncut lines rest
 
 -- ---- Nodes.
 abbrev pub node_ahead : Symbolic → Ahead

@@ -10,6 +10,7 @@ use Rattle.tree_core.specs.declared.budgets.Budgets.{Budgets}
 use Rattle.tree_core.specs.declared.cause.Cause.{Cause}
 use Rattle.tree_core.specs.declared.cause.Cause.TheVariants.{Conflicts, Nodes, Steps, Targets}
 use Rattle.cert_audit.specs.Names.{named_from, root_ahead}
+use Rattle.cert_audit.specs.Passing.{EndsWith, PassesFirst}
 use Rattle.cert_audit.specs.Steps.{IsRightAt, ahead_at, named_as}
 use Rattle.cert_audit.specs.Todos.{IsTodo, todo_ahead}
 use Rattle.cert_audit.specs.declared.taken.Visited.{Visited}
@@ -38,6 +39,8 @@ pub record IsWalked (p : Program) (budgets : Budgets) (lines : List CertLine) (s
   pub once : (input : List ℕ) → IsAssignment p.regions input
       → count_by (λ part. covers part.leaf input) parts + ahead_at stack input ≡ 1
   pub few : length parts + length rest ≤ length lines
+  pub ends : EndsWith lines rest
+  pub first : PassesFirst tally.first_by_nodes lines rest
   pub counted : AreCounted parts tally.leaves
   pub by_nodes : tally.first_by_nodes ≡ None → All (λ part. cut_of part ≢ Some Nodes) parts
 

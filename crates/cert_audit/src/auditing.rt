@@ -1,7 +1,9 @@
 //! The audit of a certificate.
 
 ghost use Rattle.std.specs.Prelude.{◌≡◌, ◌↔◌, ◌≤◌, IfOk, IsTrue};
-ghost use Rattle.cert_audit.specs.Audits.{AreWithin, IsAudited, IsSettled, budgets_of};
+ghost use Rattle.cert_audit.specs.Audits.{IsAudited, IsSettled};
+ghost use Rattle.cert_audit.specs.Causes.{HasCause, line_at};
+ghost use Rattle.cert_audit.specs.Limits.{AreWithin, budgets_of};
 ghost use Rattle.cert_audit.specs.Names.{nodes_in};
 
 use crate::walking::{Leaves, Tally, walk};
@@ -64,7 +66,7 @@ pub fn budgets_of(limits: &Limits) -> Budgets
 
 // Whether the tree of which these are the walk's lines has so many nodes.
 fn has_nodes(lines: &[CertLine], nodes: u32) -> bool
-    ensures { IsTrue result → nodes ≤ nodes_in lines.now }
+    ensures { IsTrue result ↔ nodes ≤ nodes_in lines.now }
 {
     let mut missing = (nodes as usize).saturating_sub(1);
     for line in lines {
@@ -75,9 +77,11 @@ fn has_nodes(lines: &[CertLine], nodes: u32) -> bool
     missing == 0
 }
 
-/// The number of a certificate's line, with so many in its walk, at which so many are left.
-pub fn line_at(lines: usize, left: usize) -> usize {
-    lines.saturating_sub(left).saturating_add(BUDGETS + 1)
+/// The number of the line of a certificate, of whose walk these are the lines, at which so many are left.
+pub fn line_at(lines: &[CertLine], left: usize) -> usize
+    ensures { result ≡ line_at lines.now left }
+{
+    lines.len().saturating_sub(left) + BUDGETS + 1
 }
 
 // What is said of a walk that came to its end.
@@ -86,7 +90,7 @@ fn said_of(tally: &Tally, lines: &[CertLine], nodes: u32) -> Verdict
 {
     match tally.first_by_nodes {
         Some(left) if !has_nodes(lines, nodes) => Verdict::No {
-            line: line_at(lines.len(), left),
+            line: line_at(lines, left),
             reason: Reason::Budget,
         },
         _ => Verdict::Yes(tally.leaves),
@@ -94,9 +98,11 @@ fn said_of(tally: &Tally, lines: &[CertLine], nodes: u32) -> Verdict
 }
 
 /// Audits a certificate of a program: walks its fork tree along the certificate's lines. A yes means that each assignment of the
-/// input bytes is covered by just one of the leaves that the lines name, and that each of these leaves is right.
+/// input bytes is covered by just one of the leaves that the lines name, and that each of these leaves is right. A no names the
+/// first line that may not stand where it does, and the reason is one that stands there.
 pub fn audit(alloc: Global, image: Image, cert: &Cert) -> Result<Verdict, NoMemory>
-    ensures { IfOk result (IsAudited image cert.now) }
+    ensures audited { IfOk result (IsAudited image cert.now) }
+    ensures has_cause { IfOk result (HasCause image cert.now) }
 {
     if fit(&image, &cert.regions).is_err() {
         return Ok(Verdict::No {
@@ -115,7 +121,7 @@ pub fn audit(alloc: Global, image: Image, cert: &Cert) -> Result<Verdict, NoMemo
     match walk(alloc, &program, &budgets_of(&cert.budgets), lines)? {
         Ok(tally) => Ok(said_of(&tally, lines, cert.budgets.nodes)),
         Err(fault) => Ok(Verdict::No {
-            line: line_at(lines.len(), fault.left),
+            line: line_at(lines, fault.left),
             reason: fault.reason,
         }),
     }

@@ -1,10 +1,11 @@
 //! The walk through a program's fork tree along the lines of a certificate.
 
-ghost use Rattle.std.specs.Prelude.{◌≡◌, ◌+◌, ◌^◌, ◌≤◌, ◌<◌, ◌++◌, [], OnOk, IfOk, reverse};
+ghost use Rattle.std.specs.Prelude.{◌≡◌, ◌+◌, ◌^◌, ◌≤◌, ◌<◌, ◌++◌, [], OnOk, IfOk, IfErr, reverse};
 ghost use Rattle.fork_spec.specs.Histories.{cause_of};
 ghost use Rattle.fork_spec.specs.Leaves.{IsSmall};
 ghost use Rattle.rv_spec.specs.Memory.{count_of};
 ghost use Rattle.sym_state.specs.Symbolic.{most_steps};
+ghost use Rattle.cert_audit.specs.WalkFaults.{IsWalkFault};
 ghost use Rattle.cert_audit.specs.Walks.{IsWalked, counted, rest_behind, stack_behind, tally_behind};
 
 use crate::taken::Visited;
@@ -94,8 +95,10 @@ pub(crate) fn walk(
 ) -> Result<Result<Tally, Fault>, NoMemory>
     requires few_inputs { IsSmall (count_of program.now.regions) }
     requires few_steps { budgets.now.steps ≤ most_steps }
-    ensures { IfOk result (λ walked. IfOk walked
+    ensures walked { IfOk result (λ walked. IfOk walked
         (IsWalked program.now budgets.now lines.now [] [])) }
+    ensures cause { IfOk result (λ walked. IfErr walked
+        (IsWalkFault program.now budgets.now lines.now)) }
 {
     let mut stack = Vec::new(alloc);
     stack.push(Todo::Node(State::first(alloc, program)?))?;
