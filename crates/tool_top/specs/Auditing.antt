@@ -1,6 +1,7 @@
 -- What is meant for an audit: the bytes of a program's file and of a certificate's, and what is said of them.
 use Rattle.std.specs.Prelude.{◌≡◌, ◌⊎◌, ℕ, ◌<◌, ◌≤◌, List, [], length}
 use Rattle.cert_audit.specs.Audits.{IsAudited}
+use Rattle.cert_audit.specs.Causes.{HasCause}
 use Rattle.cert_audit.specs.declared.auditing.Verdict.{Verdict as Judgement}
 use Rattle.cert_audit.specs.declared.auditing.Verdict.TheVariants.{Yes, No}
 use Rattle.cert_form.specs.Certificates.{Certificate}
@@ -37,11 +38,12 @@ pub record IsNoCertificate (text : List ℕ) (said : Judgement) : Type 0 where
   pub refused : IsRefusedAt text line
   pub is : said ≡ No line Text
 
--- the text is that of a certificate, of which an audit says this
+-- the text is that of a certificate, of which an audit says this: yes where its leaves are shown, no where a line is at fault
 pub record IsJudged (image : Image) (text : List ℕ) (said : Judgement) : Type 0 where
   pub cert : Certificate
   pub reads : IsCertificate text cert
   pub audited : IsAudited image cert said
+  pub has_cause : HasCause image cert said
 
 -- what is said of the text of a certificate, of a program's leaves
 abbrev pub IsSaidOf : Image → (text : List ℕ) → Judgement → Type 0
