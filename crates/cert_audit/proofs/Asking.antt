@@ -54,6 +54,13 @@ last_apart (y ∷ ys) x is =
       sym (take_all (at + 1) xs (omega (arith, whole))) ∙ (take_at_read xs at x within).1 ∙ ap (λ v. take at xs ++ v ∷ []) (sym same),
     )
 
+-- a slice of a condition is one of the run that has it
+pub cut_of_run : (s : Symbolic) (g : Graph) (ids : List ℕ) (x : ℕ) (part : Condition) → g ≡ s.terms → ids ≡ s.condition
+    → IsCut (record { graph = g; asserted = ids }) x part → IsCut (condition_of s) x part
+cut_of_run s g ids x part terms condition cut =
+    subst (λ h. IsCut (record { graph = h; asserted = s.condition }) x part) terms
+    (subst (λ xs. IsCut (record { graph = g; asserted = xs }) x part) condition cut)
+
 -- a slice of a run's condition for its last assertion
 pub last_part_is : (s : Symbolic) (x : ℕ) (part : Condition) → IsLast s.condition x → IsCut (condition_of s) x part → IsLastPart (condition_of s) part
 last_part_is s x part apart whole =
@@ -68,9 +75,7 @@ pub last_is : (s : Symbolic) (g : Graph) (ids same : List ℕ) (x : ℕ) (part :
     → Some x ≡ slice_get same (length same - 1) → IsCut (record { graph = g; asserted = ids }) x part → IsLastPart (condition_of s) part
 last_is s g ids same x part terms condition again last cut =
     let apart = last_apart s.condition x (subst (λ xs. Some x ≡ slice_get xs (length xs - 1)) again last) in
-    let whole = subst (λ h. IsCut (record { graph = h; asserted = s.condition }) x part) terms
-    (subst (λ xs. IsCut (record { graph = g; asserted = xs }) x part) condition cut) in
-    last_part_is s x part apart whole
+    last_part_is s x part apart (cut_of_run s g ids x part terms condition cut)
 
 -- values of its one byte that were tried in vain, or two bytes
 pub not_tried_ok : {E : Type 0} (r : Result Bool E) (s : Symbolic) (x : ℕ) (part : Condition) → IsCut (condition_of s) x part
