@@ -1,7 +1,5 @@
 use Rattle.std.proofs.Common.{◌∙◌}
 use Rattle.std.proofs.lemmas.Result.{IfOk-weaker}
-use Rattle.sym_state.specs.Symbolic.{condition_of}
-use Rattle.query_slice.specs.Slices.{IsCut}
 use Rattle.cert_audit.proofs.Asking.{cut_of_run}
 use Rattle.cert_audit.proofs.Showing.{slice_none}
 use Rattle.cert_audit.proofs.proof.part_of.Goals as goal
