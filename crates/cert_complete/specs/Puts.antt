@@ -1,10 +1,12 @@
 -- What may be put into a certificate that lacks lines.
-use Rattle.std.specs.Prelude.{◌≡◌, ℕ, true, List}
+use Rattle.std.specs.Prelude.{◌≡◌, ℕ, true, List, All}
 use Rattle.cert_audit.specs.Steps.{IsParted}
 use Rattle.cert_audit.specs.Todos.{IsTodo}
 use Rattle.cert_audit.specs.declared.todo.Others.{Others}
 use Rattle.cert_audit.specs.declared.todo.Todo.{Todo}
 use Rattle.cert_audit.specs.declared.todo.Todo.TheVariants.{Targets}
+use Rattle.cert_complete.specs.declared.puts.Completed.{Completed}
+use Rattle.cert_complete.specs.declared.puts.Completed.TheVariants.{Puts, Open, Fault, Heading}
 use Rattle.cert_complete.specs.declared.puts.Put.{Put}
 use Rattle.cert_complete.specs.declared.puts.Put.TheVariants.{Fork, Witness}
 use Rattle.cert_form.specs.declared.line.CertLine.{CertLine}
@@ -29,3 +31,10 @@ pub record IsWitnessed (p : Program) (budgets : Budgets) (input : List ℕ) : Ty
 abbrev pub IsPut : Program → Budgets → Put → Type 0
 IsPut p budgets (Fork left taken lines) = IsForked p budgets lines.items
 IsPut p budgets (Witness left input) = IsWitnessed p budgets input
+
+-- each of the lines that a certificate lacks is such
+abbrev pub IsCompleted : Program → Budgets → Completed → Type 0
+IsCompleted p budgets (Puts puts) = All (IsPut p budgets) puts.items
+IsCompleted p budgets (Open unrefuted) = Unit {0}
+IsCompleted p budgets (Fault fault) = Unit {0}
+IsCompleted p budgets Heading = Unit {0}

@@ -47,28 +47,24 @@ fn is_of_node(line: &CertLine) -> bool {
 
 // The lines from a node's first on.
 fn from_node(lines: &[CertLine]) -> &[CertLine] {
-    let mut rest = lines;
-    'lines: while let [line, more @ ..] = rest {
-        if is_of_node(line) {
-            return rest;
+    for at in 0..lines.len() {
+        if is_of_node(&lines[at]) {
+            return &lines[at..];
         }
-        rest = more;
     }
-    rest
+    &[]
 }
 
 // The lines behind the leaves below the node that lines begin with, from the next node's on.
 fn behind_node(lines: &[CertLine]) -> &[CertLine] {
     let mut nodes = 1;
-    let mut rest = lines;
-    'lines: while let [line, more @ ..] = rest {
-        rest = more;
-        nodes = nodes_behind(nodes, line);
+    for at in 0..lines.len() {
+        nodes = nodes_behind(nodes, &lines[at]);
         if nodes == 0 {
-            return from_node(rest);
+            return from_node(&lines[at + 1..]);
         }
     }
-    rest
+    &[]
 }
 
 /// The first assignment of a leaf below the second side of the split that lines begin with, if neither side before it is cut.

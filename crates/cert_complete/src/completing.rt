@@ -1,12 +1,16 @@
 //! The walk that finds the lines that a certificate lacks, and goes on with them.
 
 ghost use Rattle.std.specs.Prelude.{◌≡◌, ◌≤◌, All, IfOk, IfSome, true};
-ghost use Rattle.cert_audit.specs.Todos.{IsTodo};
-ghost use Rattle.cert_audit.specs.declared.todo.Todo.TheVariants.{Targets};
-ghost use Rattle.cert_complete.specs.Puts.{IsPut};
+ghost use Rattle.cert_audit.specs.Audits.{budgets_of};
+ghost use Rattle.cert_audit.specs.Todos.{IsOfTree, IsTodo};
+ghost use Rattle.cert_audit.specs.declared.todo.Todo.TheVariants.{Node, Targets};
+ghost use Rattle.cert_complete.specs.Puts.{IsCompleted, IsPut};
+ghost use Rattle.cert_complete.specs.Steps.{IsStep};
 ghost use Rattle.fork_spec.specs.Leaves.{IsSmall};
 ghost use Rattle.rv_spec.specs.Memory.{count_of};
+ghost use Rattle.sym_state.specs.Programs.{Program};
 ghost use Rattle.sym_state.specs.Symbolic.{most_steps, stands_for};
+ghost use Rattle.tree_core.specs.declared.budgets.Budgets.{Budgets};
 
 use crate::gaps::{Filling, Gap, Unproved, gap_at};
 use crate::puts::{Completed, Put, Unrefuted};
@@ -36,19 +40,28 @@ enum Step<'a> {
 }
 
 // Behind lines that lack nothing.
-fn behind<'a>(alloc: Global, visited: Result<Visited<'a>, Fault>) -> Step<'a> {
-    match visited {
-        Ok(Visited::Leaf(taken)) => Step::On {
+fn behind_lines<'a>(
+    alloc: Global,
+    budgets: &Budgets,
+    todo: Todo,
+    lines: &'a [CertLine],
+) -> Result<Step<'a>, NoMemory>
+    requires { IsOfTree budgets.now todo }
+    ensures { IfOk result (λ step. (p : Program) → IsTodo p budgets.now todo
+        → IsStep p budgets.now step) }
+{
+    match visit(alloc, budgets, todo, lines)? {
+        Ok(Visited::Leaf(taken)) => Ok(Step::On {
             kids: Vec::new(alloc),
             put: None,
             rest: taken.rest,
-        },
-        Ok(Visited::Fork(went)) => Step::On {
+        }),
+        Ok(Visited::Fork(went)) => Ok(Step::On {
             kids: went.kids,
             put: None,
             rest: went.rest,
-        },
-        Err(fault) => Step::Fault(fault),
+        }),
+        Err(fault) => Ok(Step::Fault(fault)),
     }
 }
 
@@ -59,7 +72,11 @@ fn behind_filling<'a>(
     todo: Todo,
     filling: Filling,
     lines: &'a [CertLine],
-) -> Result<Step<'a>, NoMemory> {
+) -> Result<Step<'a>, NoMemory>
+    requires { IsOfTree budgets.now todo }
+    ensures { IfOk result (λ step. (p : Program) → IsTodo p budgets.now todo
+        → IsStep p budgets.now step) }
+{
     let Filling {
         lines: filled,
         taken,
@@ -104,7 +121,10 @@ fn behind_witness<'a, S: Solver>(
     solver: &S,
     others: &Others,
     rest: &'a [CertLine],
-) -> Result<Step<'a>, NoMemory> {
+) -> Result<Step<'a>, NoMemory>
+    ensures { IfOk result (λ step. (p : Program) (budgets : Budgets)
+        → IsTodo p budgets (Targets others.now) → IsStep p budgets step) }
+{
     let Some(input) = find_witness(alloc, solver, others)? else {
         return Ok(Step::Fault(Fault::at(rest, Reason::Sample)));
     };
@@ -138,7 +158,9 @@ fn gap_at_node<S: Solver>(
     budgets: &Budgets,
     node: &State,
     lines: &[CertLine],
-) -> Result<Gap, NoMemory> {
+) -> Result<Gap, NoMemory>
+    requires { IsOfTree budgets.now (Node node.now) }
+{
     let Advanced { run, stop } = advance(node, budgets.steps)?;
     gap_at(alloc, solver, &run, stop, lines)
 }
@@ -159,7 +181,11 @@ fn behind_todo<'a, S: Solver>(
     budgets: &Budgets,
     todo: Todo,
     lines: &'a [CertLine],
-) -> Result<Step<'a>, NoMemory> {
+) -> Result<Step<'a>, NoMemory>
+    requires { IsOfTree budgets.now todo }
+    ensures { IfOk result (λ step. (p : Program) → IsTodo p budgets.now todo
+        → IsStep p budgets.now step) }
+{
     let gap = match &todo {
         Todo::Node(node) => gap_at_node(alloc, solver, budgets, node, lines)?,
         Todo::Targets(others) => {
@@ -171,14 +197,17 @@ fn behind_todo<'a, S: Solver>(
         Todo::Conflicts(_) => Gap::Nothing,
     };
     match gap {
-        Gap::Nothing => Ok(behind(alloc, visit(alloc, budgets, todo, lines)?)),
+        Gap::Nothing => behind_lines(alloc, budgets, todo, lines),
         Gap::Lines(filling) => behind_filling(alloc, budgets, todo, filling, lines),
         Gap::Proof(unproved) => Ok(Step::Open(open_at(unproved, lines.len()))),
     }
 }
 
 // What the walk has come to at its end.
-fn at_end(puts: Vec<Put>, rest: &[CertLine]) -> Completed {
+fn at_end(puts: Vec<Put>, rest: &[CertLine]) -> Completed
+    ensures { (p : Program) (budgets : Budgets) → All (IsPut p budgets) puts.items
+        → IsCompleted p budgets result }
+{
     if rest.is_empty() {
         Completed::Puts(puts)
     } else {
@@ -196,6 +225,7 @@ fn walk_on<S: Solver>(
 ) -> Result<Completed, NoMemory>
     requires few_inputs { IsSmall (count_of program.now.regions) }
     requires few_steps { budgets.now.steps ≤ most_steps }
+    ensures { IfOk result (IsCompleted program.now budgets.now) }
 {
     let mut puts = Vec::new(alloc);
     let mut stack = Vec::new(alloc);
@@ -232,7 +262,10 @@ pub fn complete<S: Solver>(
     image: Image,
     cert: &Cert,
     solver: &S,
-) -> Result<Completed, NoMemory> {
+) -> Result<Completed, NoMemory>
+    ensures { IfOk result (IsCompleted
+        (record { image = image; regions = cert.now.regions }) (budgets_of cert.now.budgets)) }
+{
     if fit(&image, &cert.regions).is_err() || !are_within(&cert.budgets) {
         return Ok(Completed::Heading);
     }

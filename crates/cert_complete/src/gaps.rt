@@ -163,7 +163,7 @@ pub(crate) fn gap_at<S: Solver>(
 ) -> Result<Gap, NoMemory>
     requires { IsStoppedAt run.now stop }
 {
-    let Some(term) = term_of(stop) else {
+    let Some(term) = term_of(run, stop) else {
         return Ok(Gap::Nothing);
     };
     match lines {

@@ -1,6 +1,6 @@
 //! The runs that a fork's line leaves out.
 
-ghost use Rattle.std.specs.Prelude.{◌∷◌, [], ◌≤◌, Contains, IfOk, IfSome, length};
+ghost use Rattle.std.specs.Prelude.{◌≤◌, ◌<◌, Contains, IfOk, IfSome, length};
 ghost use Rattle.cert_complete.specs.Stopping.{IsStoppedAt};
 ghost use Rattle.sym_state.specs.Undecided.{IsBranch};
 ghost use Rattle.sym_state.specs.Values.{IsUnknown};
@@ -28,9 +28,15 @@ impl Drop for LeftOut {
 }
 
 /// The term that a run parts by, if it has stopped at a fork.
-pub(crate) fn term_of(stop: Stop) -> Option<usize> {
+pub(crate) fn term_of(run: &State, stop: Stop) -> Option<usize>
+    requires { IsStoppedAt run.now stop }
+    ensures { IfSome result (λ term. term < length run.now.terms.nodes) }
+{
+    // That its terms fit is known where one of them is looked at.
+    let _ = run.terms();
     match stop {
-        Stop::Branch { term } | Stop::Pin { term, .. } => Some(term),
+        Stop::Branch { term } => Some(term),
+        Stop::Pin { term, .. } => Some(term),
         Stop::Ended(_) | Stop::Steps => None,
     }
 }
