@@ -1,7 +1,7 @@
 //! The walk that finds the lines that a certificate lacks, and goes on with them.
 
 ghost use Rattle.std.specs.Prelude.{◌≡◌, ◌≤◌, All, IfOk, IfSome, true};
-ghost use Rattle.cert_audit.specs.Audits.{budgets_of};
+ghost use Rattle.cert_audit.specs.Limits.{budgets_of};
 ghost use Rattle.cert_audit.specs.Todos.{IsOfTree, IsTodo};
 ghost use Rattle.cert_audit.specs.declared.todo.Todo.TheVariants.{Node, Targets};
 ghost use Rattle.cert_complete.specs.Puts.{IsCompleted, IsPut};
