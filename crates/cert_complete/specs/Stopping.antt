@@ -1,5 +1,4 @@
 -- Forks at which runs have stopped.
-use Rattle.std.specs.Prelude.{ℕ}
 use Rattle.sym_machine.specs.declared.stepping.Stop.{Stop}
 use Rattle.sym_machine.specs.declared.stepping.Stop.TheVariants.{Branch, Pin, Ended, Steps}
 use Rattle.sym_state.specs.Symbolic.{Symbolic}
