@@ -49,8 +49,9 @@ loop-preserved g c =
       each = rw c.in_ok-put_ahead-in-On.ensures (All-append (IsTodo p budgets) front (reverse kids) (all_front (IsTodo p budgets) front (todo ∷ []) ahead)
           (All-permutation (IsTodo p budgets) kids (reverse kids) (IsPermutation-reverse kids) step.0));
       right = elim c.match-put-3.branch [
-        in-Some-put+in_ok-push-in-On w ↦ rw (w.puts-is, w.in_ok-push-in-On.ensures.items)
+        | in-Some-put+in_ok-push-in-On w ↦ rw (w.puts-is, w.in_ok-push-in-On.ensures.items)
             (All-append (IsPut p budgets) c.loop.puts.items (w.in-Some-put.put ∷ []) c.loop.invariant.right
             (All-cons (IsPut p budgets) w.in-Some-put.put [] (rw w.in-Some-put.is at step.1) (All-nil (IsPut p budgets))))
-        | in_default-put w ↦ rw w.puts-is c.loop.invariant.right ];
+        | in_default-put w ↦ rw w.puts-is c.loop.invariant.right
+      ];
     }
