@@ -21,8 +21,8 @@ fn needed_in(alloc: Global, formula: usize, steps: &[LogStep]) -> Result<Vec<boo
         *last = true;
     }
     for place in (0..steps.len()).rev() {
-        if needed[place] {
-            mark_hints(&mut needed, formula, steps[place].hints());
+        if let (Some(true), Some(step)) = (needed.get(place).copied(), steps.get(place)) {
+            mark_hints(&mut needed, formula, step.hints());
         }
     }
     Ok(needed)
